@@ -1,4 +1,4 @@
--- Right answers, put together.
+-- Right answers, combined.
 use Rattle.std.proofs.Common.{◌≡◌, ℕ, Bool, true, false, true≢false, List, [], Ok, Err, refl, sym, ap, subst, ◌∙◌}
 use Rattle.std.specs.Result.{is_ok}
 use Rattle.gb_action.specs.Meanings.{Making, Printing}
@@ -17,7 +17,7 @@ pub not_true : (b : Bool) → (b ≡ true → ⊥) → b ≡ false
 not_true true h = absurd (h refl)
 not_true false h = refl
 
--- a kind that cannot answer changes is asked in full
+-- a kind that cannot reply to changes gets a full request
 pub asked_in_full : (shape : Shape) (request : Request) → IsAsked shape request → shape.incremental ≡ false → request.changes.incremental ≡ false
 asked_in_full shape request asked never = not_true _ (λ t. never_both _ never (asked.can_answer t))
 

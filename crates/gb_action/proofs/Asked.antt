@@ -1,4 +1,4 @@
--- What a request has that an action of a shape may be asked.
+-- What a request provides if an action of a shape may be called with it.
 use Rattle.std.proofs.Common.{◌≡◌, Bool, true, false, true≢false, ◌&&◌, ◌||◌, if◌then◌else◌, List, [], ◌∷◌, map, Some, refl, sym, subst, bytes_eq}
 use Rattle.std.specs.List.{list_any}
 use Rattle.gb_action.specs.Shapes.{IsAsked, has_source, has_output, args_fit, target, is_form}
@@ -32,7 +32,7 @@ module _ (shape : Shape) (request : Request) (asked : IsAsked shape request) whe
   declares_target form is =
       names_output form request.outputs (subst (λ out. has_output out (map (λ (output : OutputFiles). (output.name, output.form)) request.outputs) ≡ true) is both.1)
 
-  -- the file property that kinds read is there
+  -- the file property that kinds read exists
   pub has_its_source : has_source shape (map (λ tree. tree.0) request.files) ≡ true
   has_its_source = both.0
 

@@ -1,4 +1,4 @@
--- A change list tells each change of a tree, and no other.
+-- A change list has each change of a tree, and no other.
 use Rattle.std.proofs.Common.{arith, ◌≡◌, ◌≢◌, ℕ, Bool, true, false, true≢false, cond, if◌then◌else◌, inl, inr, List, [], ◌∷◌, ◌++◌, Option, Some, None, is_some, refl, sym, ap, subst, ◌∙◌, bytes_eq}
 use Rattle.std.proofs.lemmas.List.Elements.{Contains-append_left, Contains-append_right, Contains-append_cases, Contains-push, Contains-push_cases}
 use Rattle.std.specs.List.{Contains, flat_map}
@@ -100,7 +100,7 @@ module _ (old new : Tree) where
   abbrev told_at : List ℕ × List ℕ → List Change
   told_at file = change_at file.0 (file_at old file.0) (file_at new file.0)
 
-  -- what is told of a path is a change
+  -- what is listed for a path is a change
   told_is : (path : List ℕ) (o n : Option (List ℕ)) → file_at old path ≡ o → file_at new path ≡ n → (change : Change) → Contains (change_at path o n) change → IsChange old new change
   told_is path None None p q change h = absurd (contains_none change h)
   told_is path None (Some y) p q change h = subst (IsChange old new) (contains_one _ _ h) (p, ap is_some q)

@@ -12,7 +12,7 @@ use Rattle.gb_action.specs.declared.change.Change.TheVariants.{Added, Modified, 
 abbrev pub Changes : Type 0
 Changes = List ℕ × List Change
 
--- what became of a path
+-- the change at a path
 abbrev pub change_at : List ℕ → Option (List ℕ) → Option (List ℕ) → List Change
 change_at path None None = []
 change_at path None (Some new) = Added path ∷ []

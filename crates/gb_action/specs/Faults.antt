@@ -1,4 +1,4 @@
--- The numbers under which faults are told to users.
+-- The fault numbers that are reported to users.
 use Rattle.std.specs.Prelude.{ℕ}
 use Rattle.gb_action.specs.declared.reply.ActionFault.{ActionFault}
 use Rattle.gb_action.specs.declared.reply.ActionFault.TheVariants as actions
@@ -15,7 +15,7 @@ abbrev pub table_fault_number : TableFault → ℕ
 table_fault_number tables.DuplicateAction = 41
 table_fault_number tables.OutOfMemory = 3
 
--- why a table did not take an action
+-- why a table did not accept an action
 abbrev pub told_of : AddFault → TableFault
 told_of adding.Taken = tables.DuplicateAction
 told_of adding.OutOfMemory = tables.OutOfMemory

@@ -1,4 +1,4 @@
--- Files by path, and trees by the name of a property: lists of entries, in which the first of a key counts.
+-- Files by path, and trees by the name of a property: lists of entries; the first entry of a key counts.
 use Rattle.std.specs.Prelude.{ℕ, List, [], Option, unwrap_or}
 use Rattle.std.specs.FinMap.Entries.{find}
 use Rattle.gb_core.specs.Lists.{byte_order}
@@ -15,6 +15,6 @@ Trees = List (List ℕ × Tree)
 abbrev pub file_at : Tree → List ℕ → Option (List ℕ)
 file_at tree path = find byte_order path tree
 
--- the tree of a property, which is empty where there is no such property
+-- the tree of a property, which is empty if there is no such property
 abbrev pub tree_at : Trees → List ℕ → Tree
 tree_at trees name = unwrap_or (find byte_order name trees) []

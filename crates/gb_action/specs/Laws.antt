@@ -1,4 +1,4 @@
--- What follows from the definitions.
+-- Theorems that follow from the definitions.
 use Rattle.std.specs.Prelude.{◌≡◌, ◌↔◌, ℕ, false, List, Ok, Contains}
 use Rattle.std.specs.Option.{option_or}
 use Rattle.gb_action.specs.Files.{Tree}
@@ -12,7 +12,7 @@ use Rattle.gb_action.specs.declared.reply.Written.{Written}
 use Rattle.gb_action.specs.declared.reply.Reply.{Reply}
 use Rattle.gb_action.specs.declared.request.Request.{Request}
 
--- over any old files, a full reply leaves what is made where something is made, and elsewhere what stood
+-- over any old files, a full reply leaves what is made where something is made, and elsewhere what was there
 abbrev pub FullRepliesPutOver : Type 0
 FullRepliesPutOver =
     (makes : Making) (prints : Printing) (request : Request) (reply : Reply) (made : List Written)

@@ -1,4 +1,4 @@
--- What the kinds of actions mean, whatever closures stand for them.
+-- The meanings of the kinds of actions, whatever closures implement them.
 use Rattle.std.specs.Prelude.{ℕ, ◌≡◌, true, ◌&&◌, List, Ok, Result, bytes_eq, is_some}
 use Rattle.std.specs.List.{list_all}
 use Rattle.gb_core.specs.declared.value.Value.{Value}
@@ -29,7 +29,7 @@ pub record Meanings (S : Type 0) : Type 0 where
   pub makes : ℕ → Making
   pub prints : ℕ → Printing
 
--- the kind of a number writes files of its own output alone, and none where its shape has no output
+-- the kind of a number writes only files of its own output, and none if its shape has no output
 abbrev pub WritesItsOutput : {S : Type 0} → Meanings S → ℕ → Type 0
 WritesItsOutput meanings kind =
     (arguments : List Value) (values : Values) (trees : Trees) (written : List Written)

@@ -1,4 +1,4 @@
--- What stands at the paths of outputs, and what a reply does there.
+-- What exists at the paths of outputs, and the effect of a reply there.
 use Rattle.std.specs.Prelude.{ℕ, Bool, ◌&&◌, ◌||◌, List, [], ◌∷◌, if◌then◌else◌, bytes_eq, Option, Some}
 use Rattle.std.specs.Prelude.{None, is_some, option_and_then}
 use Rattle.std.specs.Option.{option_or}
@@ -9,7 +9,7 @@ use Rattle.gb_action.specs.declared.reply.Written.{Written}
 use Rattle.gb_action.specs.declared.reply.OutputPath.{OutputPath}
 use Rattle.gb_action.specs.declared.reply.Reply.{Reply}
 
--- what files that are written one after another put at a path of an output: the last one counts
+-- what files that are written one after another leave at a path of an output: the last one counts
 abbrev pub written_at : List Written → List ℕ → List ℕ → Option (List ℕ)
 written_at [] output path = None
 written_at (file ∷ files) output path =
@@ -22,7 +22,7 @@ files_of [] name = None
 files_of (output ∷ outputs) name =
     if bytes_eq output.name name then Some output.files else files_of outputs name
 
--- what stands at a path of an output
+-- what exists at a path of an output
 abbrev pub stands_at : List OutputFiles → List ℕ → List ℕ → Option (List ℕ)
 stands_at outputs output path = option_and_then (λ files. file_at files path) (files_of outputs output)
 
@@ -30,7 +30,7 @@ abbrev pub is_removed : List OutputPath → List ℕ → List ℕ → Bool
 is_removed removes output path =
     list_any (λ removed. bytes_eq removed.output output && bytes_eq removed.path path) removes
 
--- what a reply leaves at a path: what it writes there, or else nothing where it removes, or else what stood
+-- what a reply leaves at a path: what it writes there, else nothing if it removes it, else what was there
 abbrev pub left_at : Reply → List OutputFiles → List ℕ → List ℕ → Option (List ℕ)
 left_at reply old output path =
     option_or (written_at reply.writes output path)

@@ -14,12 +14,12 @@ use Rattle.gb_action.specs.declared.reply.ActionFault.{ActionFault}
 use Rattle.gb_action.specs.declared.reply.ActionFault.TheVariants.{ActionFailed}
 use Rattle.gb_action.specs.declared.request.Request.{Request}
 
--- what is to be made of a request
+-- what is to be made for a request
 abbrev pub made_for : Making → Request → Result (List Written) (List ℕ)
 made_for makes request = makes request.args request.values request.files
 
--- The request tells how its trees differ from these old ones: the properties are the same, each has the
--- changes of its list, and one without a list is as it was.
+-- The request describes how its trees differ from these old ones: the properties are the same, each has the
+-- changes of its list, and one without a list is unchanged.
 pub record TellsChangesFrom (old : Trees) (request : Request) : Type 0 where
   pub ordered : list_all (λ tree. is_sorted byte_order tree.1) old ≡ true
   pub same_names : map (λ tree. tree.0) old ≡ map (λ tree. tree.0) request.files
@@ -28,8 +28,8 @@ pub record TellsChangesFrom (old : Trees) (request : Request) : Type 0 where
   pub told : (name : List ℕ) (list : List Change) → find byte_order name request.changes.lists ≡ Some list
       → AreChanges (tree_at old name) (tree_at request.files name) list
 
--- The request's arguments and values made these files of old trees: the request tells the changes from those,
--- and its outputs hold what was made.
+-- The request's arguments and values made these files of old trees: the request describes the changes from
+-- those trees, and its outputs have what was made.
 pub record FollowsOn (makes : Making) (request : Request) (old : Trees) : Type 0 where
   pub tells : TellsChangesFrom old request
   pub before : List Written
@@ -47,8 +47,8 @@ pub record CarriesOver (makes : Making) (request : Request) (reply : Reply) : Ty
       → (output path : List ℕ) → is_named reply output path ≡ true
       → stands_at request.outputs output path ≢ written_at after output path
 
--- The answer is right: a reply that does what is to be made and prints what is to be printed, or the failure
--- that is to come. Nothing is said of want of memory.
+-- The answer is right: a reply that makes what is to be made and prints what is to be printed, or the
+-- expected failure. Running out of memory is not covered.
 pub record Answers (makes : Making) (prints : Printing) (request : Request)
     (answer : Result Reply ActionFault) : Type 0 where
   pub succeeds : (reply : Reply) → answer ≡ Ok reply → IsOk (made_for makes request)

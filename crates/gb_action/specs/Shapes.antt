@@ -39,7 +39,7 @@ arg_fits arg (values.List texts) = false
 arg_fits arg (values.Place place) = false
 arg_fits arg (values.Task task) = false
 
--- what an argument has to be, where it is given
+-- the requirement on an argument, if it is given
 abbrev pub arg_of : Parameter → Arg
 arg_of (Required arg) = arg
 arg_of (Optional arg) = arg
@@ -48,7 +48,7 @@ abbrev pub is_optional : Parameter → Bool
 is_optional (Required arg) = false
 is_optional (Optional arg) = true
 
--- each value fits the parameter at its place, and the parameters behind them are optional
+-- each value fits the parameter at its position, and the parameters after them are optional
 abbrev pub args_fit : List Parameter → List Value → Bool
 args_fit [] [] = true
 args_fit (parameter ∷ parameters) (value ∷ values) =
@@ -72,14 +72,14 @@ has_output None outputs = true
 has_output (Some form) outputs =
     list_any (λ output. bytes_eq output.0 target && is_form output.1 form) outputs
 
--- whether a call fits, by the names of the file properties and the names and forms of the
--- outputs, which count first
+-- whether a call fits, by the names of the file properties and the names and forms of the outputs, which are
+-- checked first
 abbrev pub fit : Shape → List Value → List (List ℕ) → List (List ℕ × Form) → Fit
 fit shape args files outputs =
     if has_source shape files && has_output shape.out outputs
     then (if args_fit shape.args args then Yes else BadArgument) else BadShape
 
--- the action may be asked: the call fits, and it is asked for changes only where it can answer them
+-- the action may be called: the call fits, and the request is incremental only if the action supports that
 pub record IsAsked (shape : Shape) (request : Request) : Type 0 where
   pub fits : fit shape request.args (map (λ tree. tree.0) request.files)
       (map (λ output. (output.name, output.form)) request.outputs) ≡ Yes

@@ -10,27 +10,27 @@ use crate::request::Request;
 use crate::shape::Shape;
 use std::alloc::Global;
 
-/// What a program's stored actions are, and what each kind of them means.
+/// The stored actions of a program, and the meaning of each of their kinds.
 pub trait Actions {
-    /// One action: a closure, beside its kind.
+    /// One action: a closure with its kind.
     type Stored: Drop;
 
     /// What each kind takes, makes and prints, and the kind and version of each stored action.
     ghost meanings: { Meanings Self.Stored };
 
-    /// Each kind writes files of its own output alone.
+    /// Each kind writes only files of its own output.
     ghost own_output: { (kind : ℕ) → WritesItsOutput meanings kind };
 
-    /// What a call of the action has to be like.
+    /// The shape that a call of the action must have.
     fn shape_of(stored: &Self::Stored) -> &Shape
         ensures { result.now ≡ shape_of meanings stored.now };
 
-    /// The version of its kind, at least 1: it rises where a kind comes to make something else.
+    /// The version of its kind, at least 1: it rises when a kind starts to make something else.
     fn version(stored: &Self::Stored) -> u32
         ensures value { result ≡ meanings.version stored.now }
         ensures positive { 1 ≤ result };
 
-    /// Asks the action.
+    /// Runs the action on a request.
     fn run(stored: &Self::Stored, alloc: Global, request: &Request) -> Result<Reply, ActionFault>
         requires { IsAsked (shape_of meanings stored.now) request.now }
         ensures { Answers (makes_of meanings stored.now) (prints_of meanings stored.now) request.now result };

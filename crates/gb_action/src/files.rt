@@ -38,14 +38,14 @@ impl Files {
         }
     }
 
-    /// How many files there are.
+    /// The number of files.
     pub fn len(&self) -> usize
         ensures { result ≡ length self.now }
     {
         self.entries.len()
     }
 
-    /// Whether no file is in.
+    /// Whether there is no file.
     pub fn is_empty(&self) -> bool
         ensures { IsTrue result ↔ (self.now ≡ []) }
     {
@@ -63,7 +63,7 @@ impl Files {
         }
     }
 
-    /// Puts the bytes at the path, over what stood there. Cheap where the paths come in order.
+    /// Stores the bytes at the path, and replaces what was there. Cheap for paths in order.
     pub fn insert(&mut self, path: RelPath, bytes: Bytes) -> Result<(), AllocError>
         ensures ok { OnOk result (self.new ≡ put byte_order path bytes self.old) }
         ensures err { OnErr result (self.new ≡ self.old) }
@@ -95,7 +95,7 @@ impl Files {
     }
 }
 
-/// The index of the path, or the one at which it would stand.
+/// The index of the path, or the index at which it would be inserted.
 fn search(entries: &[(RelPath, Bytes)], path: &RelPath) -> Result<usize, usize>
     ensures within { IsSearchInRange result (length entries.now) }
     ensures position { IsBinarySearchResult (λ entry. byte_order entry.0 path.now) entries.now result }

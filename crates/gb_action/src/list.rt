@@ -8,7 +8,7 @@ use std::collections::VecDeque;
 use std::collections::vec_deque::Iter;
 use std::marker::Model;
 
-/// The actions of one task in order: that of its kind, with others before and behind it.
+/// The actions of one task in order: that of its kind, with others before and after it.
 #[derive(Drop)]
 pub struct ActionList<T> {
     actions: VecDeque<T>,
@@ -32,7 +32,7 @@ impl<T: Drop> ActionList<T> {
         }
     }
 
-    /// Puts in the action of the task's kind, behind those that were put first; those put last come later.
+    /// Adds the action of the task's kind after those added first; those added last follow later.
     pub fn set_main(&mut self, action: T) -> Result<(), AllocError>
         ensures ok { OnOk result (self.new ≡ self.old ++ action ∷ []) }
         ensures err { OnErr result (self.new ≡ self.old) }
@@ -40,7 +40,7 @@ impl<T: Drop> ActionList<T> {
         self.do_last(action)
     }
 
-    /// Puts an action before all others.
+    /// Adds an action before all others.
     pub fn do_first(&mut self, action: T) -> Result<(), AllocError>
         ensures ok { OnOk result (self.new ≡ action ∷ self.old) }
         ensures err { OnErr result (self.new ≡ self.old) }
@@ -49,7 +49,7 @@ impl<T: Drop> ActionList<T> {
         Ok(())
     }
 
-    /// Puts an action behind all others.
+    /// Adds an action after all others.
     pub fn do_last(&mut self, action: T) -> Result<(), AllocError>
         ensures ok { OnOk result (self.new ≡ self.old ++ action ∷ []) }
         ensures err { OnErr result (self.new ≡ self.old) }
@@ -58,7 +58,7 @@ impl<T: Drop> ActionList<T> {
         Ok(())
     }
 
-    /// How many actions there are.
+    /// The number of actions.
     pub fn len(&self) -> usize
         ensures { result ≡ length self.now }
     {

@@ -1,4 +1,4 @@
-//! The outputs of a task as an action sees them.
+//! The outputs of a task, as an action receives them.
 ghost use Rattle.std.specs.Prelude.{◌≡◌, [], ◌∷◌, ◌++◌, OnOk, OnErr};
 ghost use Rattle.std.specs.Option.{option_copied};
 ghost use Rattle.gb_action.specs.Shapes.{is_form};
@@ -10,12 +10,12 @@ use gb_core::place::RelPath;
 use std::alloc::{AllocError, Global};
 use std::marker::Model;
 
-/// Whether an output is one file or all files beneath a place.
+/// Whether an output is one file or all files under a place.
 #[derive(Clone, Copy, PartialEq, Eq)]
 pub enum Form {
     /// One file, at the output's own place.
     File,
-    /// All files beneath the output's place.
+    /// All files under the output's place.
     Dir,
 }
 
@@ -31,15 +31,15 @@ impl Form {
     }
 }
 
-/// An output with the files that stand there, by their paths from its place. The files are
+/// An output with the files that exist there, by their paths from its place. The files have
 /// contents in an incremental request only; in a full one there are none.
 #[derive(Drop)]
 pub struct OutputFiles {
     /// Its name in the task, as `out`.
     pub name: Name,
-    /// One file, or all beneath its place.
+    /// One file, or all files under its place.
     pub form: Form,
-    /// What stands there, by path from its place: the empty path for one file.
+    /// The files that exist there, by path from its place: the empty path for one file.
     pub files: Files,
 }
 
@@ -70,7 +70,7 @@ impl OutputSnapshots {
         }
     }
 
-    /// Puts an output behind the others.
+    /// Adds an output after the others.
     pub fn push(&mut self, output: OutputFiles) -> Result<(), AllocError>
         ensures ok { OnOk result (self.new ≡ self.old ++ output ∷ []) }
         ensures err { OnErr result (self.new ≡ self.old) }

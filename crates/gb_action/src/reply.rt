@@ -1,4 +1,4 @@
-//! What an action answers.
+//! The reply of an action.
 ghost use Rattle.std.specs.Prelude.{◌≡◌};
 
 use gb_core::bytes::Bytes;
@@ -16,7 +16,7 @@ pub struct Written {
     pub output: Name,
     /// The path from the output's place, empty for the place itself.
     pub path: RelPath,
-    /// All bytes of the file, which takes the place of what stood there.
+    /// All bytes of the file, which replaces what was there.
     pub bytes: Bytes,
 }
 
@@ -32,30 +32,30 @@ pub struct OutputPath {
     pub path: RelPath,
 }
 
-/// Files to remove, in the order in which they go.
+/// Files to remove, in the order of their removal.
 pub type Removals = Row<OutputPath>;
 
 /// Lines to print, without their line feeds.
 pub type Lines = Texts;
 
-/// What an action wants done: first the removals, then the writes; and the lines that it prints.
+/// What an action requests: first the removals, then the writes; and the lines that it prints.
 #[derive(Drop)]
 pub struct Reply {
-    /// Files that go first, before any is written.
+    /// Files that are removed first, before any is written.
     pub removes: Removals,
     /// Files that are written then.
     pub writes: Writes,
-    /// What it prints, line by line.
+    /// The printed lines.
     pub lines: Lines,
 }
 
 /// Why an action gave no reply.
 #[derive(Debug, Drop, Error)]
 pub enum ActionFault {
-    /// No memory for the reply; 3.
+    /// Not enough memory for the reply; 3.
     #[error("out of memory")]
     OutOfMemory,
-    /// The action failed by itself, with this text.
+    /// The action itself failed, with this text.
     #[error("{0}")]
     ActionFailed(Text),
 }
@@ -63,7 +63,7 @@ pub enum ActionFault {
 impl ActionFault {
     ghost use Rattle.gb_action.specs.Faults.{action_fault_number};
 
-    /// The number under which the fault is told to users.
+    /// The fault number that is reported to users.
     pub fn number(&self) -> u16
         ensures { result ≡ action_fault_number self.now }
     {

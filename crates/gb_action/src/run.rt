@@ -1,4 +1,4 @@
-//! Asking stored actions.
+//! Running stored actions.
 ghost use Rattle.std.specs.Prelude.{◌≡◌, is_some};
 ghost use Rattle.gb_action.specs.Meanings.{shape_of, makes_of, prints_of};
 ghost use Rattle.gb_action.specs.Replies.{Answers};
@@ -13,7 +13,7 @@ use crate::values::Arguments;
 use gb_core::name::Name;
 use std::alloc::Global;
 
-/// Asks a stored action: its reply is right for its kind, or it fails as its kind does (42), or
+/// Runs a stored action: its reply is right for its kind, or it fails as its kind does (42), or
 /// memory runs out (3).
 pub fn run_action<A: Actions>(
     stored: &A::Stored,
@@ -26,8 +26,8 @@ pub fn run_action<A: Actions>(
     A::run(stored, alloc, request)
 }
 
-/// Whether an action may be asked with these arguments by a task with these file properties and
-/// outputs. Takes no memory.
+/// Whether an action may be run with these arguments by a task with these file properties and
+/// outputs. Allocates no memory.
 pub fn accepts<A: Actions>(
     stored: &A::Stored,
     args: &Arguments,
@@ -39,14 +39,14 @@ pub fn accepts<A: Actions>(
     A::shape_of(stored).accepts(args, files, outputs)
 }
 
-/// Whether the action writes files. Takes no memory.
+/// Whether the action writes files. Allocates no memory.
 pub fn writes<A: Actions>(stored: &A::Stored) -> bool
     ensures { result ≡ is_some (shape_of A.meanings stored.now).out }
 {
     A::shape_of(stored).out.is_some()
 }
 
-/// Whether the action can answer changes alone. Takes no memory.
+/// Whether the action can reply to changes alone. Allocates no memory.
 pub fn incremental<A: Actions>(stored: &A::Stored) -> bool
     ensures { result ≡ (shape_of A.meanings stored.now).incremental }
 {

@@ -1,4 +1,4 @@
-//! What the call of an action looks like.
+//! The signature of an action: its arguments, what it reads and what it writes.
 ghost use Rattle.std.specs.Prelude.{◌≡◌, [], ◌∷◌, ◌++◌, OnOk, OnErr};
 ghost use Rattle.gb_action.specs.Shapes.{arg_fits, arg_of, args_fit, fit, has_output, has_source};
 ghost use Rattle.gb_action.specs.Shapes.{is_optional};
@@ -13,7 +13,7 @@ use gb_core::value::Value;
 use std::alloc::{AllocError, Global};
 use std::marker::Model;
 
-/// What an argument has to be.
+/// The requirement on an argument.
 #[derive(Clone, Copy, PartialEq, Eq)]
 pub enum Arg {
     /// Any text.
@@ -26,17 +26,17 @@ pub enum Arg {
     Rel,
 }
 
-/// What an action takes as one argument.
+/// One parameter of an action.
 #[derive(Clone, Copy)]
 pub enum Parameter {
-    /// An argument has to be given.
+    /// The argument has to be given.
     Required(Arg),
-    /// It may be left out where all behind it are.
+    /// The argument may be omitted if all arguments after it are omitted.
     Optional(Arg),
 }
 
 impl Parameter {
-    /// What the argument has to be, where it is given.
+    /// The requirement on the argument, if it is given.
     fn arg(self) -> Arg
         ensures { result ≡ arg_of self }
     {
@@ -52,7 +52,7 @@ impl Parameter {
     }
 }
 
-/// What the arguments have to be, in order.
+/// The parameters of an action, in order.
 #[derive(Drop)]
 pub struct ArgList {
     parameters: Vec<Parameter>,
@@ -77,7 +77,7 @@ impl ArgList {
         }
     }
 
-    /// Puts an argument that has to be given behind the others.
+    /// Adds, after the others, an argument that has to be given.
     pub fn push(&mut self, arg: Arg) -> Result<(), AllocError>
         ensures ok { OnOk result (self.new ≡ self.old ++ Required arg ∷ []) }
         ensures err { OnErr result (self.new ≡ self.old) }
@@ -86,7 +86,7 @@ impl ArgList {
         Ok(())
     }
 
-    /// Puts an argument that may be left out behind the others.
+    /// Adds, after the others, an argument that may be omitted.
     pub fn push_optional(&mut self, arg: Arg) -> Result<(), AllocError>
         ensures ok { OnOk result (self.new ≡ self.old ++ Optional arg ∷ []) }
         ensures err { OnErr result (self.new ≡ self.old) }
@@ -95,7 +95,7 @@ impl ArgList {
         Ok(())
     }
 
-    /// What each argument has to be, the first in front.
+    /// The parameters, in order.
     pub fn as_slice(&self) -> &[Parameter]
         ensures { result.now ≡ self.now }
     {
@@ -103,33 +103,33 @@ impl ArgList {
     }
 }
 
-/// What an action takes: its arguments, whether it reads the file property `src`, of which form
-/// its output `out` is, if it writes files, and whether it can answer changes alone.
+/// The signature of an action: its arguments, whether it reads the file property `src`, the form of
+/// its output `out` if it writes files, and whether it can reply to changes alone.
 #[derive(Drop)]
 pub struct Shape {
-    /// How many arguments it takes, and what each has to be.
+    /// The number of its arguments, and the requirement on each.
     pub args: ArgList,
     /// Whether it reads the file property `src`.
     pub src: bool,
     /// The form of the output `out`, or nothing if it writes no files.
     pub out: Option<Form>,
-    /// Whether it can answer changes alone, over what it wrote before.
+    /// Whether it can reply to changes alone, over what it wrote before.
     pub incremental: bool,
 }
 
-/// Whether an action can be asked.
+/// Whether an action can be called.
 #[derive(Clone, Copy, PartialEq, Eq)]
 pub enum Fit {
-    /// It can be asked.
+    /// It can be called.
     Yes,
-    /// An argument is not what it has to be, or there are too few or too many.
+    /// An argument does not fit, or there are too few or too many.
     BadArgument,
     /// The task lacks the file property or the output.
     BadShape,
 }
 
 impl Shape {
-    /// Whether a call fits: the properties and outputs count first, then the arguments.
+    /// Whether a call fits: the properties and outputs are checked first, then the arguments.
     pub fn accepts(&self, args: &Arguments, files: &[Name], outputs: &[(Name, Form)]) -> Fit
         ensures { result ≡ fit self.now args.now files.now outputs.now }
     {
@@ -142,7 +142,7 @@ impl Shape {
         }
     }
 
-    /// Whether these are what its arguments have to be.
+    /// Whether these values fit its parameters.
     pub fn takes(&self, values: &[Value]) -> bool
         ensures { result ≡ args_fit self.now.args values.now }
     {

@@ -9,7 +9,7 @@ use gb_core::name::Name;
 use std::alloc::{AllocError, Global};
 use std::marker::Model;
 
-/// The files of a property by their relative paths, beside its name.
+/// The files of a property by their relative paths, with its name.
 #[derive(Drop)]
 pub struct Snapshot {
     name: Name,
@@ -46,7 +46,7 @@ impl Snapshot {
         &self.files
     }
 
-    /// Its files, of which none is copied.
+    /// Its files, moved without a copy.
     pub fn into_files(self) -> Files
         ensures { result ≡ self.1 }
     {
@@ -78,7 +78,7 @@ impl Snapshots {
         }
     }
 
-    /// Puts the files of a property behind the others.
+    /// Adds the files of a property after the others.
     pub fn push(&mut self, snapshot: Snapshot) -> Result<(), AllocError>
         ensures ok { OnOk result (self.new ≡ self.old ++ snapshot ∷ []) }
         ensures err { OnErr result (self.new ≡ self.old) }

@@ -16,7 +16,7 @@ pub enum TableFault {
     /// The name is taken.
     #[error("duplicate action")]
     DuplicateAction,
-    /// No memory for the entry: the table is as it was; 3.
+    /// Not enough memory for the entry: the table is unchanged; 3.
     #[error("out of memory")]
     OutOfMemory,
 }
@@ -24,7 +24,7 @@ pub enum TableFault {
 impl TableFault {
     ghost use Rattle.gb_action.specs.Faults.{table_fault_number};
 
-    /// The number under which the fault is told to users.
+    /// The fault number that is reported to users.
     pub fn number(self) -> u16
         ensures { result ≡ table_fault_number self }
     {
@@ -65,7 +65,7 @@ impl From<AddFault> for TableFault {
 pub struct UnknownAction;
 
 impl UnknownAction {
-    /// The number under which the fault is told to users.
+    /// The fault number that is reported to users.
     pub fn number(self) -> u16
         ensures { result ≡ 40 }
     {
@@ -73,7 +73,7 @@ impl UnknownAction {
     }
 }
 
-/// Stored actions by name, as they were added.
+/// Stored actions by name, in the order of insertion.
 #[derive(Drop)]
 pub struct ActionTable<S> {
     entries: NamedTable<S>,
@@ -97,7 +97,7 @@ impl<S: Drop> ActionTable<S> {
         }
     }
 
-    /// Adds an action under a name that no other has.
+    /// Adds an action under a name that no other action has.
     pub fn add(&mut self, name: &Name, stored: S) -> Result<(), TableFault>
         ensures ok { OnOk result (self.new ≡ self.old ++ (name.now, stored) ∷ []) }
         ensures absent { OnOk result (find byte_order name.now self.old ≡ None) }
@@ -108,7 +108,7 @@ impl<S: Drop> ActionTable<S> {
         self.add_under(name.as_str(), stored)
     }
 
-    /// The same under the text of a name, as [`ActionTable::into_entries`] gives it.
+    /// The same under the text of a name, as [`ActionTable::into_entries`] returns it.
     pub fn add_under(&mut self, name: &str, stored: S) -> Result<(), TableFault>
         ensures ok { OnOk result (self.new ≡ self.old ++ (name.now, stored) ∷ []) }
         ensures absent { OnOk result (find byte_order name.now self.old ≡ None) }
@@ -127,14 +127,14 @@ impl<S: Drop> ActionTable<S> {
         self.entries.into_entries()
     }
 
-    /// No two actions have one name. A caller learns this; nothing happens at run time.
+    /// No two actions share a name. This is a fact for the caller; nothing happens at run time.
     pub fn names_are_unique(&self)
         ensures { no_repeats (map (λ entry. entry.0) self.now) ≡ true }
     {
         self.entries.names_are_unique();
     }
 
-    /// The action of the name. Takes no memory.
+    /// The action of the name. Allocates no memory.
     pub fn find(&self, name: &str) -> Result<&S, UnknownAction>
         ensures { MatchResult result (λ stored. find byte_order name.now self.now ≡ Some stored.now)
             (λ _. find byte_order name.now self.now ≡ None) }

@@ -1,4 +1,4 @@
-//! The values that an action is handed.
+//! The values that an action receives.
 use gb_core::name::Name;
 use gb_core::row::Row;
 use gb_core::value::Value;

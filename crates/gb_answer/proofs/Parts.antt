@@ -1,4 +1,4 @@
--- What is printed of an answer in parts is its text.
+-- An answer that is printed in parts is its text.
 use Rattle.std.proofs.Common.{◌≡◌, ◌++◌, ℕ, Bool, List, [], refl, sym, subst, IfOk}
 use Rattle.std.specs.Prelude.{Option, OnErr, Result, Ok, Err}
 use Rattle.gb_answer.specs.Answer.{answer_text, parts_of, rest_of}

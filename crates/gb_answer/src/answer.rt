@@ -1,4 +1,4 @@
-//! What is printed of a build, and its status.
+//! The output of a build, and its exit status.
 ghost use Rattle.std.specs.Prelude.{◌≡◌, IfOk};
 ghost use Rattle.gb_answer.specs.Answer.{answer_text, not_built_text, refusal_text, status_of};
 
@@ -7,7 +7,7 @@ use gb_report::render::{render, render_fault};
 use gb_report::report::Report;
 use std::alloc::{AllocError, Global};
 
-/// What is printed of a build.
+/// The output of a build.
 pub fn answer_text(alloc: Global, answer: &Result<Report, Fault>) -> Result<Vec<u8>, AllocError>
     ensures { IfOk result (λ text. text.items ≡ answer_text answer.now) }
 {
@@ -17,7 +17,7 @@ pub fn answer_text(alloc: Global, answer: &Result<Report, Fault>) -> Result<Vec<
     }
 }
 
-/// What is printed of a refused build.
+/// The output of a refused build.
 pub fn not_built_text(alloc: Global, fault: &Fault) -> Result<Vec<u8>, AllocError>
     ensures { IfOk result (λ text. text.items ≡ not_built_text fault.now) }
 {
@@ -26,7 +26,7 @@ pub fn not_built_text(alloc: Global, fault: &Fault) -> Result<Vec<u8>, AllocErro
     Ok(text)
 }
 
-/// The line that tells a refusal.
+/// The line that reports a refusal.
 pub fn refusal_text(alloc: Global, fault: &Fault) -> Result<Vec<u8>, AllocError>
     ensures { IfOk result (λ text. text.items ≡ refusal_text fault.now) }
 {
@@ -36,7 +36,8 @@ pub fn refusal_text(alloc: Global, fault: &Fault) -> Result<Vec<u8>, AllocError>
     Ok(text)
 }
 
-/// The status of a build: 0 after success, 2 for words that ask for no build that is known, and else 1.
+/// The exit status of a build: 0 after success, 2 for arguments that request no known build, and
+/// else 1.
 pub fn status_of(answer: &Result<Report, Fault>) -> u8
     ensures { result ≡ status_of answer.now }
 {

@@ -1,4 +1,4 @@
-//! Boxes that are made together, so that there is one way out where memory runs out.
+//! Boxes that are made together, so that there is one early return where memory runs out.
 use std::alloc::{AllocError, Global};
 
 /// Boxes five values.

@@ -1,5 +1,5 @@
-//! What the programs share: what is printed of a build, its status, and the kinds and functions that they
-//! offer.
+//! The parts that the programs share: the output of a build, its exit status, and the kinds and
+//! functions that they offer.
 #![tactic(auto)]
 
 pub mod answer;

@@ -1,4 +1,4 @@
-//! What is left to print once a build has ended.
+//! Prints the remaining output once a build has ended.
 ghost use Rattle.std.specs.Prelude.{◌≡◌, IfOk};
 ghost use Rattle.gb_answer.specs.Answer.{rest_of};
 ghost use Rattle.gb_printer.specs.Printing.{Prints};
@@ -10,7 +10,7 @@ use gb_report::fault::Fault;
 use gb_report::report::Report;
 use std::alloc::{AllocError, Global};
 
-/// Prints what is left of an answer, of which the parts of the tasks were printed before.
+/// Prints the remaining output of an answer; the parts of its tasks were printed before.
 pub fn print_rest<P: Printer>(alloc: Global, printer: &mut P, answer: &Result<Report, Fault>)
     ensures { Prints P.contents P.whole (rest_of answer.now) printer.old printer.new }
 {

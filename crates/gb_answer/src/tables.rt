@@ -1,7 +1,7 @@
-//! The kinds and the functions of values that the programs offer. These are macros, since what is known of a
-//! closure in a box hangs on the function where it is boxed as a `dyn Fn`.
+//! The kinds and the functions of values that the programs offer. These are macros, since what is
+//! known of a closure in a box depends on the function where it is boxed as a `dyn Fn`.
 
-/// All kinds by name, each with its closure; left early where memory runs out.
+/// All kinds by name, each with its closure; returns early where memory runs out.
 #[macro_export]
 macro_rules! builtin_actions {
     ($alloc:expr) => {{
@@ -38,7 +38,7 @@ macro_rules! builtin_actions {
     }};
 }
 
-/// All functions of values by name, each with its closure; left early where memory runs out.
+/// All functions of values by name, each with its closure; returns early where memory runs out.
 #[macro_export]
 macro_rules! builtin_functions {
     ($alloc:expr) => {{
@@ -75,7 +75,7 @@ macro_rules! builtin_functions {
     }};
 }
 
-/// The table; its names are given here, each once, so that only want of memory refuses it.
+/// The table; its names are given here, each once, so that it is refused only for want of memory.
 #[macro_export]
 macro_rules! in_memory {
     ($made:expr) => {

@@ -1,6 +1,6 @@
-//! What may be asked of the current folder, with the built-in kinds and functions: `gb_ask why`, `tasks`,
-//! `graph`, `check`, `reads`, `makes`, `status` and `fmt`. It changes nothing but by `fmt --write`, which
-//! alone takes the locks of a build; `status` tries one for a moment.
+//! Queries about the current folder, with the built-in kinds and functions: `gb_ask why`, `tasks`,
+//! `graph`, `check`, `reads`, `makes`, `status` and `fmt`. It changes nothing except by `fmt
+//! --write`, which alone takes the locks of a build; `status` tries one for a moment.
 #![tactic(auto)]
 
 use gb_action::actions::Actions;
@@ -28,19 +28,19 @@ use std::fs::{File, TryLockError};
 use std::io::{self, BufWriter, Read};
 use std::process::ExitCode;
 
-/// The most bytes that are read of the input: one more than a script may have.
+/// The most bytes that are read of the input: one more than the maximum size of a script.
 const MAX_INPUT: u64 = 1_048_577;
 
 fn main(rt: HostRuntime) -> ExitCode {
     ExitCode::from(answered(&rt).unwrap_or(UNPRINTED))
 }
 
-/// Answers with all actions.
+/// Runs the query with all actions.
 fn answered(rt: &HostRuntime) -> Result<u8, AllocError> {
     answered_with(rt, builtin_actions!(rt.alloc()))
 }
 
-/// Answers with these actions and all functions of values.
+/// Runs the query with these actions and all functions of values.
 fn answered_with(rt: &HostRuntime, actions: ActionTable<StoredAction>) -> Result<u8, AllocError> {
     let transforms = builtin_functions!(rt.alloc());
     answered_by::<Builtin, Builtin>(
@@ -52,7 +52,8 @@ fn answered_with(rt: &HostRuntime, actions: ActionTable<StoredAction>) -> Result
     )
 }
 
-/// Answers with these tables. The status is 1 also where memory runs out, or nothing can be printed.
+/// Runs the query with these tables. The exit status is 1 also if memory runs out, or if nothing
+/// can be printed.
 fn answered_by<A: Actions, T: Transforms>(
     rt: &HostRuntime,
     tables: &Tables<A, T>,
@@ -72,7 +73,7 @@ fn answered_by<A: Actions, T: Transforms>(
     Ok(status.unwrap_or(UNPRINTED))
 }
 
-/// Answers what the first word asks with the others.
+/// Runs the query that the first argument names, with the other arguments.
 fn asked<A: Actions, T: Transforms, W: Printer>(
     rt: &HostRuntime,
     words: Vec<String>,
@@ -96,7 +97,7 @@ fn asked<A: Actions, T: Transforms, W: Printer>(
     }
 }
 
-/// The notation that the first word names, if it names one, and the other words.
+/// The notation that the first argument names, if it names one, and the other arguments.
 fn noted(words: Vec<String>) -> (Notation, Vec<String>) {
     let mut words = words;
     match words.first().and_then(|word| notation_of(word.as_str())) {
@@ -132,7 +133,7 @@ fn listed<A: Actions, T: Transforms, F: Folder, W: Printer>(
     tasks::run(alloc, folder, notation, Ok(words), page, tables)
 }
 
-/// Prints the tasks that a place is related to.
+/// Prints the tasks that are related to a place.
 fn related<A: Actions, T: Transforms, F: Folder, W: Printer>(
     alloc: Global,
     folder: &mut F,
@@ -145,7 +146,7 @@ fn related<A: Actions, T: Transforms, F: Folder, W: Printer>(
     places::run(alloc, folder, notation, relation, Ok(words), page, tables)
 }
 
-/// Prints what the folder has beside its scripts.
+/// Prints the entries of the folder other than its scripts.
 fn looked<A: Actions, T: Transforms, F: Folder, W: Printer>(
     alloc: Global,
     folder: &mut F,
@@ -170,13 +171,14 @@ fn activity(rt: &HostRuntime) -> Activity {
     }
 }
 
-/// Prints how to ask.
+/// Prints the usage text.
 fn helped<W: Printer>(page: &mut W) -> Option<u8> {
     page.print(USAGE.as_bytes());
     if page.is_whole() { Some(0) } else { None }
 }
 
-/// What the first word asks, and the others. No word asks for help.
+/// The query that the first argument names, and the other arguments. Without arguments it is the
+/// help.
 fn parted(words: Vec<String>) -> (Question, Vec<String>) {
     let mut words = words;
     if words.is_empty() {
@@ -186,7 +188,7 @@ fn parted(words: Vec<String>) -> (Question, Vec<String>) {
     (question_of(first.as_str()), words)
 }
 
-/// Draws the plan in the style that the first word names, if it names one.
+/// Draws the plan in the style that the first argument names, if it names one.
 fn drawn<A: Actions, T: Transforms, F: Folder, W: Printer>(
     alloc: Global,
     folder: &mut F,
@@ -205,7 +207,7 @@ fn drawn<A: Actions, T: Transforms, F: Folder, W: Printer>(
     graph::run(alloc, folder, style, Ok(words), page, tables)
 }
 
-/// Formats the named files in the mode that the first word names, if it names one.
+/// Formats the named files in the mode that the first argument names, if it names one.
 fn formatted<F: Folder, W: Printer>(
     rt: &HostRuntime,
     folder: &mut F,
@@ -237,7 +239,7 @@ fn formatted<F: Folder, W: Printer>(
     status
 }
 
-/// The locks of a build, where files are written: a write removes what a build has in `.gb/new`.
+/// The locks of a build if files are written: a write removes whatever a build has in `.gb/new`.
 fn locks_for(rt: &HostRuntime, mode: Mode) -> Result<Vec<File>, AllocError> {
     match mode {
         Mode::Writes => locks(rt),
@@ -245,12 +247,12 @@ fn locks_for(rt: &HostRuntime, mode: Mode) -> Result<Vec<File>, AllocError> {
     }
 }
 
-/// Whether a word is an option: `-` alone is none.
+/// Whether an argument is an option: `-` alone is not one.
 fn is_option(word: &str) -> bool {
     word.starts_with('-') && word != "-"
 }
 
-/// The input, where it is named among the files.
+/// The input, if it is named among the files.
 fn input_for(rt: &HostRuntime, names: &[String]) -> Option<Vec<u8>> {
     let mut input = Vec::new(rt.alloc());
     if names.iter().any(|name| name.as_str() == "-") {

@@ -45,7 +45,7 @@ module _ (files : Files) where
       let two = one_said Reads-script script_ends_text bytes (Ok text) (Err of) here bad in
       cc
 
--- no script has a fault where the folder says something
+-- no script has a fault if the folder declares a source
 pub none_again : {M F Z S A : Type 0} (tables : Tables M F Z S A) (files : Files) (given : List (List ℕ × List ℕ)) (source : Source) (scripts : List (Path × List Statement)) (fault : Fault)
     → FolderSays tables files given (Ok source) → IsRead source scripts → IsUnread files scripts fault → ⊥
 none_again tables files given source scripts fault (settings, (first, says_first, (none, same)), (texts, are, (_, is))) read unread =
@@ -58,7 +58,7 @@ none_again tables files given source scripts fault (settings, (first, says_first
     let readable = All-contains (IsReadable files) (zip (project_paths settings) read.texts) unread.script all there in
     no_fault files (script_of_project unread.script.0) readable.1.0 fault readable.0 readable.1.1 unread.has
 
--- what holds of a fault that is handed on holds of the result
+-- what holds of a fault that is returned holds of the result
 pub handed : {T : Type 0} (Good : T → Type 0) (Bad : Fault → Type 0) (result : Result T Fault) (fault : Fault) → IsErrAnd result (λ told. told ≡ fault) → Bad fault → MatchResult result Good Bad
 handed Good Bad (Ok x) fault is bad = absurd is
 handed Good Bad (Err told) fault is bad = subst Bad (sym is) bad

@@ -1,4 +1,4 @@
--- What is found of a folder, and that builds of it are refused for no task where no fault is found.
+-- The findings for a folder; and if there is no fault, builds of it are refused for no task.
 use Rattle.std.proofs.Common.{ℕ, ◌≡◌, ◌⊎◌, List, [], ◌∷◌, Ok, Err, Result, ap, subst, sym, ◌∙◌, inl, inr}
 use Rattle.std.specs.Prelude.{Bool, IsTrue}
 use Rattle.gb_build.proofs.OneLemmas.{folders_one}
@@ -42,7 +42,7 @@ sites_of_same tells old new same (script ∷ scripts) sites marks (lines, others
   of,
 )
 
--- what is found of a folder is found of one that has the same contents
+-- findings for a folder are findings for one with the same contents
 pub found_of_same : (tells : Bool) (old new : Contents) → (IsTrue tells → new ≡ old) → (registry : Registry) (scripts : List (Path × List Statement)) (findings : Findings)
     → AreFindings tells new registry scripts findings → AreFindings tells old registry scripts findings
 found_of_same tells old new same registry scripts findings are = record {

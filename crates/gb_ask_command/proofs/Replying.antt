@@ -1,4 +1,4 @@
--- What is replied of scripts that were read is the reply to what is asked.
+-- The reply about scripts that were read is the reply to the arguments.
 use Rattle.std.specs.Prelude.{ℕ, ◌≡◌, ◌≤◌, ◌⊎◌, Bool, IsTrue, List, Result, Ok, Err, IfErr, IfOk, MatchResult, codes, string_bytes}
 use Rattle.std.proofs.Common.{ap, inl, inr, subst}
 use Rattle.gb_declare.specs.Registered.{registry_said}
@@ -38,7 +38,7 @@ module _ {M F Z S A : Type 0} (tables : Tables M F Z S A) (tells : Bool) (old : 
   of_drawing style source read (Ok text) is refused = (source, read, is)
   of_drawing style source read (Err fault) is refused = inr (source, read, refused)
 
-  -- no place is asked about
+  -- no place is requested
   pub of_no_place : (notation : Notation) (relation : Relation) (place found : Result Place Fault) (fault : Fault) → found ≡ Err fault
       → (found ≡ place) ⊎ (found ≡ Err faults.OutOfMemory) → IsReplyAbout tables tells old after notation relation place asked (Err fault)
   of_no_place notation relation (Ok place) found fault err (inl is) = absurd (cc)
@@ -46,7 +46,7 @@ module _ {M F Z S A : Type 0} (tables : Tables M F Z S A) (tells : Bool) (old : 
   of_no_place notation relation (Err other) found fault err (inl is) = inl (cc)
   of_no_place notation relation (Err other) found fault err (inr is) = inr (cc)
 
-  -- what the folder has once the scripts were read
+  -- the entries of the folder, after the scripts are read
   pub of_status : (notation : Notation) (activity : Activity) (source : Source) → AreRead tables tells old after asked (Ok source)
       → (mid : Contents) (later : ℕ) → (IsTrue tells → mid ≡ old.contents) → old.failures ≤ later → later ≤ after
       → (reply : Reply) → IfOk reply (λ text. IsStatusOf tells notation activity mid.files (paths_of (registry_said tables source)) (string_bytes text))

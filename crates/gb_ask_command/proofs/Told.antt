@@ -1,4 +1,4 @@
--- The report of a plan is that of what was asked for, and a later report is one of the folder as it was before.
+-- The report of a plan is the report of the request, and a later report is one of the earlier folder.
 use Rattle.std.specs.Prelude.{ℕ, ◌≡◌, ◌≤◌, Bool, IsTrue, List, [], Option, Result, Ok, Err, IfErr, IfOk}
 use Rattle.std.specs.List.{AllZip, zip}
 use Rattle.std.proofs.Common.{subst, arith}
@@ -33,9 +33,9 @@ pub err_more : {T E : Type 0} (P Q : E → Type 0) → ((e : E) → P e → Q e)
 err_more P Q more (Ok x) is = tt
 err_more P Q more (Err e) is = more e is
 
--- ---- Since the folder was so
+-- ---- Since the folder had these contents
 
--- what a folder shows
+-- the visible state of a folder
 abbrev pub shows : Contents → ℕ → Shown
 shows contents failures = record { contents = contents; failures = failures }
 
@@ -67,12 +67,12 @@ module _ {S : Type 0} (meanings : Meanings S) (rows : Rows S) (options : Options
     foretold = λ yes. on_since (same yes) earlier count plan told (is.foretold yes);
   }
 
--- ---- What was asked for
+-- ---- The request
 
 module _ {M F Z S A : Type 0} (tables : Tables M F Z S A) (tells : Bool) (asked : Invocation) (contents mid : Contents) (before later after : ℕ)
     (same : IsTrue tells → mid ≡ contents) (earlier : before ≤ later) (count : later ≤ after) (registry : Registry)
     (scripts : IsTrue tells → registers_in tables (outside contents).files asked.properties (Ok registry)) where
-  -- what is answered since the scripts were read is the answer to it
+  -- an answer since the scripts were read is the answer to the request
   pub answers_it : (answer : Answer) → IfOk answer (λ told. IsRegistry registry)
       → IfOk answer (λ told. AreToldOf tells tables.shapes tables.kinds registry asked.requested asked.excluded asked.options (shows mid later) after told.items)
       → IfErr answer (IsNotTold registry asked.requested asked.excluded later after)

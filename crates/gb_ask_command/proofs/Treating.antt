@@ -1,4 +1,4 @@
--- The named files, treated one after another.
+-- The named files, processed one after another.
 use Rattle.std.proofs.Common.{ℕ, ◌≡◌, ◌<◌, ◌+◌, ◌++◌, ◌||◌, Bool, true, false, not, List, [], ◌∷◌, Option, Result, Ok, Err, length, get_or, take, refl, sym, ap, ◌∙◌, append-nil, subst, inl, inr}
 use Rattle.std.specs.Prelude.{◌⊎◌, string_bytes}
 use Rattle.std.specs.Global.{Global}
@@ -38,7 +38,7 @@ any_more a b c (x ∷ some) more first then =
 -- ---- file after file
 
 module _ {F W X : Type 0} (device : Device F) (contents : W → Option (List ℕ)) (whole : W → Bool) (One : X → List Call → List ℕ → Ended Fault → Type 0) where
-  -- something was done with each, by these calls, and this was printed of them
+  -- each was processed by these calls, and this output was printed for them
   abbrev pub AllDone : List X → F → W → Bool → Ended Fault → F → W → Bool → Type 0
   AllDone xs old page any result new page' any' =
       (calls : List Call) × (made : List ℕ) × Leads device old calls new × Each One xs calls made result
@@ -92,7 +92,7 @@ module _ {F : Type 0} (device : Device F) where
       (calls : List Call) × Leads device old calls new × Treats mode headed input place calls printed
 
   module _ (mode : Mode) (headed : Bool) (place : List ℕ) where
-    -- it is not formatted
+    -- it cannot be formatted
     pub text_fails : (text : List ℕ) (folder : F) (fault : Fault) → FormatsAt place text (Err fault) → TextDone mode headed place text folder (Err fault) folder
     text_fails text folder fault is = ([], refl, (Err fault, is, (refl, refl)))
 
@@ -109,14 +109,14 @@ module _ {F : Type 0} (device : Device F) where
     file_done input text old mid new printed got done =
         (got.0 ++ done.0, leads_on device old mid new got.0 done.0 got.1 done.1, (Ok text, got.0, done.0, refl, got.2, done.2))
 
-    -- the name is none
+    -- the name is no place's name
     pub name_fails : (input : List ℕ) (folder : F) (fault : Fault) → IsText input place [] (Err fault) → FileDone mode headed input place folder (Err fault) folder
     name_fails input folder fault is = file_fails input folder folder fault ([], refl, is)
 
 -- ---- one call
 
 module _ {F : Type 0} (device : Device F) (place : List ℕ) (old new : F) where
-  -- the read was answered, or memory ran out before it
+  -- the read returned, or memory ran out before it
   abbrev pub ReadDone : Result (List ℕ) Fault → Type 0
   ReadDone text =
       ((text ≡ Err faults.OutOfMemory) × (new ≡ old))
@@ -136,7 +136,7 @@ module _ {F : Type 0} (device : Device F) (place : List ℕ) (old new : F) where
     inr (answer, refl, named ∙ ap (λ (p : List ℕ). named_after p answer) same),
   )
 
--- the name of no place
+-- a name that is no place's
 pub name_is : (input name : List ℕ) (fault : Fault) → (fault ≡ faults.OutOfMemory) ⊎ ((is_place name ≡ false) × (fault ≡ faults.BadPlace name)) → IsText input name [] (Err fault)
 name_is input name fault (inl is) = inr (inr (inr (refl, ap Err is)))
 name_is input name fault (inr is) = inr (inr (inl (is.0, refl, ap Err is.1)))

@@ -1,4 +1,4 @@
--- What may be written where scripts are formatted.
+-- What may be written when scripts are formatted.
 use Rattle.std.proofs.Common.{ℕ, ◌≡◌, ◌++◌, ◌||◌, Bool, true, false, List, [], ◌∷◌, Option, Result, Ok, Err, Some, None, map, refl, sym, subst, inl, inr}
 use Rattle.std.specs.Prelude.{bytes_eq, string_bytes}
 use Rattle.std.specs.Global.{Global}
@@ -73,7 +73,7 @@ may_as false modes.Checks names place next may = may
 
 -- ---- one file
 
--- a formatted text may be put at the place
+-- a formatted text may be written at the place
 may_put : (place text out : List ℕ) → IsFormatted text out → may_write modes.Writes (place ∷ []) place (Some out)
 unfolding may_write
 may_put place text out is = (left_true (bytes_eq place place) false ((bytes_decides place place).1 refl), (text, out, is, refl))

@@ -25,7 +25,7 @@ use Rattle.gb_script.specs.declared.script.Statement.{Statement}
 use Rattle.gb_store.specs.Faults.{IsOfMachine}
 use Rattle.gb_ask_command.specs.Unread.{unread_values_text}
 
--- what is found, or why scripts or arguments cannot be read
+-- the findings, or why scripts or arguments cannot be read
 abbrev pub CheckReply : Type 0
 CheckReply = Result Findings Fault
 
@@ -34,12 +34,12 @@ abbrev pub check_text : CheckReply → List ℕ
 check_text (Ok found) = string_bytes found.faults ++ string_bytes found.warnings
 check_text (Err fault) = unread_text fault
 
--- the status: 0 where there is no fault, 2 for words that ask for nothing that is known (96), and else 1
+-- the exit status: 0 if there is no fault, 2 for arguments that request nothing known (96), and otherwise 1
 abbrev pub check_status : CheckReply → ℕ
 check_status (Ok found) = if is_empty (string_bytes found.faults) then 0 else 1
 check_status (Err fault) = if nat_eq (fault_number fault) 96 then 2 else 1
 
--- a refusal for want of memory, for a device that failed, for a word, or for the plan (60 to 63)
+-- a refusal for lack of memory, for a device that failed, for an argument, or for the plan (60 to 63)
 abbrev pub IsNotForATask : Registry → Invocation → ℕ → ℕ → Fault → Type 0
 IsNotForATask registry asked before after fault =
     (fault ≡ faults.OutOfMemory) ⊎ (((place : Place) × IsDeviceFault before after place fault)
@@ -48,7 +48,7 @@ IsNotForATask registry asked before after fault =
 
 module _ {M F Z S A : Type 0} (tables : Tables M F Z S A) where
   -- The theorem of silence, for builds of this folder with these values: whatever else is requested, no task
-  -- is the reason for a refusal.
+  -- causes a refusal.
   abbrev pub IsQuiet : Source → Contents → List (Text × Text) → Type 0
   IsQuiet source contents given =
       (asked : Invocation) (failures after : ℕ) (fault : Fault) → asked.properties ≡ given
@@ -57,8 +57,8 @@ module _ {M F Z S A : Type 0} (tables : Tables M F Z S A) where
       → IsNotForATask (registry_said tables source) asked failures after fault
 
 module _ {M F Z S A : Type 0} (tables : Tables M F Z S A) (tells : Bool) where
-  -- What is found of what scripts say, one script for each project. A warning of each value that nothing
-  -- reads comes before those of tasks.
+  -- The findings for the statements of scripts, one script for each project. A warning for each value that
+  -- nothing reads precedes those for tasks.
   pub record AreFindingsOf (source : Source) (contents : Contents) (found : Findings) : Type 0 where
     pub scripts : List (Path × List Statement)
     pub are_scripts : IsRead source scripts
@@ -75,15 +75,15 @@ module _ {M F Z S A : Type 0} (tables : Tables M F Z S A) (tells : Bool) where
     pub quiet : IsTrue tells → string_bytes found.faults ≡ []
         → IsQuiet tables source contents asked.properties
 
-  -- What is found; or where the contents of the folder are known, a fault of the machine between these counts
-  -- of failures, or the fault of what the folder says.
+  -- The findings; or if the contents of the folder are known, a fault of the machine between these counts of
+  -- failures, or the fault of the folder's scripts.
   abbrev pub IsCheckReply : Invocation → Contents → ℕ → ℕ → CheckReply → Type 0
   IsCheckReply asked contents before after reply =
       MatchResult reply (IsChecked asked contents)
       (λ fault. IsTrue tells
       → IsOfMachine before after fault ⊎ FolderSays tables contents.files asked.properties (Err fault))
 
-  -- the words are refused, or they ask for something, and this is the reply to it
+  -- the arguments are refused, or they make a request, and this is the reply to it
   abbrev pub RepliesCheck : Given → Contents → ℕ → ℕ → CheckReply → Type 0
   RepliesCheck given contents before after reply =
       ((fault : Fault) × AreRefused given fault × (reply ≡ Err fault))

@@ -1,4 +1,4 @@
--- What is done with the named files where scripts are formatted: by which calls, and what is printed.
+-- How `fmt` processes the named files: its calls to the folder, and its output.
 use Rattle.std.specs.Prelude.{ℕ, ◌≡◌, ◌⊎◌, ◌||◌, Bool, true, false, List, [], ◌∷◌, ◌++◌, Result, Ok, Err}
 use Rattle.std.specs.Prelude.{IsTrue, Some, bytes_eq, codes, eqb, if◌then◌else◌, nat_lt, string_bytes}
 use Rattle.std.specs.Global.{Global}
@@ -30,7 +30,7 @@ use Rattle.gb_ask_command.specs.declared.words.Mode.TheVariants as modes
 abbrev pub is_input : Place → Bool
 is_input place = bytes_eq place (codes "-")
 
--- a file of this name has settings, any other a script
+-- a file with this name has settings, any other a script
 abbrev pub is_settings : Place → Bool
 is_settings place = bytes_eq place (codes "settings.gb") || ends_with eqb place (codes "/settings.gb")
 
@@ -62,7 +62,8 @@ named_after place (Err fault) = Err (fault_at place fault)
 
 -- ---- one file
 
--- The text of a file is what a read at its place answers. That of `-` is the input. Memory may run out first.
+-- The text of a file is the result of a read at its place. The text of `-` is the input. Memory may run out
+-- first.
 abbrev pub IsText : Bytes → Place → List Call → Result Bytes Fault → Type 0
 IsText input place calls text =
     ((is_input place ≡ true) × (calls ≡ []) × (text ≡ Ok input))
@@ -92,7 +93,7 @@ Replaces false place out calls printed =
 abbrev pub heading : Bool → Place → Bytes
 heading headed place = if headed then line (codes "==> " ++ shown_text place) else []
 
--- By these calls a formatted text is printed, or named if it differs, or written and named if it differs.
+-- With these calls a formatted text is printed, or named if it differs, or written and named if it differs.
 abbrev pub Shows : Mode → Bool → Place → Bytes → Bytes → List Call → Result Bytes Fault → Type 0
 Shows modes.Prints headed place text out calls printed =
     (calls ≡ []) × (printed ≡ Ok (heading headed place ++ out))
@@ -112,13 +113,13 @@ OrFails (Ok bytes) Next calls printed = Next bytes calls printed
 OrFails (Err fault) Next calls printed = (calls ≡ []) × (printed ≡ Err fault)
 
 module _ (mode : Mode) (headed : Bool) where
-  -- the text is formatted, and shown
+  -- the text is formatted and shown
   abbrev pub TreatsText : Place → Bytes → List Call → Result Bytes Fault → Type 0
   TreatsText place text calls printed =
       (out : Result Bytes Fault) × FormatsAt place text out
       × OrFails out (Shows (mode_as (is_input place) mode) headed place text) calls printed
 
-  -- The file at a place, or the input, is treated by these calls, and this is printed of it.
+  -- The file at a place, or the input, is processed with these calls, and this is the output for it.
   abbrev pub Treats : Bytes → Place → List Call → Result Bytes Fault → Type 0
   Treats input place calls printed =
       (text : Result Bytes Fault) × (first : List Call) × (later : List Call) × (calls ≡ first ++ later)
@@ -134,7 +135,7 @@ abbrev pub ended_of : Result Bytes Fault → Ended Fault
 ended_of (Ok text) = Ok tt
 ended_of (Err fault) = Err fault
 
--- where several files are printed, each has a heading
+-- if several files are printed, each has a heading
 abbrev pub is_headed : Mode → ℕ → Bool
 is_headed modes.Prints count = nat_lt 1 count
 is_headed mode count = false
@@ -145,22 +146,22 @@ IsTreated mode headed input name calls made ended =
     (printed : Result Bytes Fault) × Treats mode headed input (string_bytes name) calls printed
     × (made ≡ text_of printed) × (ended ≡ ended_of printed)
 
--- what is printed last
+-- the last part of the output
 abbrev pub end_text : Ended Fault → Bytes
 end_text (Ok done) = []
 end_text (Err fault) = refusal_text fault
 
--- the status: 1 where a file could not be treated, or was compared and differs
+-- the exit status: 1 if a file could not be processed, or was compared and differs
 abbrev pub fmt_status : Mode → Bytes → Ended Fault → ℕ
 fmt_status mode made (Err fault) = 1
 fmt_status modes.Checks made (Ok done) = if is_empty made then 0 else 1
 fmt_status modes.Prints made (Ok done) = 0
 fmt_status modes.Writes made (Ok done) = 0
 
--- ---- what may be asked
+-- ---- permitted calls
 
--- Where files are written, a formatted text may be put at one of these places, and nothing else; else nothing
--- may be changed.
+-- If files are written, a formatted text may be written at one of these places, and nothing else may change;
+-- otherwise nothing may change.
 unfoldable pub may_write : Mode → List (List ℕ) → Permit
 may_write modes.Writes names place next =
     IsTrue (list_any (bytes_eq place) names)

@@ -17,7 +17,7 @@ use Rattle.gb_ask_command.specs.declared.words.Style.TheVariants as styles
 
 -- ---- The nodes
 
--- the path of the task of a number: nothing where there is none
+-- the path of the task with a number; empty if there is none
 abbrev pub path_at : Plan → ℕ → Path
 path_at plan number = unwrap_or (slice_get (order plan) number) []
 
@@ -44,7 +44,7 @@ IsPicture styles.Mermaid nodes text = text ≡ mermaid_text nodes
 IsPicture styles.Svg nodes text = IsSvgOf nodes text
 IsPicture styles.Json nodes text = IsJsonOf (graph_data nodes) text
 
--- the graph of the plan of what is asked of a registry
+-- the graph of the plan of a request for a registry
 abbrev pub IsDrawing : Style → Registry → List Text → List Text → List ℕ → Type 0
 IsDrawing style registry requested excluded text =
     (plan : Plan) × IsPlanOf registry requested excluded plan

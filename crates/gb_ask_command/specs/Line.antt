@@ -1,4 +1,4 @@
--- The line of a task: its outcome if it were executed now, and why it would run.
+-- The line of a task: the outcome of executing it now, and the reasons for an execution.
 use Rattle.std.specs.Prelude.{ℕ, ◌==◌, Bool, List, [], ◌∷◌, ◌++◌, Option, Some, None, if◌then◌else◌}
 use Rattle.std.specs.Prelude.{codes, decimal, length}
 use Rattle.gb_foretell.specs.declared.coming.Coming.{Coming}
@@ -19,7 +19,7 @@ abbrev pub reasons_text : List Reason → List ℕ
 reasons_text [] = []
 reasons_text (first ∷ others) = reason_text first ++ more_text (length others)
 
--- that a task runs, by changes or in full
+-- that a task is executed, incrementally or in full
 abbrev pub way : Bool → List ℕ
 way by_changes = if by_changes then codes " runs by changes: " else codes " runs: "
 
@@ -36,7 +36,7 @@ coming_text comings.UpToDate = codes " UP-TO-DATE"
 coming_text comings.HasGrown = codes " runs: outputs are too large or too many"
 coming_text (comings.Runs by_changes reasons) = runs_text by_changes reasons.items
 
--- the task that keeps it from starting, or else the one after which its outcome may be another
+-- the task that keeps it from starting, or else the one whose execution may change its outcome
 abbrev pub mark_text : Option Path → Option Path → List ℕ
 mark_text (Some path) after = codes " (needs " ++ path ++ codes ")"
 mark_text None (Some path) = codes " (after " ++ path ++ codes ")"

@@ -24,18 +24,18 @@ use Rattle.gb_ask_command.specs.Graph.{IsDrawing}
 use Rattle.gb_ask_command.specs.Reply.{Reply}
 use Rattle.gb_ask_command.specs.declared.words.Style.{Style}
 
--- the arguments are refused, or they ask for something, and this is the reply to it
+-- the arguments are refused, or they make a request, and this is the reply to it
 abbrev pub Replies : {R : Type 0} → (Invocation → Result R Fault → Type 0) → Given → Result R Fault → Type 0
 Replies IsReplyTo given reply =
     ((fault : Fault) × AreRefused given fault × (reply ≡ Err fault))
     ⊎ ((asked : Invocation) × AskFor given asked × IsReplyTo asked reply)
 
--- the folder is as `old` at first, and its device has failed `after` times at the end
+-- the folder is `old` at first, and its device has failed `after` times at the end
 module _ {M F Z S A : Type 0} (tables : Tables M F Z S A) (tells : Bool) (old : Shown) (after : ℕ) where
   -- ---- The scripts
 
-  -- These are the scripts with the values that are given, or the fault for which they cannot be read. Where
-  -- contents are known, the folder's own scripts say it, or it is a fault of the machine.
+  -- These are the scripts with the given values, or the fault for which they cannot be read. If contents are
+  -- known, this is the result for the folder's own scripts, or a fault of the machine.
   abbrev pub AreRead : Invocation → Result Source Fault → Type 0
   AreRead asked (Ok source) =
       IsTrue tells → FolderSays tables old.contents.files asked.properties (Ok source)
@@ -43,12 +43,12 @@ module _ {M F Z S A : Type 0} (tables : Tables M F Z S A) (tells : Bool) (old : 
       IsTrue tells → IsOfMachine old.failures after fault
       ⊎ FolderSays tables old.contents.files asked.properties (Err fault)
 
-  -- scripts are read, and this holds of what they register
+  -- scripts are read, and this holds of the tasks that they register
   abbrev pub IsOfScripts : Invocation → (Registry → Type 0) → Type 0
   IsOfScripts asked Holds =
       (source : Source) × AreRead asked (Ok source) × Holds (registry_said tables source)
 
-  -- a text of what the scripts register, or the fault for which they cannot be read
+  -- a text about the tasks that the scripts register, or the fault for which they cannot be read
   abbrev pub IsReplyOf : (Registry → List ℕ → Type 0) → Invocation → Reply → Type 0
   IsReplyOf IsTextOf asked (Ok text) = IsOfScripts asked (λ registry. IsTextOf registry (string_bytes text))
   IsReplyOf IsTextOf asked (Err fault) = AreRead asked (Err fault)
@@ -59,7 +59,7 @@ module _ {M F Z S A : Type 0} (tables : Tables M F Z S A) (tells : Bool) (old : 
   abbrev pub IsTasksReply : Notation → Invocation → Reply → Type 0
   IsTasksReply notation asked reply = IsReplyOf (IsTasksText notation) asked reply
 
-  -- the graph of the plan of what is asked for, or what a build of it is refused for
+  -- the graph of the plan of the request, or the fault for which a build of it is refused
   abbrev pub IsGraphReply : Style → Invocation → Reply → Type 0
   IsGraphReply style asked (Ok text) =
       IsOfScripts asked (λ registry.
@@ -68,7 +68,7 @@ module _ {M F Z S A : Type 0} (tables : Tables M F Z S A) (tells : Bool) (old : 
       AreRead asked (Err fault)
       ⊎ IsOfScripts asked (λ registry. IsRefusalOf registry asked.requested asked.excluded fault)
 
-  -- what relates a registered task to this place and nothing else, or that no place is asked about
+  -- exactly the relations between registered tasks and this place, or the fault that no place is requested
   abbrev pub IsReplyAbout : Notation → Relation → Result Place Fault → Invocation → Reply → Type 0
   IsReplyAbout notation relation (Ok place) asked reply =
       IsReplyOf (λ registry text. IsFoundText notation relation (found_in relation place registry) text)
@@ -80,8 +80,8 @@ module _ {M F Z S A : Type 0} (tables : Tables M F Z S A) (tells : Bool) (old : 
   IsPlaceReply notation relation asked reply =
       IsReplyAbout notation relation (asked_place asked.requested) asked reply
 
-  -- Whether a build runs, and what each file of `.gb` is where the scripts register these tasks; or the fault
-  -- for which scripts or files cannot be read. Where contents are known, the files are the folder's own.
+  -- Whether a build runs, and what each file of `.gb` is if the scripts register these tasks; or the fault
+  -- for which scripts or files cannot be read. If contents are known, the files are the folder's own.
   abbrev pub IsStatusReply : Notation → Activity → Invocation → Reply → Type 0
   IsStatusReply notation activity asked (Ok text) =
       IsOfScripts asked (λ registry.

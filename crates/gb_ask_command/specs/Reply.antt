@@ -1,4 +1,4 @@
--- What is printed of a text or of a refusal.
+-- The output for a text or a refusal.
 use Rattle.std.specs.Prelude.{ℕ, List, Result, Ok, Err, if◌then◌else◌, nat_eq, string_bytes}
 use Rattle.std.specs.Global.{Global}
 use Rattle.std.specs.declared.string.String.{String}
@@ -15,7 +15,7 @@ abbrev pub reply_text : Reply → List ℕ
 reply_text (Ok text) = string_bytes text
 reply_text (Err fault) = refusal_text fault
 
--- the status: 0 if there is a text, 2 for arguments that ask for nothing that is known (96), else 1
+-- the exit status: 0 if there is a text, 2 for arguments that request nothing known (96), otherwise 1
 abbrev pub reply_status : Reply → ℕ
 reply_status (Ok text) = 0
 reply_status (Err fault) = if nat_eq (fault_number fault) 96 then 2 else 1

@@ -1,4 +1,4 @@
--- What is reported of the tasks of a plan, and the answer to the arguments.
+-- The reports of the tasks of a plan, and the answer to the arguments.
 use Rattle.std.specs.Prelude.{ℕ, ◌≡◌, ◌⊎◌, Bool, false, IsTrue, List, map, Option, Result, Ok, Err}
 use Rattle.std.specs.Prelude.{string_bytes}
 use Rattle.std.specs.Global.{Global}
@@ -40,14 +40,14 @@ use Rattle.gb_ask_command.specs.WhyJson.{why_data}
 abbrev pub Answer : Type 0
 Answer = Result (Vec Foretold Global) Fault
 
--- ---- What is printed
+-- ---- The output
 
 -- a line for each task, or one value in JSON
 abbrev pub IsWhyText : Notation → List Foretold → List ℕ → Type 0
 IsWhyText notations.Lines told text = text ≡ flat_map line_text told
 IsWhyText notations.Json told text = IsJsonOf (why_data told) text
 
--- the text of the reports, or that memory ran out for it; a refusal stays one
+-- the text of the reports, or that memory ran out for it; a refusal is kept
 abbrev pub IsWritten : Notation → Answer → Reply → Type 0
 IsWritten notation (Ok told) (Ok text) = IsWhyText notation told.items (string_bytes text)
 IsWritten notation (Ok told) (Err fault) = fault ≡ faults.OutOfMemory
@@ -58,10 +58,10 @@ abbrev pub why_text : Reply → List ℕ
 why_text (Ok text) = string_bytes text
 why_text (Err fault) = not_built_text fault
 
--- ---- What is reported
+-- ---- The reports
 
--- The report of each task of the plan says what it would do on the folder as it is, by the records that are
--- there; the device fails up to this count.
+-- The report of each task of the plan predicts its execution on the folder as it is, based on the records
+-- that exist; the device fails up to this count.
 pub record AreToldOn {S : Type 0} (meanings : Meanings S) (rows : Rows S) (options : Options) (old : Shown)
     (after : ℕ) (plan : Plan) (told : List Foretold) : Type 0 where
   pub records : List (Option Record)
@@ -69,8 +69,9 @@ pub record AreToldOn {S : Type 0} (meanings : Meanings S) (rows : Rows S) (optio
   pub foretold : (kinds : Kinds) → Agrees meanings rows kinds
       → AreForetold kinds options old.contents old.failures after plan records told
 
--- Over any folder: the tasks of the plan are reported in its order, with a reason where one runs for reasons,
--- and each after the first that may change what it reads. Where contents are known, the reports are right.
+-- Over any folder: the tasks of the plan are reported in its order; a task that is executed for reasons has a
+-- reason; and each task is marked with the first one that may change what it reads. If contents are known,
+-- the reports are right.
 pub record AreTold {S : Type 0} (tells : Bool) (meanings : Meanings S) (rows : Rows S) (options : Options)
     (old : Shown) (after : ℕ) (plan : Plan) (told : List Foretold) : Type 0 where
   pub paths : map (λ one. one.path) told ≡ order plan
@@ -78,7 +79,7 @@ pub record AreTold {S : Type 0} (tells : Bool) (meanings : Meanings S) (rows : R
   pub marked : AreMarked plan told
   pub foretold : IsTrue tells → AreToldOn meanings rows options old after plan told
 
--- those of the plan of what is asked of a registry
+-- the reports of the plan of a request for a registry
 abbrev pub AreToldOf : {S : Type 0} → Bool → Meanings S → Rows S → Registry → List Text → List Text → Options
     → Shown → ℕ → List Foretold → Type 0
 AreToldOf tells meanings rows registry requested excluded options old after told =
@@ -87,7 +88,7 @@ AreToldOf tells meanings rows registry requested excluded options old after told
 
 -- ---- The answer
 
--- what is asked of this registry is refused, or the records of its tasks could not be read
+-- the request is refused for this registry, or the records of its tasks could not be read
 abbrev pub IsNotTold : Registry → List Text → List Text → ℕ → ℕ → Fault → Type 0
 IsNotTold registry requested excluded before after fault =
     IsRefusalOf registry requested excluded fault ⊎ IsUnread false before after fault
@@ -106,7 +107,7 @@ in_earnest asked = record {
 }
 
 module _ {M F Z S A : Type 0} (tables : Tables M F Z S A) (tells : Bool) where
-  -- The tasks of the plan of what is asked of some registry are reported. Where contents are known, it is the
+  -- The tasks of the plan of the request for some registry are reported. If contents are known, it is the
   -- registry of the folder's scripts.
   pub record IsTold (asked : Invocation) (old : Shown) (after : ℕ) (told : List Foretold) : Type 0 where
     pub registry : Registry
@@ -116,12 +117,12 @@ module _ {M F Z S A : Type 0} (tables : Tables M F Z S A) (tells : Bool) where
     pub told_of : AreToldOf tells tables.shapes tables.kinds registry asked.requested asked.excluded
         asked.options old after told
 
-  -- what is asked for is reported; or where contents are known, a build of it is refused for this
+  -- the request is reported; or if contents are known, a build of it is refused for this fault
   abbrev pub IsAnswerTo : Invocation → Shown → Answer → ℕ → Type 0
   IsAnswerTo asked old (Ok told) after = IsTold asked old after told.items
   IsAnswerTo asked old (Err fault) after =
       IsTrue tells → IsNotBuilt (registers_in tables) old (in_earnest asked) fault after
 
-  -- the arguments are refused, or they ask for something, and this is the answer to it
+  -- the arguments are refused, or they make a request, and this is the answer to it
   abbrev pub Answers : Given → Shown → Answer → ℕ → Type 0
   Answers given old answer after = Replies (λ asked reply. IsAnswerTo asked old reply after) given answer

@@ -15,7 +15,7 @@ use Rattle.gb_script.specs.declared.script.Clause.TheVariants as clauses
 use Rattle.gb_script.specs.declared.script.Statement.{Statement}
 use Rattle.gb_script.specs.declared.script.Statement.TheVariants as statements
 
--- a fault as a mark at each `gradleProperty(..)` of this name, and none elsewhere
+-- a fault as a mark for each `gradleProperty(..)` with this name, and none for anything else
 abbrev pub marks_at : Text → Root → List Fault
 marks_at name (GradlePropertyOf text) = if bytes_eq text name then faults.NoTasks ∷ [] else []
 marks_at name other = []
@@ -23,7 +23,7 @@ marks_at name other = []
 abbrev pub no_marks : Link → List Fault
 no_marks link = []
 
--- the expression has `gradleProperty` of this name, at whatever depth
+-- the expression has `gradleProperty` with this name, at any depth
 abbrev pub is_read_in : Text → Tree → Bool
 is_read_in name tree = not (is_empty (found_in (marks_at name) no_marks tree))
 
@@ -60,7 +60,7 @@ is_read_by name (statements.Register r) =
     is_read_by_call name r.action || list_any (is_read_by_clause name) r.block
 is_read_by name (statements.Named c) = list_any (is_read_by_clause name) c.block
 
--- some statement of some script has `gradleProperty` of this name
+-- some statement of some script has `gradleProperty` with this name
 abbrev pub is_read : List (Path × List Statement) → Text → Bool
 is_read scripts name = list_any (λ script. list_any (is_read_by name) script.1) scripts
 

@@ -1,4 +1,4 @@
--- The outcome of each task and why it would run, as JSON.
+-- The outcome of each task and the reasons for an execution, as JSON.
 use Rattle.std.specs.Prelude.{ℕ, Bool, List, [], ◌∷◌, Option, Some, None, codes, if◌then◌else◌, map}
 use Rattle.serde_json.specs.Data.{Data, array, member, no_members, null, object, string}
 use Rattle.serde_json.specs.View.{items_of}
@@ -38,7 +38,7 @@ abbrev pub task_data : Option Path → Data
 task_data (Some path) = string path
 task_data None = null
 
--- of a task with this outcome, for these reasons
+-- for a task with this outcome, for these reasons
 abbrev pub outcome_object : List ℕ → List ℕ → Data → Data → Data → Data
 outcome_object task outcome reasons needs after =
     object (member (codes "after") after

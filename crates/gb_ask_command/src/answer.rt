@@ -1,4 +1,4 @@
-//! What is printed of an answer to `why`, and its status.
+//! The output of `why`, and its exit status.
 ghost use Rattle.std.specs.Prelude.{◌≡◌, Err, IfOk, IfSome, Ok, string_bytes};
 ghost use Rattle.std.specs.Io.KnownBytes.{Appends};
 ghost use Rattle.std.specs.List.{flat_map};
@@ -20,7 +20,7 @@ use std::alloc::{AllocError, Global};
 /// The report of each task, or why a build would be refused.
 pub(crate) type Answer = Result<Vec<Foretold>, Fault>;
 
-/// The text of an answer, or the refusal; also for want of memory for the text.
+/// The text of an answer, or the refusal; also if memory is insufficient for the text.
 pub(crate) fn write_answer(alloc: Global, notation: Notation, answer: Answer) -> Reply
     ensures { IsWritten notation answer result }
 {
@@ -62,7 +62,7 @@ fn lines(alloc: Global, told: &[Foretold]) -> Result<String, AllocError>
     Ok(text)
 }
 
-/// Prints an answer, and returns its status. If not all can be printed there is none.
+/// Prints an answer, and returns its exit status. If not all of it can be printed, there is none.
 pub(crate) fn print_answer<W: Printer>(alloc: Global, writer: &mut W, reply: &Reply) -> Option<u8>
     ensures prints { Prints W.contents W.whole (why_text reply.now) writer.old writer.new }
     ensures status { IfSome result (λ status.

@@ -1,4 +1,4 @@
-//! What is wrong with the tasks of a folder.
+//! `check`: the faults and warnings of a folder's tasks.
 ghost use Rattle.std.specs.Prelude.{◌≡◌, ◌⊎◌, ◌++◌, IfErr, IfOk, IfSome, if◌then◌else◌, IsTrue, List, map};
 ghost use Rattle.std.specs.Prelude.{string_bytes};
 ghost use Rattle.std.specs.Io.KnownBytes.{Appends};
@@ -35,9 +35,10 @@ use gb_registry::tables::Tables;
 use gb_report::fault::Fault;
 use std::alloc::{AllocError, Global};
 
-/// Prints what is found of all registered tasks, a line each: their faults or that of the plan of all, each
-/// with its script and the line that registers the task, and then warnings. Of the words the values of
-/// properties count, and no other. The status is 0 where there is no fault, and 1 where there is one.
+/// Prints the findings for all registered tasks, a line each: their faults or that of the plan of
+/// all, each with its script and the line that registers the task, and then warnings. Only the
+/// values of properties count among the arguments. The exit status is 0 if there is no fault, and 1
+/// if there is one.
 pub fn run<A: Actions, T: Transforms, F: Folder, W: Printer>(
     alloc: Global,
     folder: &mut F,
@@ -45,7 +46,7 @@ pub fn run<A: Actions, T: Transforms, F: Folder, W: Printer>(
     writer: &mut W,
     tables: &Tables<A, T>,
 ) -> Option<u8>
-    // Over any folder no change is asked for.
+    // Over any folder: no change is requested.
     ensures asks { Asks F.failures F.may_leave F.asked no_change folder.old folder.new }
     ensures same { IsTrue F.tells → F.contents folder.new ≡ F.contents folder.old }
     ensures told { (reply : CheckReply)
@@ -63,7 +64,8 @@ pub fn run<A: Actions, T: Transforms, F: Folder, W: Printer>(
     status
 }
 
-/// Prints what is found, and answers the status. Where not all can be printed there is none.
+/// Prints the findings, and returns the exit status. If not all of them can be printed, there is
+/// none.
 fn print_checked<W: Printer>(
     alloc: Global,
     writer: &mut W,
@@ -111,7 +113,8 @@ fn found_text(alloc: Global, found: &Findings) -> Result<String, AllocError>
     Ok(text)
 }
 
-/// The status: 0 where there is no fault, 2 for words that ask for nothing that is known, else 1.
+/// The exit status: 0 if there is no fault, 2 for arguments that request nothing known, otherwise
+/// 1.
 fn check_status(reply: &Result<Findings, Fault>) -> u8
     ensures { result ≡ check_status reply.now }
 {
@@ -150,7 +153,7 @@ fn replied<A: Actions, T: Transforms, F: Folder>(
     }
 }
 
-/// What is found of the tasks that the scripts of a folder register with the values that are given.
+/// The findings for the tasks that the scripts of a folder register with the given values.
 fn check_asked<A: Actions, T: Transforms, F: Folder>(
     alloc: Global,
     folder: &mut F,
@@ -168,7 +171,7 @@ fn check_asked<A: Actions, T: Transforms, F: Folder>(
     check_configured(alloc, folder, &configured)
 }
 
-/// What is found of what some scripts say.
+/// The findings for the statements of some scripts.
 fn check_configured<A: Actions, T: Transforms, F: Folder>(
     alloc: Global,
     folder: &mut F,
@@ -191,7 +194,7 @@ fn check_configured<A: Actions, T: Transforms, F: Folder>(
     Ok(with_warnings(warnings, found)?)
 }
 
-/// What is found, with these warnings before the others.
+/// The findings, with these warnings before the others.
 fn with_warnings(warnings: String, found: Findings) -> Result<Findings, AllocError>
     ensures { IfOk result (λ all. (string_bytes all.faults ≡ string_bytes found.faults)
         × (string_bytes all.warnings ≡ string_bytes warnings ++ string_bytes found.warnings)) }
@@ -204,7 +207,7 @@ fn with_warnings(warnings: String, found: Findings) -> Result<Findings, AllocErr
     })
 }
 
-/// What is found of registered tasks.
+/// The findings for registered tasks.
 fn check_tasks<A: Actions, T: Transforms, F: Folder>(
     alloc: Global,
     folder: &mut F,

@@ -17,7 +17,7 @@ use gb_picture::svg::svg_of;
 use gb_query::drawn::graph_json;
 use std::alloc::{AllocError, Global};
 
-/// The graph of the plan of what is asked of registered tasks, or why a build of it would be refused.
+/// The graph of the plan of a request for registered tasks, or why a build of it would be refused.
 pub(crate) fn draw_requested<Ts: Tasks>(
     alloc: Global,
     style: Style,

@@ -1,4 +1,4 @@
-//! Scripts in one layout: printed, written or compared.
+//! `fmt`: scripts in one layout, printed, written or compared.
 ghost use Rattle.std.specs.Prelude.{◌≡◌, ◌⊎◌, ◌++◌, ◌||◌, ℕ, List, [], IfErr, IfOk, IfSome, Err, Ok};
 ghost use Rattle.std.specs.Prelude.{Result, bytes_eq, codes, eqb, false, if◌then◌else◌, length, map, not};
 ghost use Rattle.std.specs.Prelude.{string_bytes, true};
@@ -31,10 +31,11 @@ use gb_script::fault::ScriptFault;
 use gb_store::faults::fault_of;
 use std::alloc::{AllocError, Global};
 
-/// Treats the named files of a folder, one after another, up to the first that cannot be treated: each is
-/// read and formatted, and then printed, written if it differs, or named if it differs. `-` is the input; it
-/// is printed, or compared. The status is 0; 1 where a file could not be treated, or was compared and
-/// differs. Where not all could be printed there is none.
+/// Processes the named files of a folder, one after another, up to the first that cannot be
+/// processed: each is read and formatted, and then printed, written if it differs, or named if it
+/// differs. `-` is the input; it is printed, or compared. The exit status is 0; it is 1 if a file
+/// could not be processed, or was compared and differs. If not all output could be printed, there
+/// is none.
 pub fn run<F: Folder, W: Printer>(
     alloc: Global,
     folder: &mut F,
@@ -43,11 +44,12 @@ pub fn run<F: Folder, W: Printer>(
     input: &[u8],
     writer: &mut W,
 ) -> Option<u8>
-    // Nothing is asked for but that formatted texts are put at these places, if they are to be written.
+    // The only requested changes write formatted texts at these places, if they are to be written.
     ensures asks { Asks F.failures F.may_leave F.asked (may_write mode (map string_bytes names.now))
         folder.old folder.new }
-    // Over any folder: these calls led from the old folder to the new one. By them the files were treated in
-    // their order, up to the first fault, and this is printed of them, and then the fault.
+    // Over any folder: these calls led from the old folder to the new one. With them the files were
+    // processed in their order, up to the first fault; the output for them is printed, and then the
+    // fault.
     ensures treated { (calls : List Call) × (made : List ℕ) × (ended : Ended Fault)
         × Leads F.device folder.old calls folder.new
         × Each (IsTreated mode (is_headed mode (length names.now)) input.now) names.now calls made ended
@@ -68,7 +70,7 @@ pub fn run<F: Folder, W: Printer>(
     }
 }
 
-/// The status, where something or nothing was printed of the files, and they ended so.
+/// The exit status, given whether output was printed for the files, and how processing them ended.
 fn status_of(mode: Mode, any: bool, ended: &Result<(), Fault>) -> u8
     ensures { (made : List ℕ) → any ≡ not (is_empty made) → result ≡ fmt_status mode made ended.now }
 {
@@ -98,7 +100,7 @@ fn print_refusal<W: Printer>(alloc: Global, writer: &mut W, fault: &Fault)
     }
 }
 
-/// Treats the files, and notes whether something was printed of them.
+/// Processes the files, and notes whether output was printed for them.
 fn treat_all<F: Folder, W: Printer>(
     alloc: Global,
     folder: &mut F,
@@ -120,7 +122,7 @@ fn treat_all<F: Folder, W: Printer>(
     Ok(())
 }
 
-/// Treats one of the files.
+/// Processes one of the files.
 fn treat_one<F: Folder, W: Printer>(
     alloc: Global,
     folder: &mut F,
@@ -169,7 +171,7 @@ fn is_headed(mode: Mode, names: &[String]) -> bool
     }
 }
 
-/// Treats the file of a name, or the input: what is printed of it.
+/// Processes the file with a name, or the input, and returns the output for it.
 fn treat<F: Folder>(
     alloc: Global,
     folder: &mut F,
@@ -228,7 +230,8 @@ fn copied(alloc: Global, input: &[u8]) -> Result<Vec<u8>, Fault>
     Ok(input.to_vec(alloc)?)
 }
 
-/// The file at a place. The place is copied first, so that a fault is reported at it whatever memory is left.
+/// The file at a place. The place is copied first, so that a fault there can be reported however
+/// little memory is left.
 fn read_at<F: Folder>(alloc: Global, folder: &mut F, place: &Place) -> Result<Vec<u8>, Fault>
     ensures { ((bytes_in result ≡ Err Fault.OutOfMemory) × (folder.new ≡ folder.old))
         ⊎ ((answer : Result (List ℕ) FolderFault)
@@ -249,7 +252,7 @@ fn answered_at(answer: Result<Vec<u8>, FolderFault>, place: Place) -> Result<Vec
     }
 }
 
-/// The fault of a folder where a script was to be read or written.
+/// The fault of a folder while a script was read or written.
 fn fault_at(fault: FolderFault, place: Place) -> Fault
     ensures { result ≡ fault_at place fault }
 {
@@ -259,7 +262,7 @@ fn fault_at(fault: FolderFault, place: Place) -> Fault
     }
 }
 
-/// Treats the text of a place: what is printed of it.
+/// Processes the text of a place, and returns the output for it.
 fn treat_text<F: Folder>(
     alloc: Global,
     folder: &mut F,
@@ -314,7 +317,7 @@ fn formatted_as(alloc: Global, is_settings: bool, text: &[u8]) -> Result<String,
     }
 }
 
-/// Whether settings are at this place, and no script.
+/// Whether the file at this place is settings, not a script.
 fn is_settings(place: &Place) -> bool
     ensures { result ≡ is_settings place.now }
 {
@@ -347,7 +350,7 @@ fn fault_in(fault: ScriptFault, place: Place) -> Fault
     }
 }
 
-/// Shows a formatted text: what is printed of it.
+/// Shows a formatted text: returns the output for it.
 fn show<F: Folder>(
     alloc: Global,
     folder: &mut F,
@@ -368,7 +371,7 @@ fn show<F: Folder>(
     }
 }
 
-/// A text below the heading of its place, if there is one.
+/// A text under the heading of its place, if there is one.
 fn below_heading(alloc: Global, headed: bool, place: &Place, out: String) -> Result<String, Fault>
     ensures { (string_in result ≡ Err Fault.OutOfMemory)
         ⊎ (string_in result ≡ Ok (heading headed place.now ++ string_bytes out)) }
@@ -390,7 +393,7 @@ fn headed_text(alloc: Global, place: &Place, out: &str) -> Result<String, AllocE
     Ok(text)
 }
 
-/// The line of a place where its text differs.
+/// The line of a place if its text differs.
 fn name_if(alloc: Global, place: &Place, text: &[u8], out: &String) -> Result<String, Fault>
     ensures { (string_in result ≡ Err Fault.OutOfMemory)
         ⊎ (string_in result
@@ -417,7 +420,7 @@ fn line_of(alloc: Global, place: &Place) -> Result<String, AllocError>
     Ok(text)
 }
 
-/// Writes a formatted text where it differs, and names its place.
+/// Writes a formatted text if it differs, and names its place.
 fn replace_if<F: Folder>(
     alloc: Global,
     folder: &mut F,
@@ -437,7 +440,7 @@ fn replace_if<F: Folder>(
     }
 }
 
-/// Writes a formatted text, and names its place. All memory is taken before.
+/// Writes a formatted text, and names its place. All memory is allocated before.
 fn replace<F: Folder>(
     alloc: Global,
     folder: &mut F,

@@ -1,4 +1,4 @@
-//! The plan of what is asked for, as a graph.
+//! `graph`: the plan of a request, as a graph.
 ghost use Rattle.std.specs.Prelude.{◌≡◌, IfErr, IfOk, IfSome, IsTrue, map, string_bytes};
 ghost use Rattle.std.specs.Io.KnownBytes.{Appends};
 ghost use Rattle.gb_command.specs.Answered.{given_of};
@@ -27,8 +27,8 @@ use gb_registry::tables::Tables;
 use gb_report::fault::Fault;
 use std::alloc::Global;
 
-/// Prints the plan of what the words ask for as a graph in this style. The status is 0, or 1 where a build of
-/// it would be refused, and 2 where the words ask for none that is known.
+/// Prints the plan of the arguments' request as a graph in this style. The exit status is 0; it is
+/// 1 if a build of it would be refused, and 2 if the arguments request nothing known.
 pub fn run<A: Actions, T: Transforms, F: Folder, W: Printer>(
     alloc: Global,
     folder: &mut F,
@@ -37,7 +37,7 @@ pub fn run<A: Actions, T: Transforms, F: Folder, W: Printer>(
     writer: &mut W,
     tables: &Tables<A, T>,
 ) -> Option<u8>
-    // Over any folder no change is asked for.
+    // Over any folder: no change is requested.
     ensures asks { Asks F.failures F.may_leave F.asked no_change folder.old folder.new }
     ensures same { IsTrue F.tells → F.contents folder.new ≡ F.contents folder.old }
     ensures told { (reply : Replied)
@@ -76,7 +76,7 @@ fn replied<A: Actions, T: Transforms, F: Folder>(
     }
 }
 
-/// The graph of what is asked for, over the scripts of a folder.
+/// The graph of the request, over the scripts of a folder.
 fn draw<A: Actions, T: Transforms, F: Folder>(
     alloc: Global,
     folder: &mut F,

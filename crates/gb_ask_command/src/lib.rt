@@ -1,6 +1,6 @@
-//! What may be asked of a folder: the outcome of each task in a build and why it would run, which tasks there
-//! are, what is wrong with them, the plan as a picture, and the layout of scripts. Only `fmt --write` changes
-//! files.
+//! Queries about a folder: the outcome of each task in a build and why it would be executed, which
+//! tasks there are, what is wrong with them, the plan as a picture, and the layout of scripts. Only
+//! `fmt --write` changes files.
 #![tactic(auto)]
 
 mod answer;

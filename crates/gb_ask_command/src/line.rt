@@ -36,7 +36,7 @@ fn push_coming(text: &mut String, coming: &Coming) -> Result<(), AllocError>
     }
 }
 
-/// That a task runs, and why.
+/// Adds that a task is executed, and why.
 fn push_runs(text: &mut String, by_changes: bool, reasons: &[Reason]) -> Result<(), AllocError>
     ensures { OnOk result
         (string_bytes text.new ≡ string_bytes text.old ++ runs_text by_changes reasons.now) }
@@ -45,7 +45,7 @@ fn push_runs(text: &mut String, by_changes: bool, reasons: &[Reason]) -> Result<
     push_reasons(text, reasons)
 }
 
-/// How a task runs.
+/// How a task is executed.
 fn way(by_changes: bool) -> &'static str
     ensures { result.now ≡ way by_changes }
 {
@@ -76,7 +76,7 @@ fn push_more(text: &mut String, count: usize) -> Result<(), AllocError>
     write!(text, ", and {count} more")
 }
 
-/// The task that keeps it from starting, or else the one after which its outcome may be another.
+/// The task that keeps it from starting, or else the one whose execution may change its outcome.
 fn push_mark(
     text: &mut String,
     needs: &Option<TaskPath>,

@@ -11,7 +11,8 @@ use gb_picture::graph::Node;
 use gb_plan::plan::Planned;
 use std::alloc::{AllocError, Global};
 
-/// The nodes of a plan, in its order. A path is looked up in a table, so that the steps grow as n log n.
+/// The nodes of a plan, in its order. Each path is looked up in a table, so that the number of
+/// steps grows as n log n.
 pub(crate) fn nodes_of(alloc: Global, plan: &[Planned]) -> Result<Vec<Node>, AllocError>
     requires { no_repeats (order plan.now) ≡ true }
     ensures { IfOk result (λ nodes. AreNodesOf plan.now nodes.items) }
@@ -32,7 +33,7 @@ fn numbered(alloc: Global, numbers: &Numbers<'_>, plan: &[Planned]) -> Result<Ve
     Ok(nodes)
 }
 
-/// The node of a task of the plan that has these numbers.
+/// The node of a task of the plan with these numbers.
 fn node_of(alloc: Global, numbers: &Numbers<'_>, planned: &Planned) -> Result<Node, AllocError>
     ensures { (plan : Plan) → TellNumbers (order plan) numbers.now
         → IfOk result (IsNodeOf plan planned.now) }
@@ -49,7 +50,7 @@ fn node_of(alloc: Global, numbers: &Numbers<'_>, planned: &Planned) -> Result<No
     })
 }
 
-/// The numbers of those of these tasks that have one.
+/// The numbers of these tasks; tasks that have none are left out.
 fn numbers_in(
     alloc: Global,
     numbers: &Numbers<'_>,

@@ -1,4 +1,4 @@
-//! The tasks that read a place, or those that make it.
+//! `reads` and `makes`: the tasks that read a place, or those that make it.
 ghost use Rattle.std.specs.Prelude.{◌≡◌, IfErr, IfOk, IfSome, IsTrue, Ok, map, string_bytes};
 ghost use Rattle.std.specs.Io.KnownBytes.{Appends};
 ghost use Rattle.gb_command.specs.Answered.{given_of};
@@ -30,10 +30,11 @@ use gb_registry::tables::Tables;
 use gb_report::fault::Fault;
 use std::alloc::Global;
 
-/// Prints a line for each file property that takes the place in, or for each output at or above it, in the
-/// order of registration: the path of the task, and the name. A task that cannot be read has a line with its
-/// fault. Of the words only the place and the values of properties count. The status is 0, or 1
-/// where the place or the scripts are refused, and 2 where no place or more than one is named.
+/// Prints a line for each file property that includes the place, or for each output at or above it,
+/// in the order of registration: the path of the task, and the name. A task that cannot be read has
+/// a line with its fault. Only the place and the values of properties count among the arguments.
+/// The exit status is 0; it is 1 if the place or the scripts are refused, and 2 if no place or more
+/// than one is named.
 pub fn run<A: Actions, T: Transforms, F: Folder, W: Printer>(
     alloc: Global,
     folder: &mut F,
@@ -43,7 +44,7 @@ pub fn run<A: Actions, T: Transforms, F: Folder, W: Printer>(
     writer: &mut W,
     tables: &Tables<A, T>,
 ) -> Option<u8>
-    // Over any folder no change is asked for.
+    // Over any folder: no change is requested.
     ensures asks { Asks F.failures F.may_leave F.asked no_change folder.old folder.new }
     ensures same { IsTrue F.tells → F.contents folder.new ≡ F.contents folder.old }
     ensures told { (reply : Replied)
@@ -83,7 +84,7 @@ fn replied<A: Actions, T: Transforms, F: Folder>(
     }
 }
 
-/// The answer about the place that is asked about.
+/// The answer about the requested place.
 fn answer<A: Actions, T: Transforms, F: Folder>(
     alloc: Global,
     folder: &mut F,
@@ -104,7 +105,7 @@ fn answer<A: Actions, T: Transforms, F: Folder>(
     }
 }
 
-/// What is found of the tasks that the scripts of a folder register with the values that are given.
+/// The findings for the tasks that the scripts of a folder register with the given values.
 fn search_folder<A: Actions, T: Transforms, F: Folder>(
     alloc: Global,
     folder: &mut F,

@@ -1,4 +1,4 @@
-//! A text that is printed, or a refusal.
+//! A text to print, or a refusal.
 ghost use Rattle.std.specs.Prelude.{◌≡◌, Err, IfSome};
 ghost use Rattle.std.specs.Io.KnownBytes.{Appends};
 ghost use Rattle.gb_printer.specs.Printing.{Prints};
@@ -12,7 +12,8 @@ use std::alloc::Global;
 /// A text, or why there is none.
 pub(crate) type Reply = Result<String, Fault>;
 
-/// Prints a text or a refusal, and returns its status. If not all can be printed there is none.
+/// Prints a text or a refusal, and returns its exit status. If not all of it can be printed, there
+/// is none.
 pub(crate) fn print_reply<W: Printer>(alloc: Global, writer: &mut W, reply: &Reply) -> Option<u8>
     ensures prints { Prints W.contents W.whole (reply_text reply.now) writer.old writer.new }
     ensures status { IfSome result (λ status.
@@ -46,7 +47,8 @@ fn push_refusal<W: Printer>(alloc: Global, writer: &mut W, fault: &Fault)
     }
 }
 
-/// The status of a reply: 0 where there is a text, 2 for words that ask for nothing that is known, else 1.
+/// The exit status of a reply: 0 if there is a text, 2 for arguments that request nothing known,
+/// otherwise 1.
 pub(crate) fn reply_status(reply: &Reply) -> u8
     ensures { result ≡ reply_status reply.now }
 {

@@ -14,8 +14,8 @@ use gb_registry::tables::Tables;
 use gb_report::fault::Fault;
 use std::alloc::Global;
 
-/// The scripts of a folder with the values of an invocation, over these tables. An error is the first fault
-/// of the scripts, or one of the machine.
+/// The scripts of a folder with the values of an invocation, over these tables. An error is the
+/// first fault of the scripts, or a fault of the machine.
 pub(crate) fn read_asked<'a, A: Actions, T: Transforms, F: Folder>(
     alloc: Global,
     folder: &mut F,

@@ -1,4 +1,4 @@
-//! Whether a build runs, and what each file of `.gb` is.
+//! `status`: whether a build runs, and what each file of `.gb` is.
 ghost use Rattle.std.specs.Prelude.{◌≡◌, IfErr, IfOk, IfSome, IsTrue, map, string_bytes};
 ghost use Rattle.std.specs.Io.KnownBytes.{Appends};
 ghost use Rattle.gb_command.specs.Answered.{given_of};
@@ -28,10 +28,10 @@ use gb_registry::tables::Tables;
 use gb_report::fault::Fault;
 use std::alloc::Global;
 
-/// Prints whether a build runs, and then what each file of `.gb` is, in the order of the places: the record
-/// of a task, a damaged one, that of a task that no script registers, or no record. Of the words only the
-/// values of properties count. The status is 0, or 1 where the scripts are refused or the files of `.gb`
-/// cannot be read.
+/// Prints whether a build runs, and then what each file of `.gb` is, in the order of the places:
+/// the record of a task, a damaged one, that of a task that no script registers, or no record. Only
+/// the values of properties count among the arguments. The exit status is 0; it is 1 if the scripts
+/// are refused or the files of `.gb` cannot be read.
 pub fn run<A: Actions, T: Transforms, F: Folder, W: Printer>(
     alloc: Global,
     folder: &mut F,
@@ -41,7 +41,7 @@ pub fn run<A: Actions, T: Transforms, F: Folder, W: Printer>(
     writer: &mut W,
     tables: &Tables<A, T>,
 ) -> Option<u8>
-    // Over any folder no change is asked for.
+    // Over any folder: no change is requested.
     ensures asks { Asks F.failures F.may_leave F.asked no_change folder.old folder.new }
     ensures same { IsTrue F.tells → F.contents folder.new ≡ F.contents folder.old }
     ensures told { (reply : Replied)
@@ -81,7 +81,8 @@ fn replied<A: Actions, T: Transforms, F: Folder>(
     }
 }
 
-/// What is in `.gb`, where the scripts of a folder register tasks with the values of an invocation.
+/// The contents of `.gb`, given the tasks that the scripts of a folder register with the values of
+/// an invocation.
 fn look<A: Actions, T: Transforms, F: Folder>(
     alloc: Global,
     folder: &mut F,
@@ -102,7 +103,7 @@ fn look<A: Actions, T: Transforms, F: Folder>(
     }
 }
 
-/// What is in `.gb`, where these scripts register the tasks.
+/// The contents of `.gb`, given the tasks that these scripts register.
 fn look_beside<A: Actions, T: Transforms, F: Folder>(
     alloc: Global,
     folder: &mut F,

@@ -1,4 +1,4 @@
-//! Every registered task: what it does, and what it makes.
+//! `tasks`: every registered task, what it does, and what it makes.
 ghost use Rattle.std.specs.Prelude.{◌≡◌, IfErr, IfOk, IfSome, IsTrue, map, string_bytes};
 ghost use Rattle.std.specs.Io.KnownBytes.{Appends};
 ghost use Rattle.gb_command.specs.Answered.{given_of};
@@ -26,9 +26,10 @@ use gb_registry::tables::Tables;
 use gb_report::fault::Fault;
 use std::alloc::Global;
 
-/// Prints each registered task, in the order of registration, as a line or in JSON: its path, whether it is a
-/// default task, the kinds of its actions, and the places that it makes; or its fault. Of the words only the
-/// values of properties count. The status is 0, or 1 where the scripts are refused.
+/// Prints each registered task, in the order of registration, as a line or in JSON: its path,
+/// whether it is a default task, the kinds of its actions, and the places that it makes; or its
+/// fault. Only the values of properties count among the arguments. The exit status is 0; it is 1 if
+/// the scripts are refused.
 pub fn run<A: Actions, T: Transforms, F: Folder, W: Printer>(
     alloc: Global,
     folder: &mut F,
@@ -37,7 +38,7 @@ pub fn run<A: Actions, T: Transforms, F: Folder, W: Printer>(
     writer: &mut W,
     tables: &Tables<A, T>,
 ) -> Option<u8>
-    // Over any folder no change is asked for.
+    // Over any folder: no change is requested.
     ensures asks { Asks F.failures F.may_leave F.asked no_change folder.old folder.new }
     ensures same { IsTrue F.tells → F.contents folder.new ≡ F.contents folder.old }
     ensures told { (reply : Replied)
@@ -76,7 +77,7 @@ fn replied<A: Actions, T: Transforms, F: Folder>(
     }
 }
 
-/// The tasks that the scripts of a folder register with the values that are given.
+/// The tasks that the scripts of a folder register with the given values.
 fn list<A: Actions, T: Transforms, F: Folder>(
     alloc: Global,
     folder: &mut F,

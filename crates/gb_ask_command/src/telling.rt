@@ -1,4 +1,4 @@
-//! The prediction of what is asked for.
+//! The prediction of a request.
 ghost use Rattle.std.specs.Prelude.{◌≡◌, false, IfErr, IfOk, IsTrue};
 ghost use Rattle.std.specs.List.{AllByRecursion};
 ghost use Rattle.gb_turn.specs.Buildable.{IsBuildable};
@@ -31,8 +31,8 @@ use gb_registry::tables::Tables;
 use gb_report::report::Options;
 use std::alloc::{AllocError, Global};
 
-/// Reads the scripts of a folder with the values that are given, and predicts what is asked of the tasks that
-/// they register. Refused as a build of it is.
+/// Reads the scripts of a folder with the given values, and predicts the request for the tasks that
+/// they register. It is refused as a build of the request is.
 pub(crate) fn tell<A: Actions, T: Transforms, F: Folder>(
     alloc: Global,
     folder: &mut F,
@@ -51,7 +51,7 @@ pub(crate) fn tell<A: Actions, T: Transforms, F: Folder>(
     tell_registered(alloc, folder, &configured, asked)
 }
 
-/// Predicts what is asked of the tasks of these scripts.
+/// Predicts the request for the tasks of these scripts.
 fn tell_registered<A: Actions, T: Transforms, F: Folder>(
     alloc: Global,
     folder: &mut F,
@@ -87,7 +87,7 @@ fn tell_registered<A: Actions, T: Transforms, F: Folder>(
     )
 }
 
-/// Predicts what is asked of registered tasks.
+/// Predicts the request for registered tasks.
 fn tell_requested<A: Actions, F: Folder, Ts: Tasks>(
     alloc: Global,
     folder: &mut F,
@@ -111,7 +111,7 @@ fn tell_requested<A: Actions, F: Folder, Ts: Tasks>(
     tell_planned::<A, F>(alloc, folder, plan.as_slice(), table, options)
 }
 
-/// Predicts the tasks of a plan, by the records that exist.
+/// Predicts the executions of a plan's tasks, based on the records that exist.
 fn tell_planned<A: Actions, F: Folder>(
     alloc: Global,
     folder: &mut F,

@@ -17,7 +17,7 @@ use gb_script::script::{Call, Clause, Statement};
 use std::alloc::{AllocError, Global};
 use std::fmt::Write;
 
-/// Looks for the value of a name. Where it finds one, it answers a fault as a mark.
+/// Looks for reads of the value of a name. For one that it finds, it returns a fault as a mark.
 #[derive(Drop)]
 struct Marked<'a> {
     name: &'a Name,
@@ -195,7 +195,7 @@ fn is_read_in(alloc: Global, tree: &Expression, name: &Name) -> Result<bool, Fau
     }
 }
 
-/// A fault is a mark that was found. That memory ran out is handed on.
+/// A fault is a mark that was found. A fault for lack of memory is returned.
 fn was_found(fault: Fault) -> Result<bool, Fault>
     ensures is { IfOk result (λ is. is ≡ true) }
     ensures found { OnOk result (fault ≢ Fault.OutOfMemory) }

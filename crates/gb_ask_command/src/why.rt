@@ -1,4 +1,4 @@
-//! The outcome of each task in a build, and why it would run.
+//! `why`: the outcome of each task in a build, and why it would be executed.
 ghost use Rattle.std.specs.Prelude.{◌≡◌, IfSome, IsTrue, MatchResult, map, string_bytes};
 ghost use Rattle.std.specs.Io.KnownBytes.{Appends};
 ghost use Rattle.gb_command.specs.Answered.{AreRefused, AskFor, given_of};
@@ -21,10 +21,11 @@ use gb_registry::tables::Tables;
 use gb_report::fault::Fault;
 use std::alloc::Global;
 
-/// Prints each task of the plan that a build of the same words would have, as a line or in JSON: its outcome
-/// if it were executed on the folder as it is now, and why it would run. Returns the status: 0, or 1 where
-/// such a build would be refused or memory ran out, and 2 where the words ask for no build that is known.
-/// Nothing is changed, and `--dry-run` makes no difference. If not all could be printed there is no status.
+/// Prints each task of the plan that a build with the same arguments would have, as a line or in
+/// JSON: its outcome if it were executed on the folder as it is now, and why it would be executed.
+/// Returns the exit status: 0; 1 if such a build would be refused or memory ran out; and 2 if the
+/// arguments request no known build. Nothing is changed, and `--dry-run` makes no difference. If
+/// not all output could be printed, there is no status.
 pub fn run<A: Actions, T: Transforms, F: Folder, W: Printer>(
     alloc: Global,
     folder: &mut F,
@@ -33,11 +34,11 @@ pub fn run<A: Actions, T: Transforms, F: Folder, W: Printer>(
     writer: &mut W,
     tables: &Tables<A, T>,
 ) -> Option<u8>
-    // Over any folder no change is asked for.
+    // Over any folder: no change is requested.
     ensures asks { Asks F.failures F.may_leave F.asked no_change folder.old folder.new }
     ensures same { IsTrue F.tells → F.contents folder.new ≡ F.contents folder.old }
-    // There is an answer, whether it could be printed or not. If it could, its text and nothing else is
-    // printed, and the status is its own; if not, a beginning of its text is.
+    // There is an answer, whether it could be printed or not. If it could, exactly its text is
+    // printed, and the status is its own; if not, a beginning of its text is printed.
     ensures told { (answer : Answered)
         × Answers (tables_of T.meanings A.meanings tables.now) F.tells
         (given_of (λ words. map string_bytes words.items) words)
@@ -56,7 +57,7 @@ pub fn run<A: Actions, T: Transforms, F: Folder, W: Printer>(
     status
 }
 
-/// What is answered to the words.
+/// The answer to the arguments.
 fn answered<A: Actions, T: Transforms, F: Folder>(
     alloc: Global,
     folder: &mut F,

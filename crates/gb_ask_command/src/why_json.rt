@@ -1,4 +1,4 @@
-//! The outcome of each task and why it would run, as JSON.
+//! The outcome of each task and the reasons for an execution, as JSON.
 ghost use Rattle.std.specs.Prelude.{◌≡◌, [], ◌∷◌, IfOk, map, string_bytes};
 ghost use Rattle.serde_json.specs.Data.{array, string};
 ghost use Rattle.serde_json.specs.View.{items_of, view};

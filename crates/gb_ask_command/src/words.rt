@@ -4,7 +4,7 @@ ghost use Rattle.gb_ask_command.specs.Words.{mode_of, notation_of, question_of, 
 
 use gb_query::notation::Notation;
 
-/// What is asked.
+/// The query that the arguments request.
 #[derive(Clone, Copy, Debug, PartialEq, Eq)]
 pub enum Question {
     /// The outcome of each task, and why it would run.
@@ -21,11 +21,11 @@ pub enum Question {
     Makes,
     /// Whether a build runs, and what the files of `.gb` are.
     Status,
-    /// What is wrong with the tasks.
+    /// The faults and warnings of the tasks.
     Check,
-    /// How to ask.
+    /// The usage text.
     Help,
-    /// Nothing that is known.
+    /// No known query.
     Unknown,
 }
 
@@ -55,7 +55,7 @@ pub enum Mode {
     Checks,
 }
 
-/// What the first word asks.
+/// The query that the first argument names.
 pub fn question_of(word: &str) -> Question
     ensures { result ≡ question_of word.now }
 {
@@ -73,7 +73,7 @@ pub fn question_of(word: &str) -> Question
     }
 }
 
-/// The style that an option names, if it is one of a style.
+/// The style that an option names, if it names one.
 pub fn style_of(word: &str) -> Option<Style>
     ensures { result ≡ style_of word.now }
 {
@@ -86,7 +86,7 @@ pub fn style_of(word: &str) -> Option<Style>
     }
 }
 
-/// The notation that an option names, if it is one of a notation.
+/// The notation that an option names, if it names one.
 pub fn notation_of(word: &str) -> Option<Notation>
     ensures { result ≡ notation_of word.now }
 {
@@ -96,7 +96,7 @@ pub fn notation_of(word: &str) -> Option<Notation>
     }
 }
 
-/// The mode that an option names, if it is one of a mode.
+/// The mode that an option names, if it names one.
 pub fn mode_of(word: &str) -> Option<Mode>
     ensures { result ≡ mode_of word.now }
 {
@@ -107,7 +107,7 @@ pub fn mode_of(word: &str) -> Option<Mode>
     }
 }
 
-/// How to ask.
+/// The usage text.
 pub const USAGE: &str = "\
 gb_ask why [--json] [WORD ..]
                            the outcome of each task if it ran now, and why it would run

@@ -1,4 +1,4 @@
--- What leads a run on where a folder tears as another does leads it on there.
+-- What continues a run under one relation of torn writes continues it under an equal one.
 use Rattle.std.specs.Prelude.{List, Option, None, Some}
 use Rattle.std.proofs.Common.{inl, inr}
 use Rattle.gb_folder.specs.Files.{Bytes, Files, Place, SameTearing, Tearing, file_at, places_under}

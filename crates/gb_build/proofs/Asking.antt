@@ -1,4 +1,4 @@
--- What a build asks, from what its calls ask.
+-- The calls that a build makes, from those of its parts.
 use Rattle.std.specs.Prelude.{ℕ, ◌≡◌, false, List, Option, Result, Ok, Err}
 use Rattle.std.specs.List.{AllZip}
 use Rattle.std.proofs.Common.{subst, sym}
@@ -23,7 +23,7 @@ module _ {F S : Type 0} {failures : F → ℕ} {may_leave : F → Tearing} {aske
   refused_asks registry invocation result fault old new is asks =
       subst (λ (r : Result Report Fault). BuildAsks failures may_leave asked meanings rows registry invocation r old new) (sym is) asks
 
-  -- what is read before it belongs to what a build asks
+  -- the calls that read before it belong to those of a build
   pub asks_before : (options : Options) (plan : Plan) (reports : List TaskReport) (first old new : F) → Asks failures may_leave asked no_change first old
       → PlanAsks failures may_leave asked meanings rows options plan reports old new → PlanAsks failures may_leave asked meanings rows options plan reports first new
   asks_before options plan reports first old new before by = record {

@@ -1,4 +1,4 @@
--- How often an invocation blames the device, beside how often it failed.
+-- How often an invocation attributes a fault to the device, compared with how often the device failed.
 use Rattle.std.specs.Prelude.{ℕ, ◌≡◌, ◌≤◌, ◌⊎◌, Bool, false, List, cond, Err, Result}
 use Rattle.std.proofs.Common.{refl, sym, ap, ◌∙◌, subst, inl, inr, arith}
 use Rattle.gb_folder.specs.Files.{HasRisen}
@@ -23,16 +23,17 @@ device_or_not : (fault : Fault) → ((place : List ℕ) × (fault ≡ faults.Dev
 device_or_not (faults.Device place) = inl (place, refl)
 device_or_not other = inr refl
 
--- a result that is an error blames as its fault does
+-- a result that is an error attributes what its fault does
 told_so : (result : Result Report Fault) (fault : Fault) (before after : ℕ) → result ≡ Err fault → RefusedFails fault before after → HasFailed (times_blamed (answer_of result)) before after
 told_so result fault before after is fails = subst (λ (r : Result Report Fault). HasFailed (times_blamed (answer_of r)) before after) (sym is) fails
 
--- where memory ran out, the device is not blamed
+-- where memory ran out, no fault is attributed to the device
 pub memory_blames_none : (result : Result Report Fault) (fault : Fault) (before after : ℕ) → before ≤ after → result ≡ Err fault → fault ≡ faults.OutOfMemory
     → HasFailed (times_blamed (answer_of result)) before after
 memory_blames_none result fault before after count is out = told_so result fault before after is (unblamed fault before after count (ap is_of_device out))
 
--- where scripts could not be read, the device is blamed at most once, and then it failed
+-- where scripts could not be read, a fault is attributed to the device at most once, and then the device
+-- failed
 pub reading_fails : {X : Type 0} (read : Result X Fault) (fault told : Fault) (before after : ℕ) → before ≤ after → read ≡ Err fault → told ≡ fault → Blames read before after
     → (result : Result Report Fault) → result ≡ Err told → HasFailed (times_blamed (answer_of result)) before after
 reading_fails read fault told before after count was same blames result is = told_so result told before after is (elim (device_or_not fault) [

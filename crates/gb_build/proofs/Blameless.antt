@@ -56,7 +56,7 @@ pub first_blameless : (xs : List Fault) (fault : Fault) → AreBlameless xs → 
 first_blameless [] fault all is = cc
 first_blameless (x ∷ xs) fault all is = subst (λ f. is_of_device f ≡ false) (cc) all.0
 
--- who tells the first of such faults blames no device
+-- a result with the first of such faults attributes none to the device
 pub none_blamed : {T : Type 0} (xs : List Fault) (result : Result T Fault) (place : Place) → AreBlameless xs → TellsFirst xs result → result ≡ Err (faults.Device place) → ⊥
 none_blamed xs (Ok x) place all told is = cc
 none_blamed xs (Err fault) place all (inl memory) is = let e : faults.OutOfMemory ≡ faults.Device place = cc in cc
@@ -154,7 +154,7 @@ change_blameless before name =
     all_append (property_faults (filter_map declared_property before) name) _ (property_blameless (filter_map declared_property before) name)
     (one_or_none (list_any (finalizes name) before) (faults.Final name) refl)
 
--- one that stands already, or one too many
+-- one that exists already, or one too many
 new_blameless : (there full : Bool) (twice many : Fault) → is_of_device twice ≡ false → is_of_device many ≡ false
     → AreBlameless (cond there (twice ∷ []) (cond full (many ∷ []) []))
 new_blameless there full twice many a b = either there (twice ∷ []) _ (a, tt) (one_or_none full many b)

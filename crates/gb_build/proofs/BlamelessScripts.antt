@@ -1,4 +1,4 @@
--- What scripts say is never the device's fault, and neither is a task that they register.
+-- What scripts declare is never the device's fault, and neither is a task that they register.
 use Rattle.std.specs.Prelude.{ℕ, ◌≡◌, ◌++◌, ◌||◌, false, List, [], ◌∷◌, Option, Some, None, Result, Err, bytes_eq, codes, length, nat_le, nat_lt}
 use Rattle.std.proofs.Common.{inl, inr, refl, ap, ◌∙◌}
 use Rattle.gb_core.specs.Path.{is_project_path, task_name}

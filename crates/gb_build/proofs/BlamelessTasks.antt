@@ -266,7 +266,7 @@ module _ {M F Z S A : Type 0} (tables : Tables M F Z S A) (source : Source) wher
 
   -- ---- What is registered
 
-  -- a circle is told as a circle
+  -- a circle is reported as a circle
   settled_blameless : (task : Result TaskDeclaration Trouble) → IsCalm task → IfErr (settled tables source task) (λ fault. is_of_device fault ≡ false)
   settled_blameless (Ok task) calm = tt
   settled_blameless (Err (Plain fault)) calm = calm

@@ -1,4 +1,4 @@
--- How often events blame the device.
+-- How often events attribute faults to the device.
 use Rattle.std.specs.Prelude.{ℕ, ◌≡◌, ◌≤◌, ◌+◌, ◌++◌, List, [], ◌∷◌, Ok, Err}
 use Rattle.std.proofs.Common.{arith, refl, sym, subst, inl, inr}
 use Rattle.gb_meaning.specs.declared.events.Answer.{Answer}
@@ -17,13 +17,13 @@ failed_more first second third m n (inl a) (inl b) le = inl (omega arith)
 failed_more first second third m n (inl a) (inr b) le = inr b
 failed_more first second third m n (inr a) b le = inr (omega arith)
 
--- an answer more blames the device so often more
+-- with one answer more, faults are attributed as often more as that answer does
 pub blamed_more : (told : List Answer) (answer : Answer) (first second third : ℕ) → HasFailed (times_blamed_in_all told) first second → HasFailed (times_blamed answer) second third → second ≤ third
     → HasFailed (times_blamed_in_all (told ++ answer ∷ [])) first third
 blamed_more told answer first second third a b le =
     subst (λ n. HasFailed n first third) (sym (sum_more told answer)) (failed_more first second third (times_blamed_in_all told) (times_blamed answer) a b le)
 
--- an edit that blames the device only where it failed
+-- an edit that attributes a fault to the device only where the device failed
 pub edit_blames : (edit : Edit) (before after : ℕ) → before ≤ after → Blames edit before after → HasFailed (times_blamed (edit_answer edit)) before after
 edit_blames (Ok done) before after count blames = inl (omega arith)
 edit_blames (Err (faults.Device place)) before after count blames = risen_once before after count (blames place refl)

@@ -40,7 +40,7 @@ rises_from last (name ∷ names) sorted =
     ap (λ o. is_lt o && ascends_from name names) (sorted_head byte_order last (name ∷ names) sorted).0
     ∙ rises_from name names (sorted_tail byte_order last (name ∷ names) sorted)
 
--- names that stand in order rise from neighbour to neighbour
+-- sorted names ascend from neighbour to neighbour
 rise : (names : List (List ℕ)) → IsStrictlySortedBy byte_order names → ascends names ≡ true
 rise [] sorted = refl
 rise (name ∷ names) sorted = rises_from name names sorted
@@ -50,7 +50,7 @@ rise (name ∷ names) sorted = rises_from name names sorted
 alike_plain : (c d : ℕ) → nat_eq d c ≡ true → not (nat_eq 46 d) ≡ true → not (nat_eq 46 c) ≡ true
 alike_plain c d same plain = grind (arith, nat_tests)
 
--- what lies beneath a plain folder is plain
+-- a place under a plain folder is plain
 beneath_plain : (place folder : Place) → is_plain folder ≡ true → is_beneath place folder ≡ true → is_plain place ≡ true
 beneath_plain place [] plain beneath = not_true plain
 beneath_plain [] (d ∷ folder) plain beneath = not_true beneath
@@ -69,7 +69,7 @@ folder_plain project fine = ap is_plain (same_folder project (by_path (bytes_eq 
     by true is fine = refl
     by false is fine = plain_folder project (codes "build") (left_of (is_task_path project) (nat_le (length (folder_text project)) 896) fine)
 
--- no output beneath a plain folder is the tool's own
+-- no output under a plain folder is the tool's own
 none_own : (folder : Place) → is_plain folder ≡ true → (outputs : List Output) → list_all (λ place. is_beneath place folder) (map (λ (output : Output). output.place) outputs) ≡ true
     → list_any (λ (output : Output). is_own output.place) outputs ≡ false
 none_own folder plain [] all = refl

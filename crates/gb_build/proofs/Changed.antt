@@ -1,4 +1,4 @@
--- Where the turns of a plan change files: at records of its tasks, and in build folders.
+-- Where the executions of a plan change files: at records of its tasks, and in build folders.
 use Rattle.std.specs.Prelude.{ℕ, ◌≡◌, ◌++◌, ◌&&◌, ◌||◌, Bool, true, false, not, cond, List, [], ◌∷◌, bytes_eq, nat_eq, map}
 use Rattle.std.specs.List.{AllByRecursion, list_all, list_any, starts_with}
 use Rattle.std.specs.Cmp.Lexicographic.{bytes_decides}
@@ -34,7 +34,7 @@ HaveOwnPlaces plan = AllByRecursion (λ planned. list_any (λ output. is_own out
 abbrev pub is_record_of : List Planned → Place → Bool
 is_record_of plan place = list_any (λ planned. bytes_eq place (record_place planned.task.path)) plan
 
--- what is the tool's own and no record of these tasks, no turn of theirs changes
+-- no execution of these tasks changes the tool's own files, except their records
 none_of_turns : (plan : List Planned) → HaveOwnPlaces plan → (q : Place) → is_own q ≡ true → is_record_of plan q ≡ false → is_of_turns plan q ≡ false
 none_of_turns [] places q own none = refl
 none_of_turns (planned ∷ plan) places q own none =
@@ -65,7 +65,7 @@ one_then_other one other (f ∷ files) =
 abbrev is_outside_or_record : List Planned → Place → Bool
 is_outside_or_record plan place = not (is_own place) || not (not (is_record_of plan place))
 
--- in the tool's own, turns change records of their tasks alone
+-- in the tool's own files, executions change only records of their tasks
 pub records_differ : (plan : List Planned) → HaveOwnPlaces plan → (old new : Contents) → ChangesOnly (is_of_turns plan) old new
     → DiffersOnlyAt (is_record_of plan) (own_files old) (own_files new)
 records_differ plan places old new changes =
@@ -130,7 +130,7 @@ module _ (registry : Registry) where
         (ap is_own ((bytes_decides q (record_place task.path)).0 recorded) ∙ texts_are_records.own task.path)
   ]
 
-  -- the turns of declared tasks change files in `.gb` and in build folders alone
+  -- the executions of declared tasks change files only in `.gb` and in build folders
   pub turns_in_build : (plan : List Planned) → AllByRecursion (λ (planned : Planned). IsDeclared registry planned.task.path planned.task) plan
       → (q : Place) → is_of_turns plan q ≡ true → is_of_build registry.projects q ≡ true
   turns_in_build [] declared q at = not_true at

@@ -1,4 +1,4 @@
--- Edits, by what the folder answers.
+-- Edits, by the folder's answers.
 use Rattle.std.proofs.Common.{◌≡◌, ◌≢◌, ◌≤◌, ◌<◌, ◌⊎◌, ℕ, true, false, List, None, Some, Ok, Err, OnOk, IfErr, IsTrue, length, refl, ap, subst, ◌∙◌, inl, inr}
 use Rattle.std.specs.Cmp.Lexicographic.{bytes_decides}
 use Rattle.gb_folder.specs.Files.{Place, Contents, IsFolder, HasRisen, SameTearing, Tearing, file_at, is_blocked, is_odd_under, is_own, places_under, IsTorn}

@@ -1,4 +1,4 @@
--- What events ask, one after another.
+-- The calls that events make, one after another.
 use Rattle.std.specs.Prelude.{ℕ, ◌≡◌, ◌++◌, List, [], ◌∷◌, length, Result, Ok, Err}
 use Rattle.std.proofs.Common.{refl, subst, arith}
 use Rattle.gb_action.specs.Meanings.{Meanings}

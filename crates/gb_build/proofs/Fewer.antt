@@ -1,4 +1,4 @@
--- What was seen and what stands there need not be counted twice.
+-- Contents that were read before and are in the folder need not be counted twice.
 use Rattle.std.specs.Prelude.{◌≡◌, ◌||◌, ◌++◌, true, List, [], ◌∷◌, Contains, zero, suc, bytes_eq}
 use Rattle.std.specs.Cmp.Lexicographic.{bytes_decides}
 use Rattle.std.proofs.Common.{sym, ap, inl, inr, arith}
@@ -21,7 +21,7 @@ among_of some all h c e = found all c (h c (listed some c e))
 pub are_among : (some all : List Bytes) → Among some all → AreAmong some all
 are_among some all h c within = listed all c (h c (found some c within))
 
--- what stands there was counted
+-- the contents of the folder were counted
 pub here_again : (seen here : List Bytes) → Among (seen ++ here ++ here) (seen ++ here)
 here_again seen here c h = elim (in_one c (seen ++ here) here h) [ inl before ↦ before | inr stands ↦ in_right c seen here stands ]
 
@@ -32,7 +32,8 @@ pub once_more : (seen here more : List Bytes) → Among (seen ++ here ++ here ++
 once_more seen here more = both_more (seen ++ here ++ here) (seen ++ here) more (here_again seen here)
 
 module _ (rules : Rules) (granted : Guard) (spreads : Spreads granted) where
-  -- turns that count more of what was seen are turns that count less, if it is the same with what stands there
+  -- executions that count more of the contents read are executions that count fewer, if both are the same
+  -- together with those in the folder
   turns_fewer : (more seen : List Bytes) (rest : List Planned) (moment : Moment) (reports : List TaskReport) (new : Standing)
       → Among (more ++ folder_contents moment.world) (seen ++ folder_contents moment.world)
       → Turns rules granted more rest moment reports new → Turns rules granted seen rest moment reports new
@@ -46,7 +47,7 @@ module _ (rules : Rules) (granted : Guard) (spreads : Spreads granted) where
         (both_more (more ++ folder_contents moment.world) (seen ++ folder_contents moment.world) (folder_contents turns.0.world) among) turns.2,
   )
 
-  -- a build that counts what stands before it among what was seen is one that does not
+  -- a build that counts the contents in the folder before it among those read is one that does not
   pub builds_fewer : (seen : List Bytes) (old : Standing) (reports : List TaskReport) (new : Standing)
       → Builds rules granted (seen ++ folder_contents old.world) old reports new → Builds rules granted seen old reports new
   builds_fewer seen old reports new builds = elim builds [

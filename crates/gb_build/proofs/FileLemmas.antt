@@ -1,4 +1,4 @@
--- What the file at a place says, by how the folder answers.
+-- What the file at a place declares, by the folder's answers.
 use Rattle.std.proofs.Common.{◌≡◌, ◌≢◌, ◌<◌, ◌⊎◌, ℕ, true, false, List, [], Option, None, Some, Result, Ok, Err, IsSomeAnd, length, refl, sym, ap, subst, inl, inr}
 use Rattle.std.specs.Prelude.{MatchResult}
 use Rattle.gb_folder.specs.Files.{Place, Bytes, Files, HasRisen, IsFolder, file_at, is_blocked}
@@ -13,13 +13,13 @@ use Rattle.gb_folder.proofs.Free.{free_at}
 use Rattle.gb_build.specs.Texts.{FileSays, Tells, TextSays, unread_at}
 
 module _ {X : Type 0} (SaysAs : Bytes → Result (List X) ScriptFault → Type 0) (files : Files) (place : Place) where
-  -- the file stands, and its bytes say this
+  -- the file exists, and its bytes declare this
   said_there : (bytes : Bytes) (said : Result (List X) Fault) → IsFolder files → file_at files place ≡ Some bytes → FileSays SaysAs place (Some bytes) said
       → TextSays SaysAs files place said
   said_there bytes said sound stands says =
       inr (free_at files place bytes sound stands, subst (λ o. FileSays SaysAs place o said) (sym stands) says)
 
-  -- the file stands, and what its bytes say is told
+  -- the file exists, and what its bytes declare is returned
   pub told_there : (before after : ℕ) (bytes : Bytes) (result : Result (List X) Fault) → IsFolder files → file_at files place ≡ Some bytes
       → MatchResult result (λ said. SaysAs bytes (Ok said)) (λ fault. (fault ≡ faults.OutOfMemory) ⊎ FileSays SaysAs place (Some bytes) (Err fault))
       → Tells (TextSays SaysAs files place) before after result
@@ -27,7 +27,7 @@ module _ {X : Type 0} (SaysAs : Bytes → Result (List X) ScriptFault → Type 0
   told_there before after bytes (Err fault) sound stands (inl memory) = inl (inl memory)
   told_there before after bytes (Err fault) sound stands (inr told) = inr (said_there bytes (Err fault) sound stands told)
 
-  -- no file stands there, and none is in the way of one
+  -- no file exists there, and none is in the way of one
   pub nothing_there : (said : List X) → said ≡ [] → file_at files place ≡ None → is_blocked files place ≡ false → TextSays SaysAs files place (Ok said)
   nothing_there said empty none free = inr (free, subst (λ o. FileSays SaysAs place o (Ok said)) (sym none) (ap Ok empty))
 

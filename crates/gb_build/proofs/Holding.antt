@@ -41,7 +41,7 @@ use Rattle.gb_build.specs.Leading.{LeadsTo, StandsSeen}
 use Rattle.gb_build.proofs.Earlier.{builds_since}
 use Rattle.gb_build.proofs.Fewer.{among_of, are_among, builds_fewer, once_more}
 
--- what may come where a folder tears as another does may come there
+-- a fault that is possible there with the torn writes of a folder is possible with those of an equal one
 may_alike : (kinds : Kinds) (registry_of : Registering) (may_leave second : Tearing) → SameTearing may_leave second → (own : Files) (options : Options) (task : Task) (moment : Moment) (new : At) (fault : Fault)
     → may_come (setting_with kinds registry_of second) own options task moment new fault → may_come (setting_with kinds registry_of may_leave) own options task moment new fault
 may_alike kinds registry_of may_leave second alike own options task moment new faults.OutOfMemory may = may
@@ -158,7 +158,7 @@ module _ (kinds : Kinds) (registry_of : Registering) (may_leave : Tearing) (regi
     stood : IsTrue clear → Standing old.contents.files remembered
     stood is_clear = let stands = (worth is_clear).0 in record { in_order = stands.in_order; of_tasks = stands.of_tasks; records = stands.records }
 
-    -- what is remembered stands in true records, and these were read but in a dry run
+    -- what is remembered has true records, and these were read, except in a dry run
     built_from : IsBuiltFrom
     built_from =
         subst (GivesBuild second mid.failures records) same builds remembered reads all_seen

@@ -1,4 +1,4 @@
--- What an invocation asks, from what its calls ask.
+-- The calls that an invocation makes, from those of its parts.
 use Rattle.std.specs.Prelude.{ℕ, ◌≡◌, Result, Ok, Err}
 use Rattle.std.proofs.Common.{subst, sym}
 use Rattle.gb_action.specs.Meanings.{Meanings}
@@ -26,7 +26,7 @@ module _ {F S : Type 0} (failures : F → ℕ) (may_leave : F → Tearing) (aske
   registered_asks registry is (Err fault) old new asks = asks
   registered_asks registry is (Ok report) old new asks = (record { registry = registry; is_registry = is; outlined = asks.0 }, asks.1)
 
-  -- what is read before it belongs to what it asks
+  -- the calls that read before it belong to those that it makes
   pub scripts_before : (result : Result Report Fault) (first old new : F) → Asks failures may_leave asked no_change first old
       → InvocationAsks failures may_leave asked meanings rows invocation result old new → InvocationAsks failures may_leave asked meanings rows invocation result first new
   scripts_before (Err fault) first old new before asks = asks_then before asks

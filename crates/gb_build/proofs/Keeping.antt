@@ -1,4 +1,4 @@
--- What an invocation changes, by what it answers.
+-- What an invocation changes, by its answer.
 use Rattle.std.specs.Prelude.{ℕ, ◌≡◌, ◌≤◌, Err, IfErr, IfOk, OnErr, Ok, Result}
 use Rattle.std.proofs.Common.{sym, subst, inl, inr}
 use Rattle.gb_folder.specs.Files.{Contents}

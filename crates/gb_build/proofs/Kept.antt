@@ -1,4 +1,4 @@
--- What edits change, by what they answer.
+-- What edits change, by their answer.
 use Rattle.std.specs.Prelude.{◌≡◌, Bool, not, bytes_eq}
 use Rattle.std.proofs.Common.{ap, ◌∙◌, inl, inr}
 use Rattle.gb_folder.specs.Files.{Bytes, Contents, Files, Place, Tearing, files_where, without}

@@ -1,4 +1,4 @@
--- What leads a run on, and what is one whole run of an event.
+-- What continues a run, and what is one whole run of an event.
 use Rattle.std.specs.Prelude.{◌≡◌, ◌≤◌, ◌++◌, Bool, true, IsTrue, List, [], ◌∷◌, Result, ⊤}
 use Rattle.std.proofs.Common.{refl, sym, subst, arith}
 use Rattle.gb_folder.specs.Files.{Bytes, Contents}
@@ -20,7 +20,7 @@ use Rattle.gb_report.specs.declared.report.Report.{Report}
 use Rattle.gb_build.specs.Leading.{AreAmong, Leads, LeadsTo, StandsSeen}
 use Rattle.gb_build.proofs.Fewer.{among_of, are_among}
 
--- what was seen, and more that is seen
+-- contents that were read, and more of them
 pub seen_more : (some seen more : List Bytes) → AreAmong some seen → AreAmong some (seen ++ more)
 seen_more some seen more within = are_among some (seen ++ more) (λ c h. in_left c seen more (among_of some seen within c h))
 
@@ -39,7 +39,7 @@ nothing_leads setting old end event answer same remembered clear seen worth step
       );
 }
 
--- a step is one too where less is granted
+-- a step is also one where less is assumed
 pub step_weaker : (setting : Setting) (granted less : Guard) → ((contents : List Bytes) → less contents → granted contents)
     → (seen : List Bytes) (old : State) (event : Event) (answer : Answer) (new : State) → Step setting granted seen old event answer new → Step setting less seen old event answer new
 step_weaker setting granted less grants seen old (events.Put place bytes) answer new step = step
@@ -59,7 +59,7 @@ step_weaker setting granted less grants seen old (events.Invoke invocation) (ans
 step_weaker setting granted less grants seen old (events.Invoke invocation) answers.Edited new step = step
 step_weaker setting granted less grants seen old (events.Invoke invocation) (answers.Refused fault) new step = step
 
--- what leads from true records is one invocation
+-- what continues a run from true records is one invocation
 pub led_holds : (setting : Setting) (old end : Shown) (invocation : Invocation) (result : Result Report Fault) → old.failures ≤ end.failures
     → Leads setting old (events.Invoke invocation) (answer_of result) end → InvocationHolds setting old invocation result end
 led_holds setting old end invocation result count leads remembered stands =

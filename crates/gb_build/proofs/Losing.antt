@@ -1,4 +1,4 @@
--- The loss of the tool's own: what is remembered after it stands in true records.
+-- The loss of the tool's own files: what is remembered after it has true records.
 use Rattle.std.specs.Prelude.{◌≡◌, ◌≢◌, ◌++◌, ◌⊎◌, Bool, true, false, not, cond, IsTrue, List, [], ◌∷◌, Option, None, Some, bytes_eq, Contains, fold}
 use Rattle.std.specs.Cmp.Lexicographic.{bytes_decides}
 use Rattle.std.specs.FinMap.Entries.{find-where_key, is_sorted-where_key, where_key}
@@ -33,9 +33,9 @@ use Rattle.gb_build.proofs.Fewer.{are_among}
 use Rattle.gb_build.proofs.Leading.{seen_more}
 use Rattle.gb_records.specs.Setting.{setting_by}
 
--- ---- What stands at a place after a removal that was cut short
+-- ---- What is at a place after a removal that was cut short
 
--- the file that stood there, or none
+-- the file that was there, or none
 abbrev IsOrGone : Option Bytes → Option Bytes → Type 0
 IsOrGone now stood = (now ≡ stood) ⊎ (now ≡ None)
 
@@ -56,7 +56,7 @@ left_elsewhere : (files : Files) (place q : Place) (left : Option Bytes) → byt
 left_elsewhere files place q None other = file_at-without files place q ∙ ap (λ b. cond (not b) (file_at files q) None) other
 left_elsewhere files place q (Some bytes) other = file_at-with_file files place bytes q ∙ ap (λ b. cond b (Some bytes) (file_at files q)) other
 
--- what is left is the same, or says no record
+-- what is left is the same, or is no record
 abbrev IsSameOrNone : Path → Option Bytes → Option Bytes → Type 0
 IsSameOrNone path now stood = (now ≡ stood) ⊎ SaysNoRecord IsText path now
 
@@ -162,7 +162,7 @@ module _ (kinds : Kinds) (registers : Registering) (may_leave : Tearing) (seen_t
   abbrev setting : Setting
   setting = setting_by kinds registers may_leave
 
-  -- the record of the path stands as it stood
+  -- the record of the path is as it was
   abbrev still : Path → Bool
   still path = same_file (file_at end.contents.files (record_place path)) (file_at old.contents.files (record_place path))
 
@@ -200,7 +200,7 @@ module _ (kinds : Kinds) (registers : Registering) (may_leave : Tearing) (seen_t
           (sym (recalled-where still remembered path ∙ ap (λ b. cond b (recalled remembered path) None) is))
           (elim (left path good) [ inl same ↦ absurd (other_file _ _ is same) | inr none ↦ none ])
 
-  -- what stands where it stood is remembered, and nothing else
+  -- a record that is where it was is remembered, and nothing else
   keeps_standing : (remembered : Memory) → KeepsWhatStands setting (state_of old remembered) (state_of end (where_key byte_order still remembered))
   keeps_standing remembered path good = by (still path) refl
     where

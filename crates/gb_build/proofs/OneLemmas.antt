@@ -1,4 +1,4 @@
--- Folders say one thing.
+-- Folders declare one thing.
 use Rattle.std.proofs.Common.{◌≡◌, List, [], ◌∷◌, ◌++◌, Option, None, Some, Result, Ok, Err, refl, sym, ap, subst, ◌∙◌, inl, inr}
 use Rattle.std.proofs.lemmas.Bool.{false≢true}
 use Rattle.std.specs.List.{AllZip}
@@ -54,7 +54,7 @@ module _ {P T : Type 0} (S : P → Result T Fault → Type 0) (one : (p : P) →
   all_one (p ∷ ps) (t ∷ ts) [] a b = absurd b
   all_one (p ∷ ps) (t ∷ ts) (u ∷ us) a b = ap (λ x. x ∷ ts) (same_text p t u a.0 b.0) ∙ ap (λ xs. u ∷ xs) (all_one ps ts us a.1 b.1)
 
-  -- where all say something none has a fault
+  -- where all declare something none has a fault
   none_bad : (ps : List P) (ts : List T) (front back : List P) (p : P) (fault : Fault) → All ps ts → ps ≡ front ++ p ∷ back → S p (Err fault) → ⊥
   none_bad [] ts front back p fault a is bad = nothing front is
     where

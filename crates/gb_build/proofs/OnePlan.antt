@@ -1,4 +1,4 @@
--- The scripts of a folder and what is asked of them give one plan.
+-- The scripts of a folder and what is requested of them determine one plan.
 use Rattle.std.specs.Prelude.{◌≡◌, Result, Ok}
 use Rattle.std.proofs.Common.{sym, ap, subst, ◌∙◌}
 use Rattle.gb_declare.specs.Registered.{registry_said}

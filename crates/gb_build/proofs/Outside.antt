@@ -1,4 +1,4 @@
--- Edits outside of the tool's own: what they change, and that they lead a run on.
+-- Edits outside of the tool's own files: what they change, and that they continue a run.
 use Rattle.std.specs.Prelude.{ℕ, ◌≡◌, ◌++◌, Bool, true, false, not, IsTrue, List}
 use Rattle.std.specs.Cmp.Lexicographic.{bytes_decides}
 use Rattle.std.specs.Prelude.{bytes_eq}

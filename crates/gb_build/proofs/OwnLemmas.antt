@@ -1,4 +1,4 @@
--- The tool's own files say nothing.
+-- The tool's own files declare nothing.
 use Rattle.std.proofs.Common.{◌≡◌, ℕ, Bool, true, false, cond, not, ◌&&◌, ◌||◌, nat_eq, ◌==◌, List, [], ◌∷◌, ◌++◌, None, Some, Result, Ok, Err, length, refl, sym, ap, subst, ◌∙◌, true≢false, inl, inr, arith}
 use Rattle.std.proofs.lemmas.Bool.Decides.{nat_tests}
 use Rattle.std.proofs.lemmas.List.Folds.{list_all-append}
@@ -84,12 +84,12 @@ blocked_same (file ∷ files) place plain =
       | false ↦ λ _. ap (λ b. (is_beneath place file.0 || is_beneath file.0 place) || b) (blocked_same files place plain)
     ] refl
 
--- nor do they stand at one
+-- nor are they at one
 found_same : (files : Files) (place : Place) → is_plain place ≡ true → file_at (others files) place ≡ file_at files place
 found_same files place plain =
     file_at-files_where files (λ q. not (is_own q)) place ∙ ap (λ b. cond (not b) (file_at files place) None) (plain_not_own place plain)
 
--- ---- What is said stays
+-- ---- What is declared stays
 
 abbrev AreAlike : Files → Files → Place → Type 0
 AreAlike files other place = (is_blocked files place ≡ is_blocked other place) × (file_at files place ≡ file_at other place)
@@ -132,7 +132,7 @@ module _ (files other : Files) (alike : (place : Place) → is_plain place ≡ t
       (λ settings. Passes (settings_faults settings) settings) (λ settings. Passes (settings_faults settings) settings)
       (text_stays SaysAsSettings files other settings_place (alike settings_place refl)) (λ settings _ r says. says)
 
--- ---- Scripts stand at plain places
+-- ---- Scripts are at plain places
 
 letter_plain : (b : ℕ) → is_letter b ≡ true → not (nat_eq 46 (slashed b)) ≡ true
 letter_plain b h = grind (arith, nat_tests)

@@ -49,7 +49,7 @@ module _ (kinds : Kinds) (registry : Registry) (registers : Registering) (may_le
   abbrev from_before : Memory → State
   from_before remembered = state_of (shows contents before) remembered
 
-  -- what may come where a folder tears as another does may come there
+  -- a fault that is possible there with the torn writes of a folder is possible with those of an equal one
   may_alike : (own : Files) (options : Options) (task : Task) (moment : Moment) (new : At) (fault : Fault)
       → may_come one own options task moment new fault → may_come two own options task moment new fault
   may_alike own options task moment new faults.OutOfMemory may = may
@@ -115,7 +115,7 @@ module _ (kinds : Kinds) (registry : Registry) (registers : Registering) (may_le
       stands = led.stands;
     }
 
-  -- an invocation after the scripts were read leads on as one from before
+  -- an invocation after the scripts were read continues a run like one from before
   pub since_read : (result : Result Report Fault) (end : Shown) → later ≤ end.failures
       → Leads one (shows contents later) (events.Invoke invocation) (answer_of result) end
       → Leads two (shows contents before) (events.Invoke invocation) (answer_of result) end

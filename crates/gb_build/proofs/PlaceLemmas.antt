@@ -1,4 +1,4 @@
--- Where the scripts of projects stand.
+-- The places of the scripts of projects.
 use Rattle.std.proofs.Common.{◌≡◌, ℕ, suc, ◌+◌, ◌-◌, ◌<◌, ◌≤◌, Bool, true, false, not, cond, ◌&&◌, ◌||◌, eqb, List, [], ◌∷◌, ◌++◌, length, drop, get_or, refl, sym, ap, subst, ◌∙◌, Option, Some, None, arith, length-append}
 use Rattle.std.proofs.Math.Seq.{drop-append-add, get_or-append_seam}
 use Rattle.std.proofs.lemmas.Bool.Decides.{nat_tests}
@@ -94,6 +94,6 @@ fine_places (path ∷ paths) fine =
 pub places_good : (settings : List (List (List ℕ))) → settings_faults settings ≡ [] → list_all is_place (script_places (projects_of settings)) ≡ true
 places_good settings none = fine_places (project_paths settings) (projects_fine settings none)
 
--- who is blamed at the place of a script is blamed at such a place
+-- a fault that is attributed to the place of a script is attributed to such a place
 pub blamed_at : (folder : Option Place) (at place : Place) → at ≡ script_place folder → is_at at place ≡ true → is_script_place place ≡ true
 blamed_at folder at place is blamed = ap is_script_place ((bytes_decides place at).0 blamed ∙ is) ∙ script_stands folder

@@ -1,4 +1,4 @@
--- A plan of what was asked of tasks that can be built is one that can be built.
+-- A plan of what was requested of tasks that can be built is one that can be built.
 use Rattle.std.specs.Prelude.{◌≡◌, List}
 use Rattle.std.specs.List.{AllByRecursion}
 use Rattle.std.proofs.Common.{sym, subst}
@@ -16,7 +16,7 @@ use Rattle.gb_exec.specs.Building.{CanBuild}
 use Rattle.gb_turn.specs.Buildable.{IsBuildable}
 use Rattle.gb_build.proofs.Changed.{HaveOwnPlaces}
 
--- a plan of what the words say
+-- a plan of what the arguments request
 pub plan_of : (registry : Registry) (one requested other excluded : List Text) (plan : Plan) → one ≡ requested → other ≡ excluded → IsPlanOf registry one other plan → IsPlanOf registry requested excluded plan
 plan_of registry one requested other excluded plan same_requested same_excluded is =
     subst (λ (words : List Text). IsPlanOf registry requested words plan) same_excluded (subst (λ (words : List Text). IsPlanOf registry words other plan) same_requested is)
@@ -32,7 +32,7 @@ module _ (registry : Registry) (requested excluded : List Text) (plan : Plan) (i
     sound = is_plan.2.sound;
   }
 
-  -- each of its tasks is declared as the registry asks
+  -- each of its tasks is declared as the registry requires
   pub all_declared : IsRegistry registry → AllByRecursion (λ (planned : Planned). IsDeclared registry planned.task.path planned.task) plan
   all_declared sound =
       let same = request_registry registry requested excluded is_plan.0 is_plan.1 in

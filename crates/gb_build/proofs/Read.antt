@@ -53,7 +53,7 @@ own_records : (paths : List Path) → AllByRecursion (λ path. is_own (record_pl
 own_records [] = tt
 own_records (path ∷ paths) = (texts_are_records.own path, own_records paths)
 
--- a fault of the machine, told at a record, is why records could not be read
+-- a fault of the machine, reported at a record, is why records could not be read
 pub unread : {T : Type 0} (call : Result T Fault) (fault told : Fault) (paths : List Path) (before after : ℕ) → call ≡ Err fault → told ≡ fault
     → BlamesOnly (λ place. list_any (λ path. is_at (record_place path) place) paths) call → IsOfMachine before after fault → (dry_run : Bool) → dry_run ≡ false → IsUnread dry_run before after told
 unread call fault told paths before after was same blamed (inl out) dry_run wet = inl (same ∙ out)

@@ -19,13 +19,13 @@ use Rattle.gb_declare.specs.Registered.{registry_said}
 use Rattle.gb_build.specs.Registering.{registers_in}
 
 module _ {M F Z S A : Type 0} (tables : Tables M F Z S A) (contents : Contents) where
-  -- what the whole folder says with these values, it says without the tool's own files
+  -- what the whole folder declares with these values, it declares without the tool's own files
   says_outside : (given other : List (List ℕ × List ℕ)) → given ≡ other → (said : Result Source Fault) → FolderSays tables contents.files given said
       → FolderSays tables (outside contents).files other said
   says_outside given other same said says =
       subst (λ (values : List (List ℕ × List ℕ)). FolderSays tables (outside contents).files values said) same ((own_say_nothing tables contents.files given said).1 says)
 
-  -- the tasks of what it says are registered
+  -- the tasks that it declares are registered
   pub registered : (given other : List (List ℕ × List ℕ)) → given ≡ other → (source : Source) → FolderSays tables contents.files given (Ok source)
       → registers_in tables (outside contents).files other (Ok (registry_said tables source))
   registered given other same source says = (source, says_outside given other same (Ok source) says, refl)
@@ -52,7 +52,7 @@ pub read_first : {X : Type 0} (invocation : Invocation) (read : Result X Fault) 
 read_first invocation read fault told was is blamed place device =
     ap (λ b. b || (is_own place && not invocation.options.dry_run)) (blamed place (was ∙ ap Err (sym is ∙ device)))
 
--- so is the tool's own, but in a dry run
+-- so is the tool's own, except in a dry run
 pub own_is_read_first : (invocation : Invocation) (place : Place) → IsTrue (is_own place && not invocation.options.dry_run) → IsTrue (is_read_first invocation.options place)
 own_is_read_first invocation place own =
     or_right (bytes_eq place (codes "settings.gb") || bytes_eq (last_segment place) (codes "build.gb")) _ own

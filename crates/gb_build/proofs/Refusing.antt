@@ -1,4 +1,5 @@
--- What a refused invocation leaves is as its definition says, and it blames the device no more than it failed.
+-- What a refused invocation leaves is as its definition says, and it attributes no more faults to the device
+-- than the device had.
 use Rattle.std.specs.Prelude.{ℕ, ◌≡◌, ◌≤◌, ◌||◌, ◌&&◌, Bool, IsTrue, false, not, List, cond, codes, IfErr, Ok, Err, Result, bytes_eq}
 use Rattle.std.proofs.Common.{refl, sym, ap, ◌∙◌, subst, inl, inr, arith}
 use Rattle.gb_folder.specs.Files.{Place, is_own}
@@ -40,7 +41,7 @@ not_built registers registry old invocation fault after scripts (inr (inr device
       device.2,
     )))
 
--- what was asked is refused, and the fault is told on
+-- what was requested is refused, and the fault is returned
 pub by_refusal : (registry : Registry) (invocation : Invocation) (requested excluded : List Text) (fault told : Fault) (before after : ℕ) → requested ≡ invocation.requested → excluded ≡ invocation.excluded
     → told ≡ fault → IsRefusalOf registry requested excluded fault → IsNotBegun registry invocation before after told
 by_refusal registry invocation requested excluded fault told before after same_requested same_excluded same refusal =
@@ -48,7 +49,7 @@ by_refusal registry invocation requested excluded fault told before after same_r
     (subst (λ (words : List Text). IsRefusalOf registry invocation.requested words fault) same_excluded
     (subst (λ (words : List Text). IsRefusalOf registry words excluded fault) same_requested refusal)))
 
--- records could not be read, and the fault is told on
+-- records could not be read, and the fault is returned
 pub by_reading : (registry : Registry) (invocation : Invocation) (fault told : Fault) (before after : ℕ) → told ≡ fault → IsUnread invocation.options.dry_run before after fault
     → IsNotBegun registry invocation before after told
 by_reading registry invocation fault told before after same why = inr (subst (IsUnread invocation.options.dry_run before after) (sym same) why)
@@ -71,7 +72,7 @@ refused_leads setting registry old end invocation fault scripts why same result 
 unblamed : (fault : Fault) (before after : ℕ) → before ≤ after → is_of_device fault ≡ false → HasFailed (times_blamed (answer_of (Err fault))) before after
 unblamed fault before after count none = subst (λ (b : Bool). HasFailed (cond b 1 0) before after) (sym none) (inl (omega (arith, count)))
 
--- a refusal blames the device at most once, and then it failed
+-- a refusal attributes a fault to the device at most once, and then the device failed
 pub refused_fails : (registry : Registry) (invocation : Invocation) (fault : Fault) (before after : ℕ) → NoneBlameDevice registry → before ≤ after
     → IsNotBegun registry invocation before after fault → HasFailed (times_blamed (answer_of (Err fault))) before after
 refused_fails registry invocation fault before after none count (inl (inl out)) = unblamed fault before after count (ap is_of_device out)
@@ -94,7 +95,8 @@ told_fails registry invocation fault before after none count why result is =
 not_of_device : (fault : Fault) (place : Place) → is_of_device fault ≡ false → fault ≡ faults.Device place → ⊥
 not_of_device fault place none is = not_false (sym (ap is_of_device is) ∙ none)
 
--- a refusal blames the device at no other place than one of the tool's own, and in a dry run at none
+-- a refusal attributes a fault to the device at no other place than one of the tool's own, and in a dry run
+-- at none
 pub refused_at : (registry : Registry) (invocation : Invocation) (fault : Fault) (before after : ℕ) → NoneBlameDevice registry → IsNotBegun registry invocation before after fault
     → (place : Place) → fault ≡ faults.Device place → IsTrue (is_own place && not invocation.options.dry_run)
 refused_at registry invocation fault before after none (inl (inl out)) place is = absurd (cc (out, is))

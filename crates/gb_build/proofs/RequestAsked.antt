@@ -1,4 +1,5 @@
--- What is asked of a registry is asked of its tasks; so what holds of each declaration holds of the plan's.
+-- What is requested of a registry is requested of its tasks; so what holds of each declaration holds of the
+-- plan's.
 use Rattle.std.specs.Prelude.{◌≡◌, ◌++◌, true, false, not, cond, List, [], ◌∷◌, Some, None, Result, Ok, Err, IfOk, IfErr}
 use Rattle.std.specs.List.{AllByRecursion, flat_map}
 use Rattle.std.specs.FinMap.Entries.{find}
@@ -38,7 +39,7 @@ planned_all P request plan all schedule =
 -- ---- Words
 
 module _ (registry : Registry) where
-  -- a request is of the registry, and what the words are refused with does not blame the device
+  -- a request is of the registry, and the fault of refused arguments is not attributed to the device
   abbrev IsAsked : Result Request Fault → Type 0
   IsAsked asked = IfOk asked (λ request. request.registry ≡ registry) × IfErr asked (λ fault. is_of_device fault ≡ false)
 
@@ -93,7 +94,7 @@ schedule_blames_none plan fault (has_overlap is) = ap is_of_device is.told
 schedule_blames_none plan fault (has_own_input is) = ap is_of_device is.told
 schedule_blames_none plan fault (is_undeclared is) = ap is_of_device is.told
 
--- where no declaration is at fault by the device, no refusal blames it
+-- where no declaration has a fault of the device, no refusal is attributed to it
 pub refusal_blames_none : (request : Request) (fault : Fault) → AllByRecursion (λ entry. IfErr entry.1 (λ told. is_of_device told ≡ false)) request.registry.tasks
     → IsRefused request fault → is_of_device fault ≡ false
 refusal_blames_none request fault none (inl is) = at_found (λ r. IfErr r (λ told. is_of_device told ≡ false)) request.registry.tasks none is.path (Err fault) is.at_fault

@@ -15,7 +15,7 @@ places : script_places (projects_of ((codes "lib:a" ∷ codes "b" ∷ []) ∷ []
 places = refl
 
 module _ {M F Z S A : Type 0} (tables : Tables M F Z S A) where
-  -- a folder without a file says that the root says nothing
+  -- a folder without a file declares that the root declares nothing
   nothing : FolderSays tables [] [] (Ok (source_of [] ([] ∷ []) []))
   nothing = ([], ([], inr (refl, refl), (refl, refl)), ([] ∷ [], (inr (refl, refl), tt), (refl, refl)))
 
@@ -23,7 +23,7 @@ module _ {M F Z S A : Type 0} (tables : Tables M F Z S A) where
   no_fault : (fault : Fault) → FolderSays tables [] [] (Err fault) → ⊥
   no_fault fault says = let e = folders_one tables [] [] (Err fault) (Ok (source_of [] ([] ∷ []) [])) says nothing in cc
 
-  -- a folder stands where the script of the root would be
+  -- a folder is where the script of the root would be
   blocked : FolderSays tables ((codes "build.gb/x", []) ∷ []) [] (Err (faults.Blocked (codes "build.gb")))
   blocked =
       inr (
@@ -40,6 +40,6 @@ module _ {M F Z S A : Type 0} (tables : Tables M F Z S A) where
         }),
       )
 
-  -- one stands where settings would be, which comes first
+  -- one is where settings would be, which comes first
   blocked_settings : FolderSays tables ((codes "build.gb/x", []) ∷ (codes "settings.gb/x", []) ∷ []) [] (Err (faults.Blocked (codes "settings.gb")))
   blocked_settings = inl (inl (inl (refl, refl)))

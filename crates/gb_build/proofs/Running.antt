@@ -89,7 +89,7 @@ pub runs_nowhere : (setting : Setting) (old : Shown) → RunsFrom setting old []
 unfolding RunsFrom
 runs_nowhere setting old remembered clear seen worth = ([], (omega arith, refl))
 
--- a run from whatever true records stand
+-- a run, starting from any true records that exist
 pub runs_hold : (setting : Setting) (old end : Shown) (all : List Event) (told : List Answer) → RunsFrom setting old all told end → EventsHold setting old all told end
 unfolding RunsFrom
 runs_hold setting old end all told runs remembered stands =
@@ -107,7 +107,7 @@ keeps_more registers (e ∷ all) [] event answer old mid new same keeps more = a
 keeps_more registers (e ∷ all) (a ∷ told) event answer old mid new same keeps more =
     (keeps.0, keeps.1, keeps_more registers all told event answer keeps.0 mid new (omega (arith, same)) keeps.2 more)
 
--- ---- What is heard
+-- ---- The notifications
 
 pub heard_more : (told : List Answer) (answer : Answer) (old mid new : List Ear) → HaveHeardAll told old mid → HaveHeardAll (answer ∷ []) mid new → HaveHeardAll (told ++ answer ∷ []) old new
 heard_more [] answer old mid new heard more = subst (λ (ears : List Ear). HaveHeardAll (answer ∷ []) ears new) heard more
@@ -116,7 +116,7 @@ heard_more (answers.Refused fault ∷ told) answer old mid new heard more = hear
 heard_more (answers.Built report ∷ told) answer old mid new heard more = (heard.0, heard.1, heard_more told answer heard.0 mid new heard.2 more)
 heard_more (answers.NotBuilt fault ∷ told) answer old mid new heard more = heard_more told answer old mid new heard more
 
--- ---- What is told over any folder
+-- ---- The answers over any folder
 
 pub outlined_more : (all : List Event) (told : List Answer) (event : Event) (answer : Answer) → AllZip AnswerIsOutlined all told → AnswerIsOutlined event answer
     → AllZip AnswerIsOutlined (all ++ event ∷ []) (told ++ answer ∷ [])

@@ -1,4 +1,4 @@
--- What a folder says, by what was read of it.
+-- What a folder declares, by what was read of it.
 use Rattle.std.proofs.Common.{◌≡◌, ◌⊎◌, ℕ, List, [], Option, Result, Ok, Err, refl, sym, subst, inl, inr}
 use Rattle.std.specs.Prelude.{IfOk, MatchResult}
 use Rattle.std.specs.Result.{IsErrAnd}
@@ -15,7 +15,7 @@ use Rattle.gb_store.specs.Faults.{IsOfMachine}
 use Rattle.gb_build.specs.Scripts.{FolderSays, ScriptsSay, script_places, settings_place}
 use Rattle.gb_build.specs.Texts.{TextSays}
 
--- what holds of a fault that is handed on holds of the answer
+-- what holds of a fault that is passed on holds of the answer
 pub handed : {T : Type 0} (Good : T → Type 0) (Bad : Fault → Type 0) (result : Result T Fault) (fault : Fault) → IsErrAnd result (λ told. told ≡ fault) → Bad fault → MatchResult result Good Bad
 handed Good Bad (Ok x) fault is bad = absurd is
 handed Good Bad (Err told) fault is bad = subst Bad (sym is) bad

@@ -1,10 +1,10 @@
--- Of what is said in turn, one thing comes.
+-- Declarations one after another determine one result.
 use Rattle.std.proofs.Common.{◌≡◌, List, [], ◌∷◌, None, Some, Result, Ok, Err, sym, ap, subst, ◌∙◌, inl, inr}
 use Rattle.gb_report.specs.declared.fault.Fault.{Fault}
 use Rattle.gb_registry.specs.Faults.{first_of}
 use Rattle.gb_build.specs.Turns.{InTurn, Passes}
 
--- of what is said so there is one at most
+-- at most one result is declared so
 abbrev pub IsOne : {X : Type 0} → (Result X Fault → Type 0) → Type 0
 IsOne {X = X} Said = (a b : Result X Fault) → Said a → Said b → a ≡ b
 
@@ -45,7 +45,7 @@ module _ {X Y : Type 0} (First : Result X Fault → Type 0) (Next : X → Result
   turns_one (Err fault) (Err other) (inr (x, f, n)) (inl worse) = absurd (no_both x other f worse)
   turns_one (Err fault) (Err other) (inr (x, f, n)) (inr (w, g, m)) = same_next x w (Err fault) (Err other) f g n m
 
--- what is said in turn stays so where each of the two does
+-- declarations one after another stay so where each of the two does
 pub turns_stay : {X Y : Type 0} (First First' : Result X Fault → Type 0) (Next Next' : X → Result Y Fault → Type 0)
     → ((r : Result X Fault) → First r → First' r) → ((x : X) → First (Ok x) → (r : Result Y Fault) → Next x r → Next' x r)
     → (r : Result Y Fault) → InTurn First Next r → InTurn First' Next' r

@@ -1,4 +1,4 @@
--- What becomes of an edit, and of any event over a folder that does not tell what it holds.
+-- The result of an edit, and of any event over a folder whose contents are not known.
 use Rattle.std.specs.Prelude.{Result, Ok, Err, ⊤}
 use Rattle.gb_meaning.specs.declared.events.Answer.{Answer}
 use Rattle.gb_meaning.specs.declared.events.Answer.TheVariants as answers
@@ -7,7 +7,7 @@ use Rattle.gb_meaning.specs.declared.events.Event.TheVariants as events
 use Rattle.gb_meaning.specs.Outline.{IsOutlined}
 use Rattle.gb_report.specs.declared.fault.Fault.{Fault}
 
--- what an edit comes to
+-- the result of an edit
 abbrev pub Edit : Type 0
 Edit = Result (Unit {0}) Fault
 
@@ -16,8 +16,8 @@ abbrev pub edit_answer : Edit → Answer
 edit_answer (Ok done) = answers.Edited
 edit_answer (Err fault) = answers.Refused fault
 
--- a build is that of a plan of what was asked of some registry, by its outline; of other answers nothing is
--- said
+-- a build is that of a plan of what was requested of some registry, by its outline; other answers are left
+-- open
 abbrev pub AnswerIsOutlined : Event → Answer → Type 0
 AnswerIsOutlined (events.Invoke invocation) (answers.Built report) = IsOutlined invocation report
 AnswerIsOutlined event answer = ⊤

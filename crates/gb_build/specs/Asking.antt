@@ -1,4 +1,4 @@
--- What a build asks of the tasks that are registered, and what its report is of.
+-- What a build requires of the tasks that are registered, and what its report is of.
 use Rattle.std.specs.Prelude.{◌≡◌, false, IfErr, IfOk}
 use Rattle.std.specs.List.{AllByRecursion, AllZip}
 use Rattle.gb_action.specs.Meanings.{Meanings}
@@ -16,12 +16,12 @@ abbrev pub AreBuildable : {S : Type 0} → Meanings S → Rows S → Registry �
 AreBuildable meanings rows registry =
     AllByRecursion (λ entry. IfOk entry.1 (IsBuildable meanings rows)) registry.tasks
 
--- no declaration is at fault by the device
+-- no declaration has a fault of the device
 abbrev pub NoneBlameDevice : Registry → Type 0
 NoneBlameDevice registry =
     AllByRecursion (λ entry. IfErr entry.1 (λ fault. is_of_device fault ≡ false)) registry.tasks
 
--- the report has the tasks of the plan of what was asked, in its order
+-- the report has the tasks of the plan of what was requested, in its order
 abbrev pub IsReportOf : Registry → Invocation → Report → Type 0
 IsReportOf registry invocation report =
     (plan : Plan) × IsPlanOf registry invocation.requested invocation.excluded plan

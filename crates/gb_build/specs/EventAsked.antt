@@ -1,4 +1,4 @@
--- What events ask of a folder, whichever it is.
+-- The calls that events make, over any folder.
 use Rattle.std.specs.Prelude.{ℕ, ◌≡◌, ◌⊎◌, List, [], ◌∷◌, Result, Ok, Err}
 use Rattle.gb_action.specs.Meanings.{Meanings}
 use Rattle.gb_folder.specs.Calls.{Asks, Call, Removes, Writes, no_change, takes_at}
@@ -12,14 +12,14 @@ use Rattle.gb_meaning.specs.declared.events.Event.TheVariants as events
 use Rattle.gb_plan.specs.Ready.{Rows}
 use Rattle.gb_build.specs.InvocationAsked.{InvocationAsks}
 
--- nothing, or one call and no other
+-- no call, or one call and no other
 abbrev pub AsksOnce : {F : Type 0} → (F → Call → F → Type 0) → (Result (Unit {0}) FolderFault → Call) → F → F
     → Type 0
 AsksOnce asked call old new =
     (new ≡ old) ⊎ ((answer : Result (Unit {0}) FolderFault) × asked old (call answer) new)
 
--- An edit asks once, at its own place; a loss takes away in `.gb` alone; and an invocation asks
--- as it does by its answer.
+-- An edit makes at most one call, at its own place; a loss removes only in `.gb`; and an invocation makes the
+-- calls that its answer permits.
 abbrev pub EventAsks : {F S : Type 0} → (F → ℕ) → (F → Tearing) → (F → Call → F → Type 0) → Meanings S
     → Rows S
     → Event → Answer → F → F → Type 0

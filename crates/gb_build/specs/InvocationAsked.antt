@@ -1,4 +1,4 @@
--- What an invocation asks of a folder, whichever it is.
+-- The calls that an invocation makes, over any folder.
 use Rattle.std.specs.Prelude.{ℕ, Result, Ok, Err}
 use Rattle.gb_action.specs.Meanings.{Meanings}
 use Rattle.gb_folder.specs.Calls.{Asks, Call, no_change}
@@ -10,7 +10,7 @@ use Rattle.gb_report.specs.declared.fault.Fault.{Fault}
 use Rattle.gb_report.specs.declared.report.Report.{Report}
 use Rattle.gb_build.specs.RequestAsked.{PlanAsks}
 
--- a refused build asks for no change, and another what the plan does that it is outlined by
+-- a refused build requests no change; another makes the calls of the plan of its outline
 abbrev pub InvocationAsks : {F S : Type 0} → (F → ℕ) → (F → Tearing) → (F → Call → F → Type 0) → Meanings S
     → Rows S
     → Invocation → Result Report Fault → F → F → Type 0

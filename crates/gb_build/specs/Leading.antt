@@ -1,4 +1,4 @@
--- How one event leads a run on, from whatever is remembered and was seen before it.
+-- How one event continues a run, starting from any memory and any contents that were read before it.
 use Rattle.std.specs.Prelude.{◌++◌, Bool, List, Contains, IsTrue}
 use Rattle.gb_folder.specs.Files.{Bytes}
 use Rattle.gb_meaning.specs.declared.events.Answer.{Answer}
@@ -13,15 +13,15 @@ use Rattle.gb_meaning.specs.TrueRecord.{memory_contents}
 abbrev pub AreAmong : List Bytes → List Bytes → Type 0
 AreAmong some all = (bytes : Bytes) → Contains some bytes → Contains all bytes
 
--- The folder holds the records of what is remembered, which is true; and each content that it speaks of was
--- seen before, or stands here.
+-- The folder holds the records of what is remembered, which is true. Each content that this memory mentions
+-- was read before, or is in the folder.
 abbrev pub StandsSeen : Setting → List Bytes → State → Type 0
 StandsSeen setting seen state =
     Stands setting state.contents state.remembered
     × AreAmong (memory_contents (world_in state)) (seen ++ contents_outside state.contents)
 
--- The event is a step of a run, as far as what was seen is clear; and if all of that is, true records of what
--- is remembered then stand after it.
+-- The event is a step of a run, where the contents that were read are collision-free. If all of these are,
+-- true records of what is remembered exist after it.
 pub record LeadsTo (setting : Setting) (clear : Bool) (seen : List Bytes) (old : State) (event : Event)
     (answer : Answer) (new : Shown) : Type 0 where
   pub remembered : Memory
@@ -30,8 +30,8 @@ pub record LeadsTo (setting : Setting) (clear : Bool) (seen : List Bytes) (old :
   pub stands : StillClear setting (IsTrue clear) old (seen_with seen old (state_of new remembered))
       → StandsSeen setting (seen ++ contents_outside old.contents) (state_of new remembered)
 
--- An event leads from what a folder shows to what it shows then, from whatever is remembered: true records of
--- it stand there, if all was clear before.
+-- An event leads from what a folder shows to what it shows then, from whatever is remembered. The premise:
+-- true records of it exist in the folder, if all was collision-free before.
 abbrev pub Leads : Setting → Shown → Event → Answer → Shown → Type 0
 Leads setting old event answer new =
     (remembered : Memory) (clear : Bool) (seen : List Bytes)

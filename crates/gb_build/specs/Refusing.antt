@@ -8,14 +8,14 @@ use Rattle.gb_plan.specs.Graph.{Registry}
 use Rattle.gb_report.specs.declared.fault.Fault.{Fault}
 use Rattle.gb_report.specs.declared.fault.Fault.TheVariants as faults
 
--- Records could not be read: memory ran out, or but in a dry run the device failed between these counts, at a
--- place of the tool's own.
+-- Records could not be read: memory ran out; or, except in a dry run, the device failed between these counts,
+-- at a place of the tool's own.
 abbrev pub IsUnread : Bool → ℕ → ℕ → Fault → Type 0
 IsUnread dry_run before after fault =
     (fault ≡ faults.OutOfMemory)
     ⊎ ((place : Place) × IsTrue (is_own place && not dry_run) × IsDeviceFault before after place fault)
 
--- what is asked of this registry is refused, or the records of its tasks could not be read
+-- what is requested of this registry is refused, or the records of its tasks could not be read
 abbrev pub IsNotBegun : Registry → Invocation → ℕ → ℕ → Fault → Type 0
 IsNotBegun registry invocation before after fault =
     IsRefusalOf registry invocation.requested invocation.excluded fault

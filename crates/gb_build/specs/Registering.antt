@@ -1,4 +1,4 @@
--- What an invocation is about, where the scripts of a folder say what is registered.
+-- The setting of an invocation, where the scripts of a folder declare what is registered.
 use Rattle.std.specs.Prelude.{◌≡◌, Ok, Err}
 use Rattle.gb_declare.specs.Registered.{registry_said}
 use Rattle.gb_folder.specs.Files.{Tearing}
@@ -10,12 +10,12 @@ use Rattle.gb_registry.specs.Source.{Source}
 use Rattle.gb_registry.specs.Tables.{Tables}
 use Rattle.gb_build.specs.Scripts.{FolderSays}
 
--- what the scripts of a folder register with these tables: the tasks of what they say, or their first fault
+-- what the scripts of a folder register with these tables: the tasks that they declare, or their first fault
 abbrev pub registers_in : {M F Z S A : Type 0} → Tables M F Z S A → Registering
 registers_in tables files given (Ok registry) =
     (source : Source) × FolderSays tables files given (Ok source) × (registry ≡ registry_said tables source)
 registers_in tables files given (Err fault) = FolderSays tables files given (Err fault)
 
--- what an invocation is about, with records as they stand in a folder
+-- the setting of an invocation, with records as they are in a folder
 abbrev pub setting_of : {M F Z S A : Type 0} → Tables M F Z S A → Kinds → Tearing → Setting
 setting_of tables kinds may_leave = setting_by kinds (registers_in tables) may_leave

@@ -1,4 +1,4 @@
--- What a build asks of a folder, whichever it is.
+-- The calls that a build makes, over any folder.
 use Rattle.std.specs.Prelude.{ℕ, ◌≡◌, false, List, Option, Result, Ok, Err}
 use Rattle.std.specs.List.{AllZip}
 use Rattle.gb_action.specs.Meanings.{Meanings}
@@ -16,7 +16,7 @@ use Rattle.gb_report.specs.declared.report.Options.{Options}
 use Rattle.gb_report.specs.declared.report.Report.{Report}
 use Rattle.gb_report.specs.declared.report.TaskReport.{TaskReport}
 
--- First no change is asked for, and these records of the plan's tasks are answered, except in a dry run; from
+-- First no change is requested, and calls return these records of the plan's tasks, except in a dry run. From
 -- there on the tasks are executed, each by its record and its report.
 pub record PlanAsks {F S : Type 0} (failures : F → ℕ) (may_leave : F → Tearing)
     (asked : F → Call → F → Type 0) (meanings : Meanings S) (rows : Rows S) (options : Options)
@@ -29,7 +29,7 @@ pub record PlanAsks {F S : Type 0} (failures : F → ℕ) (may_leave : F → Tea
       → AllZip (WasAnswered failures may_leave asked old begun) (order plan) records
   pub turns : TurnsAsk failures may_leave asked meanings rows options plan records reports begun new
 
--- a refused build asks for no change, and another what its plan does
+-- a refused build requests no change; another makes the calls of its plan
 abbrev pub BuildAsks : {F S : Type 0} → (F → ℕ) → (F → Tearing) → (F → Call → F → Type 0) → Meanings S
     → Rows S
     → Registry → Invocation → Result Report Fault → F → F → Type 0

@@ -1,4 +1,4 @@
--- What the scripts of a folder say.
+-- What the scripts of a folder declare.
 use Rattle.std.specs.Prelude.{ℕ, ◌≡◌, Bool, ◌==◌, ◌||◌, List, ◌∷◌, ◌++◌, map, Option, Result, Ok}
 use Rattle.std.specs.Prelude.{Err, bytes_eq, codes}
 use Rattle.std.specs.List.{AllZip, after_last}
@@ -14,12 +14,12 @@ use Rattle.gb_script.specs.declared.script.Statement.{Statement}
 use Rattle.gb_build.specs.Texts.{TextSays}
 use Rattle.gb_build.specs.Turns.{InTurn, Passes}
 
--- ---- Where scripts stand
+-- ---- The places of scripts
 
 abbrev pub settings_place : Place
 settings_place = codes "settings.gb"
 
--- the script of a project stands in its folder; the root has none
+-- the script of a project is in its folder; the root has none
 abbrev pub script_place : Option Place → Place
 script_place folder = joined folder (codes "build.gb")
 
@@ -31,16 +31,16 @@ abbrev pub is_script_place : Place → Bool
 is_script_place place =
     bytes_eq place (codes "settings.gb") || bytes_eq (after_last (λ b. b == 47) place) (codes "build.gb")
 
--- ---- What they say
+-- ---- What they declare
 
--- what the settings of a folder say, where nothing is wrong with what they include; or their first fault
+-- what the settings of a folder declare, where nothing is wrong with what they include; or their first fault
 abbrev pub SettingsSay : Files → Result (List (List (List ℕ))) Fault → Type 0
 SettingsSay files said =
     InTurn (TextSays SaysAsSettings files settings_place)
     (λ settings. Passes (settings_faults settings) settings)
     said
 
--- each of these texts is what the script at its place says
+-- each of these texts is what the script at its place declares
 abbrev pub AreTexts : Files → List Place → List (List Statement) → Type 0
 AreTexts files places texts = AllZip (λ place text. TextSays Says files place (Ok text)) places texts
 
@@ -54,18 +54,18 @@ pub record IsFirstFault (files : Files) (places : List Place) (fault : Fault) : 
   pub before : AreTexts files front texts
   pub here : TextSays Says files place (Err fault)
 
--- what the scripts at these places say, a text for each; or their first fault
+-- what the scripts at these places declare, a text for each; or their first fault
 abbrev pub ScriptsSay : Files → List Place → Result (List (List Statement)) Fault → Type 0
 ScriptsSay files places (Ok texts) = AreTexts files places texts
 ScriptsSay files places (Err fault) = IsFirstFault files places fault
 
--- what is put together of all that, where nothing is wrong with its statements; or their first fault
+-- what all of these together declare, where nothing is wrong with its statements; or their first fault
 abbrev pub SourceSays : {M F Z S A : Type 0} → Tables M F Z S A → Source → Result Source Fault → Type 0
 SourceSays tables source said = Passes (configure_faults tables source) source said
 
--- What a folder says, with these values given: what its settings and the scripts of their projects say. Of
--- all faults the first counts: one of the text of settings, of what they include, of the text of a script in
--- the order of projects, and then of their statements.
+-- What a folder declares, with these values given: what its settings and the scripts of their projects
+-- declare. Of all faults the first counts: one of the text of settings, of what they include, of the text of
+-- a script in the order of projects, and then of their statements.
 abbrev pub FolderSays : {M F Z S A : Type 0} → Tables M F Z S A → Files → List (List ℕ × List ℕ)
     → Result Source Fault → Type 0
 FolderSays tables files given said =

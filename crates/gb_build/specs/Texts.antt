@@ -1,4 +1,4 @@
--- What the text of a file says in a notation, as that of scripts or that of settings.
+-- What the text of a file parses as in a notation: that of scripts or that of settings.
 use Rattle.std.specs.Prelude.{ℕ, ◌≡◌, ◌⊎◌, true, false, List, [], Option, None, Some, Result}
 use Rattle.std.specs.Prelude.{Ok, Err, MatchResult}
 use Rattle.gb_folder.specs.Files.{Place, Bytes, Files, file_at, is_blocked}
@@ -23,22 +23,23 @@ abbrev pub unread_at : Place → FolderFault → Fault
 unread_at place folders.TooLarge = faults.TooLong place
 unread_at place other = told_at place other
 
--- the notation: what bytes say in it, or their fault
+-- the notation: what bytes parse as, or their fault
 module _ {X : Type 0} (SaysAs : Bytes → Result (List X) ScriptFault → Type 0) where
-  -- what a file at the place says; where there is none, nothing is said
+  -- what a file at the place declares; where there is none, nothing is declared
   abbrev pub FileSays : Place → Option Bytes → Result (List X) Fault → Type 0
   FileSays place None said = said ≡ Ok []
   FileSays place (Some bytes) (Ok said) = SaysAs bytes (Ok said)
   FileSays place (Some bytes) (Err fault) =
       (told : ScriptFault) × SaysAs bytes (Err told) × (fault ≡ in_file place told)
 
-  -- what the file at the place says, or that another file is in its way
+  -- what the file at the place declares, or that another file is in its way
   abbrev pub TextSays : Files → Place → Result (List X) Fault → Type 0
   TextSays files place said =
       ((is_blocked files place ≡ true) × (said ≡ Err (faults.Blocked place)))
       ⊎ ((is_blocked files place ≡ false) × FileSays place (file_at files place) said)
 
--- A call tells what is said, or its fault; or why the machine kept it from that, between these counts.
+-- A call returns what is declared, or its fault; or the fault of the machine that prevented it, between these
+-- counts.
 abbrev pub Tells : {X : Type 0} → (Result X Fault → Type 0) → ℕ → ℕ → Result X Fault → Type 0
 Tells Says before after result =
     MatchResult result (λ said. Says (Ok said)) (λ fault. IsOfMachine before after fault ⊎ Says (Err fault))

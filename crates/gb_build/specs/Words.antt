@@ -1,4 +1,4 @@
--- What the contracts of builds speak of.
+-- The definitions that the contracts of builds use.
 pub use Rattle.gb_action.specs.Meanings.{Meanings}
 pub use Rattle.gb_build.specs.Answers.{AnswerIsOutlined}
 pub use Rattle.gb_build.specs.EventAsked.{EventAsks, EventsAsk}

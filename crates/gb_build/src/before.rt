@@ -15,8 +15,8 @@ use gb_records::reading::read_records;
 use gb_report::fault::Fault;
 use std::alloc::{AllocError, Global};
 
-/// The records of these tasks as they stand, in their order. In a dry run nothing is read, and there is none
-/// of any task.
+/// The records of these tasks as they are in the folder, in their order. In a dry run nothing is
+/// read, and no task has a record.
 pub fn records_for<F: Folder>(
     alloc: Global,
     folder: &mut F,
@@ -25,7 +25,7 @@ pub fn records_for<F: Folder>(
 ) -> Result<Vec<Option<Record>>, Fault>
     ensures each { IfOk result (λ records. length records.items ≡ length tasks.now) }
     ensures asks { Asks F.failures F.may_leave F.asked no_change folder.old folder.new }
-    // Over any folder: each record is what a call at its place answered.
+    // Over any folder: each record is what a call at its place returned.
     ensures answered { dry_run ≡ false → IfOk result (λ records. AllZip
         (WasAnswered F.failures F.may_leave F.asked folder.old folder.new) (order tasks.now) records.items) }
     ensures same { IsTrue F.tells → F.contents folder.new ≡ F.contents folder.old }

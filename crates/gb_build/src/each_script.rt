@@ -60,7 +60,7 @@ fn read_script_of<F: Folder>(
     script_at(alloc, folder, place)
 }
 
-/// Where the script of a project with this folder stands.
+/// The place of the script of a project with this folder.
 fn script_place(alloc: Global, folder: Option<&Place>) -> Result<Place, Fault>
     requires { IsTrue (is_place (script_place (option_copied folder))) }
     ensures { MatchResult result

@@ -20,7 +20,7 @@ use gb_store::listing::listed_at;
 use gb_store::removal::remove_all;
 use std::alloc::Global;
 
-/// Puts a file, over one that stands there (94 at or beneath `.gb`; 12, 13).
+/// Writes a file, and replaces one that exists there (94 at or under `.gb`; 12, 13).
 pub fn put<F: Folder>(folder: &mut F, place: &Place, bytes: &Bytes) -> Result<(), Fault>
     ensures count { F.failures folder.old ≤ F.failures folder.new }
     ensures blame { Blames result (F.failures folder.old) (F.failures folder.new) }
@@ -32,7 +32,7 @@ pub fn put<F: Folder>(folder: &mut F, place: &Place, bytes: &Bytes) -> Result<()
         (record { contents = F.contents folder.new; failures = F.failures folder.new }) }
 {
     let at = place.copy()?;
-    // The device is not asked about the tool's own.
+    // No call is made at the tool's own places.
     if is_own(place) {
         return Err(Fault::OwnState(at));
     }
@@ -42,7 +42,7 @@ pub fn put<F: Folder>(folder: &mut F, place: &Place, bytes: &Bytes) -> Result<()
     }
 }
 
-/// Takes a file away (94 at or beneath `.gb`; 11, 12).
+/// Removes a file (94 at or under `.gb`; 11, 12).
 pub fn remove<F: Folder>(folder: &mut F, place: &Place) -> Result<(), Fault>
     ensures count { F.failures folder.old ≤ F.failures folder.new }
     ensures blame { Blames result (F.failures folder.old) (F.failures folder.new) }
@@ -63,7 +63,7 @@ pub fn remove<F: Folder>(folder: &mut F, place: &Place) -> Result<(), Fault>
     }
 }
 
-/// Takes away all that stands at or beneath `.gb`.
+/// Removes everything at or under `.gb`.
 pub fn lose<F: Folder>(alloc: Global, folder: &mut F) -> Result<(), Fault>
     ensures asks { Asks F.failures F.may_leave F.asked (takes_at is_own) folder.old folder.new }
     ensures blame { Blames result (F.failures folder.old) (F.failures folder.new) }

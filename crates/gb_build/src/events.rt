@@ -27,8 +27,9 @@ use gb_report::fault::Fault;
 use gb_report::report::Report;
 use std::alloc::{AllocError, Global};
 
-/// Takes the events in their order, and answers each. Nothing is printed. It fails only where there is no
-/// memory for the answers, and then before the first event, with nothing changed and nothing told.
+/// Executes the events in their order, and returns an answer to each. Nothing is printed. It fails
+/// only where there is no memory for the answers, and then before the first event, with nothing
+/// changed and no listener notified.
 pub fn run_events<A: Actions, T: Transforms, F: Folder, L: TaskListener>(
     alloc: Global,
     folder: &mut F,
@@ -40,27 +41,28 @@ pub fn run_events<A: Actions, T: Transforms, F: Folder, L: TaskListener>(
     ensures unbegun { OnErr result (folder.new ≡ folder.old) }
     ensures untold { OnErr result (listeners.new ≡ listeners.old) }
     ensures tearing { SameTearing (F.may_leave folder.old) (F.may_leave folder.new) }
-    // Over any folder: an edit asks once, for its own place; and a write or a removal by a build is asked for
-    // only at or beneath an output of a task of its plan or at the record of one, whose text is that of a run
-    // of the task; by a refused build and in a dry run, none.
+    // Over any folder: an edit makes at most one call, at its own place. A build requests a write
+    // or a removal only at or under an output of a task of its plan or at the record of one, and
+    // the text of such a record is that of a run of the task. A refused build and a dry run request
+    // none.
     ensures asks { IfOk result (λ answers. EventsAsk F.failures F.may_leave F.asked A.meanings
         tables.now.actions events.now answers.items folder.old folder.new) }
     // One answer for each event.
     ensures each { IfOk result (λ answers. length answers.items ≡ length events.now) }
-    // The device is blamed no more often than it failed.
+    // Faults are attributed to the device no more often than it failed.
     ensures device { IfOk result (λ answers.
         HasFailed (times_blamed_in_all answers.items) (F.failures folder.old) (F.failures folder.new)) }
-    // Each listener heard the builds, one after another.
+    // Each listener was notified of the builds, one after another.
     ensures heard { IfOk result (λ answers.
         HaveHeardAll answers.items (map L.ear listeners.old.items) (map L.ear listeners.new.items)) }
-    // Over any folder: each build is that of a plan of what was asked of some registry, of which each task
-    // starts and answers as it may.
+    // Over any folder: each build is that of a plan of what was requested of some registry. Each
+    // task of this plan starts, and has an outcome, as the outline permits.
     ensures outlined { IfOk result (λ answers. AllZip AnswerIsOutlined events.now answers.items) }
     // Whatever fails, a build changes nothing but `.gb` and the build folders of its projects.
     ensures elsewhere { IsTrue F.tells → IfOk result (λ answers.
         AllKeepElsewhere (registers_in (tables_of T.meanings A.meanings tables.now)) events.now answers.items
         (F.contents folder.old) (F.contents folder.new)) }
-    // It is a run of the events by its definition.
+    // This is a run of the events by its definition.
     ensures holds { IsTrue F.tells → IfOk result (λ answers. (kinds : Kinds)
         → IsGranted A.meanings tables.now.actions kinds (F.may_leave folder.old)
         → EventsHold
@@ -68,8 +70,8 @@ pub fn run_events<A: Actions, T: Transforms, F: Folder, L: TaskListener>(
         (record { contents = F.contents folder.old; failures = F.failures folder.old })
         events.now answers.items
         (record { contents = F.contents folder.new; failures = F.failures folder.new })) }
-    // So each event is a plain step, and each build in which no task failed is from scratch, from whatever
-    // true records.
+    // So each event is a plain step, and each build in which no task failed is from scratch,
+    // starting from any true records.
     ensures promise { IsTrue F.tells → IfOk result (λ answers. (kinds : Kinds)
         → IsGranted A.meanings tables.now.actions kinds (F.may_leave folder.old)
         → PromiseHolds
@@ -85,7 +87,7 @@ pub fn run_events<A: Actions, T: Transforms, F: Folder, L: TaskListener>(
     Ok(answers)
 }
 
-/// Takes one event.
+/// Executes one event.
 fn take<A: Actions, T: Transforms, F: Folder, L: TaskListener>(
     alloc: Global,
     folder: &mut F,

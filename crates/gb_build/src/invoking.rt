@@ -36,10 +36,11 @@ use gb_report::fault::Fault;
 use gb_report::report::Report;
 use std::alloc::{AllocError, Global};
 
-/// Reads the scripts of a folder with the values that the invocation gives, and builds what is asked of the
-/// tasks that they register. Each task that starts is told to all listeners, and its part is printed as soon
-/// as its turn has ended. Refused before the first task, with nothing changed, told or printed, for the first
-/// fault of the scripts, of the words or of the plan, where memory runs out, or where scripts or records
+/// Reads the scripts of a folder with the values that the invocation gives, and builds what is
+/// requested of the tasks that they register. All listeners are notified of each task that starts,
+/// and its part is printed as soon as its execution has ended. The build is refused before the
+/// first task, with nothing changed or printed and no listener notified, for the first fault of the
+/// scripts, of the arguments or of the plan, where memory runs out, or where scripts or records
 /// cannot be read.
 pub fn invoke<A: Actions, T: Transforms, F: Folder, L: TaskListener, P: Printer>(
     alloc: Global,
@@ -58,41 +59,43 @@ pub fn invoke<A: Actions, T: Transforms, F: Folder, L: TaskListener, P: Printer>
         Prints P.contents P.whole (parts_text report) printer.old printer.new) }
     ensures unprinted { OnErr result (printer.new ≡ printer.old) }
     ensures count { F.failures folder.old ≤ F.failures folder.new }
-    // The device is blamed no more often than it failed.
+    // Faults are attributed to the device no more often than it failed.
     ensures device { HasFailed (times_blamed (answer_of result))
         (F.failures folder.old) (F.failures folder.new) }
     ensures tearing { SameTearing (F.may_leave folder.old) (F.may_leave folder.new) }
-    // Over any folder: a write or a removal is asked for only at or beneath an output of a task of its plan
-    // or at the record of one, whose text is that of a run of the task; by a refused build and in a dry run,
-    // none.
+    // Over any folder: it requests a write or a removal only at or under an output of a task of its
+    // plan or at the record of one, and the text of such a record is that of a run of the task. A
+    // refused build and a dry run request none.
     ensures asks { InvocationAsks F.failures F.may_leave F.asked A.meanings tables.now.actions invocation.now
         result folder.old folder.new }
-    // Over any folder: it is a build of the plan of what was asked of some registry, of which each task
-    // starts and answers as it may; and a refusal blames the device where it reads before the first task.
+    // Over any folder: it is a build of the plan of what was requested of some registry. Each task
+    // of this plan starts, and has an outcome, as the outline permits. A refusal that is attributed
+    // to the device names a place that is read before the first task.
     ensures outlined { IfOk result (IsOutlined invocation.now) }
     ensures places { IfErr result (λ fault. (place : List ℕ) → fault ≡ Fault.Device place
         → IsTrue (is_read_first invocation.now.options place)) }
     ensures refused { IsTrue F.tells → OnErr result (F.contents folder.new ≡ F.contents folder.old) }
-    // Why it is refused, and that a dry run changes nothing, hang on no kinds and no device.
+    // Why it is refused, and that a dry run changes nothing, depend on no kinds and no device.
     ensures not_built { IsTrue F.tells → IfErr result (λ fault.
         IsNotBuilt (registers_in (tables_of T.meanings A.meanings tables.now))
         (record { contents = F.contents folder.old; failures = F.failures folder.old })
         invocation.now fault (F.failures folder.new)) }
     ensures dry { IsTrue F.tells → invocation.now.options.dry_run ≡ true
         → F.contents folder.new ≡ F.contents folder.old }
-    // A build changes nothing but `.gb` and the build folders of the projects, and a refusal nothing.
+    // A build changes nothing but `.gb` and the build folders of the projects, and a refusal
+    // changes nothing.
     ensures keeps { IsTrue F.tells
         → EventKeeps (registers_in (tables_of T.meanings A.meanings tables.now))
         (events.Invoke invocation.now)
         (answer_of result) (F.contents folder.old) (F.contents folder.new) }
-    // It leads any run on, with what the scripts of the folder register.
+    // It is a next step of any run, with what the scripts of the folder register.
     ensures leads { IsTrue F.tells → (kinds : Kinds)
         → IsGranted A.meanings tables.now.actions kinds (F.may_leave folder.old)
         → Leads (setting_of (tables_of T.meanings A.meanings tables.now) kinds (F.may_leave folder.old))
         (record { contents = F.contents folder.old; failures = F.failures folder.old })
         (events.Invoke invocation.now) (answer_of result)
         (record { contents = F.contents folder.new; failures = F.failures folder.new }) }
-    // It is one invocation by its definition.
+    // This is one invocation by its definition.
     ensures holds { IsTrue F.tells → (kinds : Kinds)
         → IsGranted A.meanings tables.now.actions kinds (F.may_leave folder.old)
         → InvocationHolds
@@ -100,8 +103,8 @@ pub fn invoke<A: Actions, T: Transforms, F: Folder, L: TaskListener, P: Printer>
         (record { contents = F.contents folder.old; failures = F.failures folder.old })
         invocation.now result
         (record { contents = F.contents folder.new; failures = F.failures folder.new }) }
-    // So it is a plain step, and a build in which no task failed is from scratch, from whatever true
-    // records.
+    // So it is a plain step, and a build in which no task failed is from scratch, starting from any
+    // true records.
     ensures promise { IsTrue F.tells → (kinds : Kinds)
         → IsGranted A.meanings tables.now.actions kinds (F.may_leave folder.old)
         → PromiseHolds
@@ -118,7 +121,7 @@ pub fn invoke<A: Actions, T: Transforms, F: Folder, L: TaskListener, P: Printer>
     answered
 }
 
-/// Builds what is asked of the tasks of these scripts.
+/// Builds what is requested of the tasks of these scripts.
 fn build_registered<A: Actions, T: Transforms, F: Folder, L: TaskListener, P: Printer>(
     alloc: Global,
     folder: &mut F,
@@ -135,7 +138,7 @@ fn build_registered<A: Actions, T: Transforms, F: Folder, L: TaskListener, P: Pr
         Prints P.contents P.whole (parts_text report) printer.old printer.new) }
     ensures unprinted { OnErr result (printer.new ≡ printer.old) }
     ensures count { F.failures folder.old ≤ F.failures folder.new }
-    // The device is blamed no more often than it failed.
+    // Faults are attributed to the device no more often than it failed.
     ensures device { HasFailed (times_blamed (answer_of result))
         (F.failures folder.old) (F.failures folder.new) }
     ensures tearing { SameTearing (F.may_leave folder.old) (F.may_leave folder.new) }

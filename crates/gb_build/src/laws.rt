@@ -9,18 +9,18 @@ use gb_action::actions::Actions;
 use gb_folder::folder::Folder;
 use gb_provider::transforms::Transforms;
 
-/// A folder says one thing: what its scripts register, or one fault.
+/// A folder declares one thing: what its scripts register, or one fault.
 pub fn folders_say_one_thing<A: Actions, T: Transforms>()
     ensures { (tables : Tables T.Map T.FlatMap T.Zip T.Test A.Stored) → FoldersSayOneThing tables }
 {}
 
-/// What stands among the tool's own files has no say: a folder says the same without them.
+/// The tool's own files have no effect: a folder declares the same without them.
 pub fn own_files_say_nothing<A: Actions, T: Transforms>()
     ensures { (tables : Tables T.Map T.FlatMap T.Zip T.Test A.Stored) → OwnFilesSayNothing tables }
 {}
 
-/// What the scripts of a folder say and what is asked of them give one plan. So the premise of the law
-/// `states_are_one` of `gb_meaning` holds of every run over scripts.
+/// What the scripts of a folder declare and what is requested of them determine one plan. So the
+/// premise of the law `states_are_one` of `gb_meaning` holds of every run over scripts.
 pub fn scripts_give_one_plan<A: Actions, T: Transforms, F: Folder>()
     ensures { (tables : Tables T.Map T.FlatMap T.Zip T.Test A.Stored) (kinds : Kinds) (folder : F)
         → HaveOnePlan (setting_of tables kinds (F.may_leave folder)) }

@@ -1,16 +1,18 @@
-//! Builds: all that one needs who embeds the tool, but the kinds themselves (`gb_kinds`).
+//! Builds: everything that an embedder of the tool needs, except the kinds themselves (`gb_kinds`).
 //!
-//! A folder holds scripts. [`invoke`] makes one build of it, [`run_events`] takes any list of edits and
-//! builds, and [`run_from_nothing`] does so over an empty folder in memory. [`read_words`] reads an
-//! [`Invocation`] from the words of a command line, [`render`] prints a [`Report`]. [`Tables`] has the kinds
-//! and functions that scripts may name: `builtin_actions!` and `builtin_functions!` of `gb_answer` make them.
+//! A folder holds scripts. [`invoke`] makes one build of it, [`run_events`] executes any list of
+//! edits and builds, and [`run_from_nothing`] does so over an empty folder in memory.
+//! [`read_words`] reads an [`Invocation`] from the arguments of a command line, [`render`] prints a
+//! [`Report`]. [`Tables`] has the kinds and functions that scripts may name: `builtin_actions!` and
+//! `builtin_functions!` of `gb_answer` make them.
 //!
-//! The parts that a build is made of stand here too, and their calls in a module for each task at hand:
+//! This crate also has the parts of a build, and their calls in a module for each purpose:
 //! [`scripts`], [`plans`], [`trees`] and [`records`]. `docs/CRATES.md` has a table of them.
 //!
-//! Inside, a build goes down three steps: [`reading`] reads the scripts, each file once and none before the
-//! settings are known to be good; [`invoking`] hands what they say to [`requested`], which plans, reads the
-//! records and has the tasks take their turns. `specs/Words.antt` hands on what the contracts speak of.
+//! Inside, a build has three steps. [`reading`] reads the scripts, each file once and none before
+//! the settings are known to be good. [`invoking`] passes their declarations to [`requested`]. This
+//! plans, reads the records and executes the tasks. `specs/Words.antt` re-exports the definitions
+//! that the contracts use.
 #![tactic(auto)]
 
 mod before;

@@ -1,4 +1,4 @@
-//! Events over a folder in memory that holds nothing yet.
+//! Events over a folder in memory that is empty at first.
 ghost use Rattle.std.specs.Prelude.{[], IfOk};
 ghost use Rattle.gb_meaning.specs.Every.{PromiseHolds};
 ghost use Rattle.gb_meaning.specs.Granted.{leaves_nothing};
@@ -17,9 +17,10 @@ use gb_provider::transforms::Transforms;
 use gb_registry::tables::Tables;
 use std::alloc::{AllocError, Global};
 
-/// Takes the events in their order over an empty folder in memory, and answers each. All that `run_events`
-/// assumes is proved here: the table has each name of an action once, so some kinds agree with it; the folder
-/// holds the records of an empty memory; and there are no torn writes.
+/// Executes the events in their order over an empty folder in memory, and returns an answer to
+/// each. All that `run_events` assumes is proved here: the table has each name of an action once,
+/// so some kinds agree with it; the folder holds the records of an empty memory; and there are no
+/// torn writes.
 pub fn run_from_nothing<A: Actions, T: Transforms, L: TaskListener>(
     alloc: Global,
     tables: &Tables<A, T>,

@@ -1,4 +1,4 @@
-//! The texts of settings and scripts, read where they stand.
+//! Reads the texts of settings and scripts from their files.
 ghost use Rattle.std.specs.Prelude.{◌≡◌, ◌⊎◌, Some, Ok, Err, IsTrue, MatchResult, length};
 ghost use Rattle.gb_folder.specs.Calls.{Asks, no_change};
 ghost use Rattle.gb_script.specs.Script.{Says, SaysAsSettings};
@@ -15,7 +15,7 @@ use gb_script::{MAX_SCRIPT, read_script, read_settings};
 use gb_store::faults::fault_of;
 use std::alloc::Global;
 
-/// The settings at a place. Where no file stands, they include nothing.
+/// Reads the settings at a place. Where no file exists, they include nothing.
 pub fn settings_at<F: Folder>(
     alloc: Global,
     folder: &mut F,
@@ -38,7 +38,7 @@ pub fn settings_at<F: Folder>(
     }
 }
 
-/// The script at a place. Where no file stands, it is empty.
+/// Reads the script at a place. Where no file exists, it is empty.
 pub fn script_at<F: Folder>(alloc: Global, folder: &mut F, place: Place) -> Result<Script, Fault>
     ensures asks { Asks F.failures F.may_leave F.asked no_change folder.old folder.new }
     ensures blame { Blames result (F.failures folder.old) (F.failures folder.new) }
@@ -57,7 +57,7 @@ pub fn script_at<F: Folder>(alloc: Global, folder: &mut F, place: Place) -> Resu
     }
 }
 
-/// The settings that the bytes of the file at this place are.
+/// Parses the bytes of the file at this place as settings.
 fn settings_in(alloc: Global, bytes: &[u8], place: Place) -> Result<Settings, Fault>
     ensures { MatchResult result
         (λ settings. SaysAsSettings bytes.now (Ok settings))
@@ -70,7 +70,7 @@ fn settings_in(alloc: Global, bytes: &[u8], place: Place) -> Result<Settings, Fa
     }
 }
 
-/// The script that the bytes of the file at this place are.
+/// Parses the bytes of the file at this place as a script.
 fn script_in(alloc: Global, bytes: &[u8], place: Place) -> Result<Script, Fault>
     ensures { MatchResult result
         (λ script. Says bytes.now (Ok script))
@@ -95,7 +95,7 @@ fn in_file(fault: ScriptFault, place: Place) -> Fault
     }
 }
 
-/// The folder's fault where a text was to be read.
+/// The fault of a text that the folder did not read.
 fn unread(fault: FolderFault, place: Place) -> Fault
     ensures { result ≡ unread_at place fault }
 {

@@ -1,2 +1,2 @@
-//! Plans made: the tasks that are asked for, in order.
+//! The call that plans the requested tasks, in order.
 pub use gb_graph::plan::plan;

@@ -1,4 +1,4 @@
-//! A folder read: its settings, and the scripts of their projects.
+//! Reads a folder: its settings, and the scripts of their projects.
 ghost use Rattle.std.specs.Prelude.{◌≡◌, ◌⊎◌, Ok, Err, IsTrue, IfOk, MatchResult};
 ghost use Rattle.gb_folder.specs.Calls.{Asks, no_change};
 ghost use Rattle.gb_registry.specs.Tables.{tables_of};
@@ -24,13 +24,14 @@ use gb_report::fault::Fault;
 use gb_script::script::Settings;
 use std::alloc::Global;
 
-/// The registry of what the settings and the scripts of a folder say, with these values given. Where there is
-/// no `settings.gb`, the root is the only project; where a project has no `build.gb`, its script is empty.
+/// Reads the registry that the settings and the scripts of a folder declare, with these values
+/// given. Where there is no `settings.gb`, the root is the only project; where a project has no
+/// `build.gb`, its script is empty.
 ///
-/// Refused with the first fault: of the text of `settings.gb` (12 where another file is in its way, 20 to
-/// 23), of what it includes (1, 57, 58), of the text of a `build.gb` in the order of projects (12, 20 to 23),
-/// and then of a statement, as `Registry::configure` tells it. Memory may run out (3), and the device may
-/// fail (10), on the way.
+/// Refused with the first fault: of the text of `settings.gb` (12 where another file is in its way,
+/// 20 to 23), of what it includes (1, 57, 58), of the text of a `build.gb` in the order of projects
+/// (12, 20 to 23), and then of a statement, as `Registry::configure` reports it. Memory may run out
+/// (3), and the device may fail (10), on the way.
 pub fn read_registry<'a, A: Actions, T: Transforms, F: Folder>(
     alloc: Global,
     folder: &mut F,

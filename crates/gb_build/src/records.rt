@@ -1,4 +1,4 @@
-//! Records read and written, and what they decide.
+//! The calls that read and write records, and decide by them.
 pub use gb_history::decide::decide;
 pub use gb_history::text::{read_record, record_text};
 pub use gb_records::reading::read_records;

@@ -1,4 +1,4 @@
-//! One build of what is asked for.
+//! One build of what is requested.
 ghost use Rattle.std.specs.Prelude.{◌≡◌, ◌≤◌, Ok, map, true, IfErr, IfOk, IsTrue, OnErr};
 ghost use Rattle.gb_folder.specs.Files.{SameTearing};
 ghost use Rattle.gb_meaning.specs.declared.events.Event.TheVariants as events;
@@ -30,11 +30,12 @@ use gb_report::fault::Fault;
 use gb_report::report::Report;
 use std::alloc::Global;
 
-/// Builds what is asked for: plans it, reads the records of the plan's tasks, and executes the plan.
-/// Each task that starts is told to all listeners, and its part is printed as soon as its turn has ended.
-/// Refused before the first task, with nothing changed, told or printed, where there is no plan, or records
-/// cannot be read; what goes wrong later is told as a task's failure. In a dry run no record is read, and
-/// nothing changes or is printed.
+/// Builds what is requested: plans it, reads the records of the plan's tasks, and executes the
+/// plan. All listeners are notified of each task that starts, and its part is printed as soon as
+/// its execution has ended. The build is refused before the first task, with nothing changed or
+/// printed and no listener notified, where there is no plan, or records cannot be read; what goes
+/// wrong later is reported as a task's failure. In a dry run no record is read, and nothing changes
+/// or is printed.
 pub fn build_requested<A: Actions, F: Folder, L: TaskListener, P: Printer, Ts: Tasks>(
     alloc: Global,
     folder: &mut F,
@@ -48,7 +49,7 @@ pub fn build_requested<A: Actions, F: Folder, L: TaskListener, P: Printer, Ts: T
     ensures kept { Ts.registry tasks.new ≡ Ts.registry tasks.old }
     ensures dry_run { IfOk result (λ report. report.dry_run ≡ invocation.now.options.dry_run) }
     ensures of_plan { IfOk result (IsReportOf (Ts.registry tasks.old) invocation.now) }
-    // Over any folder: which tasks start, and what each may answer.
+    // Over any folder: which tasks start, and which outcomes are possible for each.
     ensures outlined { IfOk result (IsOutlinedBy (Ts.registry tasks.old) invocation.now) }
     ensures not_begun { IfErr result (IsNotBegun (Ts.registry tasks.old) invocation.now
         (F.failures folder.old) (F.failures folder.new)) }
@@ -60,11 +61,12 @@ pub fn build_requested<A: Actions, F: Folder, L: TaskListener, P: Printer, Ts: T
         Prints P.contents P.whole (parts_text report) printer.old printer.new) }
     ensures unprinted { OnErr result (printer.new ≡ printer.old) }
     ensures count { F.failures folder.old ≤ F.failures folder.new }
-    // The device is blamed no more often than it failed, if no script's fault blames it.
+    // Faults are attributed to the device no more often than it failed, if no script's fault is
+    // attributed to it.
     ensures device { NoneBlameDevice (Ts.registry tasks.old)
         → HasFailed (times_blamed (answer_of result)) (F.failures folder.old) (F.failures folder.new) }
     ensures tearing { SameTearing (F.may_leave folder.old) (F.may_leave folder.new) }
-    // Over any folder: which changes it asks for, and which records it puts in.
+    // Over any folder: which changes it requests, and which records it stores.
     ensures asks { BuildAsks F.failures F.may_leave F.asked A.meanings table.now (Ts.registry tasks.old)
         invocation.now result folder.old folder.new }
     ensures dry { invocation.now.options.dry_run ≡ true → folder.new ≡ folder.old }
@@ -72,7 +74,7 @@ pub fn build_requested<A: Actions, F: Folder, L: TaskListener, P: Printer, Ts: T
     // Nothing changes but `.gb` and the build folders of the registered projects.
     ensures elsewhere { IsTrue F.tells → ChangesOnly (is_of_build (Ts.registry tasks.old).projects)
         (F.contents folder.old) (F.contents folder.new) }
-    // It leads any run on, wherever scripts say what is registered here.
+    // It is a next step of any run, wherever scripts declare what is registered here.
     ensures leads { IsTrue F.tells → (kinds : Kinds) (registry_of : Registering)
         → IsGranted A.meanings table.now kinds (F.may_leave folder.old)
         → registry_of (outside (F.contents folder.old)).files invocation.now.properties
@@ -81,7 +83,7 @@ pub fn build_requested<A: Actions, F: Folder, L: TaskListener, P: Printer, Ts: T
         (record { contents = F.contents folder.old; failures = F.failures folder.old })
         (events.Invoke invocation.now) (answer_of result)
         (record { contents = F.contents folder.new; failures = F.failures folder.new }) }
-    // It is one invocation by its definition.
+    // This is one invocation by its definition.
     ensures holds { IsTrue F.tells → (kinds : Kinds) (registry_of : Registering)
         → IsGranted A.meanings table.now kinds (F.may_leave folder.old)
         → registry_of (outside (F.contents folder.old)).files invocation.now.properties

@@ -1,4 +1,4 @@
-//! Trees of files read, digested and compared.
+//! The calls that read, digest and compare trees of files.
 pub use gb_tree::changes::compare;
 pub use gb_tree::digest::prints;
 pub use gb_tree::output::outputs;

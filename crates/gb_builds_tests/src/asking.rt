@@ -1,4 +1,4 @@
-//! What `gb_ask` prints of registered tasks, of places, of records, of plans and of scripts.
+//! The output of `gb_ask` about registered tasks, places, records, plans and scripts.
 use crate::building::{is_told, put_bytes, words_of};
 use crate::offering::offered;
 use gb_action::actions::Actions;
@@ -72,7 +72,7 @@ fn folder(alloc: Global) -> Result<MemoryFolder, Fail> {
     Ok(folder)
 }
 
-/// What is printed of the tasks.
+/// The output about the tasks.
 fn listed<A: Actions, T: Transforms>(
     alloc: Global,
     tables: &Tables<A, T>,
@@ -143,7 +143,7 @@ fn tasks_and_plans_are_printed(rt: HostRuntime) -> Result<(), Fail> {
     all_hold::<Builtin, Builtin>(rt.alloc(), &tables)
 }
 
-/// What is printed of the script in a mode, and the status.
+/// The output for the script in a mode, and the exit status.
 fn formatted(alloc: Global, folder: &mut MemoryFolder, mode: Mode) -> Result<(String, u8), Fail> {
     let names = words_of(alloc, "build.gb")?;
     let mut out = Vec::new(alloc);
@@ -187,14 +187,14 @@ fn a_script_is_formatted_once(rt: HostRuntime) -> Result<(), Fail> {
     Ok(())
 }
 
-/// A site, whose report has no value where none is given.
+/// A site; its report has no value if none is given.
 const SITE: &str = "defaultTasks \"site\"\nregister pages : copyFiles {\n    \
      inputFiles src from dir(\"src\")\n    outputDir out = dir(\"build/pages\")\n}\n\
      register site {\n    dependsOn \"pages\"\n    finalizedBy \"report\"\n}\n\
      register report : writeText(gradleProperty(\"text\")) {\n    mustRunAfter \"pages\"\n    \
      outputFile out = file(\"build/report\")\n}\n";
 
-/// What is asked of a place, and what is printed.
+/// A query about a place, and its output.
 type Asked<'a> = (Relation, Notation, &'a str, &'a str);
 
 const PLACES: [Asked<'static>; 8] = [
@@ -252,7 +252,7 @@ fn site(alloc: Global) -> Result<MemoryFolder, Fail> {
     Ok(folder)
 }
 
-/// What is printed of a place.
+/// The output about a place.
 fn related<A: Actions, T: Transforms>(
     alloc: Global,
     tables: &Tables<A, T>,
@@ -273,7 +273,7 @@ fn related<A: Actions, T: Transforms>(
     Ok(String::from_utf8(out)?)
 }
 
-/// What is printed of the folder.
+/// The output about the folder.
 fn status_of<A: Actions, T: Transforms>(
     alloc: Global,
     folder: &mut MemoryFolder,
@@ -313,8 +313,8 @@ fn built<A: Actions, T: Transforms>(
     Ok(folder)
 }
 
-/// Fails where something else is printed of the folder once some of its records are damaged or are those of
-/// no task, and other files are in `.gb`.
+/// Fails if something else is printed about the folder after some of its records are damaged or
+/// belong to no task, and other files are in `.gb`.
 fn is_status<A: Actions, T: Transforms>(alloc: Global, tables: &Tables<A, T>) -> Result<(), Fail> {
     let mut folder = built(alloc, tables)?;
     put_bytes(

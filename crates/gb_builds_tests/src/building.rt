@@ -1,4 +1,4 @@
-//! Events over a folder, and what becomes of it.
+//! Events over a folder, and their results.
 use gb_action::actions::Actions;
 use gb_build::events::run_events;
 use gb_core::bytes::Bytes;
@@ -14,8 +14,8 @@ use gb_words::words::read;
 use std::alloc::Global;
 use std::test::Fail;
 
-/// `put PLACE`, a text that is put there, and what is told of it; or `del PLACE`, `lost` or `run WORD..`,
-/// without a text. Nothing is told of an edit that is done.
+/// `put PLACE`, the text to store there, and the expected result; or `del PLACE`, `lost` or `run
+/// WORD..`, without a text. The result of a completed edit is empty.
 pub type Step<'a> = (&'a str, &'a str, &'a str);
 
 /// The words of a line.
@@ -56,7 +56,7 @@ pub fn events(alloc: Global, steps: &[Step<'_>]) -> Result<Vec<Event>, Fail> {
     Ok(events)
 }
 
-/// What is printed of a build, and the fault of what is refused.
+/// The output of a build, or the fault of a refused event.
 fn told(alloc: Global, answer: &Answer) -> Result<String, Fail> {
     let bytes = match answer {
         Answer::Edited => Vec::new(alloc),
@@ -66,7 +66,7 @@ fn told(alloc: Global, answer: &Answer) -> Result<String, Fail> {
     Ok(String::from_utf8(bytes)?)
 }
 
-/// Fails at the first answer that tells something else than its step.
+/// Fails at the first answer that differs from its step.
 pub fn are_told(alloc: Global, steps: &[Step<'_>], answers: &[Answer]) -> Result<(), Fail> {
     for (step, answer) in steps.iter().zip(answers.iter()) {
         is_told(step.2, told(alloc, answer)?.as_str())?;
@@ -74,7 +74,7 @@ pub fn are_told(alloc: Global, steps: &[Step<'_>], answers: &[Answer]) -> Result
     Ok(())
 }
 
-/// Fails where something else is told.
+/// Fails if the result differs.
 pub fn is_told(expected: &str, told: &str) -> Result<(), Fail> {
     if told == expected {
         Ok(())
@@ -83,7 +83,7 @@ pub fn is_told(expected: &str, told: &str) -> Result<(), Fail> {
     }
 }
 
-/// Takes these steps, and fails at the first that tells something else.
+/// Performs these steps, and fails at the first with another result.
 pub fn go_on<A: Actions, T: Transforms, F: Folder>(
     alloc: Global,
     folder: &mut F,
@@ -96,7 +96,7 @@ pub fn go_on<A: Actions, T: Transforms, F: Folder>(
     are_told(alloc, steps, answers.as_slice())
 }
 
-/// What is told of these words to the one who asks, while others listen.
+/// The result of these arguments for the caller, with these listeners.
 pub fn told_beside<A: Actions, T: Transforms, F: Folder, L: TaskListener>(
     alloc: Global,
     folder: &mut F,
@@ -109,7 +109,7 @@ pub fn told_beside<A: Actions, T: Transforms, F: Folder, L: TaskListener>(
     told_alone(alloc, answers.as_slice())
 }
 
-/// What is told of the one answer.
+/// The result of the only answer.
 fn told_alone(alloc: Global, answers: &[Answer]) -> Result<String, Fail> {
     match answers {
         [answer] => told(alloc, answer),
@@ -117,7 +117,7 @@ fn told_alone(alloc: Global, answers: &[Answer]) -> Result<String, Fail> {
     }
 }
 
-/// What is told of these words while none listens.
+/// The result of these arguments without listeners.
 pub fn told_of<A: Actions, T: Transforms, F: Folder>(
     alloc: Global,
     folder: &mut F,
@@ -128,7 +128,7 @@ pub fn told_of<A: Actions, T: Transforms, F: Folder>(
     told_beside(alloc, folder, tables, words, &mut listeners)
 }
 
-/// Fails where something else is told of these words while none listens.
+/// Fails if the result of these arguments without listeners differs.
 pub fn is_told_of<A: Actions, T: Transforms, F: Folder>(
     alloc: Global,
     folder: &mut F,
@@ -140,7 +140,7 @@ pub fn is_told_of<A: Actions, T: Transforms, F: Folder>(
     is_told(expected, text.as_str())
 }
 
-/// Puts bytes at a place, also at one that is the tool's own.
+/// Stores bytes at a place, also at one of the tool's own.
 pub fn put_bytes<F: Folder>(
     alloc: Global,
     folder: &mut F,
@@ -156,7 +156,7 @@ pub fn bytes_at(alloc: Global, folder: &mut MemoryFolder, place: &str) -> Result
     Ok(folder.read(alloc, &Place::read(alloc, place)?, 1_048_576)?)
 }
 
-/// The files beneath a place with their texts, as `PLACE=TEXT`, with blanks between them.
+/// The files under a place with their texts, as `PLACE=TEXT`, with blanks between them.
 pub fn held(alloc: Global, folder: &mut MemoryFolder, root: &str) -> Result<String, Fail> {
     let mut out = String::new(alloc);
     let places = folder.list(alloc, &Place::read(alloc, root)?)?;
@@ -184,7 +184,7 @@ fn push_texts(out: &mut String, texts: [&str; 4]) -> Result<(), Fail> {
     Ok(())
 }
 
-/// Fails where other files stand beneath a place, or with other texts.
+/// Fails if the files under a place or their texts differ.
 pub fn are_held(
     alloc: Global,
     folder: &mut MemoryFolder,

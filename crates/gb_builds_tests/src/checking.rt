@@ -1,4 +1,4 @@
-//! What `gb_ask check` prints of a folder, as the guide has it but for the outputs.
+//! The output of `gb_ask check` for a folder, as in the guide except for the outputs.
 use crate::building::{is_told, put_bytes, words_of};
 use crate::offering::offered;
 use gb_action::actions::Actions;
@@ -44,7 +44,7 @@ const SKIPPED: &str =
 
 const BROKEN: &str = "register a {}\nregister {}\n";
 
-/// Fails where something else is printed of a script, or with another status.
+/// Fails if something else is printed for a script, or the exit status differs.
 fn is_checked<A: Actions, T: Transforms>(
     alloc: Global,
     tables: &Tables<A, T>,

@@ -1,4 +1,4 @@
-//! What the words of a command come to in a folder on a disk.
+//! The results of command lines in a folder on disk.
 use crate::building::{put_bytes, words_of};
 use crate::ending::FailingWriter;
 use crate::offering::offered;
@@ -20,13 +20,14 @@ use std::test::Fail;
 const GEN: &str =
     "build.gb register gen : writeText(\"abc\") { outputFile out = file(\"build/a.txt\") }";
 
-/// What is printed where it succeeds.
+/// The output of a successful build.
 const DONE: &str = "> Task :gen\nBUILD SUCCESSFUL\n1 actionable task: 1 executed\n";
 
-/// Lines, and what is answered to them where the script stands.
+/// Lines, and their results if the script exists.
 type Row<'a> = (&'a str, &'a str);
 
-/// What is printed of lines: `put PLACE BYTES`, `read PLACE`, `run WORDS`, and `status WORDS` for its status.
+/// The output of lines: `put PLACE BYTES`, `read PLACE`, `run WORDS`, and `status WORDS` for the
+/// exit status.
 fn answers<A: Actions, T: Transforms, F: Folder>(
     alloc: Global,
     folder: &mut F,
@@ -93,7 +94,7 @@ fn push_line(out: &mut Vec<u8>, bytes: &[u8]) -> Result<(), Fail> {
     Ok(out.push(b'\n')?)
 }
 
-/// Builds, and answers the status.
+/// Builds, and returns the exit status.
 fn build<A: Actions, T: Transforms, F: Folder>(
     alloc: Global,
     folder: &mut F,
@@ -119,7 +120,7 @@ fn status<A: Actions, T: Transforms, F: Folder>(
     Ok(out.extend_from_slice(format!(in alloc; "{status}")?.as_bytes())?)
 }
 
-/// What a folder of this name on a disk answers that has the task.
+/// The results in a folder with this name on disk that has the task.
 fn on_disk<A: Actions, T: Transforms>(
     rt: &HostRuntime,
     name: &str,
@@ -140,7 +141,7 @@ fn answers_with_task<A: Actions, T: Transforms, F: Folder>(
     answers(alloc, folder, tables, lines)
 }
 
-/// Fails where something else was answered than a row has.
+/// Fails if the result is not that of the row.
 fn is_answered(row: &Row<'_>, answer: &str) -> Result<(), Fail> {
     if answer == row.1 {
         Ok(())
@@ -149,7 +150,7 @@ fn is_answered(row: &Row<'_>, answer: &str) -> Result<(), Fail> {
     }
 }
 
-/// Fails at the first row that is answered otherwise in a new folder of this name.
+/// Fails at the first row with another result in a new folder with this name.
 fn hold_on_disk<A: Actions, T: Transforms>(
     rt: &HostRuntime,
     name: &str,
@@ -220,7 +221,7 @@ fn words_ask_for_a_build_or_for_none(rt: HostRuntime) -> Result<(), Fail> {
     hold_on_disk::<Builtin, Builtin>(&rt, "worded", &tables, &WORDS)
 }
 
-/// Fails where a build that cannot be printed has a status.
+/// Fails if a build that cannot be printed has an exit status.
 fn unprinted<A: Actions, T: Transforms>(alloc: Global, tables: &Tables<A, T>) -> Result<(), Fail> {
     let mut folder = MemoryFolder::new(alloc);
     let words = Ok(Vec::new(alloc));

@@ -1,4 +1,5 @@
-//! Builds over what stands in the way of records, over a damaged one, and of more than an output may hold.
+//! Builds over files that block records, over a damaged record, and of more than an output may
+//! contain.
 use crate::building::{Step, are_held, bytes_at, go_on, is_told_of, put_bytes};
 use crate::offering::{offered, offered_joining};
 use gb_action::actions::Actions;
@@ -30,7 +31,7 @@ const JOIN: &str =
 const TOO_LARGE: &str = "> Task :c FAILED\nFAILED :c: 13 too large build/c\nBUILD FAILED\n\
 1 actionable task: 1 executed\n";
 
-/// Fails where something else is told of a build whose record cannot be written.
+/// Fails if a build whose record cannot be written has another result.
 fn is_unwritten<A: Actions, T: Transforms>(
     alloc: Global,
     tables: &Tables<A, T>,
@@ -59,7 +60,7 @@ fn a_record_that_cannot_stand_is_told(rt: HostRuntime) -> Result<(), Fail> {
     is_unwritten::<Builtin, Builtin>(rt.alloc(), &tables)
 }
 
-/// Changes the byte here of a file.
+/// Changes the byte of a file at this index.
 fn damage(alloc: Global, folder: &mut MemoryFolder, place: &str, at: usize) -> Result<(), Fail> {
     let mut text = bytes_at(alloc, folder, place)?;
     match text.get_mut(at) {
@@ -69,7 +70,8 @@ fn damage(alloc: Global, folder: &mut MemoryFolder, place: &str, at: usize) -> R
     put_bytes(alloc, folder, place, text.as_slice())
 }
 
-/// Fails where a build after the first task's record was damaged at a byte runs anything else than that task.
+/// Fails if a build, after the first task's record was damaged at a byte, executes anything other
+/// than that task.
 fn is_damaged<A: Actions, T: Transforms>(
     alloc: Global,
     tables: &Tables<A, T>,
@@ -110,14 +112,14 @@ fn a_damaged_record_concerns_its_task_alone(rt: HostRuntime) -> Result<(), Fail>
     are_damaged::<Builtin, Builtin>(rt.alloc(), &tables)
 }
 
-/// Puts two files that are joined into one of more bytes than an output may have.
+/// Stores two files that are joined into one with more bytes than an output may have.
 fn put_halves(alloc: Global, folder: &mut MemoryFolder) -> Result<(), Fail> {
     let half = vec![in alloc; b'x'; 5_242_880]?;
     put_bytes(alloc, folder, "m/a", half.as_slice())?;
     put_bytes(alloc, folder, "m/b", half.as_slice())
 }
 
-/// Fails where something else is told of them, or some of it stands.
+/// Fails if the result for them differs, or a part of it exists.
 fn is_too_large<A: Actions, T: Transforms>(
     alloc: Global,
     tables: &Tables<A, T>,

@@ -5,7 +5,7 @@ use gb_folder::memory::MemoryFolder;
 use std::alloc::Global;
 use std::test::Fail;
 
-/// It does not tell what it holds: the file at one place is another one at each call.
+/// A folder whose contents are not known: the file at one place is another one at each call.
 #[derive(Drop)]
 pub struct Disturbed {
     inner: MemoryFolder,

@@ -1,4 +1,4 @@
-//! Replays that end early: at a line that is none, and where something fails outside.
+//! Replays that end early: at an invalid line, and when something outside fails.
 use gb_action::actions::Actions;
 use gb_action::table::ActionTable;
 use gb_kinds::builtin::{Builtin, StoredAction};
@@ -30,7 +30,7 @@ fn nothing_handed(alloc: Global) -> (ActionTable<StoredAction>, FunctionTable) {
     (ActionTable::new(alloc), FunctionTable::new(alloc))
 }
 
-/// What is printed of an input, and the status.
+/// The output for an input, and the exit status.
 fn replayed<A: Actions, T: Transforms>(
     alloc: Global,
     tables: &Tables<A, T>,
@@ -51,7 +51,7 @@ fn replayed_with_nothing(alloc: Global, input: &str) -> Result<(String, u8), Fai
     replayed::<Builtin, Builtin>(alloc, &tables, input)
 }
 
-/// Fails where a replay prints something else, or ends with another status.
+/// Fails if a replay prints something else, or ends with another exit status.
 fn holds(alloc: Global, row: &Row<'_>) -> Result<(), Fail> {
     let (output, status) = replayed_with_nothing(alloc, row.1)?;
     if output.as_str() == row.2 && status == row.3 {
@@ -70,7 +70,7 @@ fn a_bad_line_ends_the_replay(rt: HostRuntime) -> Result<(), Fail> {
     Ok(())
 }
 
-/// Lines that are none.
+/// Invalid lines.
 const BAD_LINES: [&str; 14] = [
     "lost ",
     "lost\r",
@@ -102,7 +102,7 @@ fn other_lines_are_bad(rt: HostRuntime) -> Result<(), Fail> {
     Ok(())
 }
 
-/// Gives a part of a line and then fails.
+/// Returns a part of a line and then fails.
 #[derive(Drop)]
 struct FailingReader {
     is_begun: bool,
@@ -119,7 +119,7 @@ impl Read for FailingReader {
     }
 }
 
-/// Takes nothing.
+/// Accepts no bytes.
 #[derive(Drop)]
 pub struct FailingWriter;
 
@@ -133,7 +133,7 @@ impl Write for FailingWriter {
     }
 }
 
-/// The status of a replay whose lines cannot be read.
+/// The exit status of a replay whose lines cannot be read.
 fn unread<A: Actions, T: Transforms>(alloc: Global, tables: &Tables<A, T>) -> u8 {
     let mut output = Vec::new(alloc);
     let mut reader = FailingReader { is_begun: false };
@@ -141,7 +141,7 @@ fn unread<A: Actions, T: Transforms>(alloc: Global, tables: &Tables<A, T>) -> u8
     if output.is_empty() { status } else { 0 }
 }
 
-/// The status of a replay whose answers cannot be written.
+/// The exit status of a replay whose answers cannot be written.
 fn unwritten<A: Actions, T: Transforms>(alloc: Global, tables: &Tables<A, T>) -> u8 {
     let mut input = b"show a\njump".as_slice();
     replay(alloc, &mut input, &mut FailingWriter, tables)

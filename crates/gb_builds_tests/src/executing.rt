@@ -26,7 +26,7 @@ const OPTIONS: Options = Options {
     dry_run: false,
 };
 
-/// A task that needs none, and has no actions.
+/// A task without dependencies and without actions.
 fn task(alloc: Global, runs: bool) -> Result<TaskDeclaration, Fail>
     ensures { IfOk result (λ task. task ≡ bare task.path runs) }
 {
@@ -44,7 +44,7 @@ fn task(alloc: Global, runs: bool) -> Result<TaskDeclaration, Fail>
     })
 }
 
-/// A plan of this task alone, which a name selects.
+/// A plan of this task alone, selected by a name.
 fn plan<A: Actions>(alloc: Global, runs: bool) -> Result<Plan, Fail>
     ensures can { IfOk result (CanBuild A.meanings []) }
     ensures one { IfOk result (λ plan. length plan ≡ 1) }
@@ -60,7 +60,7 @@ fn plan<A: Actions>(alloc: Global, runs: bool) -> Result<Plan, Fail>
     Ok(Plan::from_vec(tasks))
 }
 
-/// How the build of the one task is told, and how often a listener hears of it.
+/// The reported outcome of the one task's build, and how often a listener is notified of it.
 fn built(alloc: Global, runs: bool, options: Options) -> Result<(&'static str, usize), Fail> {
     let plan = plan::<Builtin>(alloc, runs)?;
     let table: ActionTable<StoredAction> = ActionTable::new(alloc);

@@ -1,4 +1,4 @@
-//! Events over a folder in memory that holds nothing before them.
+//! Events over a folder in memory that is empty at first.
 use crate::building::{Step, are_held, are_told, events};
 use crate::offering::offered;
 use gb_action::actions::Actions;
@@ -31,7 +31,7 @@ const STEPS: [Step<'static>; 3] = [
     ),
 ];
 
-/// Fails where the steps from nothing tell or leave something else.
+/// Fails if the steps from an empty folder have other results or leave other files.
 fn runs_from_nothing<A: Actions, T: Transforms>(
     alloc: Global,
     tables: &Tables<A, T>,

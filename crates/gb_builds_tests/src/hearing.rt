@@ -1,4 +1,5 @@
-//! What listeners hear of builds of two tasks, over a device that fails and beside one that refuses.
+//! The notifications of listeners in builds of two tasks, over a device that fails and with a
+//! listener that refuses.
 use crate::building::{Step, are_held, go_on, is_told, is_told_of, told_beside, told_of};
 use crate::listening::{Refusing, heard_by_each, heard_text};
 use crate::offering::offered;
@@ -39,7 +40,7 @@ fn scripted<A: Actions, T: Transforms>(
     Ok(folder)
 }
 
-/// What is told of a build, and whether one has heard that its first task was executed.
+/// The result of a build, and whether its listener was notified that the first task was executed.
 fn told_and_heard<A: Actions, T: Transforms, F: Folder>(
     alloc: Global,
     folder: &mut F,
@@ -51,7 +52,7 @@ fn told_and_heard<A: Actions, T: Transforms, F: Folder>(
     Ok((text, heard.contains("executed :a\n")))
 }
 
-/// Fails where the first task is built again though one has heard that it was executed.
+/// Fails if the first task is built again although a listener was notified that it was executed.
 fn is_kept<A: Actions, T: Transforms>(
     alloc: Global,
     folder: &mut MemoryFolder,
@@ -66,8 +67,9 @@ fn is_kept<A: Actions, T: Transforms>(
     }
 }
 
-/// What is told of a build whose device stops at a call, and whether one has heard that its first task was
-/// executed. Fails where that is not so for the build behind it.
+/// The result of a build whose device stops at a call, and whether its listener was notified that
+/// the first task was executed. Fails if the listener was notified, and the next build does not
+/// find that task up to date.
 fn stopped<A: Actions, T: Transforms>(
     alloc: Global,
     tables: &Tables<A, T>,
@@ -86,7 +88,8 @@ fn heard_by_last<L: TaskListener>(alloc: Global, listeners: &[L]) -> Result<Stri
     }
 }
 
-/// Stops a build at each of its calls, and tells how many of them come behind the end of its first task.
+/// Stops a build at each of its calls, and returns how many of the stops come after the end of its
+/// first task.
 fn all_stops<A: Actions, T: Transforms>(alloc: Global, tables: &Tables<A, T>) -> Result<u64, Fail> {
     let mut behind = 0u64;
     for at in 1..200u64 {
@@ -101,7 +104,7 @@ fn all_stops<A: Actions, T: Transforms>(alloc: Global, tables: &Tables<A, T>) ->
     Err(Fail::new("the build does not end"))
 }
 
-/// Fails where no stop comes behind the end of the first task.
+/// Fails if no stop comes after the end of the first task.
 fn has_stops_behind<A: Actions, T: Transforms>(
     alloc: Global,
     tables: &Tables<A, T>,
@@ -124,7 +127,7 @@ fn what_was_heard_is_so_after_a_stop(rt: HostRuntime) -> Result<(), Fail> {
     has_stops_behind::<Builtin, Builtin>(alloc, &tables)
 }
 
-/// Fails where a listener that refuses a call changes more of a build than its success.
+/// Fails if a listener that refuses a call changes more of a build than its success.
 fn refused<A: Actions, T: Transforms>(
     alloc: Global,
     tables: &Tables<A, T>,
@@ -137,8 +140,8 @@ fn refused<A: Actions, T: Transforms>(
     is_told_of(alloc, &mut folder, tables, "run a b", UP_TO_DATE)
 }
 
-/// Fails where a build beside a listener that refuses a call prints something else, or another one behind it
-/// hears something else.
+/// Fails if a build with a listener that refuses a call prints something else, or if another
+/// listener after it gets other notifications.
 fn is_heard<A: Actions, T: Transforms>(
     alloc: Global,
     folder: &mut MemoryFolder,
@@ -151,7 +154,7 @@ fn is_heard<A: Actions, T: Transforms>(
     is_told(HEARD, heard_by_last(alloc, listeners.as_slice())?.as_str())
 }
 
-/// Fails where a build beside these listeners prints something else.
+/// Fails if a build with these listeners prints something else.
 fn builds_alike<A: Actions, T: Transforms, L: TaskListener>(
     alloc: Global,
     folder: &mut MemoryFolder,
@@ -185,7 +188,7 @@ fn one_that_refuses_changes_only_the_success(rt: HostRuntime) -> Result<(), Fail
     all_refusals::<Builtin, Builtin>(alloc, &tables)
 }
 
-/// A task that fails, as a file stands in the way of its output, and its finalizer.
+/// A task that fails because a file blocks its output, and its finalizer.
 const FINALIZED: [Step<'static>; 2] = [
     (
         "put build.gb",
@@ -200,7 +203,7 @@ const FAILED_AND_REFUSED: &str =
     "> Task :bad FAILED\n> Task :fin\nFAILED :bad: 12 blocked build/x/y\n\
 FAILED listener: 91 listener refused\nBUILD FAILED\n2 actionable tasks: 2 executed\n";
 
-/// What is heard of that build where nothing is refused.
+/// The notifications of that build if nothing is refused.
 const CALLS: [&str; 4] = [
     "start :bad\n",
     "failed :bad\n",
@@ -208,7 +211,7 @@ const CALLS: [&str; 4] = [
     "executed :fin\n",
 ];
 
-/// All calls but the one of this number, counted from 1.
+/// All calls except the one with this number, counted from 1.
 fn calls_without(alloc: Global, at: usize) -> Result<String, Fail> {
     let mut out = String::new(alloc);
     for (before, call) in CALLS.iter().enumerate() {
@@ -219,7 +222,8 @@ fn calls_without(alloc: Global, at: usize) -> Result<String, Fail> {
     Ok(out)
 }
 
-/// What the first and the last have heard, and between them the one that refused a call.
+/// The notifications of the first and the last listener, and between them those of the listener
+/// that refused a call.
 fn heard_between(alloc: Global, at: usize) -> Result<String, Fail> {
     let all = calls_without(alloc, 0)?;
     let missing = calls_without(alloc, at)?;
@@ -231,8 +235,8 @@ fn heard_between(alloc: Global, at: usize) -> Result<String, Fail> {
     Ok(out)
 }
 
-/// Fails where a build beside one that refuses this call, between two that refuse none, tells one of them
-/// something else.
+/// Fails if a build with a listener that refuses this call, between two that refuse none, notifies
+/// one of them of something else.
 fn one_is_missed<A: Actions, T: Transforms>(
     alloc: Global,
     tables: &Tables<A, T>,
@@ -244,7 +248,7 @@ fn one_is_missed<A: Actions, T: Transforms>(
     is_missed(alloc, &mut folder, tables, at, &mut listeners)
 }
 
-/// One that refuses this call, between two that refuse none.
+/// A listener that refuses this call, between two that refuse none.
 fn between(alloc: Global, at: u64) -> Result<Vec<Box<dyn TaskListener>>, Fail> {
     let mut listeners = Vec::<Box<dyn TaskListener>>::new(alloc);
     listeners.push(Box::new(alloc, Recorder::new(alloc))?)?;

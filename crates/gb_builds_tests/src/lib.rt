@@ -1,8 +1,8 @@
-//! Tests of whole builds: of a plan and of listeners (`gb_exec`), of events and invocations (`gb_build`), of
-//! the words of a command (`gb_command`, `gb_ask_command`), and of replays that do not take all their lines
-//! (`gb_lines`; the others are made by the run of `gb_replay`); and of a site with kinds of one's own. They
-//! stand in one crate apart, so that neither the proofs of these crates nor what a test of a whole build is
-//! compiled from is paid for more than once.
+//! Tests of whole builds: of a plan and of listeners (`gb_exec`), of events and invocations
+//! (`gb_build`), of command lines (`gb_command`, `gb_ask_command`), and of replays that do not read
+//! all their lines (`gb_lines`; the run of `gb_replay` makes the others); and of a site with kinds
+//! of one's own. They are in one separate crate, so that neither the proofs of these crates nor the
+//! compilation of the sources of a whole-build test is paid for more than once.
 #![tactic(auto)]
 
 #[cfg(test)]

@@ -1,4 +1,4 @@
-//! A listener that refuses one of its calls, and what listeners hear.
+//! A listener that refuses one of its calls, and the notifications of listeners.
 ghost use Rattle.std.specs.Prelude.{◌≡◌, ◌++◌, [], ◌∷◌, OnErr, OnOk};
 ghost use Rattle.gb_meaning.specs.Headline.{counted};
 ghost use Rattle.gb_report.specs.declared.report.Heard.TheVariants.{Start, End};
@@ -9,18 +9,18 @@ use gb_report::report::{Heard, Outcome};
 use std::alloc::{AllocError, Global};
 use std::test::Fail;
 
-/// A listener that keeps what it hears, but for one call.
+/// A listener that keeps its notifications, except for one call.
 #[derive(Drop)]
 pub struct Refusing {
     recorder: Recorder,
-    /// The number of the call that it refuses, counted from 1; it refuses none where it is 0.
+    /// The number of the call that it refuses, counted from 1; if it is 0, it refuses none.
     at: u64,
     calls: u64,
     refusals: u64,
 }
 
 impl Refusing {
-    /// It has heard nothing yet, and refuses call `at`.
+    /// A listener without notifications that refuses call `at`.
     pub fn new(alloc: Global, at: u64) -> Refusing {
         Refusing {
             recorder: Recorder::new(alloc),
@@ -30,7 +30,7 @@ impl Refusing {
         }
     }
 
-    /// Counts a call, and tells whether it is refused.
+    /// Counts a call, and returns whether it is refused.
     fn refuses(&mut self) -> bool
         ensures recorder { self.new.recorder ≡ self.old.recorder }
         ensures refusals { self.new.refusals ≡ self.old.refusals }
@@ -104,7 +104,7 @@ impl TaskListener for Refusing {
     }
 }
 
-/// What each of them has heard, with a bar behind it.
+/// The notifications of each listener, with a bar after each.
 pub fn heard_by_each<L: TaskListener>(alloc: Global, listeners: &[L]) -> Result<String, Fail> {
     let mut out = String::new(alloc);
     for listener in listeners {
@@ -114,7 +114,7 @@ pub fn heard_by_each<L: TaskListener>(alloc: Global, listeners: &[L]) -> Result<
     Ok(out)
 }
 
-/// What was heard, as the paths of tasks, each behind its start or how it ended.
+/// The notifications, as the paths of tasks, each after its start or its outcome.
 pub fn heard_text(alloc: Global, heard: &[Heard]) -> Result<String, Fail> {
     let mut out = String::new(alloc);
     for one in heard {

@@ -1,5 +1,6 @@
-//! What builds ask of a folder, read off its notes: a whole one, a dry one, a refused one, some that are
-//! stopped, and one in whose folder somebody else writes before each call.
+//! The changes that builds request of a folder, read from its notes: a whole build, a dry one, a
+//! refused one, some that are stopped, and one in whose folder somebody else writes before each
+//! call.
 use crate::building::{Step, go_on, told_of};
 use crate::disturbing::Disturbed;
 use crate::offering::offered;
@@ -14,7 +15,7 @@ use gb_registry::tables::Tables;
 use std::alloc::Global;
 use std::test::Fail;
 
-/// A task that copies files, of two files that were copied and one that was not.
+/// A task that copies files; two files are copied and one is not.
 const STEPS: [Step<'static>; 6] = [
     (
         "put build.gb",
@@ -43,8 +44,8 @@ fn stepped<A: Actions, T: Transforms>(
     Ok(folder)
 }
 
-/// How many changes the words ask for in a folder. Fails where one is asked for elsewhere than at the output
-/// or the record.
+/// How many changes these arguments request in a folder. Fails if one is requested at a place other
+/// than the output or the record.
 fn changes<A: Actions, T: Transforms, F: Folder + Drop>(
     alloc: Global,
     folder: F,
@@ -67,7 +68,7 @@ fn are_of_task(notes: &[Note]) -> Result<(), Fail> {
     Ok(())
 }
 
-/// Fails where the words ask for another count of changes behind the steps.
+/// Fails if these arguments request another number of changes after the steps.
 fn are_changes<A: Actions, T: Transforms>(
     alloc: Global,
     tables: &Tables<A, T>,
@@ -100,8 +101,8 @@ fn disturbed<A: Actions, T: Transforms>(alloc: Global, tables: &Tables<A, T>) ->
     Ok(())
 }
 
-/// Of a whole build the record is taken out, a file is taken away, one is put, and the record is put in. A
-/// dry and a refused one ask for nothing.
+/// A whole build deletes the record, removes a file, writes one, and stores the record. A dry and a
+/// refused build request no changes.
 fn ask_for_their_own<A: Actions, T: Transforms>(
     alloc: Global,
     tables: &Tables<A, T>,

@@ -48,7 +48,8 @@ fn add(
     Ok(table.add(&name, stored)?)
 }
 
-/// The kinds, each made apart: with a closure at hand each way out is dear to check.
+/// The kinds, each made in a separate function: with a closure in scope each exit is expensive to
+/// check.
 fn actions(alloc: Global) -> Result<ActionTable<StoredAction>, Fail> {
     let mut table = ActionTable::new(alloc);
     add(alloc, &mut table, "writeText", writing(alloc)?)?;
@@ -56,20 +57,20 @@ fn actions(alloc: Global) -> Result<ActionTable<StoredAction>, Fail> {
     Ok(table)
 }
 
-/// What a build is handed: these kinds, and no function of values.
+/// The tables for a build: these kinds, and no function of values.
 pub fn offered(alloc: Global) -> Result<(ActionTable<StoredAction>, FunctionTable), Fail> {
     let actions = actions(alloc)?;
     Ok((actions, FunctionTable::new(alloc)))
 }
 
-/// What a build is handed by a program in which the kind that writes a text has its next version.
+/// The tables for a build by a program in which the kind that writes a text has its next version.
 pub fn offered_anew(alloc: Global) -> Result<(ActionTable<StoredAction>, FunctionTable), Fail> {
     let mut actions = ActionTable::new(alloc);
     add(alloc, &mut actions, "writeText", writing_anew(alloc)?)?;
     Ok((actions, FunctionTable::new(alloc)))
 }
 
-/// What a build is handed whose one kind joins files.
+/// The tables for a build whose one kind joins files.
 pub fn offered_joining(alloc: Global) -> Result<(ActionTable<StoredAction>, FunctionTable), Fail> {
     let mut actions = ActionTable::new(alloc);
     add(alloc, &mut actions, "concat", joining(alloc)?)?;

@@ -1,4 +1,4 @@
-//! What is printed of a build, and when.
+//! The output of a build, and when it is printed.
 use crate::building::words_of;
 use crate::offering::offered;
 use gb_action::actions::Actions;
@@ -20,17 +20,17 @@ const TASKS: [&str; 2] = [
     "register b : writeText(\"b\") { outputFile out = file(\"build/b.txt\") }\n",
 ];
 
-/// What a first build prints.
+/// The output of a first build.
 const MADE: &str = "> Task :a\n> Task :b\nBUILD SUCCESSFUL\n2 actionable tasks: 2 executed\n";
 
-/// What a later one prints.
+/// The output of a later build.
 const KEPT: &str =
     "> Task :a UP-TO-DATE\n> Task :b UP-TO-DATE\nBUILD SUCCESSFUL\n2 actionable tasks: 2 up-to-date\n";
 
-/// What becomes of a build that cannot be printed whole, and of the next.
+/// The exit status and output of a build that cannot be printed whole, and of the next one.
 type End = (Option<u8>, Vec<u8>);
 
-/// Takes so many bytes, and fails from then on.
+/// Accepts this many bytes, and then fails.
 #[derive(Drop)]
 struct Scarce {
     text: Vec<u8>,
@@ -53,7 +53,7 @@ impl Write for Scarce {
     }
 }
 
-/// Keeps how much had been written at each flush.
+/// Records how much had been written at each flush.
 #[derive(Drop)]
 struct Flushed {
     written: usize,
@@ -84,7 +84,8 @@ fn laid_out(alloc: Global) -> Result<MemoryFolder, Fail> {
     Ok(folder)
 }
 
-/// Builds all in a folder, where so many bytes can be printed: the status, and what was printed.
+/// Builds all in a folder, with room to print this many bytes, and returns the exit status and the
+/// output.
 fn built_in<A: Actions, T: Transforms>(
     alloc: Global,
     folder: &mut MemoryFolder,
@@ -101,7 +102,7 @@ fn built_in<A: Actions, T: Transforms>(
     Ok((status, text))
 }
 
-/// Fails where something else was printed, or the status is another.
+/// Fails if the output or the exit status differs.
 fn is_end(end: &End, status: Option<u8>, printed: &[u8]) -> Result<(), Fail> {
     if end.0 == status && end.1.as_slice() == printed {
         Ok(())
@@ -110,7 +111,8 @@ fn is_end(end: &End, status: Option<u8>, printed: &[u8]) -> Result<(), Fail> {
     }
 }
 
-/// Fails where something else is printed of a build where so many bytes can be, or the status is another.
+/// Fails if a build with room for this many bytes prints something else, or has another exit
+/// status.
 fn ends<A: Actions, T: Transforms>(
     alloc: Global,
     folder: &mut MemoryFolder,
@@ -123,8 +125,8 @@ fn ends<A: Actions, T: Transforms>(
     is_end(&end, status, printed)
 }
 
-/// Fails where a build of which so many bytes can be printed prints other ones, has a status, or leaves less
-/// than a whole build.
+/// Fails if a build with room to print this many bytes prints other bytes, has an exit status, or
+/// leaves less than a whole build.
 fn stops_nothing<A: Actions, T: Transforms>(
     alloc: Global,
     tables: &Tables<A, T>,
@@ -177,7 +179,7 @@ fn seen_at_flushes<A: Actions, T: Transforms>(
     }
 }
 
-/// Fails where a build of all is seen at other moments, by how much had been written.
+/// Fails if the output of a build of all is flushed at other moments, by how much had been written.
 fn is_seen<A: Actions, T: Transforms>(
     alloc: Global,
     folder: &mut MemoryFolder,
@@ -191,7 +193,7 @@ fn is_seen<A: Actions, T: Transforms>(
     }
 }
 
-/// Fails where a first build is not seen part by part, or a later one not at once.
+/// Fails if a first build is not flushed part by part, or a later one not at once.
 fn are_seen<A: Actions, T: Transforms>(alloc: Global, tables: &Tables<A, T>) -> Result<(), Fail> {
     let mut folder = laid_out(alloc)?;
     is_seen(alloc, &mut folder, tables, &[10, 20, MADE.len()])?;

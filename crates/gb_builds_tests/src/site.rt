@@ -1,5 +1,5 @@
-//! Tests of a site that is built with kinds of one's own (`gb_pages`, by `gb_with`), over a folder in memory
-//! and with a listener of one's own: the script is the one of `gb_site`, in short.
+//! Tests of a site that is built with custom kinds (`gb_pages`, by `gb_with`), over a folder in
+//! memory and with a custom listener: the script is a short form of the one of `gb_site`.
 
 mod counting;
 mod faults;

@@ -10,7 +10,7 @@ use gb_registry::tables::Tables;
 use std::alloc::Global;
 use std::test::Fail;
 
-/// A task that copies files, where there are any.
+/// A task that copies files, if there are any.
 const SCRIPT: &str =
     "register cp : copyFiles { inputFiles src incremental skipWhenEmpty from dir(\"src\") \
      outputDir out = dir(\"build/o\") }";
@@ -28,7 +28,7 @@ const FIRST: [Step<'static>; 5] = [
     ),
 ];
 
-/// One file is changed, one is taken away and one is put.
+/// One file is changed, one is removed and one is added.
 const CHANGES: [Step<'static>; 3] = [
     ("put src/a", "X", ""),
     ("del src/b", "", ""),
@@ -49,26 +49,26 @@ const UP_TO_DATE: &str =
 
 const NO_SOURCE: &str = "> Task :cp NO-SOURCE\nBUILD SUCCESSFUL\n";
 
-/// What is tried, and what is to become of it.
+/// A trial, and its expected results.
 #[derive(Drop)]
 struct Trial<'a> {
-    /// What happens between the first build and the one whose device fails.
+    /// The edits between the first build and the one whose device fails.
     edits: &'a [Step<'a>],
-    /// What that build prints where no call of it fails.
+    /// The output of that build if none of its calls fails.
     told: &'a str,
-    /// How what the build behind it prints begins.
+    /// How the output of the build after it begins.
     next: &'a str,
-    /// What each later build prints.
+    /// The output of each later build.
     later: &'a str,
-    /// The files that the edits leave to work on.
+    /// The input files that remain after the edits.
     sources: &'a str,
-    /// The files that are made of them.
+    /// The files that are made from them.
     outputs: &'a str,
-    /// Those among them that no build changes.
+    /// The output files that no build changes.
     kept: &'a str,
 }
 
-/// The trial of a build that changes what was made.
+/// The trial of a build that changes its outputs.
 fn of_changes() -> Trial<'static> {
     Trial {
         edits: &CHANGES,
@@ -81,7 +81,7 @@ fn of_changes() -> Trial<'static> {
     }
 }
 
-/// The trial of a build with nothing to work on.
+/// The trial of a build without input files.
 fn of_removals() -> Trial<'static> {
     Trial {
         edits: &REMOVALS,
@@ -124,7 +124,8 @@ fn record<A: Actions, T: Transforms>(
     bytes_at(alloc, &mut folder, ".gb/tasks/cp.record")
 }
 
-/// How a device fails: once, from then on, or from then on where a write leaves the first bytes of a text.
+/// How a device fails: once, from then on, or from then on with a write that leaves the first bytes
+/// of a text.
 fn mode(alloc: Global, kind: u64, text: &[u8]) -> Result<FaultMode, Fail> {
     match kind {
         0 => Ok(FaultMode::FailOnce),
@@ -135,7 +136,7 @@ fn mode(alloc: Global, kind: u64, text: &[u8]) -> Result<FaultMode, Fail> {
     }
 }
 
-/// Fails where a stopped build has changed something that is not its own.
+/// Fails if a stopped build has changed something that is not its own.
 fn is_spared(alloc: Global, folder: &mut MemoryFolder, trial: &Trial<'_>) -> Result<(), Fail> {
     are_held(alloc, folder, "src", trial.sources)?;
     let outputs = held(alloc, folder, "build/o")?;
@@ -146,7 +147,7 @@ fn is_spared(alloc: Global, folder: &mut MemoryFolder, trial: &Trial<'_>) -> Res
     }
 }
 
-/// Fails where the next build does not succeed as it is to.
+/// Fails if the next build does not succeed as expected.
 fn succeeds<A: Actions, T: Transforms>(
     alloc: Global,
     folder: &mut MemoryFolder,
@@ -158,7 +159,7 @@ fn succeeds<A: Actions, T: Transforms>(
     are_held(alloc, folder, "build/o", trial.outputs)
 }
 
-/// Fails where what a build prints is not to follow a stopped one.
+/// Fails if the output of a build may not follow a stopped one.
 fn is_success(text: &str, trial: &Trial<'_>) -> Result<(), Fail> {
     if text.starts_with(trial.next) && text.contains("\nBUILD SUCCESSFUL\n") {
         Ok(())
@@ -167,7 +168,7 @@ fn is_success(text: &str, trial: &Trial<'_>) -> Result<(), Fail> {
     }
 }
 
-/// Fails where the builds behind a stopped one do not make up for it.
+/// Fails if the builds after a stopped one do not repair its results.
 fn recovers<A: Actions, T: Transforms>(
     alloc: Global,
     folder: &mut MemoryFolder,
@@ -181,7 +182,8 @@ fn recovers<A: Actions, T: Transforms>(
     are_held(alloc, folder, "build/o", trial.outputs)
 }
 
-/// What is told of a build whose device fails at a call, once the builds behind it have made up for it.
+/// The result of a build whose device fails at a call, after later builds have repaired its
+/// results.
 fn stopped<A: Actions, T: Transforms>(
     alloc: Global,
     tables: &Tables<A, T>,
@@ -196,7 +198,7 @@ fn stopped<A: Actions, T: Transforms>(
     Ok(text)
 }
 
-/// Fails where a text tells something else than that the device failed.
+/// Fails if a text reports something other than a failure of the device.
 fn blames(text: &str) -> Result<(), Fail> {
     let is_refused = text.starts_with("10 ");
     let is_failed = text.contains("\nFAILED :cp: 10 ") || text.contains("\nFAILED :cp: 90 ");
@@ -207,7 +209,8 @@ fn blames(text: &str) -> Result<(), Fail> {
     }
 }
 
-/// Stops a build at each of its calls, and tells the number of the first call that it does not make.
+/// Stops a build at each of its calls, and returns the number of the first call that it does not
+/// make.
 fn calls<A: Actions, T: Transforms>(
     alloc: Global,
     tables: &Tables<A, T>,
@@ -226,7 +229,8 @@ fn calls<A: Actions, T: Transforms>(
     Err(Fail::new("the build does not end"))
 }
 
-/// Stops a build at each of its calls in each of these ways, and fails where one of them goes unseen.
+/// Stops a build at each of its calls in each of these ways, and fails if one of them goes
+/// unnoticed.
 fn all_stops<A: Actions, T: Transforms>(
     alloc: Global,
     tables: &Tables<A, T>,

@@ -1,4 +1,4 @@
-//! Listeners of several kinds side by side.
+//! Several kinds of listeners next to each other.
 ghost use Rattle.std.specs.Prelude.{◌≡◌, [], IsErr};
 ghost use Rattle.gb_meaning.specs.Headline.{counted};
 
@@ -48,7 +48,8 @@ impl TaskListener for Deaf {
     }
 }
 
-/// Tells listeners that a task starts and ends, and fails where one of that is heard by all.
+/// Notifies listeners that a task starts and ends, and fails if all of them accept one of the
+/// notifications.
 fn told<L: TaskListener>(
     alloc: Global,
     listeners: &mut Vec<L>,
@@ -63,7 +64,8 @@ fn told<L: TaskListener>(
     }
 }
 
-/// Tells a task to three listeners, and fails where not the first and the last alone have heard of it.
+/// Notifies three listeners of a task, and fails unless exactly the first and the last keep the
+/// notifications.
 fn hear<L: TaskListener>(alloc: Global, listeners: &mut Vec<L>) -> Result<(), Fail> {
     told(alloc, listeners, &TaskPath::read(alloc, ":gen")?)?;
     is_told(

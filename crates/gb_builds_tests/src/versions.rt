@@ -60,7 +60,7 @@ fn a_newer_version_of_a_kind_runs_once_more(rt: HostRuntime) -> Result<(), Fail>
     go_on::<Builtin, Builtin, MemoryFolder>(rt.alloc(), &mut folder, &tables, &NEXT)
 }
 
-/// Fails where a build behind a record in the older form runs, or writes it anew.
+/// Fails if a build over a record in the older form executes the task, or writes the record again.
 fn counts<A: Actions, T: Transforms>(alloc: Global, tables: &Tables<A, T>) -> Result<(), Fail> {
     let mut folder = first(alloc, tables)?;
     counts_in(alloc, &mut folder, tables)

@@ -1,4 +1,5 @@
-//! What `gb_ask why` tells of tasks; that of a whole folder on a disk is told by the run of its own crate.
+//! The output of `gb_ask why` about tasks; the run of its own crate tests it for a whole folder on
+//! disk.
 use crate::building::{Step, go_on, is_told, put_bytes, words_of};
 use crate::ending::FailingWriter;
 use crate::offering::offered;
@@ -19,7 +20,7 @@ const EXECUTED: &str = "> Task :gen\nBUILD SUCCESSFUL\n1 actionable task: 1 exec
 
 const BUILT: [Step<'static>; 2] = [("put build.gb", SCRIPT, ""), ("run gen", "", EXECUTED)];
 
-/// What is printed of words, and the status.
+/// The output for arguments, and the exit status.
 fn answered<A: Actions, T: Transforms>(
     alloc: Global,
     folder: &mut MemoryFolder,
@@ -37,7 +38,7 @@ fn answered<A: Actions, T: Transforms>(
     }
 }
 
-/// Fails where something else is told of words.
+/// Fails if the output for the arguments differs.
 fn is_why<A: Actions, T: Transforms>(
     alloc: Global,
     folder: &mut MemoryFolder,
@@ -59,7 +60,8 @@ fn built<A: Actions, T: Transforms>(
     Ok(folder)
 }
 
-/// Words over the folder after a build, how the answer is written, what is printed, and the status.
+/// Arguments for the folder after a build, the notation of the answer, the output, and the exit
+/// status.
 type Row<'a> = (&'a str, Notation, &'a str, u8);
 
 const WORDS: [Row<'static>; 9] = [
@@ -101,7 +103,7 @@ const WORDS: [Row<'static>; 9] = [
     ),
 ];
 
-/// Fails where a row is answered otherwise.
+/// Fails if the result of a row differs.
 fn holds<A: Actions, T: Transforms>(
     alloc: Global,
     folder: &mut MemoryFolder,
@@ -135,10 +137,10 @@ fn words_are_answered_with_a_status(rt: HostRuntime) -> Result<(), Fail> {
     all_hold::<Builtin, Builtin>(rt.alloc(), &tables)
 }
 
-/// The form and the task of a record, its seal, and what is told of the task at whose place it stands.
+/// The form and the task of a record, its seal, and the output about the task at whose place it is.
 type Recorded<'a> = (&'a str, &'a str, &'a str, &'a str);
 
-/// A record of the older form, one of a form that is none, one of another task, and a damaged one.
+/// A record of the older form, one with an invalid form, one of another task, and a damaged one.
 const RECORDS: [Recorded<'static>; 4] = [
     (
         "1",
@@ -166,7 +168,7 @@ const RECORDS: [Recorded<'static>; 4] = [
     ),
 ];
 
-/// The text of a record of a run that wrote what the script says.
+/// The text of a record of a run that wrote the text in the script.
 fn record(alloc: Global, form: &str, task: &str, seal: &str) -> Result<String, Fail> {
     let mut text = String::new(alloc);
     for part in [
@@ -186,7 +188,7 @@ fn record(alloc: Global, form: &str, task: &str, seal: &str) -> Result<String, F
     Ok(text)
 }
 
-/// Fails where something else is told with this record.
+/// Fails if the output with this record differs.
 fn counts<A: Actions, T: Transforms>(
     alloc: Global,
     folder: &mut MemoryFolder,
@@ -216,7 +218,7 @@ fn records_count_as_for_builds(rt: HostRuntime) -> Result<(), Fail> {
     all_count::<Builtin, Builtin>(rt.alloc(), &tables)
 }
 
-/// Fails where something else is told of an output of more bytes than are read.
+/// Fails if the output for a task whose output has more bytes than are read differs.
 fn is_too_large<A: Actions, T: Transforms>(
     alloc: Global,
     tables: &Tables<A, T>,
@@ -242,7 +244,7 @@ fn an_output_that_is_too_large_is_told(rt: HostRuntime) -> Result<(), Fail> {
     is_too_large::<Builtin, Builtin>(rt.alloc(), &tables)
 }
 
-/// Fails where what cannot be printed has a status.
+/// Fails if an answer that cannot be printed has an exit status.
 fn unprinted<A: Actions, T: Transforms>(alloc: Global, tables: &Tables<A, T>) -> Result<(), Fail> {
     let mut folder = MemoryFolder::new(alloc);
     let words = Ok(Vec::new(alloc));

@@ -17,13 +17,13 @@ use Rattle.gb_store.proofs.Machine.{machine_before}
 use Rattle.gb_store.specs.Faults.{IsOfMachine}
 use Rattle.gb_check.specs.Sites.{HasTextFault, IsUnread, blocked, in_file, no_place, no_script, script_of_project, unread_at}
 
--- what holds of a fault that is handed on holds of the result
+-- what holds of a fault that is returned holds of the result
 pub handed : {T : Type 0} (Bad : Fault → Type 0) (result : Result T Fault) (fault : Fault) → IsErrAnd result (λ f. f ≡ fault) → Bad fault → IfErr result Bad
 handed Bad (Ok x) fault is bad = absurd is
 handed Bad (Err f) fault is bad = subst Bad (sym is) bad
 
 module _ (files : Files) (place : Place) where
-  -- the folder refused, but not for want of a file
+  -- the folder refused, but not because the file is missing
   pub unread_there : (before after : ℕ) (fault : FolderFault) (told : Fault) → (told ≡ faults.OutOfMemory) ⊎ (told ≡ unread_at place fault)
       → (fault ≡ folders.Device → HasRisen before after) → fault ≢ folders.Missing → (fault ≡ folders.Blocked → IsTrue (is_blocked files place))
       → (fault ≡ folders.TooLarge → IsSomeAnd (file_at files place) (λ bytes. 1048576 < length bytes)) → fault ≢ folders.BadFileName

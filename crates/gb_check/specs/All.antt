@@ -1,4 +1,4 @@
--- All that is found: faults and warnings.
+-- All findings: faults and warnings.
 use Rattle.std.specs.Prelude.{◌≡◌, Bool, List, [], string_bytes}
 use Rattle.gb_folder.specs.Files.{Contents}
 use Rattle.gb_plan.specs.Graph.{Registry}
@@ -11,7 +11,7 @@ use Rattle.gb_check.specs.declared.finding.Findings.{Findings}
 use Rattle.gb_check.specs.declared.marks.Mark.{Mark}
 use Rattle.gb_check.specs.declared.sites.Site.{Site}
 
--- What is found of a registry whose tasks these scripts register, with the lines in which they do.
+-- The findings for a registry whose tasks these scripts register, with the lines in which they do.
 pub record AreFindings (tells : Bool) (contents : Contents) (registry : Registry)
     (scripts : List (Path × List Statement)) (findings : Findings) : Type 0 where
   pub sites : List Site

@@ -1,4 +1,4 @@
--- What is found of registered tasks, and what follows where nothing is.
+-- The findings for registered tasks, and what follows if there are none.
 use Rattle.std.specs.Prelude.{ℕ, ◌≡◌, ◌≢◌, ◌⊎◌, List, [], ◌∷◌, ◌++◌, Option, Some, None, Result, Ok, Err}
 use Rattle.std.specs.Prelude.{bytes_eq, codes, decimal, find}
 use Rattle.std.specs.List.{flat_map}
@@ -19,14 +19,14 @@ use Rattle.gb_check.specs.declared.sites.Site.{Site}
 
 -- ---- What is printed
 
--- a line of a script, as editors read it
+-- a line of a script, in the form that editors read
 abbrev pub line_text : Place → ℕ → List ℕ
 line_text script line = script ++ codes ":" ++ decimal line ++ codes ": "
 
 abbrev pub site_text : Site → List ℕ
 site_text site = line_text site.script site.line
 
--- where the task of a path is registered; nothing where that is not known
+-- where the task at a path is registered; empty if that is not known
 abbrev pub where_text : List Site → Path → List ℕ
 where_text sites path = option_map_or site_text (find (λ site. bytes_eq site.path path) sites) []
 
@@ -34,7 +34,7 @@ where_text sites path = option_map_or site_text (find (λ site. bytes_eq site.pa
 abbrev pub fault_site_text : List Mark → Path → Fault → Site → List ℕ
 fault_site_text marks path fault site = line_text site.script (line_for marks path fault site.line)
 
--- the same of the task at a path; nothing where it is not known where it is registered
+-- the same for the task at a path; empty if it is not known where the task is registered
 abbrev pub fault_where : List Site → List Mark → Path → Fault → List ℕ
 fault_where sites marks path fault =
     option_map_or (fault_site_text marks path fault) (find (λ site. bytes_eq site.path path) sites) []
@@ -57,9 +57,9 @@ named_by other = None
 abbrev pub plan_text : List Site → Fault → List ℕ
 plan_text sites fault = line (option_map_or (where_text sites) (named_by fault) [] ++ fault_text fault)
 
--- ---- What cannot be read
+-- ---- Scripts or arguments that cannot be read
 
--- the script and the line that the fault of a text names; its first line where it names none
+-- the script and the line that the fault of a text names; its first line if it names none
 abbrev pub unread_where : Fault → List ℕ
 unread_where (faults.Syntax script line) = line_text script line
 unread_where (faults.TooDeep script line) = line_text script line
@@ -70,7 +70,7 @@ unread_where other = codes "REFUSED "
 abbrev pub unread_text : Fault → List ℕ
 unread_text fault = line (unread_where fault ++ fault_text fault)
 
--- ---- What is found
+-- ---- The findings
 
 abbrev pub faults_of : Option (Result TaskDeclaration Fault) → List Fault
 faults_of (Some (Err fault)) = fault ∷ []
@@ -86,28 +86,28 @@ task_text sites marks registry path =
 abbrev pub tasks_text : List Site → List Mark → Registry → List ℕ
 tasks_text sites marks registry = flat_map (task_text sites marks registry) (paths_of registry)
 
--- what is found of the plan of these words: nothing, or why there is none
+-- the findings for the plan of these words: none, or why there is no plan
 abbrev pub IsFoundInPlan : List Site → Registry → List Text → List ℕ → Type 0
 IsFoundInPlan sites registry words text =
     ((plan : Plan) × IsPlanOf registry words [] plan × (text ≡ []))
     ⊎ ((fault : Fault) × IsRefusalOf registry words [] fault × (fault ≢ faults.OutOfMemory)
     × (text ≡ plan_text sites fault))
 
--- what is found of the plan of all tasks, where there are any
+-- the findings for the plan of all tasks, if there are any tasks
 abbrev pub IsFoundInAll : List Site → Registry → List Path → List ℕ → Type 0
 IsFoundInAll sites registry paths text =
     ((paths ≡ []) × (text ≡ [])) ⊎ ((paths ≢ []) × IsFoundInPlan sites registry paths text)
 
--- The faults of all tasks; or where no task has one, what is found of the plan of all.
+-- The faults of all tasks; or if no task has one, the findings for the plan of all.
 pub data IsFound (sites : List Site) (marks : List Mark) (registry : Registry) (text : List ℕ) : Type 0 where
   in_tasks : text ≢ [] → text ≡ tasks_text sites marks registry → IsFound sites marks registry text
   in_plan : tasks_text sites marks registry ≡ [] → IsFoundInAll sites registry (paths_of registry) text
       → IsFound sites marks registry text
 
--- ---- Where nothing is found
+-- ---- If nothing is found
 
--- Whatever is requested and excluded is refused for no task: but for want of memory, for its words, or for
--- its plan (60 to 63).
+-- Whatever is requested and excluded, no task causes a refusal: the only causes are lack of memory, the
+-- words, and the plan (60 to 63).
 abbrev pub IsSilent : Registry → Type 0
 IsSilent registry =
     (requested excluded : List Text) (fault : Fault) → IsRefusalOf registry requested excluded fault

@@ -1,4 +1,4 @@
--- Which clause of a task a fault names, and the line of it.
+-- Which clause of a task a fault names, and its line.
 use Rattle.std.specs.Prelude.{ℕ, ◌&&◌, Bool, List, [], ◌∷◌, ◌++◌, Option, Some, None, bytes_eq, codes, map}
 use Rattle.std.specs.Prelude.{false, if◌then◌else◌, true}
 use Rattle.std.specs.List.{flat_map}
@@ -28,8 +28,8 @@ Word = Subject × Text
 abbrev pub all_of : Subject → List Text → List Word
 all_of subject texts = map (λ text. (subject, text)) texts
 
--- the words of a clause: the name of what it declares, does or tests, the tasks and patterns that it has, and
--- that it declares an output
+-- the words of a clause: the name of whatever it declares, does or tests, its tasks and patterns, and that it
+-- declares an output
 abbrev pub words_of : Clause → List Word
 words_of (clauses.Input a) = (subjects.Name, a.name) ∷ []
 words_of (clauses.InputFiles f) =
@@ -94,7 +94,7 @@ marks_of project (statement ∷ statements) lines =
 
 -- ---- What a fault names
 
--- the word that the fault of the task at a path has of one of its clauses
+-- the word that the fault of the task at a path takes from one of its clauses
 abbrev pub word_of : Path → Fault → Option Word
 word_of path (faults.BadName text) = Some (subjects.Task, text)
 word_of path (faults.UnknownProject text) = Some (subjects.Task, text)
@@ -123,13 +123,13 @@ is_mark_of path word mark =
 abbrev pub line_if : Path → Word → Mark → List ℕ
 line_if path word mark = if is_mark_of path word mark then mark.line ∷ [] else []
 
--- the only one of these lines, or else this one
+-- the only one of these lines, or else this line
 abbrev pub only_or : ℕ → List ℕ → ℕ
 only_or line [] = line
 only_or line (one ∷ []) = one
 only_or line (one ∷ other ∷ more) = line
 
--- the line of the one clause of the task that has the word; or if there is none, or more than one, this line
+-- the line of the one clause of the task with the word; if there is none, or more than one, this line
 abbrev pub line_with : List Mark → Path → ℕ → Option Word → ℕ
 line_with marks path line (Some word) = only_or line (flat_map (line_if path word) marks)
 line_with marks path line None = line

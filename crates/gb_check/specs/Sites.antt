@@ -20,7 +20,7 @@ use Rattle.gb_check.specs.Marks.{Lines, marks_of, other_lines}
 use Rattle.gb_check.specs.declared.marks.Mark.{Mark}
 use Rattle.gb_check.specs.declared.sites.Site.{Site}
 
--- the line of the first statement; 1 where there is none
+-- the line of the first statement; 1 if there is none
 abbrev pub first_line : List Lines → ℕ
 first_line [] = 1
 first_line (lines ∷ others) = lines.0
@@ -47,13 +47,13 @@ sites_of project script (statement ∷ statements) lines =
 abbrev pub script_of_project : Path → Place
 script_of_project project = joined (folder_of project) (codes "build.gb")
 
--- the lines of the statements of the file at a place; none where there is no file
+-- the lines of the statements of the file at a place; none if there is no file
 abbrev pub AreLinesAt : Files → Place → List Lines → Type 0
 AreLinesAt files place lines =
     MatchOption (file_at files place) (lines ≡ []) (λ bytes. AreLinesOf bytes lines)
 
--- Where these scripts register tasks, in their order, each in the line in which its statement begins, and the
--- words of their clauses. Where the contents of the folder are known, the lines are those of the files.
+-- Where these scripts register tasks, in their order, each with the line in which its statement begins, and
+-- the words of their clauses. If the contents of the folder are known, the lines are those of the files.
 abbrev pub AreSites : Bool → Files → List (Path × List Statement) → List Site → List Mark → Type 0
 AreSites tells files [] sites marks = (sites ≡ []) × (marks ≡ [])
 AreSites tells files (script ∷ scripts) sites marks =
@@ -63,7 +63,7 @@ AreSites tells files (script ∷ scripts) sites marks =
     × (sites ≡ sites_of script.0 (script_of_project script.0) script.1 lines ++ others)
     × (marks ≡ marks_of script.0 script.1 lines ++ words)
 
--- ---- Why there are none
+-- ---- Why a script has no lines
 
 -- a fault of a text, with the place of its file
 abbrev pub in_file : Place → ScriptFault → Fault
@@ -73,12 +73,12 @@ in_file place texts.TooLong = faults.TooLong place
 in_file place (texts.TooDeep line) = faults.TooDeep place line
 in_file place texts.NotUtf8 = faults.NotUtf8 place
 
--- a fault of the folder where a text is read: a file that is too large is a text that is too long
+-- a fault of the folder while a text is read: a file that is too large is a text that is too long
 abbrev pub unread_at : Place → FolderFault → Fault
 unread_at place folders.TooLarge = faults.TooLong place
 unread_at place other = told_at place other
 
--- Why a script has no lines: its place is none, another file is in its way, or its text is no script.
+-- Why a script has no lines: its place is invalid, another file blocks it, or its text is not a script.
 pub data HasTextFault (files : Files) (place : Place) (fault : Fault) : Type 0 where
   no_place : is_place place ≡ false → fault ≡ faults.BadPlace (codes "build.gb")
       → HasTextFault files place fault

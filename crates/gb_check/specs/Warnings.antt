@@ -1,4 +1,4 @@
--- What is warned of.
+-- The warnings.
 use Rattle.std.specs.Prelude.{ℕ, ◌≡◌, ◌&&◌, ◌||◌, Bool, not, IsTrue, List, [], ◌∷◌, ◌++◌, map, Option, Some}
 use Rattle.std.specs.Prelude.{None, Result, Ok, Err, bytes_eq, codes, false, if◌then◌else◌, true}
 use Rattle.std.specs.List.{flat_map, list_any}
@@ -23,7 +23,7 @@ use Rattle.gb_check.specs.declared.sites.Site.{Site}
 abbrev pub warning_text : List Site → Path → List ℕ → List ℕ
 warning_text sites path text = line (where_text sites path ++ codes "warning: " ++ text)
 
--- what a task is declared as; nothing where it has a fault
+-- the declaration of a task; nothing if it has a fault
 abbrev pub declared_of : Option (Result TaskDeclaration Fault) → List TaskDeclaration
 declared_of (Some (Ok task)) = task ∷ []
 declared_of (Some (Err fault)) = []
@@ -75,7 +75,7 @@ unneeded_text sites reader root maker =
     ++ codes ", which is not needed directly")
     else []
 
--- of a root of the reader and each of these tasks, of all roots of a file property, and of all properties
+-- for a root of the reader and each of these tasks, for all roots of a file property, and for all properties
 abbrev pub root_text : List Site → List TaskDeclaration → TaskDeclaration → Place → List ℕ
 root_text sites tasks reader root = flat_map (unneeded_text sites reader root) tasks
 
@@ -94,7 +94,7 @@ may_skip (clauses.OnlyIf condition) = true
 may_skip (clauses.Enabled value) = true
 may_skip other = false
 
--- the task to which a statement gives such a clause, if it does
+-- the task to which a statement gives such a clause, if it gives one
 abbrev pub guarded_by : Path → Statement → List Path
 guarded_by project (statements.Register r) =
     if list_any may_skip r.block then task_in project r.name ∷ [] else []
@@ -118,7 +118,7 @@ stale_text sites maker reader =
     ++ codes " reads its old output")
     else []
 
--- of a task that may be skipped and each of these
+-- for a task that may be skipped and each of these
 abbrev pub maker_text : List Site → List Path → List TaskDeclaration → TaskDeclaration → List ℕ
 maker_text sites guarded tasks maker =
     if has_path guarded maker.path then flat_map (stale_text sites maker) tasks else []
@@ -159,14 +159,14 @@ bare_roots_text sites contents tasks =
 
 -- ---- All of them
 
--- the warnings that no file changes: of file properties, of outputs that are read by place, and of those of
--- tasks that may be skipped
+-- the warnings that do not depend on files: for file properties, for outputs that are read by place, and for
+-- outputs of tasks that may be skipped
 abbrev pub declared_text : List Site → List (Path × List Statement) → List TaskDeclaration → List ℕ
 declared_text sites scripts tasks =
     shared_text sites tasks ++ readers_text sites tasks ++ skipped_text sites scripts tasks
 
--- These, and then those of roots: where the contents of the folder are known, of those in it that have no
--- files.
+-- These, and then those for roots: if the contents of the folder are known, for the roots that have no files
+-- in it.
 pub record AreWarnings (tells : Bool) (sites : List Site) (scripts : List (Path × List Statement))
     (contents : Contents) (registry : Registry) (text : List ℕ) : Type 0 where
   pub bare : List ℕ

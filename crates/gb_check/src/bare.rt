@@ -18,7 +18,7 @@ use gb_store::faults::fault_at;
 use std::alloc::{AllocError, Global};
 use std::fmt::Write;
 
-/// A warning for each root of a file property at which and under which nothing is, unless a task makes
+/// A warning for each root of a file property with nothing at it and under it, unless a task makes
 /// something there.
 pub(crate) fn warn_bare<F: Folder>(
     alloc: Global,

@@ -13,8 +13,9 @@ use gb_graph::tasks::Tasks;
 use gb_report::fault::Fault;
 use std::alloc::Global;
 
-/// A line for the fault of each task that has one, in the order of registration. Where none has, a line for
-/// the reason why there is no plan of all tasks, if there is none. `names` are the paths of all tasks.
+/// A line for the fault of each task that has one, in the order of registration. If no task has
+/// one, a line for the reason why there is no plan of all tasks, if there is none. `names` are the
+/// paths of all tasks.
 pub(crate) fn check<Ts: Tasks>(
     alloc: Global,
     tasks: &mut Ts,
@@ -83,7 +84,7 @@ fn push_task<Ts: Tasks>(
     }
 }
 
-/// Adds the line of a fault, but that memory ran out: that is handed on.
+/// Adds the line of a fault. A fault for lack of memory is returned instead.
 fn push_fault(
     alloc: Global,
     text: &mut String,

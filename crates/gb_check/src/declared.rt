@@ -1,4 +1,4 @@
-//! What tasks without a fault are declared as.
+//! The declarations of tasks without a fault.
 ghost use Rattle.std.specs.Prelude.{◌≡◌, ◌≢◌, ◌++◌, IfErr, IfOk, IsTrue, OnOk};
 ghost use Rattle.gb_plan.specs.Graph.{declaration_at, paths_of};
 ghost use Rattle.gb_plan.specs.Task.{has_path};
@@ -51,7 +51,7 @@ fn push_declared<Ts: Tasks>(
     }
 }
 
-/// A task with a fault has no warnings. That memory ran out is handed on.
+/// A task with a fault has no warnings. A fault for lack of memory is returned.
 fn passed_over(fault: Fault) -> Result<(), Fault>
     ensures ok { OnOk result (fault ≢ Fault.OutOfMemory) }
     ensures err { IfErr result (λ fault. fault ≡ Fault.OutOfMemory) }

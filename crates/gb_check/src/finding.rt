@@ -17,27 +17,28 @@ use gb_registry::checking::Scripted;
 use gb_report::fault::Fault;
 use std::alloc::Global;
 
-/// What is found, a line each.
+/// The findings, a line each.
 #[derive(Drop)]
 pub struct Findings {
-    /// What keeps builds from starting.
+    /// Faults that keep builds from starting.
     pub faults: String,
-    /// What keeps none from starting, and may not be meant.
+    /// Warnings: they keep no build from starting, but may not be intended.
     pub warnings: String,
 }
 
-/// What is found of the tasks that these scripts of a folder register. `names` are the paths of all tasks, in
-/// the order of registration.
+/// Finds the faults and warnings of the tasks that these scripts of a folder register. `names` are
+/// the paths of all tasks, in the order of registration.
 ///
-/// Faults: that of each task that has one, in that order, after the script and the line of the one clause of
-/// the task that it names, or else the line that registers the task. Where none has, the reason why there is
-/// no plan of all tasks, after the line of the first task that it names.
+/// Faults: for each task that has one, in that order, its fault, after the script and the line of
+/// the one clause of the task that it names, or else the line that registers the task. If no task
+/// has a fault, the reason why there is no plan of all tasks, after the line of the first task that
+/// it names.
 ///
-/// Warnings: each two file properties of a task that have a root in common; each root of a task that overlaps
-/// an output of another one which the task does not need; each task that reads an output of one which a test
-/// may skip; and each root without files.
+/// Warnings: for each two file properties of a task that have a root in common; for each root of a
+/// task that overlaps an output of another task which the first does not need; for each task that
+/// reads an output of one which a test may skip; and for each root without files.
 ///
-/// Refused where memory runs out or the device fails, or where a script, which is read once more for its
+/// Refused if memory runs out or the device fails, or if a script, which is read once more for its
 /// lines, cannot be read as one (2, 12, 20 to 23).
 pub fn find<Ts: Tasks, F: Folder>(
     alloc: Global,

@@ -1,4 +1,4 @@
-//! The lines of what is found.
+//! The lines of the findings.
 ghost use Rattle.std.specs.Prelude.{◌≡◌, ◌++◌, [], IfOk, OnOk, bytes_eq, find, string_bytes};
 ghost use Rattle.std.specs.Option.{option_copied, option_map_or};
 ghost use Rattle.gb_check.specs.Found.{fault_site_text, found_text, line_text, named_by, plan_text};
@@ -114,8 +114,8 @@ fn push_site(text: &mut String, site: Option<&Site>) -> Result<(), AllocError>
     }
 }
 
-/// The line of a fault for which scripts or arguments cannot be read: after its script and its line, where
-/// it is one of a text.
+/// The line of a fault for which scripts or arguments cannot be read: after its script and its
+/// line, if it is the fault of a text.
 pub fn unread_text(alloc: Global, fault: &Fault) -> Result<String, AllocError>
     ensures { IfOk result (λ text. string_bytes text ≡ unread_text fault.now) }
 {

@@ -1,6 +1,6 @@
-//! What is wrong with the tasks of a folder, found before any of them is requested: the fault of each task,
-//! with the line of the clause that it names or of the statement that registers the task; where no task has
-//! one, the fault of the plan of all tasks; and warnings.
+//! The faults and warnings of the tasks of a folder, found before any of them is requested: the
+//! fault of each task, with the line of the clause that it names or of the statement that registers
+//! the task; if no task has one, the fault of the plan of all tasks; and warnings.
 #![tactic(auto)]
 
 mod bare;

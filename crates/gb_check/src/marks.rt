@@ -15,7 +15,7 @@ use gb_script::StatementLines;
 use gb_script::script::{Call, Clause, InputFiles, Registration, Statement};
 use std::alloc::{AllocError, Global};
 
-/// What a word of a clause is.
+/// The kind of a word of a clause.
 #[derive(Clone, Copy, Debug, PartialEq, Eq)]
 pub enum Subject {
     /// The name of an input, an output, a kind of action or a test.
@@ -33,11 +33,11 @@ pub enum Subject {
 pub struct Mark {
     /// The path of the task.
     pub path: TaskPath,
-    /// What the word is.
+    /// The kind of the word.
     pub subject: Subject,
     /// The word.
     pub text: Text,
-    /// The line of the clause; that of the statement for the action after the colon.
+    /// The line of the clause; for the action after the colon, the line of the statement.
     pub line: u64,
 }
 

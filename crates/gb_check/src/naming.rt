@@ -27,7 +27,7 @@ pub(crate) fn line_for(
     }
 }
 
-/// The word that the fault of a task has of one of its clauses.
+/// The word that the fault of a task takes from one of its clauses.
 fn word_of<'f>(path: &TaskPath, fault: &'f Fault) -> Option<(Subject, &'f str)>
     ensures { option_map (λ word. (word.0, word.1.now)) result ≡ word_of path.now fault.now }
 {

@@ -11,7 +11,7 @@ use gb_graph::tasks::Tasks;
 use gb_report::fault::Fault;
 use std::alloc::{AllocError, Global};
 
-/// Why there is no plan of all tasks, whose paths these are, if there is none.
+/// Why there is no plan of all tasks, if there is none; these are their paths.
 pub(crate) fn check_all<Ts: Tasks>(
     alloc: Global,
     tasks: &mut Ts,
@@ -62,7 +62,7 @@ fn check_plan<Ts: Tasks>(
     }
 }
 
-/// The line of the fault of a plan, but that memory ran out: that is handed on.
+/// The line of the fault of a plan. A fault for lack of memory is returned instead.
 fn planned_text(alloc: Global, sites: &[Site], fault: Fault) -> Result<String, Fault>
     ensures fault { OnOk result (fault ≢ Fault.OutOfMemory) }
     ensures text { IfOk result (λ text. string_bytes text ≡ plan_text sites.now fault) }

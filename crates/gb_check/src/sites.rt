@@ -42,8 +42,8 @@ pub struct Site {
     pub line: u64,
 }
 
-/// Where these scripts register tasks, and the words of their clauses. Each script is read once more for its
-/// lines. A task has the line 1 if its script lost statements since it was read first.
+/// Where these scripts register tasks, and the words of their clauses. Each script is read once
+/// more for its lines. A task has the line 1 if its script lost statements since the first read.
 pub(crate) fn read_sites<F: Folder>(
     alloc: Global,
     folder: &mut F,
@@ -119,7 +119,7 @@ fn script_of_project(alloc: Global, project: &Project) -> Result<Place, Fault>
     }
 }
 
-/// The lines of the statements of the script at a place. Where there is no file, there are none.
+/// The lines of the statements of the script at a place. If there is no file, there are none.
 fn lines_at<F: Folder>(
     alloc: Global,
     folder: &mut F,
@@ -142,7 +142,7 @@ fn lines_at<F: Folder>(
     }
 }
 
-/// The folder's fault where a text was to be read.
+/// The folder's fault while a text was read.
 fn unread(fault: FolderFault, place: &Place) -> Fault
     ensures { (result ≡ OutOfMemory) ⊎ (result ≡ unread_at place.now fault) }
 {

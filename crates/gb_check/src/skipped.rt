@@ -1,4 +1,4 @@
-//! Outputs of tasks that may be skipped, and that other tasks read.
+//! Outputs of tasks that may be skipped and that other tasks read.
 ghost use Rattle.std.specs.Prelude.{◌≡◌, ◌∷◌, ◌++◌, [], IfErr, IfOk, OnOk, codes, string_bytes};
 ghost use Rattle.std.specs.List.{flat_map, list_any};
 ghost use Rattle.gb_core.specs.Path.{task_in};
@@ -65,7 +65,7 @@ fn push_guarded(
     Ok(())
 }
 
-/// Adds the task to which a statement gives such a clause, if it does.
+/// Adds the task to which a statement gives such a clause, if it gives one.
 fn push_statement(
     alloc: Global,
     guarded: &mut Vec<TaskPath>,

@@ -1,4 +1,4 @@
--- What the program answers.
+-- The answer of the program.
 use Rattle.std.specs.Prelude.{ℕ, ◌≡◌, ◌⊎◌, ◌∷◌, [], List, Result, Ok, Err}
 use Rattle.std.specs.Result.{result_map_both}
 use Rattle.gb_action.specs.Meanings.{Meanings}
@@ -20,32 +20,32 @@ use Rattle.gb_records.specs.Granted.{IsGranted}
 use Rattle.gb_words.specs.Faults.{IsFirstFault}
 use Rattle.gb_words.specs.Words.{IsAsked, words_faults}
 
--- the words of a command line, or why they cannot be read
+-- the arguments of a command line, or why they cannot be read
 abbrev pub Given : Type 0
 Given = Result (List (List ℕ)) Fault
 
--- these words, each shown as its bytes
+-- these arguments, each as its bytes
 abbrev pub given_of : {V : Type 0} → (V → List (List ℕ)) → Result V Fault → Given
 given_of bytes words = result_map_both bytes (λ fault. fault) words
 
--- the words ask for this
+-- the arguments request this
 abbrev pub AskFor : Given → Invocation → Type 0
 AskFor (Ok words) asked = IsAsked words asked
 AskFor (Err fault) asked = ⊥
 
--- the words are refused for this: they cannot be read, or it is the first that is wrong with them, or memory
--- ran out
+-- the arguments are refused for this: they cannot be read, or it is the first fault of them, or memory ran
+-- out
 abbrev pub AreRefused : Given → Fault → Type 0
 AreRefused (Ok words) fault = IsFirstFault (words_faults words) fault
 AreRefused (Err unread) fault = fault ≡ unread
 
--- the words are refused, and nothing changed
+-- the arguments are refused, and nothing changed
 abbrev pub IsRefused : Given → Shown → Result Report Fault → Shown → Type 0
 IsRefused given old answer new =
     (fault : Fault) × AreRefused given fault × (answer ≡ Err fault) × (new.contents ≡ old.contents)
 
--- Over any folder: a report is that of an invocation that the words ask for, which asks of the folder as it
--- does; where there is none, no change is asked for.
+-- Over any folder: a report is that of an invocation that the arguments request, which makes the calls that
+-- its answer permits. Where there is no report, no change is requested.
 abbrev pub AsksFor : {F S : Type 0} → (F → ℕ) → (F → Tearing) → (F → Call → F → Type 0) → Meanings S → Rows S
     → Given
     → Result Report Fault → F → F → Type 0
@@ -56,8 +56,8 @@ AsksFor failures may_leave asked meanings rows given (Ok report) old new =
     × InvocationAsks failures may_leave asked meanings rows invocation (Ok report) old new
 
 module _ {M F Z S A : Type 0} (tables : Tables M F Z S A) (may_leave : Tearing) where
-  -- It is one invocation by its definition, with what the scripts of the folder register, and so a plain step
-  -- from whatever true records; and it changes only what a build may: nothing where it is refused.
+  -- It is one invocation by its definition, with what the scripts of the folder register, and so a plain
+  -- step, starting from any true records. It changes only what a build may, and nothing where it is refused.
   pub record Invokes (asked : Invocation) (old : Shown) (answer : Result Report Fault) (new : Shown)
       : Type 0 where
     pub keeps : EventKeeps (registers_in tables) (events.Invoke asked) (answer_of answer)
@@ -68,7 +68,7 @@ module _ {M F Z S A : Type 0} (tables : Tables M F Z S A) (may_leave : Tearing) 
         → PromiseHolds (setting_of tables kinds may_leave) old (events.Invoke asked ∷ [])
         (answer_of answer ∷ []) new
 
-  -- the words are refused, or they ask for an invocation, and this is its answer
+  -- the arguments are refused, or they request an invocation, and this is its answer
   abbrev pub Answers : Given → Shown → Result Report Fault → Shown → Type 0
   Answers given old answer new =
       IsRefused given old answer new

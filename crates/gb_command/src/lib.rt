@@ -1,4 +1,4 @@
-//! A build by the words of a command, over any folder.
+//! A build by the arguments of a command line, over any folder.
 #![tactic(auto)]
 
 pub mod run;

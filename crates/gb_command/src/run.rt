@@ -1,4 +1,5 @@
-//! The program over any folder: it reads the words, builds what they ask for and prints the answer.
+//! The program over any folder: it reads the arguments, builds what they request and prints the
+//! output.
 ghost use Rattle.std.specs.Prelude.{◌≡◌, ◌≤◌, IfSome, IsTrue, MatchResult, Result, map, string_bytes};
 ghost use Rattle.std.specs.Io.KnownBytes.{Appends};
 ghost use Rattle.gb_answer.specs.Answer.{answer_text, parts_of, status_of};
@@ -24,13 +25,14 @@ use gb_report::report::Report;
 use gb_words::words::read;
 use std::alloc::Global;
 
-/// The status where the answer cannot be printed.
+/// The exit status where the output cannot be printed.
 pub const UNPRINTED: u8 = 1;
 
-/// Builds what the words ask for, prints what became of it, and answers the status: 0 where the build was
-/// successful, 2 where the words ask for no build that is known, and else 1. The part of each task is printed
-/// as soon as its turn has ended, the rest behind the last. What cannot be printed stops nothing; then there
-/// is no status: memory ran out, or the writer failed.
+/// Builds what the arguments request, prints the output, and returns the exit status: 0 where the
+/// build was successful, 2 where the arguments request no known build, and else 1. The part of each
+/// task is printed as soon as its execution has ended, the rest after the last. A build does not
+/// stop where something cannot be printed; then there is no status: memory ran out, or the writer
+/// failed.
 pub fn run<A: Actions, T: Transforms, F: Folder, W: Printer>(
     alloc: Global,
     folder: &mut F,
@@ -39,8 +41,9 @@ pub fn run<A: Actions, T: Transforms, F: Folder, W: Printer>(
     tables: &Tables<A, T>,
 ) -> Option<u8>
     ensures count { F.failures folder.old ≤ F.failures folder.new }
-    // There is an answer, whether it could be printed or not. Where it could, its text and nothing else is
-    // printed, and the status is its own; where it could not, a beginning of its text is.
+    // There is an answer, whether it could be printed or not. Where it could, its text and nothing
+    // else is printed, and the status is its own; where it could not, a beginning of its text is
+    // printed.
     ensures told { (answer : Result Report Fault)
         × (IsTrue F.tells → Answers (tables_of T.meanings A.meanings tables.now) (F.may_leave folder.old)
         (given_of (λ words. map string_bytes words.items) words)
@@ -65,7 +68,7 @@ pub fn run<A: Actions, T: Transforms, F: Folder, W: Printer>(
     }
 }
 
-/// What becomes of the words. The parts of the tasks are printed.
+/// The answer to the arguments. The parts of the tasks are printed.
 fn answered<A: Actions, T: Transforms, F: Folder, W: Printer>(
     alloc: Global,
     folder: &mut F,
@@ -93,7 +96,7 @@ fn answered<A: Actions, T: Transforms, F: Folder, W: Printer>(
     }
 }
 
-/// What the words ask for.
+/// The invocation that the arguments request.
 pub fn asked_by(alloc: Global, words: Result<Vec<String>, Fault>) -> Result<Invocation, Fault>
     ensures { MatchResult result
         (AskFor (given_of (λ words. map string_bytes words.items) words))

@@ -1,4 +1,4 @@
--- What tests put together come to.
+-- The results of combined tests.
 use Rattle.std.specs.Prelude.{◌≡◌, Bool, true, false, ◌||◌}
 use Rattle.std.proofs.Common.{refl, true≢false}
 

@@ -28,7 +28,7 @@ module _ {X : Type 0} (q : List ℕ) (e : List ℕ × X) (es : List (List ℕ ×
         | Greater ↦ λ p. refl
       ] refl
 
--- the entry at an index of a list, by whether its key is the one looked for
+-- the entry at an index of a list, by cases: its key is the one looked for, or not
 module _ {X : Type 0} (q : List ℕ) (es : List (List ℕ × X)) (i : ℕ) (e : List ℕ × X) (within : i < length es) (is : e ≡ get_or es i e) where
   next : drop i es ≡ e ∷ drop (suc i) es
   next = drop-cons es i e within ∙ ap (λ x. x ∷ drop (suc i) es) (sym is)

@@ -1,4 +1,4 @@
--- What stands before and behind the last byte of a kind in a text.
+-- The parts of a text before and after the last byte of a kind.
 use Rattle.std.proofs.Common.{◌≡◌, ◌≢◌, ℕ, ◌+◌, ◌-◌, ◌<◌, ◌≤◌, true, not, eqb, List, [], length, take, drop, get_or, refl, ap, sym, ◌∙◌, arith, length-drop}
 use Rattle.std.specs.List.{after_last, before_last, suffix_len}
 use Rattle.std.specs.Str.{NoCharPasses}

@@ -37,7 +37,7 @@ with_above (task ∷ tasks) front sorted =
     ap (λ f. with_tasks f tasks) last
     ∙ (with_above tasks (front ++ task ∷ []) (subst (IsStrictlySortedBy byte_order) (sym seam) sorted) ∙ seam)
 
--- tasks that stand in order are put in as they stand
+-- inserting tasks that are already in order into the empty list gives the same tasks
 pub with_ordered : (tasks : List (List ℕ)) → IsStrictlySortedBy byte_order tasks → with_tasks [] tasks ≡ tasks
 with_ordered tasks sorted = with_above tasks [] sorted
 
@@ -45,13 +45,13 @@ with_more : (there a b : List (List ℕ)) → with_tasks there (a ++ b) ≡ with
 with_more there [] b = refl
 with_more there (task ∷ a) b = with_more (insert_key byte_order there task) a b
 
--- a front of the tasks that has been put in, one task longer
+-- the prefix of tasks already inserted, one task longer
 pub front_grows : (there front whole rest : List (List ℕ)) (task : List ℕ) → front ++ task ∷ rest ≡ whole
     → (longer : List (List ℕ)) × (longer ++ rest ≡ whole) × (insert_key byte_order (with_tasks there front) task ≡ with_tasks there longer)
 front_grows there front whole rest task is =
     (front ++ task ∷ [], append_assoc front (task ∷ []) rest ∙ is, sym (with_more there front (task ∷ [])))
 
--- a front of the tasks that has been put in, told by how many they are
+-- the prefix of tasks already inserted, given by its length
 pub front_counted : (there now front whole rest : List (List ℕ)) → front ++ rest ≡ whole → now ≡ with_tasks there front
     → (added : ℕ) × (now ≡ with_tasks there (take added whole))
 front_counted there now front whole rest is put =
@@ -61,7 +61,7 @@ pub if_refused : {T E P : Type 0} (result : Result T E) → P → OnErr result P
 if_refused (Ok value) p = tt
 if_refused (Err error) p = p
 
--- a clone of tasks in order is what comes of putting them in where none is
+-- a clone of tasks in order equals the result of inserting them into an empty list
 pub with_cloned : (there tasks cloned : List (List ℕ)) → length there ≡ 0 → IsStrictlySortedBy byte_order tasks → AllZip (λ task copied. copied ≡ task) tasks cloned → cloned ≡ with_tasks there tasks
 with_cloned [] tasks cloned none sorted same = same_from_all_zip (λ task copied. copied ≡ task) tasks cloned same (λ x y e. e) ∙ sym (with_ordered tasks sorted)
 with_cloned (task ∷ there) tasks cloned none sorted same = absurd (omega arith)

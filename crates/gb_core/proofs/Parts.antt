@@ -31,7 +31,7 @@ none_in_name [] h k d below = absurd (omega (arith, below))
 none_in_name (c ∷ text) h zero d below = letter_byte c (name_bytes c text h).0
 none_in_name (c ∷ text) h (suc k) d below = none_of_bytes text (name_bytes c text h).1 k d (omega (arith, below))
 
--- a text has no colon, or stands around its last one
+-- a text has no colon, or splits at its last one
 abbrev IsCut : List ℕ → Type 0
 IsCut text = HasNone text ⊎ ((front : List ℕ) × (back : List ℕ) × (text ≡ front ++ 58 ∷ back) × HasNone back)
 
@@ -61,7 +61,7 @@ module _ (front back : List ℕ) (none : HasNone back) where
       suffix_len_is (λ b. not (is_colon b)) (front ++ 58 ∷ back) (length front + 1) 0 (omega (arith, length-append front (58 ∷ back))) behind
       (λ p. ap (λ n. not (is_colon (get_or (front ++ 58 ∷ back) n 0))) (let e : (length front + 1) - 1 ≡ length front = omega arith in e) ∙ ap (λ b. not (is_colon b)) (get_or-append_seam front 58 back 0))
 
-  -- what stands before and behind the last colon
+  -- the parts before and after the last colon
   pub before : before_last is_colon (front ++ 58 ∷ back) ≡ front
   before =
       let count : length (front ++ 58 ∷ back) - suffix_len (λ b. not (is_colon b)) (front ++ 58 ∷ back) - 1 ≡ length front = omega (arith, suffix, length-append front (58 ∷ back)) in
@@ -91,7 +91,7 @@ or_right : (a b : Bool) → b ≡ true → (a || b) ≡ true
 or_right true b h = refl
 or_right false b h = h
 
--- the names of a text are those in front of a colon and that behind it
+-- the names of a text are those before a colon and the one after it
 names-joined : (front back : List ℕ) → HasNone back → list_all is_name (slice_split is_colon (front ++ 58 ∷ back)) ≡ (list_all is_name (slice_split is_colon front) && (is_name back && true))
 names-joined front back none =
     ap (list_all is_name) (parts-joined 58 front back ∙ ap (λ parts. slice_split is_colon front ++ parts) (slice_split_none is_colon back none))

@@ -35,7 +35,7 @@ and_assoc : (a b d : Bool) → (a && b && d) ≡ true → (a && (b && d)) ≡ tr
 and_assoc true b d e = e
 and_assoc false b d e = e
 
--- behind its first letter a name has bytes of names
+-- after its first letter a name has bytes of names
 pub name_bytes : (c : ℕ) (text : List ℕ) → is_name (c ∷ text) ≡ true → (is_letter c ≡ true) × (list_all is_name_byte text ≡ true)
 name_bytes c text h =
     let whole : (is_letter c && (list_all is_name_byte text && nat_le (length text) 63)) ≡ true = and_assoc (is_letter c) (list_all is_name_byte text) (nat_le (length text) 63) h in (

@@ -1,4 +1,4 @@
--- The numbers under which faults are told to users.
+-- The fault numbers that are reported to users.
 use Rattle.std.specs.Prelude.{ℕ}
 use Rattle.gb_core.specs.declared.name.NameFault.{NameFault}
 use Rattle.gb_core.specs.declared.name.NameFault.TheVariants as names

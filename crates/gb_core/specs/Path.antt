@@ -1,4 +1,4 @@
--- Paths of projects and tasks: names behind colons.
+-- Paths of projects and tasks: names, each after a colon.
 use Rattle.std.specs.Prelude.{ℕ, Bool, false, ◌&&◌, ◌||◌, ◌==◌, List, [], ◌∷◌, ◌++◌}
 use Rattle.std.specs.Prelude.{codes, bytes_eq, if◌then◌else◌}
 use Rattle.std.specs.List.{slice_split, list_all, after_last, before_last}
@@ -13,16 +13,16 @@ is_task_path (c ∷ text) = (c == 58) && list_all is_name (slice_split (λ b. b 
 abbrev pub is_project_path : List ℕ → Bool
 is_project_path text = bytes_eq text (codes ":") || is_task_path text
 
--- the name of a task: what stands behind the last colon
+-- the name of a task: the text after the last colon
 abbrev pub task_name : List ℕ → List ℕ
 task_name path = after_last (λ b. b == 58) path
 
--- the path of the root where nothing stands before the last colon
+-- the root's path if nothing precedes the last colon
 abbrev pub root_if_empty : List ℕ → List ℕ
 root_if_empty [] = codes ":"
 root_if_empty (c ∷ front) = c ∷ front
 
--- the project of a task: what stands before the last colon, or the root
+-- the project of a task: the text before the last colon, or the root
 abbrev pub project_of : List ℕ → List ℕ
 project_of path = root_if_empty (before_last (λ b. b == 58) path)
 

@@ -19,7 +19,7 @@ impl Model for Bytes {
 }
 
 impl Bytes {
-    /// These bytes, of which none is copied.
+    /// These bytes, moved without a copy.
     pub fn new(bytes: Vec<u8>) -> Bytes
         ensures { result ≡ bytes.items }
     {
@@ -35,14 +35,14 @@ impl Bytes {
         })
     }
 
-    /// All of them, in the order of the file.
+    /// All bytes, in the order of the file.
     pub fn as_slice(&self) -> &[u8]
         ensures { result.now ≡ self.now }
     {
         self.bytes.as_slice()
     }
 
-    /// Equal bytes of their own: nothing is shared.
+    /// A deep copy: nothing is shared.
     pub fn copy(&self) -> Result<Bytes, AllocError>
         ensures { IfOk result (λ copied. copied ≡ self.now) }
     {

@@ -1,8 +1,8 @@
-//! The words that every crate of `gb` speaks in: names, places, paths and values.
+//! The basic types of every crate of `gb`: names, places, paths and values.
 //!
-//! Each is a small type over text that can only be made by reading it, so that a value of it is
-//! well formed wherever it turns up. Contracts see each as the list of its bytes.
-//! Places are compared by their segments: `srcx` is not beneath `src`.
+//! Each is a small type over text. Only parsing constructs a value, so every value is well formed.
+//! Contracts view each as the list of its bytes. Places are compared segment by segment: `srcx` is
+//! not under `src`.
 #![tactic(auto)]
 
 pub mod bytes;

@@ -9,13 +9,13 @@ use std::fmt;
 use std::marker::Model;
 use thiserror::Error;
 
-/// Why a text was not read as a name or as a path of names.
+/// Why parsing a text as a name or as a path of names failed.
 #[derive(Clone, Copy, Debug, PartialEq, Eq, Error)]
 pub enum NameFault {
-    /// It is none.
+    /// The text is not one.
     #[error("bad name")]
     BadName,
-    /// No memory for its bytes; 3.
+    /// Not enough memory for its bytes; 3.
     #[error("out of memory")]
     OutOfMemory,
 }
@@ -23,7 +23,7 @@ pub enum NameFault {
 impl NameFault {
     ghost use Rattle.gb_core.specs.Faults.{name_fault_number};
 
-    /// The number under which the fault is told to users.
+    /// The fault number that is reported to users.
     pub fn number(self) -> u16
         ensures { result ≡ name_fault_number self }
     {
@@ -66,7 +66,7 @@ impl Model for Name {
 impl Name {
     ghost use Rattle.std.specs.Prelude.{IfOk, IsErrOf, IsTrue};
 
-    /// The name that this text is; any other text is `BadName` (1).
+    /// Parses a text as a name; any other text is `BadName` (1).
     pub fn read(alloc: Global, text: &str) -> Result<Name, NameFault>
         ensures text { IfOk result (λ name. name ≡ text.now) }
         ensures good { IfOk result (λ _. IsTrue (is_name text.now)) }
@@ -131,7 +131,7 @@ fn is_letter(byte: u8) -> bool
     byte.is_ascii_alphabetic()
 }
 
-/// Whether a name may have the byte behind its first letter.
+/// Whether a name may have the byte after its first letter.
 pub fn is_name_byte(byte: u8) -> bool
     ensures { result ≡ is_name_byte byte }
 {

@@ -32,7 +32,7 @@ impl Model for ProjectPath {
 impl ProjectPath {
     ghost use Rattle.std.specs.Prelude.{IfOk, IsErrOf, IsTrue};
 
-    /// The path that this text is; any other text is `BadName` (1).
+    /// Parses a text as the path of a project; any other text is `BadName` (1).
     pub fn read(alloc: Global, text: &str) -> Result<ProjectPath, NameFault>
         ensures text { IfOk result (λ path. path ≡ text.now) }
         ensures good { IfOk result (λ _. IsTrue (is_project_path text.now)) }
@@ -98,7 +98,7 @@ impl TaskPath {
     ghost use Rattle.std.specs.Prelude.{IfOk, IsErrOf, IsTrue};
     ghost use Rattle.gb_core.specs.Path.{task_name, project_of};
 
-    /// The path that this text is, from the root: a text without the first colon is `BadName` (1).
+    /// Parses a text as a task path from the root: a text without the first colon is `BadName` (1).
     pub fn read(alloc: Global, text: &str) -> Result<TaskPath, NameFault>
         ensures text { IfOk result (λ path. path ≡ text.now) }
         ensures good { IfOk result (λ _. IsTrue (is_task_path text.now)) }
@@ -182,7 +182,7 @@ pub fn is_task_path(text: &str) -> bool
     }
 }
 
-/// The path of the project, `:` where nothing stands in front of the last colon.
+/// The path of the project: `:` if nothing precedes the last colon.
 pub fn root_if_empty(front: &str) -> &str
     ensures { result.now ≡ root_if_empty front.now }
 {

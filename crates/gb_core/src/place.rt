@@ -1,4 +1,4 @@
-//! Places of files and folders, and paths beneath a root.
+//! Places of files and folders, and paths relative to a root.
 ghost use Rattle.std.specs.Prelude.{◌≡◌, ◌++◌, ◌∷◌, false, IfOk, string_bytes};
 ghost use Rattle.std.specs.List.{list_all};
 ghost use Rattle.gb_core.specs.Place.{is_beneath, is_place, is_rel_path, is_printable, is_segment, segments};
@@ -9,13 +9,13 @@ use std::fmt;
 use std::marker::Model;
 use thiserror::Error;
 
-/// Why a text was not read as a place or a path beneath a root.
+/// Why parsing a text as a place or a relative path failed.
 #[derive(Clone, Copy, Debug, PartialEq, Eq, Error)]
 pub enum PlaceFault {
-    /// It is none.
+    /// The text is not one.
     #[error("bad place")]
     BadPlace,
-    /// No memory for its bytes; 3.
+    /// Not enough memory for its bytes; 3.
     #[error("out of memory")]
     OutOfMemory,
 }
@@ -23,7 +23,7 @@ pub enum PlaceFault {
 impl PlaceFault {
     ghost use Rattle.gb_core.specs.Faults.{place_fault_number};
 
-    /// The number under which the fault is told to users.
+    /// The fault number that is reported to users.
     pub fn number(self) -> u16
         ensures { result ≡ place_fault_number self }
     {
@@ -44,8 +44,8 @@ impl From<AllocError> for PlaceFault {
     }
 }
 
-/// The place of a file or a folder, as `src/a`: segments parted by single slashes, none empty, `.`
-/// or `..`, no control character, at most 1,024 bytes.
+/// The place of a file or a folder, as `src/a`: segments separated by single slashes, none of them
+/// empty, `.` or `..`, no control character, at most 1,024 bytes.
 #[derive(Debug, Drop, PartialEq, Eq, PartialOrd, Ord)]
 pub struct Place {
     text: Text,
@@ -69,7 +69,7 @@ impl Place {
     ghost use Rattle.std.specs.Option.{option_copied};
     ghost use Rattle.gb_core.specs.Place.{is_beneath, overlaps, joined, beneath};
 
-    /// The place that this text is; any other text is `BadPlace` (2).
+    /// Parses a text as a place; any other text is `BadPlace` (2).
     pub fn read(alloc: Global, text: &str) -> Result<Place, PlaceFault>
         ensures text { IfOk result (λ place. place ≡ text.now) }
         ensures good { IfOk result (λ _. IsTrue (is_place text.now)) }
@@ -83,7 +83,7 @@ impl Place {
         })
     }
 
-    /// The place of this text in a folder, or in the folder that all places lie in.
+    /// The place of this text in a folder, or in the folder that contains all places.
     pub fn join(alloc: Global, folder: Option<&Place>, text: &str) -> Result<Place, PlaceFault>
         ensures text { IfOk result (λ place. place ≡ joined (option_copied folder.entry) text.now) }
         ensures good { IfOk result (λ _. IsTrue (is_place (joined (option_copied folder.entry) text.now))) }
@@ -96,7 +96,7 @@ impl Place {
         }
     }
 
-    /// The place of a path beneath this one; refused where it would pass 1,024 bytes.
+    /// The place of a path under this one; refused if it would exceed 1,024 bytes.
     pub fn beneath(&self, alloc: Global, path: &RelPath) -> Result<Place, PlaceFault>
         ensures text { IfOk result (λ place. place ≡ beneath self.now path.now) }
         ensures good { IfOk result (λ _. IsTrue (is_place (beneath self.now path.now))) }
@@ -125,7 +125,7 @@ impl Place {
         self.text.as_str()
     }
 
-    /// Whether it lies strictly beneath the folder, segment by segment.
+    /// Whether it lies strictly under the folder, compared segment by segment.
     pub fn is_beneath(&self, folder: &Place) -> bool
         ensures { result ≡ is_beneath self.now folder.now }
     {
@@ -135,7 +135,7 @@ impl Place {
         )
     }
 
-    /// Whether the two are equal or one lies beneath the other.
+    /// Whether the two are equal or one lies under the other.
     pub fn overlaps(&self, other: &Place) -> bool
         ensures { result ≡ overlaps self.now other.now }
     {
@@ -154,7 +154,7 @@ impl fmt::Display for Place {
     }
 }
 
-/// The path of a file from a root, or from an output's place: a place, or nothing for the root itself.
+/// The path of a file from a root or from an output's place: a place, or empty for the root itself.
 #[derive(Debug, Drop, PartialEq, Eq, PartialOrd, Ord)]
 pub struct RelPath {
     text: Text,
@@ -176,7 +176,7 @@ impl Model for RelPath {
 impl RelPath {
     ghost use Rattle.std.specs.Prelude.{IfOk, IsErrOf, IsTrue};
 
-    /// The path that this text is: a place, or nothing; any other text is `BadPlace` (2).
+    /// Parses a text as a relative path: a place, or empty; any other text is `BadPlace` (2).
     pub fn read(alloc: Global, text: &str) -> Result<RelPath, PlaceFault>
         ensures text { IfOk result (λ path. path ≡ text.now) }
         ensures good { IfOk result (λ _. IsTrue (is_rel_path text.now)) }
@@ -199,7 +199,7 @@ impl RelPath {
         })
     }
 
-    /// The path as it is written, and nothing for the root itself.
+    /// The path as it is written, and empty for the root itself.
     pub fn as_str(&self) -> &str
         ensures text { result.now ≡ self.now }
         ensures path { IsTrue (is_rel_path self.now) }
@@ -261,7 +261,7 @@ fn is_segment(segment: &[u8]) -> bool
     segment != b"".as_slice() && segment != b".".as_slice() && segment != b"..".as_slice()
 }
 
-/// Whether a place lies strictly beneath a folder, both told by their bytes.
+/// Whether a place lies strictly under a folder, both given by their bytes.
 pub fn lies_beneath(text: &[u8], folder: &[u8]) -> bool
     ensures { result ≡ is_beneath text.now folder.now }
 {

@@ -1,4 +1,4 @@
-//! Things in a row.
+//! Lists of items.
 ghost use Rattle.std.specs.Prelude.{◌≡◌, [], ◌∷◌, ◌++◌, take, IfOk, OnOk, OnErr};
 ghost use Rattle.std.specs.Option.{option_copied};
 ghost use Rattle.std.specs.FinMap.Entries.{find};
@@ -8,7 +8,7 @@ use crate::name::Name;
 use std::alloc::{AllocError, Global};
 use std::marker::Model;
 
-/// Things in a row, as they follow one another. Contracts see them as a list.
+/// Items in a list, in order. Contracts view it as a list.
 #[derive(Debug, Drop)]
 pub struct Row<T> {
     items: Vec<T>,
@@ -23,7 +23,7 @@ impl<T> Model for Row<T> {
 }
 
 impl<T> Row<T> {
-    /// Nothing yet.
+    /// The empty list.
     pub fn new(alloc: Global) -> Row<T>
         ensures { result ≡ [] }
     {
@@ -32,21 +32,21 @@ impl<T> Row<T> {
         }
     }
 
-    /// These in their order, of which none is copied.
+    /// These items in order, moved without a copy.
     pub fn from_vec(items: Vec<T>) -> Row<T>
         ensures { result ≡ items.items }
     {
         Row { items }
     }
 
-    /// All of them in their order, of which none is copied.
+    /// All items in order, moved without a copy.
     pub fn into_vec(self) -> Vec<T>
         ensures { result.items ≡ self }
     {
         self.items
     }
 
-    /// All of them in their order.
+    /// All items in order.
     pub fn as_slice(&self) -> &[T]
         ensures { result.now ≡ self.now }
     {
@@ -55,7 +55,7 @@ impl<T> Row<T> {
 }
 
 impl<T: Drop> Row<T> {
-    /// Puts one behind the others.
+    /// Appends one item.
     pub fn push(&mut self, item: T) -> Result<(), AllocError>
         ensures ok { OnOk result (self.new ≡ self.old ++ item ∷ []) }
         ensures err { OnErr result (self.new ≡ self.old) }
@@ -64,7 +64,7 @@ impl<T: Drop> Row<T> {
         Ok(())
     }
 
-    /// Puts others behind these; a refusal leaves these as they were.
+    /// Appends other items; on an error the list is unchanged.
     pub fn append(&mut self, other: Row<T>) -> Result<(), AllocError>
         ensures ok { OnOk result (self.new ≡ self.old ++ other) }
         ensures err { OnErr result (self.new ≡ self.old) }
@@ -76,7 +76,7 @@ impl<T: Drop> Row<T> {
 }
 
 impl<T> Row<(Name, T)> {
-    /// What stands first under the name. Takes no memory.
+    /// The first entry with this name. Allocates no memory.
     pub fn get(&self, name: &Name) -> Option<&T>
         ensures { option_copied result ≡ find byte_order name.now self.now }
     {
@@ -84,7 +84,7 @@ impl<T> Row<(Name, T)> {
     }
 }
 
-/// The value of the first entry of the name.
+/// The value of the first entry with this name.
 fn find_named<'a, T>(entries: &'a [(Name, T)], name: &Name) -> Option<&'a T>
     ensures { option_copied result ≡ find byte_order name.now entries.now }
 {
@@ -96,7 +96,7 @@ fn find_named<'a, T>(entries: &'a [(Name, T)], name: &Name) -> Option<&'a T>
     None
 }
 
-/// What can be copied where there is memory.
+/// Values that can be copied if there is enough memory.
 pub trait Copies: Sized {
     /// An equal value.
     fn copied(&self, alloc: Global) -> Result<Self, AllocError>
@@ -110,7 +110,7 @@ impl<T: Copies> Copies for (Name, T) {
 }
 
 impl<T: Copies + Drop> Row<T> {
-    /// Equal things in the same order.
+    /// Equal items in the same order.
     pub fn copy(&self, alloc: Global) -> Result<Row<T>, AllocError>
         ensures { IfOk result (λ made. made ≡ self.now) }
     {

@@ -1,4 +1,4 @@
-//! Texts of at most 22 bytes, which need no memory of their own.
+//! Texts of at most 22 bytes, which are stored without an allocation.
 ghost use Rattle.std.specs.Prelude.{◌≡◌, ◌≤◌, length};
 
 use std::marker::Model;
@@ -7,7 +7,7 @@ use std::str;
 /// The most bytes that a short text has.
 pub(crate) const MAX_SHORT: usize = 22;
 
-/// A text in UTF-8 of at most 22 bytes, stored inline. Contracts see its bytes.
+/// A text in UTF-8 of at most 22 bytes, stored inline. Contracts view its bytes.
 #[derive(Drop)]
 pub(crate) struct ShortText {
     len: u8,

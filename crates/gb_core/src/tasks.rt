@@ -1,4 +1,4 @@
-//! Task paths in sets and in rows.
+//! Sets and lists of task paths.
 ghost use Rattle.std.specs.Prelude.{◌≡◌, ◌↔◌, ℕ, [], take, IfOk, IsTrue, OnOk, OnErr};
 ghost use Rattle.std.specs.BTreeSet.{insert_key};
 ghost use Rattle.gb_core.specs.Lists.{byte_order};
@@ -11,7 +11,7 @@ use std::collections::BTreeSet;
 use std::collections::btree_set::Iter;
 use std::marker::Model;
 
-/// Tasks, each once, in the order of their paths by bytes.
+/// A set of tasks, ordered by the bytes of their paths.
 #[derive(Drop)]
 pub struct TaskPaths {
     paths: BTreeSet<TaskPath>,
@@ -30,7 +30,7 @@ impl Model for TaskPaths {
 }
 
 impl TaskPaths {
-    /// No task yet.
+    /// The empty set.
     pub fn new(alloc: Global) -> TaskPaths
         ensures { result ≡ [] }
     {
@@ -39,7 +39,7 @@ impl TaskPaths {
         }
     }
 
-    /// Adds a task, unless it is there.
+    /// Adds a task if it is not in the set yet.
     pub fn insert(&mut self, task: TaskPath) -> Result<(), AllocError>
         ensures ok { OnOk result (self.new ≡ insert_key byte_order self.old task) }
         ensures err { OnErr result (self.new ≡ self.old) }
@@ -48,7 +48,7 @@ impl TaskPaths {
         Ok(())
     }
 
-    /// Adds these tasks, those in front first: after an error some of them are in.
+    /// Adds these tasks in order; after an error some of them have been added.
     pub fn extend(&mut self, more: &TaskPaths) -> Result<(), AllocError>
         ensures ok { OnOk result (self.new ≡ with_tasks self.old more.now) }
         ensures err { OnErr result ((added : ℕ) × (self.new ≡ with_tasks self.old (take added more.now))) }
@@ -62,7 +62,7 @@ impl TaskPaths {
         Ok(())
     }
 
-    /// Whether no task is in.
+    /// Whether the set is empty.
     pub fn is_empty(&self) -> bool
         ensures { IsTrue result ↔ (self.now ≡ []) }
     {
@@ -86,7 +86,7 @@ impl TaskPaths {
     }
 }
 
-/// Tasks in a row, as they follow one another.
+/// A list of tasks, in order.
 pub type TaskList = Row<TaskPath>;
 
 impl Copies for TaskPath {

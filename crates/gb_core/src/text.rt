@@ -1,4 +1,4 @@
-//! Any text, and texts in a row.
+//! Any text, and lists of texts.
 ghost use Rattle.std.specs.Prelude.{◌≡◌, ◌≤◌, length, string_bytes, IfOk};
 
 use crate::row::{Copies, Row};
@@ -9,14 +9,14 @@ use std::fmt;
 use std::marker::Model;
 use std::rc::RcStr;
 
-/// A text in UTF-8. Contracts see its bytes, and its order is theirs. Up to 22 bytes are stored inline;
-/// copies of a longer text share its bytes.
+/// A text in UTF-8. Contracts view its bytes, and it is ordered by them. Up to 22 bytes are stored
+/// inline; copies of a longer text share its bytes.
 #[derive(Drop)]
 pub struct Text {
     form: Form,
 }
 
-// Three words, whichever form it has.
+// Three words in either form.
 const _: () = prove!(size_of::<Text>() == 24);
 
 /// Where the bytes of a text are stored.
@@ -37,7 +37,7 @@ impl Model for Text {
 }
 
 impl Text {
-    /// The text that a string holds.
+    /// The text with the bytes of a string.
     pub fn new(text: String) -> Result<Text, AllocError>
         ensures { IfOk result (λ made. made ≡ string_bytes text) }
     {
@@ -175,7 +175,7 @@ impl Ord for Text {
     }
 }
 
-/// Texts in a row.
+/// A list of texts.
 pub type Texts = Row<Text>;
 
 impl Copies for Text {

@@ -1,4 +1,4 @@
-//! Values of the notation.
+//! Values of the build notation.
 ghost use Rattle.std.specs.Prelude.{◌≡◌, IfOk};
 
 use crate::path::TaskPath;
@@ -7,18 +7,18 @@ use crate::row::Copies;
 use crate::text::{Text, Texts};
 use std::alloc::{AllocError, Global};
 
-/// What an input, an output or an argument holds.
+/// The value of an input, an output or an argument.
 #[derive(Debug, Drop)]
 pub enum Value {
     /// Any text, as `"a"`.
     Text(Text),
     /// `true` or `false`.
     Flag(bool),
-    /// Texts in a row, as `["a", "b"]`.
+    /// A list of texts, as `["a", "b"]`.
     List(Texts),
-    /// The place of a file or a folder, from the folder of the build.
+    /// The place of a file or a folder, relative to the folder of the build.
     Place(Place),
-    /// A task, as `task("gen")` gives it.
+    /// A task, as `task("gen")` returns it.
     Task(TaskPath),
 }
 

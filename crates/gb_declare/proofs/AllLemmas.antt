@@ -1,4 +1,4 @@
--- What holds of each element of lists that are put together.
+-- What holds for each element of combined lists.
 use Rattle.std.proofs.Common.{◌≡◌, ℕ, suc, zero, List, [], ◌∷◌, ◌++◌, map, reverse, Option, None, Some, sym, subst}
 use Rattle.std.proofs.lemmas.List.{reverse-append}
 use Rattle.std.specs.BTreeSet.{insert_key}
@@ -32,7 +32,7 @@ module _ {X : Type 0} (P : X → Type 0) where
   all_at (y ∷ xs) zero x all is = let same : y ≡ x = cc in subst P same all.0
   all_at (y ∷ xs) (suc i) x all is = all_at xs i x all.1 is
 
--- what holds of each element holds of what is made of it
+-- what holds for each element holds for what is made from it
 module _ {X Y : Type 0} (P : X → Type 0) (Q : Y → Type 0) where
   pub all_mapped : (f : X → Y) → ((x : X) → P x → Q (f x)) → (xs : List X) → AllByRecursion P xs → AllByRecursion Q (map f xs)
   all_mapped f has [] all = tt

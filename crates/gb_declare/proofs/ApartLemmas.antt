@@ -1,4 +1,4 @@
--- On a circle each name stands once, so its entries are apart in the whole.
+-- On a circle each name occurs once, so its entries have distinct numbers in the whole.
 use Rattle.std.proofs.Common.{◌≡◌, ℕ, zero, suc, ◌+◌, ◌-◌, ◌<◌, Bool, true, false, List, length, refl, sym, ap, ◌∙◌, arith, inl, inr}
 use Rattle.std.proofs.lemmas.Bool.{cases_lt}
 use Rattle.std.specs.Prelude.{Some, slice_get, slice_index, ◌⊎◌}
@@ -16,7 +16,7 @@ same_next a b e = cc
 
 module _ {M F Z S : Type 0} (meanings : Meanings M F Z S) (number : ℕ → ℕ) (part whole : List (Expression M F Z)) (is_part : IsPartOf number part whole) (ordered : AreOrdered meanings number part)
     (entry : ℕ) (circle : List ℕ) (is : IsCircle (rules meanings part) entry circle) where
-  -- the index after one, round the circle
+  -- the index after one, cyclically
   Next : ℕ → Type 0
   Next i = (j : ℕ) × (j < length circle) × (next_awaited (rules meanings part) (slice_index circle i) ≡ Some (slice_index circle j)) × ((j ≡ i + 1) ⊎ ((j ≡ 0) × (i + 1 ≡ length circle)))
 

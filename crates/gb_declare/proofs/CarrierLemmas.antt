@@ -1,4 +1,4 @@
--- The tasks that an expression has in a part of a table it has in the whole.
+-- The tasks that an expression has in a part of a table are those that it has in the whole.
 use Rattle.std.proofs.Common.{◌≡◌, ℕ, zero, suc, ◌<◌, List, [], ◌∷◌, length, refl, sym, ap, subst, ◌∙◌, arith, inl, inr}
 use Rattle.std.proofs.lemmas.List.{length-map}
 use Rattle.std.proofs.lemmas.Option.{slice_get-map, slice_get_within, get_or_from_slice_get}
@@ -25,7 +25,7 @@ use Rattle.gb_declare.specs.Parts.{IsLike, ArePart}
 use Rattle.gb_declare.proofs.CopyLemmas.{answers_in_part}
 use Rattle.gb_declare.proofs.PartLemmas.{part_answers}
 
--- an answer that gives no tasks
+-- a result that gives no tasks
 abbrev pub NoTasks : Produced → Type 0
 NoTasks (produced.Tasks tasks) = ⊥
 NoTasks (produced.Refused fault) = Unit {0}
@@ -70,7 +70,7 @@ module _ {M F Z S : Type 0} (meanings : Meanings M F Z S) (number : ℕ → ℕ)
   both_within left right l r (suc zero) d below = r
   both_within left right l r (suc (suc k)) d below = absurd (omega arith)
 
-  -- a value, or none, that an expression has in the part it has in the whole
+  -- a value, or none, that an expression has in the part is what it has in the whole
   same_given : (entry : ℕ) (value : Value) → value_of meanings part entry ≡ Some (Given value) → value_of meanings whole (number entry) ≡ Some (Given value)
   same_given entry value is =
       elim (answers_in_part meanings number part whole is_part entry (Given value) is) [

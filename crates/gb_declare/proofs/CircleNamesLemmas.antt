@@ -1,4 +1,4 @@
--- From an entry one comes to its circle in as many steps as there are entries, and goes round it in as many.
+-- From an entry its circle is reached in as many steps as there are entries, and as many more go around it.
 use Rattle.std.proofs.Common.{◌≡◌, ◌≢◌, ℕ, zero, suc, ◌+◌, ◌-◌, ◌<◌, ◌≤◌, List, [], ◌∷◌, ◌++◌, length, refl, sym, ap, ◌∙◌, subst, arith, inl, inr, Bool, true, false, not, cond, eqb, ◌||◌}
 use Rattle.std.proofs.Math.Logic.{∥∥₁_elim}
 use Rattle.std.proofs.lemmas.Bool.{cases_lt, cases_eq, eqb-true, eq-eqb, ne_eqb}
@@ -28,7 +28,7 @@ use Rattle.gb_declare.specs.Told.{IsToldBy, told_circle}
 use Rattle.gb_declare.specs.Whole.{whole}
 use Rattle.gb_declare.proofs.OneCircleLemmas.{names_total, IsLeast, one_least, least_of_all, Lack, Leads, IsRing, ring_of, ring_turned, lacks_first, least_on_turned, circle_told}
 
--- ---- Of more numbers below n than n, one comes again
+-- ---- Of more numbers below n than n, one repeats
 
 module _ (w : ℕ → ℕ) where
   -- the first ones, the last of them in front
@@ -91,14 +91,14 @@ module _ (w : ℕ → ℕ) where
               absurd (omega (arith, more, count, length-le_from_distinct_below (first_ones n) bound different (λ q found. within_all q n below found)))
         ]
 
--- ---- The least of the rounds
+-- ---- The least of the rotations
 
 module _ (names : List (List ℕ)) where
-  -- the least of the rounds from the first places
+  -- the least of the rotations by the first positions
   abbrev IsLeastOf : ℕ → List (List ℕ) → Type 0
   IsLeastOf n round = ((i : ℕ) × (round ≡ round_from names i)) × ((k : ℕ) → k < n → names_order round (round_from names k) ≢ Greater)
 
-  -- one round more, by how it is ordered to the least so far, which is that from i on
+  -- one more rotation, by its order relative to the least so far, which is the one from i on
   lesser_least : (n i : ℕ) (least : List (List ℕ)) → least ≡ round_from names i → ((k : ℕ) → k < n → names_order (round_from names i) (round_from names k) ≢ Greater)
       → (r : Ordering) → names_order (round_from names i) (round_from names n) ≡ r → IsLeastOf (suc n) (min_by_ordering r least (round_from names n))
   lesser_least n i least is so_far r e = by r e
@@ -121,7 +121,7 @@ module _ (names : List (List ℕ)) where
       lesser_least n before.0.0 (least_of names n) is (λ k below. subst (λ l. names_order l (round_from names k) ≢ Greater) is (before.1 k below))
       (names_order (least_of names n) (round_from names n)) (ap (λ l. names_order l (round_from names n)) (sym is))
 
--- ---- To the circle, and round it
+-- ---- To the circle, and around it
 
 module _ {A : Type 0} (rules : List (Rule A)) where
   rule_there : (entry y : ℕ) (o : Option (Rule A)) → and_then (λ rule. awaited (reading (answer rules) rule)) o ≡ Some y → (rule : Rule A) × (o ≡ Some rule)
@@ -148,7 +148,7 @@ module _ {A : Type 0} (rules : List (Rule A)) where
             absurd (ring.1 again.0 again.1 again.2 again.3 again.4)
       ]
 
-  -- where the first comes again, no more is taken
+  -- where the first one repeats, no more is taken
   stops : (x more : ℕ) → take_while (λ other. not (eqb other x)) (way_from rules more (Some x)) ≡ []
   stops x zero = refl
   stops x (suc more) =
@@ -169,7 +169,7 @@ module _ {A : Type 0} (rules : List (Rule A)) where
       ∙ ap (λ b. cond (not b) (z ∷ take_while (λ other. not (eqb other x)) others) []) (ne_eqb z x (lack 0 (omega arith)))
       ∙ ap (λ l. z ∷ l) (goes_on x z zs more leads.1 (λ i below. lack (suc i) (omega (arith, below))) (omega (arith, within)))
 
-  -- as many entries as there are hold the whole ring
+  -- as many entries as there are contain the whole ring
   goes_round : (x : ℕ) (xs : List ℕ) (count : ℕ) → IsRing rules (x ∷ xs) → length (x ∷ xs) ≤ count → until_again (way_from rules count (Some x)) ≡ x ∷ xs
   goes_round x xs zero ring within = absurd (omega arith)
   goes_round x xs (suc more) ring within =
@@ -181,7 +181,7 @@ module _ {A : Type 0} (rules : List (Rule A)) where
     step_before y None e = cc
     step_before y (Some x) e = (x, refl, e)
 
-    -- what one passes on the way to what awaits another is all entries
+    -- all steps before one that awaits another are entries
     on_the_way : (steps y z : ℕ) → awaited_after rules steps entry ≡ Some y → next_awaited rules y ≡ Some z → (k : ℕ) → k ≤ steps
         → (x : ℕ) × (awaited_after rules k entry ≡ Some x) × (x < length rules)
     on_the_way zero y z at next k within =
@@ -197,7 +197,7 @@ module _ {A : Type 0} (rules : List (Rule A)) where
               on_the_way steps before.0 y before.1 before.2 k earlier
         ]
 
-    -- from one entry one goes on in one way
+    -- from one entry there is one way to continue
     goes_alike : (n i j : ℕ) → awaited_after rules i entry ≡ awaited_after rules j entry → awaited_after rules (n + i) entry ≡ awaited_after rules (n + j) entry
     goes_alike zero i j same =
         let left : zero + i ≡ i = omega arith in
@@ -210,12 +210,12 @@ module _ {A : Type 0} (rules : List (Rule A)) where
         ∙ ap (and_then (next_awaited rules)) (goes_alike n i j same)
         ∙ ap (λ n. awaited_after rules n entry) right
 
-    -- the entry that one is at, if one is at any
+    -- the current entry, if there is one
     passed : Option ℕ → ℕ
     passed None = 0
     passed (Some x) = x
 
-    -- where one comes after more steps than there are entries, one comes sooner too
+    -- what is reached after more steps than there are entries is reached sooner too
     sooner : (steps y z : ℕ) → awaited_after rules steps entry ≡ Some y → next_awaited rules y ≡ Some z → length rules < steps
         → (less : ℕ) × (less < steps) × (awaited_after rules less entry ≡ Some y)
     unfolding passed
@@ -236,7 +236,7 @@ module _ {A : Type 0} (rules : List (Rule A)) where
           goes_alike (steps - j) i j alike ∙ ap (λ n. awaited_after rules n entry) last ∙ at,
         )
 
-    -- so one comes there in as many steps as there are entries
+    -- so it is reached in as many steps as there are entries
     soon : (most steps y z : ℕ) → steps ≤ most → awaited_after rules steps entry ≡ Some y → next_awaited rules y ≡ Some z
         → (few : ℕ) × (few ≤ length rules) × (awaited_after rules few entry ≡ Some y)
     soon zero steps y z within at next = (steps, omega arith, at)
@@ -249,7 +249,7 @@ module _ {A : Type 0} (rules : List (Rule A)) where
         ]
 
     module _ {M F Z : Type 0} (nodes : List (Expression M F Z)) where
-      -- the circle that begins where one is after more steps
+      -- the circle that begins at the entry that is reached after more steps
       abbrev IsOn : ℕ → List (List ℕ) → ℕ → List ℕ → Type 0
       IsOn steps round x xs = IsRing rules (x ∷ xs) × (awaited_after rules steps entry ≡ Some x) × IsLeast (names_on nodes (x ∷ xs)) round
 
@@ -272,7 +272,7 @@ module _ {A : Type 0} (rules : List (Rule A)) where
             (ring_turned rules x (y ∷ ys) on.0, ap (and_then (next_awaited rules)) on.1 ∙ on.0.0.0, least_on_turned rules nodes entry x (y ∷ ys) round on.2),
           )
 
-      -- where it begins after as many steps as there are entries, its names are told
+      -- where it begins after as many steps as there are entries, its names are reported
       told_there : (x : ℕ) (xs : List ℕ) (round : List (List ℕ)) → IsOn (length rules) round x xs
           → round ≡ least_round (names_on nodes (circle_from rules entry))
       told_there x xs round on =
@@ -283,7 +283,7 @@ module _ {A : Type 0} (rules : List (Rule A)) where
           (subst (λ l. IsLeast (names_on nodes l) round) (sym around) on.2)
           (least_of_all names (least_round names) (least_of_is names (length names)))
 
-      -- and so wherever it begins
+      -- and therefore wherever it begins
       told_at : (steps x : ℕ) (xs : List ℕ) (round : List (List ℕ)) → IsOn steps round x xs
           → round ≡ least_round (names_on nodes (circle_from rules entry))
       told_at steps x xs round on =

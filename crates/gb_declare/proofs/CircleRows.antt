@@ -1,4 +1,4 @@
--- Two properties that are set to one another: the circle is told by its names, from the least on.
+-- Two properties that are set to one another: the circle is reported by its names, starting with the least.
 use Rattle.std.proofs.Common.{◌≡◌, ◌≢◌, ℕ, zero, suc, ◌+◌, ◌<◌, List, [], ◌∷◌, length, Some, refl, arith}
 use Rattle.std.specs.Prelude.{codes, slice_index}
 use Rattle.std.specs.declared.cmp.Ordering.TheVariants.{Greater}
@@ -46,7 +46,7 @@ is_circle = record { some = omega arith; reached = (0, refl); next = next_is; cl
 abbrev pub names : List (List ℕ)
 names = codes ":#a" ∷ codes ":#b" ∷ []
 
--- the names as they stand on the circle
+-- the names in the order of the circle
 abbrev pub round : List (List ℕ)
 round = codes ":#b" ∷ codes ":#a" ∷ []
 
@@ -61,8 +61,8 @@ least_round = ((1, refl), not_greater)
 pub told : IsTold tables source (Endless 1) (faults.Circular names)
 told = ∣ (circle, is_circle, least_round) ∣₁
 
--- The same by computation: from `b`, from `a.map(upper)`, and from where `a` stands again, which is not on the
--- circle but leads to it.
+-- The same by computation: from `b`, from `a.map(upper)`, and from the second occurrence of `a`, which is not
+-- on the circle but leads to it.
 pub told_on_it : told_circle tables source 1 ≡ faults.Circular names
 told_on_it = refl
 
@@ -72,6 +72,6 @@ told_elsewhere_on_it = refl
 pub told_before_it : told_circle tables source 3 ≡ faults.Circular names
 told_before_it = refl
 
--- a text comes to no circle
+-- a text reaches no circle
 pub told_of_none : told_circle tables source 5 ≡ faults.Circular []
 told_of_none = refl

@@ -30,7 +30,7 @@ module _ {M F Z S : Type 0} (meanings : Meanings M F Z S) (number : ℕ → ℕ)
   abbrev Like : Rule Outcome → Rule Outcome → Type 0
   Like = IsLike (length part) number Pending
 
-  -- what a rule does with a fault it does with one that is pending
+  -- what a rule does with a fault it does with a pending one
   passed : (next : Outcome → Rule Outcome) → ((chosen : Chosen) → next (Refused (Unrealised chosen)) ≡ Answers (Refused (Unrealised chosen))) → (a : Outcome) → Pending a → next a ≡ Answers a
   passed next refuses a pending = subst (λ b. next b ≡ Answers b) (sym pending.1) (refuses pending.0)
 
@@ -42,7 +42,7 @@ module _ {M F Z S : Type 0} (meanings : Meanings M F Z S) (number : ℕ → ℕ)
   value_next go_on go_on' all Absent = inr (inr refl)
   value_next go_on go_on' all (Refused fault) = inr (inr refl)
 
-  -- a rule that goes on where its operand is a value
+  -- a rule that continues where its operand is a value
   same_value : (operand : ℕ) (go_on go_on' : Value → Rule Outcome) → operand < length part → ((value : Value) → Like (go_on value) (go_on' value))
       → Like (Reads operand (on_value go_on)) (Reads (number operand) (on_value go_on'))
   same_value operand go_on go_on' within all = (within, refl, passed (on_value go_on) (λ chosen. refl), value_next go_on go_on' all)

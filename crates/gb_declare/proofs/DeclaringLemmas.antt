@@ -1,4 +1,4 @@
--- Clauses are judged one after another.
+-- Clauses are checked one after another.
 use Rattle.std.proofs.Common.{◌≡◌, ℕ, ◌+◌, ◌<◌, Bool, true, false, List, [], ◌∷◌, ◌++◌, length, get_or, drop, take, map, Some, if◌then◌else◌, add-one, refl, sym, ap, ◌∙◌, ◌||◌}
 use Rattle.std.proofs.lemmas.List.{map-append}
 use Rattle.std.proofs.Math.Seq.{take-suc}
@@ -38,7 +38,7 @@ module _ {M F Z S A : Type 0} (tables : Tables M F Z S A) (scope : Scope) (path 
       clear ∙ ap (clauses_faults tables scope path (now_of (take i clauses))) (left_at clauses i clause within is)
       ∙ ap (λ b. (clash_faults path (now_of (take i clauses)) clause.now ++ clause_faults tables scope clause.now) ++ clauses_faults tables scope path b (now_of (drop (i + 1) clauses))) (sym grown)
 
-  -- the name of the clause stands in another form
+  -- the name of the clause is noted in another form
   pub stops_at_clash : clashes words (heading clause.now) ≡ true → first_of all ≡ Some (faults.BadShape path)
   stops_at_clash e = ap first_of (next ∙ ap (λ f. (f ++ clause_faults tables scope clause.now) ++ clauses_faults tables scope path (now_of (take (i + 1) clauses)) (now_of (drop (i + 1) clauses))) (clash_is ∙ ap (λ b. if b then faults.BadShape path ∷ [] else []) e))
 

@@ -1,4 +1,4 @@
--- What a realised task is made of: its parts, each evaluated.
+-- The parts of a realised task, each evaluated.
 use Rattle.std.proofs.Common.{◌≡◌, List, Ok, refl, subst}
 use Rattle.std.specs.List.{AllZip}
 use Rattle.gb_plan.specs.declared.task.TaskDeclaration.{TaskDeclaration}

@@ -9,7 +9,7 @@ first-append : (faults more : List Fault) (fault : Fault) → first_of faults �
 first-append [] more fault e = absurd (cc)
 first-append (first ∷ faults) more fault e = e
 
--- the first fault of these is the first of these and more
+-- the first fault of these is also the first of these followed by more
 pub first_more : (faults more : List Fault) (fault : Fault) → IsFirstFault faults fault → IsFirstFault (faults ++ more) fault
 first_more faults more fault (inl memory) = inl memory
 first_more faults more fault (inr first) = inr (first-append faults more fault first)

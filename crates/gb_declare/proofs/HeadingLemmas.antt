@@ -179,7 +179,7 @@ no_heading : (o : Option Heading) → None ≡ option_map (λ h. h.0) o → o �
 no_heading None e = refl
 no_heading (Some h) e = absurd (cc)
 
--- what stands under a name, whichever way it is seen
+-- what is stored under a name, under any view
 found_viewed : {X Y : Type 0} (view : X → Y) (q : List ℕ) (es : List (List ℕ × X)) → find byte_order q (map (λ e. (e.0, view e.1)) es) ≡ option_map view (lookup (is_at (byte_order q)) es)
 found_viewed view q [] = refl
 found_viewed view q (e ∷ es) =
@@ -200,7 +200,7 @@ module _ (words : BTreeMap (List ℕ) (Bor Clause)) (h : Option Heading) (name :
       ap (clashes (words_in words)) (split_heading h name is)
       ∙ ap (is_other (word_in h)) (found_viewed (λ (c : Bor Clause). word_in (heading c.now)) name words.entries ∙ ap (option_map (λ (c : Bor Clause). word_in (heading c.now))) (sym none))
 
-  -- the clause about a name is put under it
+  -- the clause about a name is stored under it
   pub noted_put : (new : BTreeMap (List ℕ) (Bor Clause)) (clause : Bor Clause) → h ≡ heading clause.now → new.entries ≡ insert_entry byte_order words.entries name clause → words_in new ≡ noted (words_in words) h
   noted_put new clause of put_is =
       put_in (λ (c : Bor Clause). word_in (heading c.now)) words new new name clause refl put_is

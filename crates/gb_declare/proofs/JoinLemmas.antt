@@ -1,4 +1,4 @@
--- What clauses say together, one clause after another.
+-- The combined clauses, one clause after another.
 use Rattle.std.proofs.Common.{◌≡◌, ℕ, suc, ◌+◌, ◌<◌, List, [], ◌∷◌, length, get_or, drop, map, fold, reverse, ◌++◌, append_assoc, Option, None, Some, add-one, refl, sym, ap, ◌∙◌}
 use Rattle.std.proofs.Math.Seq.{drop-cons}
 use Rattle.std.proofs.lemmas.List.{reverse-append}
@@ -15,7 +15,7 @@ use Rattle.gb_core.specs.Lists.{byte_order}
 use Rattle.gb_declare.specs.Borrowed.{now_of}
 use Rattle.gb_declare.specs.Joined.{Named, first_in, last_in, with_action}
 
--- a thing is put under its name, whichever way the things are seen
+-- a thing is stored under its name, under any view of the things
 pub put_viewed : {X Y : Type 0} (view : X → Y) (name : List ℕ) (x : X) (es : List (Named X))
     → map (λ e. (e.0, view e.1)) (insert_entry byte_order es name x) ≡ put byte_order name (view x) (map (λ e. (e.0, view e.1)) es)
 put_viewed view name x [] = refl
@@ -30,7 +30,7 @@ put_viewed view name x (e ∷ es) =
       | Greater ↦ ap (λ rest. (e.0, view e.1) ∷ rest) (put_viewed view name x es)
     ]
 
--- the entries put over these, one after another
+-- the entries stored over these, one after another
 abbrev pub put_all : {Y : Type 0} → List (Named Y) → List (Named Y) → List (Named Y)
 put_all there entries = fold (λ there entry. put byte_order entry.0 entry.1 there) there entries
 
@@ -44,21 +44,21 @@ module _ {C Y : Type 0} (pick : C → Option (Named Y)) (clauses : List (Bor C))
   next : now_of (drop i clauses) ≡ clause.now ∷ now_of (drop (i + 1) clauses)
   next = rw add-one (ap now_of (drop-cons clauses i clause within ∙ ap (λ c. c ∷ drop (suc i) clauses) (sym is)))
 
-  -- the clause puts an entry
+  -- the clause stores an entry
   pub taken : (entry : Named Y) (new : List (Named Y)) → Some entry ≡ pick clause.now → new ≡ put byte_order entry.0 entry.1 old
       → put_all new (filter_map pick (now_of (drop (i + 1) clauses))) ≡ whole
   taken entry new some is_new =
       ap (λ there. put_all there (filter_map pick (now_of (drop (i + 1) clauses)))) is_new
       ∙ sym (ap (put_all old) (ap (filter_map pick) next ∙ chosen pick clause.now (now_of (drop (i + 1) clauses)) entry (sym some))) ∙ before
 
-  -- it puts none
+  -- it stores none
   pub passed : (new : List (Named Y)) → None ≡ pick clause.now → new ≡ old
       → put_all new (filter_map pick (now_of (drop (i + 1) clauses))) ≡ whole
   passed new none is_new =
       ap (λ there. put_all there (filter_map pick (now_of (drop (i + 1) clauses)))) is_new
       ∙ sym (ap (put_all old) (ap (filter_map pick) next ∙ skipped pick clause.now (now_of (drop (i + 1) clauses)) (sym none))) ∙ before
 
--- one thing more in a map of things, whichever way they are seen
+-- one more thing in a map of things, under any view
 pub put_in : {X Y : Type 0} (view : X → Y) (held new after : BTreeMap (List ℕ) X) (name : List ℕ) (x : X) → after ≡ new → new.entries ≡ insert_entry byte_order held.entries name x
     → map (λ e. (e.0, view e.1)) after.entries ≡ put byte_order name (view x) (map (λ e. (e.0, view e.1)) held.entries)
 put_in {X} view held new after name x same is =
@@ -67,7 +67,7 @@ put_in {X} view held new after name x same is =
 
 -- ---- Actions
 
--- these actions, with those of the clauses round them
+-- these actions, with those of the clauses around them
 abbrev pub round : List Clause → List Call → List Call
 round clauses actions = reverse (filter_map first_in clauses) ++ actions ++ filter_map last_in clauses
 

@@ -1,4 +1,4 @@
--- A table of nothing is a part of any.
+-- The empty table is a part of any table.
 use Rattle.std.proofs.Common.{◌≡◌, List, [], sym, subst, arith}
 use Rattle.gb_provider.specs.declared.expression.Expression.{Expression}
 use Rattle.gb_declare.specs.Kept.{IsPart}

@@ -61,7 +61,7 @@ named_sorted project texts = with_sorted [] (flat_map (λ text. absolute project
 
 -- ---- Texts
 
--- a task that is looked up is there
+-- a task whose lookup succeeds exists
 pub looked_up : (names : Names) (project : Path) (text : List ℕ) → lookup_faults names project text ≡ [] → is_among names.tasks (absolute project text) ≡ true
 looked_up names project text e = there_too (is_among names.projects (project_of (absolute project text))) (is_among names.tasks (absolute project text)) e
   where
@@ -70,7 +70,7 @@ looked_up names project text e = there_too (is_among names.projects (project_of 
     there_too true false e = absurd (cc)
     there_too false known e = absurd (cc)
 
--- a text that is no fault names a task
+-- a text without a fault names a task
 pub found : (names : Names) (project : Path) (text : List ℕ) → reference_faults names project text ≡ [] → is_among names.tasks (absolute project text) ≡ true
 found names project text e =
     elim (is_task_path (absolute project text)) as (λ b. (if b then lookup_faults names project text else faults.BadName text ∷ []) ≡ [] → is_among names.tasks (absolute project text) ≡ true) [
@@ -86,7 +86,7 @@ module _ (names : Names) (project : Path) where
   pub registered_in : (texts : List (List ℕ)) → flat_map (reference_faults names project) texts ≡ [] → AllByRecursion (λ path. is_among names.tasks path ≡ true) (tasks_in project texts)
   registered_in texts e = with_all (λ path. is_among names.tasks path ≡ true) [] (flat_map (λ text. absolute project text ∷ []) texts) tt (all_found texts e)
 
--- the texts of clauses that are not at fault are none
+-- the texts of clauses without a fault have no fault
 pub all_known : {M F Z S A : Type 0} (tables : Tables M F Z S A) (scope : Scope) (path : Path) (pick : Clause → List (List ℕ)) → ((clause : Clause) → clause_faults tables scope clause ≡ [] → flat_map scope.task_faults (pick clause) ≡ [])
     → (before after : List Clause) → clauses_faults tables scope path before after ≡ [] → flat_map scope.task_faults (flat_map pick after) ≡ []
 all_known tables scope path pick judged before [] e = refl

@@ -1,4 +1,5 @@
--- What has a value has its tasks; and they are good, where those are that the expressions of the table name.
+-- What has a value has its tasks. They are good where the tasks that the expressions of the table name are
+-- good.
 use Rattle.std.proofs.Common.{◌≡◌, ◌⊎◌, inl, inr, ℕ, zero, suc, Bool, true, false, ◌&&◌, List, [], ◌∷◌, ◌++◌, length, get_or, refl, sym, ap, subst, ◌∙◌}
 use Rattle.std.proofs.lemmas.List.Quantifiers.{position-Some}
 use Rattle.std.proofs.lemmas.Option.{slice_get-get_or, slice_get-map}
@@ -32,7 +33,7 @@ use Rattle.gb_declare.specs.Needs.{GivenHasTasks}
 use Rattle.gb_declare.proofs.AllLemmas.{with_all}
 
 module _ (f : ℕ → Option Outcome) where
-  -- a rule that goes on where its operand is a value, and settles on a value
+  -- a rule that continues where its operand is a value, and ends with a value
   given_at : (operand : ℕ) (go_on : Value → Rule Outcome) (v : Value) (o : Option Outcome) → f operand ≡ o → after_operand operand (λ a. reading f (on_value go_on a)) o ≡ Settles (Given v)
       → (w : Value) × (f operand ≡ Some (Given w)) × (reading f (go_on w) ≡ Settles (Given v))
   given_at operand go_on v None is e = cc
@@ -54,7 +55,7 @@ module _ (f : ℕ → Option Outcome) where
   followed_operand : (operand : ℕ) (v : Value) → reading f (follow operand) ≡ Settles (Given v) → f operand ≡ Some (Given v)
   followed_operand operand v e = follow_at operand v (f operand) refl e
 
-  -- a list that is given goes on behind each of its elements
+  -- a given list continues after each of its elements
   text_given : (go_on : List ℕ → Rule Outcome) (other : Rule Outcome) (v w : Value) → reading f (on_text go_on other w) ≡ Settles (Given v)
       → ((text : List ℕ) × (reading f (go_on text) ≡ Settles (Given v))) ⊎ (reading f other ≡ Settles (Given v))
   text_given go_on other v (values.Text text) e = inl (text, e)
@@ -63,9 +64,9 @@ module _ (f : ℕ → Option Outcome) where
   text_given go_on other v (values.Place place) e = inr e
   text_given go_on other v (values.Task task) e = inr e
 
--- ---- Good tasks: those of a kind, whichever it is
+-- ---- Good tasks: those with some property, whatever it is
 
--- what a property holds is from these
+-- the tasks of the value that a property holds
 abbrev pub held_tasks : Option Setting → List (List ℕ)
 held_tasks (Some (Held value)) = tasks_of value
 held_tasks (Some (Followed source)) = []
@@ -82,7 +83,7 @@ NamesGood Good (FlatMapped source call) = Unit {0}
 NamesGood Good (Zipped left right call) = Unit {0}
 NamesGood Good (OrElse left right) = Unit {0}
 
--- the first that passes stands where it is found
+-- the first element that passes is at the index that is found
 placed : {X : Type 0} (p : X → Bool) (xs : List X) (i : ℕ) → position p xs ≡ Some i → (x : X) × (slice_get xs i ≡ Some x) × (p x ≡ true)
 placed p [] i is = absurd (cc)
 placed p (x ∷ xs) i is = let found = position-Some p (x ∷ xs) i x is in (get_or (x ∷ xs) i x, slice_get-get_or (x ∷ xs) i x found.0, found.1)
@@ -149,7 +150,7 @@ module _ {M F Z S : Type 0} (meanings : Meanings M F Z S) (nodes : List (Express
     output_good chosen (Zipped left right' call) names is = absurd (cc)
     output_good chosen (OrElse left right') names is = absurd (cc)
 
-    -- an output that is chosen and has a value stands in the table
+    -- an output that is chosen and has a value is in the table
     chosen_good : (chosen : Chosen) (v : Value) (o : Option ℕ) → output_place nodes chosen ≡ o → reading f (output_rule chosen o) ≡ Settles (Given v) → Good chosen.task
     chosen_good chosen v None is e = absurd (cc)
     chosen_good chosen v (Some place) is e = let found = placed (is_output chosen) nodes place is in output_good chosen found.0 (good place found.0 found.1) found.2

@@ -62,7 +62,7 @@ pub generates : task_of seven ((v, codes "1") ∷ []) (codes ":gen") ≡ Ok (rec
 })
 generates = refl
 
--- `gen` is only read: its input `v`, which has no value, is not asked
+-- `gen` is only read: its input `v`, which has no value, is not evaluated
 pub uses : task_of seven [] (codes ":use") ≡ Ok (record {
   path = codes ":use";
   runs = true;
@@ -108,7 +108,7 @@ goes = refl
 pub is_skipped : task_of thirteen ((codes "go", codes "no") ∷ []) (codes ":a") ≡ Ok (writes_a false)
 is_skipped = refl
 
--- nothing passes no test
+-- a missing value passes no test
 pub is_skipped_too : task_of thirteen [] (codes ":a") ≡ Ok (writes_a false)
 is_skipped_too = refl
 
@@ -150,7 +150,8 @@ in_lib = refl
 
 -- ---- Blocks
 
--- a later input of the name takes the place of an earlier one, whose absent value is not asked; inputs stand by name
+-- a later input of the name replaces an earlier one, whose absent value is not evaluated; inputs are sorted
+-- by name
 pub replaced : task_of
     (register (codes "t") (input v (Chain (GradlePropertyOf v) (links_of [])) ∷ input a (text (codes "1")) ∷ clauses.DependsOn (b ∷ []) ∷ [])
     ∷ register b []
@@ -169,16 +170,16 @@ pub replaced : task_of
     })
 replaced = refl
 
--- the last `enabled` counts
+-- the last `enabled` applies
 pub disabled : task_of (register (codes "t") (clauses.Enabled (text a) ∷ []) ∷ named (codes "t") (clauses.Enabled (flag false) ∷ []) ∷ []) [] (codes ":t") ≡ Ok (bare (codes ":t") false)
 disabled = refl
 
--- but what is wrong with a clause that is replaced counts
+-- but the fault of a clause that is replaced is reported
 pub replaced_fault : task_of (register (codes "t") (input v (folder (codes "a//b")) ∷ input v (text a) ∷ []) ∷ []) [] (codes ":t")
     ≡ Err (Plain (faults.BadPlace (codes "a//b")))
 replaced_fault = refl
 
--- one name in two forms, before what is wrong with the second clause
+-- one name in two forms is reported before the faults of the second clause
 pub two_forms : task_of (register (codes "t") (input out (text a) ∷ output_file out (folder (codes "a//b")) ∷ []) ∷ []) [] (codes ":t")
     ≡ Err (Plain (faults.BadShape (codes ":t")))
 two_forms = refl
@@ -191,7 +192,7 @@ two_forms_of_output = refl
 pub no_actions : task_of (register (codes "t") (output_file out (in_build a) ∷ []) ∷ []) [] (codes ":t") ≡ Err (Plain (faults.BadShape (codes ":t")))
 no_actions = refl
 
--- ---- Outputs that are not there
+-- ---- Outputs that do not exist
 
 -- flatMap(output(..)) of a text
 abbrev pub made_at : List ℕ → List ℕ → Tree
@@ -213,7 +214,7 @@ no_such_project = refl
 pub faulty_task : task_of (reads (made_by b out) (register b (output_file out (in_build a) ∷ []) ∷ [])) [] (codes ":t") ≡ Err (Plain (faults.BadShape (codes ":b")))
 faulty_task = refl
 
--- its other expressions are not asked, nor where the output lies
+-- its other expressions are not evaluated, nor the place of the output
 pub outside_too : task_of (reads (made_by b out) (register_of b (called (codes "writeText") (Chain (GradlePropertyOf v) (links_of []) ∷ [])) (output_file out (folder (codes "x")) ∷ []) ∷ [])) [] (codes ":t") ≡ Ok (record {
   path = codes ":t";
   runs = true;

@@ -45,7 +45,7 @@ use Rattle.gb_declare.proofs.NeedLemmas.{NamesGood, good_tasks, held_tasks}
 use Rattle.gb_declare.proofs.ReadyLemmas.{both_ok, each_ok, no_faults, same_ok}
 use Rattle.gb_declare.proofs.ViewLemmas.{back_none, front_none, judged_depends_on_in, known_path}
 
--- ---- Where an expression of a script names a task
+-- ---- Expressions of a script that name a task
 
 module _ (Good : Path → Type 0) where
   abbrev IsGoodRoot : Path → Root → Type 0
@@ -61,7 +61,7 @@ module _ (Good : Path → Type 0) where
   abbrev AreGood : List Spot → Type 0
   AreGood = AllByRecursion IsGoodSpot
 
-  -- where nothing is found in an expression, and a task of which nothing is found is good
+  -- an expression without findings is good, where a task without findings is good
   module _ (project : Path) (at_root : Root → List Fault) (at_link : Link → List Fault) (known : (text : List ℕ) → at_root (TaskOf text) ≡ [] → Good (absolute project text)) where
     root_good : (root : Root) → found_at at_root at_link root ≡ [] → IsGoodRoot project root
     root_good (TaskOf text) e = known text e
@@ -146,7 +146,7 @@ module _ (Good : Path → Type 0) where
     table_names : AreGood all → (entry : ℕ) (e : Expression M F Z) → slice_get (table_of tables source all) entry ≡ Some e → Names e
     table_names good entry e is = all_at Names (table_of tables source all) entry e (all_mapped IsGoodSpot Names (expression_at tables source all) spot_names all good) is
 
--- ---- No fault of all is one of none
+-- ---- No fault in all means no fault in each
 
 all_clear : {X : Type 0} (f : X → List Fault) (xs : List X) → flat_map f xs ≡ [] → AllByRecursion (λ x. f x ≡ []) xs
 all_clear f [] e = tt

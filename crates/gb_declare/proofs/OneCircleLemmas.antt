@@ -1,4 +1,4 @@
--- From an entry one comes to one circle, wherever on it one begins; so a trouble is told by one fault.
+-- From an entry one circle is reached, whatever its first entry; so a trouble is reported by one fault.
 use Rattle.std.proofs.Common.{◌≡◌, ◌≢◌, ℕ, zero, suc, ◌+◌, ◌-◌, ◌<◌, ◌≤◌, List, [], ◌∷◌, ◌++◌, length, take, drop, refl, sym, ap, ◌∙◌, subst, arith, inl, inr}
 use Rattle.std.proofs.Math.ListN.{get_or-append}
 use Rattle.std.proofs.Math.Logic.{∥∥₁_elim}
@@ -29,12 +29,12 @@ use Rattle.gb_declare.specs.Realised.{Plain, Endless}
 use Rattle.gb_declare.specs.Told.{IsCircleTold, ToldOneWay}
 use Rattle.gb_declare.specs.Whole.{whole}
 
--- ---- The least of the rounds of names
+-- ---- The least rotation of names
 
 pub names_total : IsTotalOrder names_order
 names_total = lists_total nat_list_cmp_total
 
--- names of which neither come after the others
+-- two lists of names, neither of which comes after the other
 neither_after : (a b : List (List ℕ)) → names_order a b ≢ Greater → names_order b a ≢ Greater → a ≡ b
 neither_after a b not_ab not_ba = by (names_order a b) refl
   where
@@ -46,7 +46,7 @@ neither_after a b not_ab not_ba = by (names_order a b) refl
 not_after_itself : (a : List (List ℕ)) → names_order a a ≢ Greater
 not_after_itself a greater = let tied = tied_itself names_total a in cc
 
--- a round that comes after no other, whatever place that is from
+-- a rotation that comes after no other, whatever position the other starts from
 abbrev pub IsLeast : List (List ℕ) → List (List ℕ) → Type 0
 IsLeast names round = ((i : ℕ) × (round ≡ round_from names i)) × ((k : ℕ) → names_order round (round_from names k) ≢ Greater)
 
@@ -56,7 +56,7 @@ one_least names a b of_a of_b =
     (subst (λ r. names_order a r ≢ Greater) (sym of_b.0.1) (of_a.1 of_b.0.0))
     (subst (λ r. names_order b r ≢ Greater) (sym of_a.0.1) (of_b.1 of_a.0.0))
 
--- from a place behind the names, as from their first
+-- a position after the names gives the same rotation as the first
 past_end : (names : List (List ℕ)) (k : ℕ) → length names ≤ k → round_from names k ≡ round_from names 0
 past_end names k past = ap (λ l. l ++ take k names) (drop_all k names past) ∙ take_all k names past ∙ sym (append-nil names)
 
@@ -71,7 +71,7 @@ least_of_all names round is = (is.0, λ k. by k (cases_lt k (length names)) (cas
         subst (λ r. names_order round r ≢ Greater) same (not_after_itself round)
 
 module _ (p q : List (List ℕ)) where
-  -- the same round of two parts that change places
+  -- the same rotation of two parts that are swapped
   turned_round : (i : ℕ) → i ≤ length q → round_from (p ++ q) (length p + i) ≡ round_from (q ++ p) i
   turned_round i within =
       ap (λ l. l ++ take (length p + i) (p ++ q)) (drop-append-add p q i)
@@ -80,7 +80,7 @@ module _ (p q : List (List ℕ)) where
       ∙ ap (λ l. drop i q ++ p ++ l) (sym (take-append-le i q p within))
       ∙ ap (λ l. l ++ take i (q ++ p)) (sym (drop-append-le i q p within))
 
--- each round of names is one of them with two parts changed in place
+-- each rotation of names is a rotation of the names with two parts swapped
 round_there : (p q : List (List ℕ)) (i : ℕ) → (j : ℕ) × (round_from (p ++ q) i ≡ round_from (q ++ p) j)
 round_there p q i =
     elim (cases_lt i (length p)) [
@@ -117,7 +117,7 @@ Different xs = (i j : ℕ) → i < j → j < length xs → slice_index xs i ≢ 
 abbrev pub Lack : ℕ → List ℕ → Type 0
 Lack x xs = (i : ℕ) → i < length xs → slice_index xs i ≢ x
 
--- different entries, the first of which goes to the end
+-- different entries stay different when the first one moves to the end
 different_turned : (x : ℕ) (xs : List ℕ) → Different (x ∷ xs) → Different (xs ++ x ∷ [])
 different_turned x xs different i j less below same =
     let count = length-append xs (x ∷ []) in
@@ -132,7 +132,7 @@ different_turned x xs different i j less below same =
     ]
 
 module _ {A : Type 0} (rules : List (Rule A)) where
-  -- each awaits the one behind it, and the last of them this one
+  -- each awaits the one after it, and the last of them awaits this one
   abbrev pub Leads : ℕ → List ℕ → ℕ → Type 0
   Leads x [] last = next_awaited rules x ≡ Some last
   Leads x (y ∷ ys) last = (next_awaited rules x ≡ Some y) × Leads y ys last
@@ -172,7 +172,7 @@ module _ {A : Type 0} (rules : List (Rule A)) where
   second x [] ring = ring.0
   second x (y ∷ ys) ring = ring.0.0
 
-  -- entries that lead to the same one, and hold it nowhere between
+  -- entries that lead to the same one, which does not occur between
   same_way : (x last : ℕ) (ys zs : List ℕ) → Leads x ys last → Leads x zs last → Lack last ys → Lack last zs → ys ≡ zs
   same_way x last [] [] one other lack lacks = refl
   same_way x last [] (z ∷ zs) one other lack lacks = absurd (lacks 0 (omega arith) (some_same z last (sym other.0 ∙ one)))
@@ -203,7 +203,7 @@ module _ {A : Type 0} (rules : List (Rule A)) where
         flat_map-append (λ number. names_of (slice_get nodes number)) xs (x ∷ []) ∙ ap (λ l. names_on nodes xs ++ l) (append-nil names) in
         subst (λ l. IsLeast l round) (sym turned) (least_turned names (names_on nodes xs) round is)
 
-    -- The one circle turns step by step, until it begins where the other does.
+    -- The circle is rotated step by step, until it begins where the other does.
     one_way : (n steps : ℕ) (c d : List ℕ) (a b : List (List ℕ)) → IsRing c → IsRing d
         → awaited_after rules steps entry ≡ Some (slice_index c 0) → awaited_after rules (n + steps) entry ≡ Some (slice_index d 0)
         → IsLeast (names_on nodes c) a → IsLeast (names_on nodes d) b → a ≡ b
@@ -224,7 +224,7 @@ module _ {A : Type 0} (rules : List (Rule A)) where
 -- ---- Troubles
 
 module _ {M F Z S : Type 0} (meanings : Meanings M F Z S) (nodes : List (Expression M F Z)) (entry : ℕ) where
-  -- an expression runs into a circle under the same names, whatever way this is found
+  -- an expression runs into a circle under the same names, however the circle is found
   runs_into_one : (a b : List (List ℕ)) → RunsInto meanings nodes entry a → RunsInto meanings nodes entry b → a ≡ b
   runs_into_one a b one other =
       let s = one.1.reached.0 in
@@ -245,7 +245,7 @@ module _ {M F Z S : Type 0} (meanings : Meanings M F Z S) (nodes : List (Express
       ]
 
 module _ {M F Z S A : Type 0} (tables : Tables M F Z S A) (source : Source) (entry : ℕ) where
-  -- a fault that tells a circle
+  -- a fault that reports a circle
   pub circle_told : (fault : Fault) → IsCircleTold tables source entry fault
       → (names : List (List ℕ)) × (fault ≡ Circular names) × ∥ RunsInto tables.means (whole tables source) entry names ∥₁
   circle_told (Circular names) is = (names, refl, is)

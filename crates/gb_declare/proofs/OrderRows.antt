@@ -1,4 +1,4 @@
--- Which of several faults counts, by computation.
+-- Which of several faults is reported, by computation.
 use Rattle.std.proofs.Common.{◌≡◌, ℕ, true, false, List, [], ◌∷◌, Some, Err, refl}
 use Rattle.std.specs.Prelude.{codes, Option, Result}
 use Rattle.gb_script.specs.Tree.{Tree, Chain, ListOf, FileOf, Link, MapBy, ZipBy, links_of, trees_of}
@@ -43,7 +43,7 @@ f = codes "f"
 pub look_ups_last : refusal (statements.Property a ∷ set a (after (task (codes "no")) (MapBy (call_of (codes "nope") []))) ∷ set b (text (codes "x")) ∷ []) ≡ Some (faults.UnknownTransform (codes "nope"))
 look_ups_last = refl
 
--- `disallowChanges` twice is no fault, `unset` behind it is
+-- `disallowChanges` twice is no fault, `unset` after it is
 pub final_twice : refusal (statements.Property a ∷ statements.DisallowChanges a ∷ statements.DisallowChanges a ∷ statements.Unset a ∷ []) ≡ Some (faults.Final a)
 final_twice = refl
 
@@ -91,12 +91,12 @@ absent_root = refl
 pub root_no_place : t_of (files (text (codes "x") ∷ nothing ∷ []) [] [] ∷ input b (text a) ∷ []) ≡ Err (Plain (faults.WrongValue f))
 root_no_place = refl
 
--- all arguments, and then whether they fit
+-- all arguments are evaluated before the check whether they fit
 pub arguments_first : task_of (register_of (codes "t") (called (codes "writeText") (text a ∷ nothing ∷ [])) (output_file out (in_build a) ∷ []) ∷ []) [] (codes ":t")
     ≡ Err (Plain (faults.NoValue (codes ":t") (codes "writeText")))
 arguments_first = refl
 
--- a list is taken from the left: the task that is read first is at fault
+-- a list is evaluated from the left: the task that is read first is at fault
 pub list_from_the_left : task_of (register (codes "t") (input (codes "i") (Chain (ListOf (trees_of (made_by (codes "u") out ∷ nothing ∷ []))) (links_of [])) ∷ [])
     ∷ register (codes "u") (output_file out (Chain (FileOf (codes "a//b")) (links_of [])) ∷ []) ∷ []) [] (codes ":t") ≡ Err (Plain (faults.BadPlace (codes "a//b")))
 list_from_the_left = refl

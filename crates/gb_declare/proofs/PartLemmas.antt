@@ -1,4 +1,4 @@
--- What is answered in a part of a table is answered in the whole.
+-- A result in a part of a table is the result in the whole.
 use Rattle.std.proofs.Common.{◌≡◌, ℕ, zero, suc, ◌<◌, List, length, refl, ◌∙◌, ap, sym, subst, inl, inr, arith}
 use Rattle.std.specs.Prelude.{Option, Some, None, slice_get, ◌⊎◌}
 use Rattle.std.proofs.lemmas.Option.{slice_get_cases}
@@ -14,7 +14,7 @@ module _ {A : Type 0} where
   same_answer : (a b : A) → Some a ≡ Some b → a ≡ b
   same_answer a b e = cc
 
--- within a list something stands
+-- each index within a list has an element
 past_end : {X : Type 0} (xs : List X) (i : ℕ) → i < length xs → slice_get xs i ≡ None → ⊥
 past_end xs i within none =
     elim (slice_get_cases xs i).1 [
@@ -23,15 +23,15 @@ past_end xs i within none =
     ]
 
 module _ {A : Type 0} (size : ℕ) (number : ℕ → ℕ) (Pending : A → Type 0) (f g : ℕ → Option A) where
-  -- what is answered in the part is answered in the whole, or pending
+  -- a result in the part is the result in the whole, or pending
   abbrev pub Answered : Type 0
   Answered = (entry : ℕ) (a : A) → f entry ≡ Some a → Pending a ⊎ (g (number entry) ≡ Some a)
 
-  -- what is answered in the whole has some answer in the part
+  -- what has a result in the whole has some result in the part
   abbrev pub Covered : Type 0
   Covered = (entry : ℕ) (b : A) → entry < size → g (number entry) ≡ Some b → (a : A) × (f entry ≡ Some a)
 
-  -- a rule that passes on an answer that is pending settles on it
+  -- a rule that passes on a pending result ends with it
   passed_on : (next : A → Rule A) (b : A) → next b ≡ Answers b → reading f (next b) ≡ Settles b
   passed_on next b passes = ap (reading f) passes
 
@@ -56,7 +56,8 @@ module _ {A : Type 0} (size : ℕ) (number : ℕ → ℕ) (Pending : A → Type 
               ]
         ]
 
-    -- what a rule of the part settles on, that of the whole does, or it is pending
+    -- if a rule of the part ends with a result, the rule of the whole ends with the same, or the result is
+    -- pending
     pub settled_alike : (rule other : Rule A) (a : A) → IsLike size number Pending rule other → reading f rule ≡ Settles a → Pending a ⊎ (reading g other ≡ Settles a)
     settled_alike (Answers b) other a (inl pending) e = inl (subst Pending (same_settled b a e) pending)
     settled_alike (Answers b) other a (inr same) e = inr (ap (reading g) same ∙ e)
@@ -86,7 +87,7 @@ module _ {A : Type 0} (size : ℕ) (number : ℕ → ℕ) (Pending : A → Type 
                 ]
           ]
 
-      -- where a rule of the whole settles, that of the part does
+      -- where a rule of the whole ends, that of the part ends too
       pub covered_alike : (rule other : Rule A) (a : A) → IsLike size number Pending rule other → reading g other ≡ Settles a → (c : A) × (reading f rule ≡ Settles c)
       covered_alike (Answers b) other a like e = (b, refl)
       covered_alike (Reads operand next) (Answers b) a like e = absurd like
@@ -95,7 +96,7 @@ module _ {A : Type 0} (size : ℕ) (number : ℕ → ℕ) (Pending : A → Type 
 
 module _ {A : Type 0} (number : ℕ → ℕ) (Pending : A → Type 0) (part whole : List (Rule A)) (are : ArePart number Pending part whole) where
   module _ (f g : ℕ → Option A) (answered : Answered (length part) number Pending f g) where
-    -- one round keeps it
+    -- one round preserves it
     next_answered : (entry : ℕ) (a : A) (o : Option (Rule A)) → slice_get part entry ≡ o → and_then (λ rule. settled (reading f rule)) o ≡ Some a
         → Pending a ⊎ (and_then (λ rule. settled (reading g rule)) (slice_get whole (number entry)) ≡ Some a)
     next_answered entry a None is e = cc
@@ -124,7 +125,7 @@ module _ {A : Type 0} (number : ℕ → ℕ) (Pending : A → Type 0) (part whol
         λ entry b within e. next_covered (answer_after part n) (answer_after whole n) so_far.0 so_far.1 entry b (slice_get part entry) refl within e,
       )
 
-  -- an answer in the part is the answer in the whole, unless it is pending
+  -- a result in the part is the result in the whole, unless it is pending
   pub part_answers : (entry : ℕ) (a : A) → answer part entry ≡ Some a → Pending a ⊎ (answer whole (number entry) ≡ Some a)
   part_answers entry a e =
       elim ((after_rounds (length part)).0 entry a e) [
@@ -139,7 +140,7 @@ module _ {A : Type 0} (number : ℕ → ℕ) (Pending : A → Type 0) (part whol
       let never = none_bounded part entry none (length whole) in
       cc
 
-  -- what never has an answer in the part never has one in the whole
+  -- what never has a result in the part never has one in the whole
   pub part_is_endless : (entry : ℕ) → entry < length part → answer part entry ≡ None → answer whole (number entry) ≡ None
   part_is_endless entry within none = endless_at entry within none (answer whole (number entry)) refl
 

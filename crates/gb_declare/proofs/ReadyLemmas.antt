@@ -50,7 +50,7 @@ same_tail : {Y : Type 0} (a b : Y) (cs ds : List Y) → a ∷ cs ≡ b ∷ ds �
 same_tail a b cs ds e = cc
 
 module _ {X Y E : Type 0} where
-  -- each of them became something
+  -- each of them has a result
   pub each_ok : (f : X → Result Y E) (xs : List X) (ys : List Y) → each_of f xs ≡ Ok ys → AllZip (λ x y. f x ≡ Ok y) xs ys
   each_ok f [] [] e = tt
   each_ok f [] (y ∷ ys) e = cc
@@ -64,7 +64,7 @@ module _ {X Y E : Type 0} where
       let same = same_ok (first.0 ∷ second.0) (y ∷ ys) second.2 in
       (first.1 ∙ ap Ok (same_head first.0 y second.0 ys same), each_ok f xs ys (second.1 ∙ ap Ok (same_tail first.0 y second.0 ys same)))
 
-  -- what is seen of them
+  -- the views of them are the same
   pub seen_same : {V : Type 0} (f : X → Result Y E) (a : X → V) (b : Y → V) → ((x : X) (y : Y) → f x ≡ Ok y → b y ≡ a x) → (xs : List X) (ys : List Y) → AllZip (λ x y. f x ≡ Ok y) xs ys → map b ys ≡ map a xs
   seen_same f a b same [] [] all = refl
   seen_same f a b same [] (y ∷ ys) all = absurd all
@@ -77,7 +77,7 @@ module _ {X Y E : Type 0} where
   each_has f P has (x ∷ xs) [] all = absurd all
   each_has f P has (x ∷ xs) (y ∷ ys) all = (has x y all.0, each_has f P has xs ys all.1)
 
--- no fault, so none behind others
+-- no fault in all, so none in the second list
 none_behind : {X : Type 0} (xs ys : List X) → xs ++ ys ≡ [] → ys ≡ []
 none_behind [] ys e = e
 none_behind (x ∷ xs) ys e = cc
@@ -130,7 +130,8 @@ module _ {M F Z S A : Type 0} (tables : Tables M F Z S A) (source : Source) (at 
       let here = both_ok (each_of (place_of tables source at all table f.0) f.1.from) _ y e in
       ap (λ z. z.name) (sym (same_ok _ y here.2))
 
-  -- an action of the kind and the version is stored, and takes what it is given from a task with these files and outputs
+  -- an action of the kind and the version is stored, and accepts its arguments from a task with these files
+  -- and outputs
   abbrev CanBeAsked : List FileProperty → List Output → Action → Type 0
   CanBeAsked files outputs action =
       (stored : A) × (find byte_order action.kind tables.kinds ≡ Some stored) × (tables.shapes.version stored ≡ action.version)

@@ -1,4 +1,4 @@
--- The names of what a realised task declares stand in order, each once.
+-- The names of what a realised task declares are sorted, each once.
 use Rattle.std.proofs.Common.{◌≡◌, ℕ, Bool, List, [], ◌∷◌, map, Option, None, Some, Result, Ok, Err, T, ◌&&◌, true, false, refl, sym, ap, subst}
 use Rattle.std.specs.Cmp.Lexicographic.{nat_list_cmp_total}
 use Rattle.std.specs.FinMap.Entries.{below_all, is_sorted, is_sorted-put, put}

@@ -63,7 +63,7 @@ module _ {A : Type 0} (number : ℕ → ℕ) (Pending : A → Type 0) (part whol
   step_at steps entry x None is ih e = cc
   step_at steps entry x (Some y) is ih e = ap (and_then (next_awaited whole)) (ih y refl) ∙ next_in_part y x e
 
-  -- and what it comes to, step by step
+  -- and what it reaches, step by step
   pub after_in_part : (steps entry x : ℕ) → awaited_after part steps entry ≡ Some x → awaited_after whole steps (number entry) ≡ Some (number x)
   after_in_part zero entry x e = let same : entry ≡ x = cc in ap (λ y. Some (number y)) same
   after_in_part (suc steps) entry x e = step_at steps entry x (awaited_after part steps entry) refl (λ y is. after_in_part steps entry y is) e

@@ -1,4 +1,4 @@
--- Where a spot stands first, the same spot stands.
+-- At the first position of a spot the same spot is found.
 use Rattle.std.proofs.Common.{◌≡◌, ℕ, zero, suc, Bool, true, false, ◌&&◌, cond, List, [], ◌∷◌, refl, sym, ap, subst, ◌∙◌}
 use Rattle.std.proofs.lemmas.Bool.{eqb-true, eq-eqb}
 use Rattle.std.proofs.lemmas.List.Folds.{find_at}
@@ -73,7 +73,7 @@ written_itself : (project : Path) (root' : Root) (steps : List Link) → is_spot
 written_itself project root' steps =
     both_true ((bytes_eq-Decides project project).1 refl) ((cells_decide (tree_cells (Chain root' (links_of steps)) []) (tree_cells (Chain root' (links_of steps)) [])).1 refl)
 
--- what passes stands in a list, so a first such is found
+-- an element that passes is in the list, so a first one is found
 found_by : {X : Type 0} (p : X → Bool) (y x : X) (more : Option X) (b : Bool) → p y ≡ b → ((b ≡ false) → (z : X) × (more ≡ Some z) × (p z ≡ true)) → (z : X) × (cond b (Some y) more ≡ Some z) × (p z ≡ true)
 found_by p y x more true is rest = (y, refl, is)
 found_by p y x more false is rest = rest refl
@@ -86,7 +86,7 @@ first_such p (y ∷ ys) zero x is e =
     found_by p y x (find p ys) (p y) refl (λ fails. (let clash : true ≡ false = sym passes ∙ fails in cc))
 first_such p (y ∷ ys) (suc k) x is e = found_by p y x (find p ys) (p y) refl (λ fails. first_such p ys k x is e)
 
--- an expression that is one of these stands where the first that is the same stands
+-- an expression that is one of these is at the position of the first one that is the same
 pub spot_stands : (all : List Spot) (project : Path) (root' : Root) (steps : List Link) (place : ℕ) → slice_get all place ≡ Some (Written project root' steps)
     → slice_get all (position_or_len (is_spot (Written project root' steps)) all) ≡ Some (Written project root' steps)
 spot_stands all project root' steps place is =

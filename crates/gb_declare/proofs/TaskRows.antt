@@ -35,7 +35,7 @@ abbrev pub eight : List Statement
 eight = register_of (codes "t") (called (codes "writeText") (Chain (GradlePropertyOf (codes "v")) (links_of (MapBy (call_of (codes "append") (codes "!" ∷ [])) ∷ [])) ∷ []))
     (output_file out (in_build (codes "a")) ∷ []) ∷ []
 
--- the last value of a name counts
+-- the last value of a name applies
 pub given_x : task_of eight ((codes "v", codes "w") ∷ (codes "v", codes "x") ∷ []) (codes ":t") ≡ Ok (record {
   path = codes ":t";
   runs = true;
@@ -81,7 +81,7 @@ a = codes "a"
 abbrev pub b : List ℕ
 b = codes "b"
 
--- .. and more statements behind the first
+-- .. and more statements after the first
 abbrev pub nineteen : List Statement → List Statement
 nineteen more =
     statements.Property a ∷ statements.Property b ∷ convention a (text (codes "x")) ∷ set b (Chain (PropertyOf a) (links_of (MapBy (call_of (codes "upper") []) ∷ []))) ∷ set a (text (codes "y"))

@@ -1,4 +1,4 @@
--- What borrowed parts of a script stand for.
+-- What borrowed parts of a script represent.
 use Rattle.std.specs.Prelude.{ℕ, List, map}
 use Rattle.std.specs.Borrow.{Bor}
 use Rattle.std.specs.BTreeMap.{BTreeMap}
@@ -13,6 +13,6 @@ now_of borrowed = map (λ b. b.now) borrowed
 abbrev pub named_in : {X : Type 0} → BTreeMap (List ℕ) (Bor X) → List (Named X)
 named_in things = map (λ e. (e.0, e.1.now)) things.entries
 
--- outputs by name, what their places are made from borrowed
+-- outputs by name, with borrowed expressions of their places
 abbrev pub outputs_in : BTreeMap (List ℕ) (Form × Bor Tree) → List (Named Made)
 outputs_in outputs = map (λ e. (e.0, (e.1.0, e.1.1.now))) outputs.entries

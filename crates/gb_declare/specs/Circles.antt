@@ -10,12 +10,13 @@ use Rattle.gb_provider.specs.declared.expression.Expression.{Expression}
 use Rattle.gb_provider.specs.declared.expression.Expression.TheVariants.{OfProperty, OfOutput}
 use Rattle.gb_declare.specs.Partly.{IsPartOf}
 
--- no two of these have the same number in the whole
+-- the numbers of these in the whole are pairwise distinct
 abbrev pub AreApart : (ℕ → ℕ) → List ℕ → Type 0
 AreApart number entries =
     (i j : ℕ) → i < j → j < length entries → number (slice_index entries i) ≢ number (slice_index entries j)
 
--- A circle that an expression runs into in a part of a table it runs into in the whole, under the same names.
+-- A circle that an expression runs into in a part of a table is also one that it runs into in the whole,
+-- under the same names.
 abbrev pub CirclesStay : {M F Z S : Type 0} → Meanings M F Z S → Type 0
 CirclesStay {M} {F} {Z} meanings =
     (number : ℕ → ℕ) (part whole : List (Expression M F Z)) → IsPartOf number part whole
@@ -30,8 +31,8 @@ is_named (Some (OfProperty property)) = true
 is_named (Some (OfOutput output)) = true
 is_named other = false
 
--- Of the expressions of a part that await others, those with names stand once, and others come after what
--- they await, unless that has a name.
+-- Consider the expressions of a part that await others. Those with names occur once. The others come after
+-- what they await, unless that has a name.
 pub record AreOrdered {M F Z S : Type 0} (meanings : Meanings M F Z S) (number : ℕ → ℕ)
     (part : List (Expression M F Z)) : Type 0 where
   pub once : (x y s t : ℕ) → next_awaited (rules meanings part) x ≡ Some s
@@ -40,7 +41,7 @@ pub record AreOrdered {M F Z S : Type 0} (meanings : Meanings M F Z S) (number :
   pub falls : (x s : ℕ) → next_awaited (rules meanings part) x ≡ Some s → is_named (slice_get part x) ≡ false
       → is_named (slice_get part s) ≡ false → s < x
 
--- In such a part the entries of a circle are apart.
+-- In such a part the entries of a circle have distinct numbers.
 abbrev pub CirclesAreApart : {M F Z S : Type 0} → Meanings M F Z S → Type 0
 CirclesAreApart {M} {F} {Z} meanings =
     (number : ℕ → ℕ) (part whole : List (Expression M F Z)) → IsPartOf number part whole

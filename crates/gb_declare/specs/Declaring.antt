@@ -33,7 +33,7 @@ heading (clauses.OutputFile a) = Some (a.name, codes "outputFile")
 heading (clauses.OutputDir a) = Some (a.name, codes "outputDir")
 heading other = None
 
--- the same name behind different words
+-- the same name after different words
 abbrev pub clash : Option (Named (List ℕ)) → Option (Named (List ℕ)) → Bool
 clash (Some a) (Some b) = bytes_eq a.0 b.0 && not (bytes_eq a.1 b.1)
 clash a b = false
@@ -48,7 +48,7 @@ clash_faults path before clause =
 abbrev pub pattern_faults : List ℕ → List Fault
 pattern_faults text = if is_pattern text then [] else faults.BadPattern text ∷ []
 
--- of a project's script these properties are known, and all tasks where their names are
+-- in a project's script these properties are known, and all tasks where their names are known
 abbrev pub scope_in : Path → List (List ℕ) → Option Names → Scope
 scope_in project properties names =
     record { project = project; properties = properties; task_faults = task_faults_in names project }
@@ -61,7 +61,7 @@ module _ {M F Z S A : Type 0} (tables : Tables M F Z S A) (scope : Scope) where
   abbrev pub trees_faults : List Tree → List Fault
   trees_faults trees = flat_map (tree_faults tables scope) trees
 
-  -- no action of the name is stored; and what is wrong with what it is given
+  -- no action of the name is stored; and the faults of its arguments
   abbrev pub call_faults : Call → List Fault
   call_faults call =
       (if is_some (find byte_order call.name tables.kinds) then [] else faults.UnknownAction call.name ∷ [])
@@ -89,11 +89,11 @@ module _ {M F Z S A : Type 0} (tables : Tables M F Z S A) (scope : Scope) where
   clause_faults (clauses.UpToDateWhen condition) = condition_faults condition
   clause_faults (clauses.Enabled tree) = tree_faults tables scope tree
 
-  -- those of clauses behind others, each with its clash before its own
+  -- the faults of clauses after others, each with its clash before its own
   abbrev pub clauses_faults : Path → List Clause → List Clause → List Fault
   clauses_faults path = each_after (λ before clause. clash_faults path before clause ++ clause_faults clause)
 
-  -- the call behind the colon, if there is one
+  -- the call after the colon, if there is one
   abbrev pub main_faults : Option Call → List Fault
   main_faults None = []
   main_faults (Some call) = call_faults call
@@ -105,7 +105,7 @@ unless (fault ∷ faults) x = Err fault
 
 -- ---- Shapes
 
--- outputs, and no action to make them
+-- outputs without an action that makes them
 abbrev pub lacks_actions : {X Y : Type 0} → List X → List Y → Bool
 lacks_actions [] actions = false
 lacks_actions (output ∷ outputs) [] = true
@@ -131,8 +131,8 @@ module _ {M F Z S A : Type 0} (tables : Tables M F Z S A) where
 
   -- ---- A task
 
-  -- why a task is not declared where it stands, in the order in which it counts: what stands in the script,
-  -- as it stands, and its shape last
+  -- the faults for which a task is not declared at its position, in the order in which they are reported:
+  -- those of the script, in its order, and its shape last
   abbrev pub faults_within : Scope → Registered → List Fault
   faults_within scope task =
       main_faults tables scope task.action

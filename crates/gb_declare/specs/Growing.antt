@@ -1,4 +1,4 @@
--- A part of a table with one expression more.
+-- A part of a table, extended by one expression.
 use Rattle.std.specs.Prelude.{◌≡◌, ℕ, true, List, [], ◌∷◌, ◌++◌, length, Some}
 use Rattle.std.specs.Prelude.{slice_get, nat_lt, if◌then◌else◌}
 use Rattle.gb_provider.specs.Rules.{OperandsWithin, is_output, output_place}
@@ -10,8 +10,8 @@ use Rattle.gb_declare.specs.Partly.{IsPartOf, renamed}
 abbrev pub extended : (ℕ → ℕ) → ℕ → ℕ → ℕ → ℕ
 extended number n next entry = if nat_lt entry n then number entry else next
 
--- A part stays a part with one more expression that stands in the whole, its operands in the part; if it is
--- an output, that output.
+-- A part extended by one expression of the whole, with its operands in the part, is again a part. If the
+-- expression is an output, the part has this output.
 abbrev pub PartGrows : Type 0 → Type 0 → Type 0 → Type 0
 PartGrows M F Z =
     (number : ℕ → ℕ) (part whole : List (Expression M F Z)) → IsPartOf number part whole

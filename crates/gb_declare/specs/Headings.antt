@@ -1,4 +1,4 @@
--- The words that clauses begin with, by the names that they are about, as they are noted clause after clause.
+-- The words with which clauses begin, by the names that they are about, as they are noted clause by clause.
 use Rattle.std.specs.Prelude.{ℕ, Bool, false, not, List, [], map, Option, Some, None, bytes_eq}
 use Rattle.std.specs.Borrow.{Bor}
 use Rattle.std.specs.BTreeMap.{BTreeMap}
@@ -17,11 +17,11 @@ abbrev pub word_in : Option Heading → List ℕ
 word_in None = []
 word_in (Some h) = h.1
 
--- the first clauses about each name stand for their words
+-- the first clauses about each name represent their words
 abbrev pub words_in : BTreeMap (List ℕ) (Bor Clause) → List Heading
 words_in clauses = map (λ e. (e.0, word_in (heading e.1.now))) clauses.entries
 
--- these words with that of one clause more
+-- these words with the word of one more clause
 abbrev pub noted : List Heading → Option Heading → List Heading
 noted words None = words
 noted words (Some h) = put byte_order h.0 h.1 words

@@ -1,4 +1,4 @@
--- What the clauses of a task say together, its expressions not yet evaluated.
+-- The combined clauses of a task. Their expressions are not yet evaluated.
 use Rattle.std.specs.Prelude.{ℕ, List, [], ◌∷◌, ◌++◌, fold, filter_map, reverse, Option, Some, None}
 use Rattle.std.specs.Option.{option_to_list}
 use Rattle.std.specs.List.{flat_map, last_or}
@@ -20,7 +20,7 @@ use Rattle.gb_registry.specs.Said.{Registered}
 abbrev pub Named : Type 0 → Type 0
 Named X = List ℕ × X
 
--- an output: its form, and what its place is made from
+-- an output: its form, and the expression of its place
 abbrev pub Made : Type 0
 Made = Form × Tree
 
@@ -28,7 +28,7 @@ Made = Form × Tree
 abbrev pub by_name : {X : Type 0} → List (Named X) → List (Named X)
 by_name entries = fold (λ there entry. put byte_order entry.0 entry.1 there) [] entries
 
--- ---- What one clause says
+-- ---- The contents of one clause
 
 abbrev pub value_in : Clause → Option (Named Tree)
 value_in (clauses.Input a) = Some (a.name, a.value)
@@ -75,11 +75,11 @@ abbrev pub finalized_by_in : Clause → List (List ℕ)
 finalized_by_in (clauses.FinalizedBy texts) = texts
 finalized_by_in other = []
 
--- ---- What all say
+-- ---- The contents of all clauses
 
--- A later entry of a name takes the place of an earlier one, and the last `enabled` counts. All else adds up:
--- actions put first
--- stand before earlier ones and before that of the kind, those put last behind; tasks stand by their paths.
+-- A later entry of a name replaces an earlier one, and the last `enabled` applies. All else accumulates:
+-- actions of `doFirst` come before earlier ones and before the action of the kind, actions of `doLast` after
+-- them; tasks are sorted by their paths.
 pub record Joined : Type 0 where
   pub enabled : Option Tree
   pub only_if : List Condition
@@ -112,9 +112,9 @@ joined task = record {
   finalizers = tasks_in task.project (flat_map finalized_by_in task.clauses);
 }
 
--- ---- How it is read, clause after clause
+-- ---- How it is read, clause by clause
 
--- these actions with that of a clause put first or last
+-- these actions with the action that a clause adds first or last
 abbrev pub with_action : Clause → List Call → List Call
 with_action (clauses.DoFirst call) actions = call ∷ actions
 with_action (clauses.DoLast call) actions = actions ++ call ∷ []

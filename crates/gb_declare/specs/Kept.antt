@@ -1,4 +1,4 @@
--- What a workspace keeps of its providers: they are a part of the whole table.
+-- The providers that a workspace keeps are a part of the whole table.
 use Rattle.std.specs.Prelude.{ℕ, List}
 use Rattle.gb_provider.specs.declared.expression.Expression.{Expression}
 use Rattle.gb_declare.specs.Partly.{IsPartOf}

@@ -1,5 +1,5 @@
--- The tasks that a realised task names are registered, and stand in the order of their paths, each once. So
--- do its values, its file properties and its outputs in the order of their names.
+-- The tasks that a realised task names are registered, and sorted by their paths, each once. Its values, its
+-- file properties and its outputs are sorted by their names, each once.
 use Rattle.std.specs.Prelude.{◌≡◌, true, [], map, Ok}
 use Rattle.std.specs.List.{AllByRecursion}
 use Rattle.std.specs.List.Sorted.{IsStrictlySortedBy}
@@ -15,7 +15,7 @@ use Rattle.gb_declare.specs.Realised.{realised}
 abbrev pub IsRegistered : Source → Path → Type 0
 IsRegistered source path = is_among source.names.tasks path ≡ true
 
--- those that it runs after, and those that finalize it
+-- the tasks that it runs after, and its finalizers
 pub record NamesTasks (source : Source) (task : TaskDeclaration) : Type 0 where
   pub after : AllByRecursion (IsRegistered source) task.must_run_after
   pub finalizers : AllByRecursion (IsRegistered source) task.finalizers
@@ -24,15 +24,16 @@ abbrev pub RealisedNamesTasks : {M F Z S A : Type 0} → Tables M F Z S A → So
 RealisedNamesTasks tables source =
     (path : Path) (task : TaskDeclaration) → realised tables source path ≡ Ok task → NamesTasks source task
 
--- Its needs too, where the names of tasks are those that the scripts register, and no script is at fault: the
--- tasks that it depends on, and those that make what its inputs and actions are given.
+-- Its needs are registered too, where the names of tasks are those that the scripts register, and no script
+-- is at fault: the tasks that it depends on, and the tasks that make the values that its inputs and actions
+-- are given.
 abbrev pub RealisedNeedsAreRegistered : {M F Z S A : Type 0} → Tables M F Z S A → Source → Type 0
 RealisedNeedsAreRegistered tables source =
     source.names.tasks ≡ paths_of source.said → configure_faults tables source ≡ [] →
     (path : Path) (task : TaskDeclaration) → realised tables source path ≡ Ok task →
     AllByRecursion (IsRegistered source) task.needs
 
--- its needs, those that it runs after, and those that finalize it: each once, by the bytes of their paths
+-- its needs, the tasks that it runs after, and its finalizers: each once, by the bytes of their paths
 pub record IsInOrder (task : TaskDeclaration) : Type 0 where
   pub needs : IsStrictlySortedBy byte_order task.needs
   pub after : IsStrictlySortedBy byte_order task.must_run_after

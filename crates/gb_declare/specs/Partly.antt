@@ -1,4 +1,4 @@
--- Tables in which some outputs are not declared yet, beside the whole table.
+-- Tables in which some outputs are not declared yet, compared with the whole table.
 use Rattle.std.specs.Prelude.{◌≡◌, ◌⊎◌, ℕ, ◌<◌, List, length, map, Some, None, option_map, slice_get}
 use Rattle.gb_provider.specs.Answers.{value_of}
 use Rattle.gb_provider.specs.Meanings.{Meanings}
@@ -20,7 +20,7 @@ module _ (number : ℕ → ℕ) where
   renamed_setting (Held value) = Held value
   renamed_setting (Followed source) = Followed (number source)
 
-  -- the same expression, its operands under other numbers
+  -- the same expression, with its operands renumbered
   abbrev pub renamed : {M F Z : Type 0} → Expression M F Z → Expression M F Z
   renamed (Constant value) = Constant value
   renamed (OfProperty property) =
@@ -36,7 +36,7 @@ module _ (number : ℕ → ℕ) where
   renamed (OrElse left right) = OrElse (number left) (number right)
 
 module _ {M F Z : Type 0} (number : ℕ → ℕ) (part whole : List (Expression M F Z)) where
-  -- each expression of the part stands in the whole, and so does each output, by their numbers there
+  -- each expression of the part is in the whole, and so is each output, by their numbers there
   pub record IsPartOf : Type 0 where
     pub within : AreWithin part
     pub copied : (entry : ℕ) (e : Expression M F Z) → slice_get part entry ≡ Some e
@@ -45,15 +45,15 @@ module _ {M F Z : Type 0} (number : ℕ → ℕ) (part whole : List (Expression 
         → output_place whole chosen ≡ Some (number k)
 
 module _ {M F Z : Type 0} (part whole : List (Expression M F Z)) where
-  -- the answer is that an output is not declared, which the whole has and the part has not
+  -- the result is that an output is not declared, and the whole has this output but the part has not
   abbrev pub IsPending : Outcome → Type 0
   IsPending outcome =
       (chosen : Chosen) × (outcome ≡ Refused (Unrealised chosen)) × (output_place part chosen ≡ None)
       × ((k : ℕ) × (output_place whole chosen ≡ Some k))
 
 module _ {M F Z S : Type 0} (meanings : Meanings M F Z S) where
-  -- What is answered in the part is answered in the whole, unless it is that an output is not declared which
-  -- the whole has.
+  -- A result in the part is the result in the whole, unless it is that an output of the whole is not
+  -- declared.
   abbrev pub PartAnswers : Type 0
   PartAnswers =
       (number : ℕ → ℕ) (part whole : List (Expression M F Z)) → IsPartOf number part whole
@@ -61,7 +61,7 @@ module _ {M F Z S : Type 0} (meanings : Meanings M F Z S) where
       value_of meanings part entry ≡ Some outcome
       → IsPending part whole outcome ⊎ (value_of meanings whole (number entry) ≡ Some outcome)
 
-  -- What never has an answer in the part never has one in the whole.
+  -- What never has a result in the part never has one in the whole.
   abbrev pub PartIsEndless : Type 0
   PartIsEndless =
       (number : ℕ → ℕ) (part whole : List (Expression M F Z)) → IsPartOf number part whole → (entry : ℕ)

@@ -1,11 +1,11 @@
--- A table that is a part of another: what is answered in the part is answered in the whole.
+-- A table that is a part of another: a result in the part is the result in the whole.
 use Rattle.std.specs.Prelude.{◌≡◌, ◌⊎◌, ℕ, ◌<◌, List, length, Some, None, slice_get}
 use Rattle.gb_provider.specs.Rounds.{Rule, Answers, Reads, answer}
 
 module _ {A : Type 0} (size : ℕ) (number : ℕ → ℕ) (Pending : A → Type 0) where
-  -- A rule of the part beside one of the whole: it answers the same, unless its answer is pending; or it
-  -- reads the same operand, by its
-  -- number in the whole, passes on an answer that is pending, and goes on in the same way with any other.
+  -- Compares a rule of the part with a rule of the whole. Either it has the same result, unless the result is
+  -- pending; or it reads the same operand, by its number in the whole, passes on a pending result, and
+  -- continues in the same way with any other.
   abbrev pub IsLike : Rule A → Rule A → Type 0
   IsLike (Answers a) rule = Pending a ⊎ (rule ≡ Answers a)
   IsLike (Reads operand next) (Answers a) = ⊥
@@ -13,20 +13,20 @@ module _ {A : Type 0} (size : ℕ) (number : ℕ → ℕ) (Pending : A → Type 
       (operand < size) × (operand' ≡ number operand) × ((a : A) → Pending a → next a ≡ Answers a)
       × ((a : A) → Pending a ⊎ IsLike (next a) (next' a))
 
--- each rule of the part stands in the whole, by its number there
+-- each rule of the part is in the whole, by its number there
 pub record ArePart {A : Type 0} (number : ℕ → ℕ) (Pending : A → Type 0)
     (part whole : List (Rule A)) : Type 0 where
   pub like : (entry : ℕ) (rule : Rule A) → slice_get part entry ≡ Some rule →
       (other : Rule A) × (slice_get whole (number entry) ≡ Some other)
       × IsLike (length part) number Pending rule other
 
--- an answer in the part is the answer in the whole, unless it is pending
+-- a result in the part is the result in the whole, unless it is pending
 abbrev pub PartsAnswer : Type 0 → Type 1
 PartsAnswer A =
     (number : ℕ → ℕ) (Pending : A → Type 0) (part whole : List (Rule A)) → ArePart number Pending part whole →
     (entry : ℕ) (a : A) → answer part entry ≡ Some a → Pending a ⊎ (answer whole (number entry) ≡ Some a)
 
--- what never has an answer in the part never has one in the whole
+-- what never has a result in the part never has one in the whole
 abbrev pub PartsAreEndless : Type 0 → Type 1
 PartsAreEndless A =
     (number : ℕ → ℕ) (Pending : A → Type 0) (part whole : List (Rule A)) → ArePart number Pending part whole →

@@ -1,4 +1,4 @@
--- What a task is sure to be once it is realised.
+-- The guarantees for a task that is realised.
 use Rattle.std.specs.Prelude.{◌≡◌, true, Some, Ok}
 use Rattle.std.specs.List.{AllByRecursion}
 use Rattle.gb_core.specs.Place.{is_beneath}
@@ -12,8 +12,8 @@ use Rattle.gb_registry.specs.Tables.{Tables}
 use Rattle.gb_declare.specs.Realised.{realised}
 use Rattle.gb_declare.specs.Whole.{build_folder}
 
--- The task has its own path, no outputs without actions, its outputs beneath the build folder of its project,
--- and actions that can be asked.
+-- The task has its own path, no outputs without actions, its outputs under the build folder of its project,
+-- and actions that can be called.
 pub record IsSound {M F Z S A : Type 0} (tables : Tables M F Z S A) (at : Registered)
     (task : TaskDeclaration) : Type 0 where
   pub own : task.path ≡ at.path

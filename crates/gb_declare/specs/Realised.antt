@@ -53,7 +53,7 @@ abbrev pub and_then : {X Y E : Type 0} → Result X E → (X → Result Y E) →
 and_then (Ok x) next = next x
 and_then (Err e) next = Err e
 
--- what becomes of each, or the first fault
+-- the result of each, or the first fault
 abbrev pub each_of : {X Y E : Type 0} → (X → Result Y E) → List X → Result (List Y) E
 each_of f [] = Ok []
 each_of f (x ∷ xs) = and_then (f x) (λ y. and_then (each_of f xs) (λ ys. Ok (y ∷ ys)))
@@ -70,14 +70,14 @@ abbrev pub refused : List ℕ → Refusal → Fault
 refused function refusals.BadArguments = faults.BadArguments function
 refused function refusals.WrongValue = faults.WrongValue function
 
--- the first fault of these, or else the one behind them
+-- the first fault of these, or else the other one
 abbrev pub first_or : Fault → List Fault → Fault
 first_or other [] = other
 first_or other (fault ∷ faults) = fault
 
--- ---- What a task is declared as
+-- ---- The declaration of a task
 
--- with its path, its needs, and what its clauses come to
+-- with its path, its needs, and the results of its clauses
 abbrev pub declared_with : Path → Joined → List Path → Bool → List Bool → List Bool → List (Named Value)
     → List FileProperty → List Output → List Action → TaskDeclaration
 declared_with path task needs enabled passed fresh values files outputs actions = record {
@@ -94,7 +94,7 @@ declared_with path task needs enabled passed fresh values files outputs actions 
 }
 
 module _ {M F Z S A : Type 0} (tables : Tables M F Z S A) (source : Source) where
-  -- why a task has no such output: it is at fault itself, or it has none of the name
+  -- why a task has no such output: the task itself is at fault, or it has none of the name
   abbrev pub unknown_output : Chosen → Result Joined Fault → Fault
   unknown_output chosen (Ok task) = faults.UnknownOutput chosen.task chosen.output
   unknown_output chosen (Err fault) = fault
@@ -105,12 +105,12 @@ module _ {M F Z S A : Type 0} (tables : Tables M F Z S A) (source : Source) wher
       first_or (faults.TaskNotFound chosen.task) (lookup_faults source.names root_path chosen.task)
   no_output chosen (Some task) = unknown_output chosen (declared tables source.names source.said task)
 
-  -- the fault of a value, as it is told
+  -- the fault of a value, as it is reported
   abbrev pub told : ValueFault → Fault
   told (value_faults.Refused function refusal) = refused function refusal
   told (value_faults.Unrealised chosen) = no_output chosen (task_at source.said chosen.task)
 
-  -- what an expression gives: a value, or nothing; or what hinders it
+  -- what an expression gives: a value, or nothing; or what prevents it
   abbrev pub given_by : ℕ → Option Outcome → Result (Option Value) Trouble
   given_by entry (Some (outcomes.Given value)) = Ok (Some value)
   given_by entry (Some outcomes.Absent) = Ok None
@@ -150,7 +150,7 @@ module _ {M F Z S A : Type 0} (tables : Tables M F Z S A) (source : Source) (at 
   abbrev pub asked : Tree → Result (Option Value) Trouble
   asked tree = given_by tables source (entry_of tree) (value_of tables.means table (entry_of tree))
 
-  -- the value of an expression, which has to have one, for this input, output or kind
+  -- the value of an expression, which must have one, for this input, output or kind
   abbrev pub required : List ℕ → Tree → Result Value Trouble
   required name tree = and_then (asked tree) (present at.path name)
 
@@ -165,7 +165,7 @@ module _ {M F Z S A : Type 0} (tables : Tables M F Z S A) (source : Source) (at 
   is_enabled None = Ok true
   is_enabled (Some tree) = and_then (required (codes "enabled") tree) (as_flag (codes "enabled"))
 
-  -- what a test says of a value; nothing passes no test
+  -- the result of a test on a value; a missing value passes no test
   abbrev pub truth_of : Function → Option S → Option Value → Result Bool Trouble
   truth_of test None value = Err (Plain (faults.UnknownTransform test.name))
   truth_of test (Some stored) None = Ok false
@@ -191,7 +191,7 @@ module _ {M F Z S A : Type 0} (tables : Tables M F Z S A) (source : Source) (at 
     exclude = map spelled_out files.1.exclude;
   }))
 
-  -- an output lies strictly beneath the build folder of the project
+  -- an output lies strictly under the build folder of the project
   abbrev pub built : Output → Result Output Trouble
   built output =
       if is_beneath output.place (build_folder at.project) then Ok output
@@ -202,7 +202,7 @@ module _ {M F Z S A : Type 0} (tables : Tables M F Z S A) (source : Source) (at 
       and_then (place_of output.0 output.1.1)
       (λ place. built (record { name = output.0; form = output.1.0; place = place }))
 
-  -- an action takes what it is given
+  -- an action accepts its arguments
   abbrev pub fitting : Call → Option A → List Value → Result Action Trouble
   fitting call None args = Err (Plain (faults.UnknownAction call.name))
   fitting call (Some stored) args =
@@ -216,7 +216,8 @@ module _ {M F Z S A : Type 0} (tables : Tables M F Z S A) (source : Source) (at 
       and_then (each_of (required call.name) call.arguments)
       (fitting call (find byte_order call.name tables.kinds))
 
-  -- what the needs of a task come from: input values, roots of files, and arguments of actions
+  -- the expressions from which the needs of a task come: input values, roots of files, and arguments of
+  -- actions
   abbrev pub needing : Joined → List Tree
   needing task =
       map (λ value. value.1) task.values ++ flat_map (λ files. files.1.from) task.files
@@ -225,7 +226,7 @@ module _ {M F Z S A : Type 0} (tables : Tables M F Z S A) (source : Source) (at 
   abbrev pub needs_of : Joined → List Path
   needs_of task = with_tasks task.depends_on (flat_map producers_of (needing task))
 
-  -- Evaluated in this order; the first fault counts.
+  -- Evaluated in this order; the first fault is reported.
   abbrev pub evaluated : Joined → Result TaskDeclaration Trouble
   evaluated task =
       and_then (is_enabled task.enabled) (λ enabled.
@@ -238,7 +239,7 @@ module _ {M F Z S A : Type 0} (tables : Tables M F Z S A) (source : Source) (at 
       Ok (declared_with at.path task (needs_of task) enabled passed fresh values files outputs actions))))))))
 
 module _ {M F Z S A : Type 0} (tables : Tables M F Z S A) (source : Source) where
-  -- a declared task evaluated over the whole table; its declaring fault counts first
+  -- a declared task evaluated over the whole table; its declaration fault is reported first
   abbrev pub realised_at : Registered → Result Joined Fault → Result TaskDeclaration Trouble
   realised_at at (Ok task) =
       let all = spots tables source in evaluated tables source at all (table_of tables source all) task

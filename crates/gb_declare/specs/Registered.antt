@@ -1,4 +1,4 @@
--- What scripts register: each task with what it comes to.
+-- The tasks that scripts register, each with its result.
 use Rattle.std.specs.Prelude.{◌≡◌, map, Some, Result, Ok, Err}
 use Rattle.gb_plan.specs.Graph.{Registry, declaration_at}
 use Rattle.gb_plan.specs.Task.{Path}
@@ -13,7 +13,7 @@ use Rattle.gb_declare.specs.Realised.{Trouble, Plain, Endless, realised}
 use Rattle.gb_declare.specs.Told.{told_circle}
 
 module _ {M F Z S A : Type 0} (tables : Tables M F Z S A) (source : Source) where
-  -- what is declared, or the fault by which its trouble is told
+  -- the declaration, or the fault that reports its trouble
   abbrev pub settled : Result TaskDeclaration Trouble → Result TaskDeclaration Fault
   settled (Ok task) = Ok task
   settled (Err (Plain fault)) = Err fault
@@ -23,7 +23,7 @@ module _ {M F Z S A : Type 0} (tables : Tables M F Z S A) (source : Source) wher
   abbrev pub declaration_of : Path → Result TaskDeclaration Fault
   declaration_of path = settled (realised tables source path)
 
-  -- All tasks of the scripts, in the order in which they are registered, each with what it comes to.
+  -- All tasks of the scripts, in the order in which they are registered, each with its result.
   abbrev pub registry_said : Registry
   registry_said = record {
     projects = source.names.projects;
@@ -31,7 +31,7 @@ module _ {M F Z S A : Type 0} (tables : Tables M F Z S A) (source : Source) wher
     default_tasks = default_tasks source.said;
   }
 
-  -- What is declared has its values, its file properties and its outputs in the order of their names.
+  -- A declaration has its values, its file properties and its outputs in the order of their names.
   abbrev pub DeclaredNamesRise : Type 0
   DeclaredNamesRise =
       (path : Path) (task : TaskDeclaration) → declaration_at registry_said path ≡ Some (Ok task)

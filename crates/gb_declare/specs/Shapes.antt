@@ -4,7 +4,7 @@ use Rattle.gb_action.specs.Meanings.{Meanings, shape_of}
 use Rattle.gb_action.specs.Shapes.{has_source, has_output}
 use Rattle.gb_action.specs.declared.output.Form.{Form}
 
--- the action that is stored, if one is, finds no such file property or output
+-- the stored action, if there is one, finds no such file property or output
 abbrev pub is_unfit : {A : Type 0} → Meanings A → List (List ℕ) → List (List ℕ × Form) → Option A → Bool
 is_unfit shapes files outputs None = false
 is_unfit shapes files outputs (Some stored) =

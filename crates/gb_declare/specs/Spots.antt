@@ -1,4 +1,4 @@
--- Where expressions stand in scripts.
+-- The positions of expressions in scripts.
 use Rattle.std.specs.Prelude.{ℕ, ◌==◌, Bool, false, ◌&&◌, List, [], ◌∷◌, ◌++◌, bytes_eq}
 use Rattle.std.specs.Cmp.Lexicographic.{pointwise}
 use Rattle.gb_script.specs.Coding.{Cell, tree_cells}
@@ -7,13 +7,13 @@ use Rattle.gb_script.specs.Tree.{TheBuildDir, GradlePropertyOf, TaskOf, Link, Ma
 use Rattle.gb_script.specs.Tree.{Trees, NoTree, AndTree, Links, NoLink, AndLink, links_of}
 use Rattle.gb_registry.specs.Projects.{Path}
 
--- An expression that values are asked of: in a project's script a source with the steps behind it, the last
--- one first; or an output of a task, and what its place is made from.
+-- An expression whose value is requested: in a project's script a source followed by its steps, the last one
+-- first; or an output of a task, and the expression of its place.
 pub data Spot : Type 0 where
   Written : (project : Path) (root : Root) (steps : List Link) → Spot
   Made : (project task : Path) (name : List ℕ) (tree : Tree) → Spot
 
--- the steps of a chain, the last one first, before others
+-- the steps of a chain, the last one first, followed by others
 abbrev pub onto : List Link → Links → List Link
 onto steps NoLink = steps
 onto steps (AndLink link links) = onto (link ∷ steps) links

@@ -1,4 +1,4 @@
--- Where expressions stand in the whole table.
+-- The positions of expressions in the whole table.
 use Rattle.std.specs.Prelude.{◌≡◌, ℕ, List, Some, slice_get}
 use Rattle.gb_script.specs.Tree.{Root, Link}
 use Rattle.gb_registry.specs.Projects.{Path}
@@ -7,7 +7,7 @@ use Rattle.gb_declare.specs.Spots.{Written}
 use Rattle.gb_registry.specs.Tables.{Tables}
 use Rattle.gb_declare.specs.Whole.{spots, number_of, expression_at, whole}
 
--- An expression that is one of the scripts' stands in the whole table, under its number.
+-- An expression of the scripts is in the whole table, under its number.
 abbrev pub ExpressionsStand : {M F Z S A : Type 0} → Tables M F Z S A → Source → Type 0
 ExpressionsStand tables source = (project : Path) (root : Root) (steps : List Link) (place : ℕ) →
     slice_get (spots tables source) place ≡ Some (Written project root steps) →

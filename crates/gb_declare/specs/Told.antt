@@ -1,4 +1,4 @@
--- How a task's trouble is told.
+-- How a task's trouble is reported.
 use Rattle.std.specs.Prelude.{ℕ, ◌≡◌}
 use Rattle.gb_provider.specs.Answers.{RunsInto}
 use Rattle.gb_report.specs.declared.fault.Fault.{Fault}
@@ -10,9 +10,8 @@ use Rattle.gb_declare.specs.Whole.{whole}
 use Rattle.gb_declare.specs.CircleNames.{circle_names}
 
 module _ {M F Z S A : Type 0} (tables : Tables M F Z S A) (source : Source) (entry : ℕ) where
-  -- The names on the circle that an expression of the whole table runs into. Which circle it is said to be is
-  -- of no account: a workspace
-  -- keeps no numbers of the whole table, and knows of them only that there are some.
+  -- The names on the circle that an expression of the whole table runs into. It does not matter which circle
+  -- is chosen: a workspace keeps no numbers of the whole table, and knows only that such numbers exist.
   abbrev pub IsCircleTold : Fault → Type 0
   IsCircleTold (Circular names) = ∥ RunsInto tables.means (whole tables source) entry names ∥₁
   IsCircleTold other = ⊥
@@ -21,16 +20,17 @@ abbrev pub IsTold : {M F Z S A : Type 0} → Tables M F Z S A → Source → Tro
 IsTold tables source (Plain known) fault = fault ≡ known
 IsTold tables source (Endless entry) fault = IsCircleTold tables source entry fault
 
--- Two faults that tell one trouble are the same fault.
+-- Two faults that report one trouble are the same fault.
 abbrev pub ToldOneWay : {M F Z S A : Type 0} → Tables M F Z S A → Source → Type 0
 ToldOneWay tables source = (trouble : Trouble) (a b : Fault) →
     IsTold tables source trouble a → IsTold tables source trouble b → a ≡ b
 
--- Whatever tells a circle that an entry of the whole table runs into is what this says of the entry.
+-- Whatever fault reports a circle that an entry of the whole table runs into is the value of this function at
+-- the entry.
 abbrev pub IsToldBy : {M F Z S A : Type 0} → Tables M F Z S A → Source → (ℕ → Fault) → Type 0
 IsToldBy tables source told =
     (entry : ℕ) (fault : Fault) → IsTold tables source (Endless entry) fault → fault ≡ told entry
 
--- a circle that an entry of the whole table runs into, told by its names
+-- a circle that an entry of the whole table runs into, reported by its names
 abbrev pub told_circle : {M F Z S A : Type 0} → Tables M F Z S A → Source → ℕ → Fault
 told_circle tables source entry = Circular (circle_names tables.means (whole tables source) entry)

@@ -1,4 +1,4 @@
--- All expressions of the scripts as one table: what `get` and `producers` are asked of.
+-- All expressions of the scripts as one table: the table that `get` and `producers` query.
 use Rattle.std.specs.Prelude.{ℕ, List, [], ◌∷◌, ◌++◌, map, fold, reverse, Option, Some, None, Result, Ok}
 use Rattle.std.specs.Prelude.{Err, option_map, codes}
 use Rattle.std.specs.List.{flat_map, list_any, position_or_len}
@@ -32,7 +32,7 @@ use Rattle.gb_registry.specs.Tables.{Tables}
 
 -- ---- Which expressions there are
 
--- a property that a statement declares, and what it gives to one
+-- a property that a statement declares, and what it assigns to a property
 abbrev pub statement_spots : Said → List Spot
 statement_spots s = property_spots s.statement ++ flat_map (parts s.project) (values_of s.statement)
   where
@@ -53,14 +53,14 @@ trees_of task =
 abbrev pub output_spots : Registered → tasks.Joined → List Spot
 output_spots at task = map (λ output. Made at.project at.path output.0 output.1.1) task.outputs
 
--- those of a task that is declared; a task at fault has none
+-- the expressions of a task that is declared; a task at fault has none
 abbrev pub task_spots : Registered → Result tasks.Joined Fault → List Spot
 task_spots at (Ok task) = flat_map (parts at.project) (trees_of task) ++ output_spots at task
 task_spots at (Err fault) = []
 
 -- ---- What they are
 
--- never anything
+-- always absent
 abbrev pub absent : {M F Z : Type 0} → Expression M F Z
 absent = Constant None
 
@@ -86,7 +86,7 @@ module _ {M F Z S A : Type 0} (tables : Tables M F Z S A) (source : Source) wher
       (tasks_of source.said)
 
   module _ (spots : List Spot) where
-    -- the number of an expression: where it stands first
+    -- the number of an expression: its first position
     abbrev pub number_of : Spot → ℕ
     number_of spot = position_or_len (is_spot spot) spots
 
@@ -122,7 +122,7 @@ module _ {M F Z S A : Type 0} (tables : Tables M F Z S A) (source : Source) wher
         given_value (find byte_order text (reverse source.given))
     root_expression project (TaskOf text) = Constant (Some (values.Task (absolute project text)))
 
-    -- a step, behind the expression of this number
+    -- a step after the expression of this number
     abbrev pub step_expression : Path → ℕ → Link → Expression M F Z
     step_expression project before (MapBy f) = if_found (Mapped before) f (map_named tables.functions f.name)
     step_expression project before (FlatMapBy f) =

@@ -1,4 +1,4 @@
-//! What is wrong with one clause of a task.
+//! The faults of one clause of a task.
 ghost use Rattle.std.specs.Prelude.{◌≡◌};
 ghost use Rattle.std.specs.List.{flat_map};
 ghost use Rattle.gb_registry.specs.Faults.{TellsFirst};
@@ -47,7 +47,7 @@ pub fn check_clause<A: Actions, T: Transforms>(
     }
 }
 
-/// The first fault of the call behind the colon, if there is one.
+/// The first fault of the call after the colon, if there is one.
 pub fn check_main<A: Actions, T: Transforms>(
     alloc: Global,
     scope: &Scope<'_, A, T>,
@@ -63,7 +63,7 @@ pub fn check_main<A: Actions, T: Transforms>(
     }
 }
 
-/// No action of the name is stored (40), or what it is given is at fault.
+/// No action of the name is stored (40), or one of its arguments is at fault.
 fn check_call<A: Actions, T: Transforms>(
     alloc: Global,
     scope: &Scope<'_, A, T>,

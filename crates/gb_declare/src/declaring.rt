@@ -22,8 +22,9 @@ use gb_script::script::Clause;
 use std::alloc::Global;
 use std::collections::BTreeMap;
 
-/// What a task declares, or its first fault: of the call behind the colon, of its clauses in the order of the
-/// script, and last that its actions do not fit it (55). The scope is that of its project.
+/// What a task declares, or its first fault: first the fault of the call after the colon, then of
+/// its clauses in the order of the script, and last that its actions do not fit it (55). The scope
+/// is that of its project.
 pub fn declare<'a, A: Actions, T: Transforms>(
     alloc: Global,
     scope: &Scope<'_, A, T>,
@@ -42,7 +43,7 @@ pub fn declare<'a, A: Actions, T: Transforms>(
     Ok(said)
 }
 
-/// What the clauses of a task say together; 1 where a text names no task.
+/// The combined clauses of a task; 1 where a text names no task.
 fn join<'a>(alloc: Global, task: &Registered<'a>) -> Result<Joined<'a>, Fault>
     ensures joined { IfOk result (λ said. joined_of said ≡ joined (registered_of task.now)) }
     ensures faults { TellsFirst (text_faults (registered_of task.now)) result }
@@ -64,8 +65,8 @@ fn join<'a>(alloc: Global, task: &Registered<'a>) -> Result<Joined<'a>, Fault>
     })
 }
 
-/// The first fault of clauses, in the order of their text: a name that an earlier clause is about in another
-/// form (55), then those of each clause.
+/// The first fault of clauses, in the order of their text: a name that an earlier clause has in
+/// another form (55), then the faults of each clause.
 fn check_clauses<A: Actions, T: Transforms>(
     alloc: Global,
     scope: &Scope<'_, A, T>,

@@ -26,7 +26,7 @@ fn subject(clause: &Clause) -> Option<&Name>
     }
 }
 
-/// The word that a clause about a name begins with.
+/// The word with which a clause about a name begins.
 fn word(clause: &Clause) -> &'static str
     ensures { result.now ≡ word_in (heading clause.now) }
 {
@@ -39,7 +39,7 @@ fn word(clause: &Clause) -> &'static str
     }
 }
 
-/// Whether another word stands at the name that a clause is about.
+/// Whether another word is noted for the name that a clause is about.
 pub(crate) fn clashes(words: &ByName<'_>, clause: &Clause) -> bool
     ensures { result ≡ clashes (words_in words.now) (heading clause.now) }
 {

@@ -1,4 +1,4 @@
-//! What the clauses of a task say together, one kind of clause after another.
+//! Combines the clauses of a task, one kind of clause after another.
 ghost use Rattle.std.specs.Prelude.{◌≡◌, ◌++◌, None, IfOk, OnOk, filter_map, reverse};
 ghost use Rattle.std.specs.BTreeMap.{insert_entry};
 ghost use Rattle.std.specs.Option.{option_copied, option_to_list};
@@ -59,7 +59,7 @@ pub fn up_to_date_when<'a>(
     Ok(found)
 }
 
-/// Puts something under a name, in place of what stood there.
+/// Stores something under a name, and replaces an earlier entry of that name.
 pub fn put<X: Drop>(things: &mut BTreeMap<Name, X>, name: &Name, thing: X) -> Result<(), AllocError>
     ensures { OnOk result (things.new.entries ≡ insert_entry byte_order things.old.entries name.now thing) }
 {
@@ -116,7 +116,7 @@ pub fn outputs<'a>(
     Ok(outputs)
 }
 
-/// The actions in the order in which they act, round the call behind the colon.
+/// The actions in the order in which they run, around the call after the colon.
 pub fn actions<'a>(
     alloc: Global,
     main: Option<&'a Call>,
@@ -136,7 +136,7 @@ pub fn actions<'a>(
     Ok(actions)
 }
 
-/// Puts in the action of a clause, before the others or behind them.
+/// Adds the action of a clause before the others or after them.
 fn put_action<'a>(actions: &mut ActionList<&'a Call>, clause: &'a Clause) -> Result<(), AllocError>
     ensures { OnOk result (now_of actions.new ≡ with_action clause.now (now_of actions.old)) }
 {

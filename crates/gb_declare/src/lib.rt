@@ -1,8 +1,8 @@
-//! What the tasks of a build declare, with their expressions evaluated.
+//! Computes what the tasks of a build declare, with their expressions evaluated.
 //!
-//! The clauses of a task may stand in several blocks, of several scripts. [`declaring`] takes them together,
-//! in their order; `specs/Registered.antt` says what comes of them, without the engine: what a folder's
-//! scripts register, which the promise of whole builds is stated on.
+//! The clauses of a task may be spread over several blocks of several scripts. [`declaring`]
+//! combines them in their order; `specs/Registered.antt` defines the result without the engine:
+//! what a folder's scripts register, on which the promise of whole builds is stated.
 #![tactic(auto)]
 
 mod clauses;

@@ -1,4 +1,4 @@
-//! Tasks that the clauses of a task name.
+//! The tasks that the clauses of a task name.
 ghost use Rattle.std.specs.Prelude.{◌≡◌, IfOk, OnOk};
 ghost use Rattle.std.specs.List.{flat_map};
 ghost use Rattle.gb_registry.specs.Faults.{TellsFirst};

@@ -1,4 +1,4 @@
-//! What one clause of a task says.
+//! The contents of one clause of a task.
 ghost use Rattle.std.specs.Prelude.{◌≡◌, [], option_map, unwrap_or};
 ghost use Rattle.std.specs.Option.{option_copied};
 ghost use Rattle.gb_declare.specs.Joined.{depends_on_in, enabled_in, files_in, finalized_by_in, first_in};
@@ -42,7 +42,7 @@ pub fn output_in(clause: &Clause) -> Option<(Form, &Assignment)>
     }
 }
 
-/// An action put before the others.
+/// An action added before the others.
 pub fn first_in(clause: &Clause) -> Option<&Call>
     ensures { option_copied result ≡ first_in clause.now }
 {
@@ -52,7 +52,7 @@ pub fn first_in(clause: &Clause) -> Option<&Call>
     }
 }
 
-/// An action put behind the others.
+/// An action added after the others.
 pub fn last_in(clause: &Clause) -> Option<&Call>
     ensures { option_copied result ≡ last_in clause.now }
 {

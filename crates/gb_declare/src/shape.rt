@@ -1,4 +1,4 @@
-//! Whether the actions of a task fit what it has.
+//! Checks whether the actions of a task fit its files and outputs.
 ghost use Rattle.std.specs.Prelude.{◌≡◌, ◌∷◌, [], IfOk, map};
 ghost use Rattle.std.specs.List.{list_any};
 ghost use Rattle.std.specs.FinMap.Entries.{find};
@@ -52,7 +52,7 @@ fn output_forms(
     Ok(forms)
 }
 
-/// Whether a call names an action that is stored, and that the task lacks something for.
+/// Whether a call names a stored action that lacks something in the task.
 fn is_unfit<A: Actions>(
     alloc: Global,
     table: &ActionTable<A::Stored>,
@@ -90,7 +90,7 @@ fn is_any_unfit<A: Actions>(
     false
 }
 
-/// Whether there are outputs, and no action to make them.
+/// Whether there are outputs but no action that makes them.
 fn lacks_actions(outputs: &[(Name, Form)], actions: &ActionList<&Call>) -> bool
     ensures { result ≡ lacks_actions outputs.now actions.now }
 {
@@ -112,7 +112,7 @@ fn is_misshapen<A: Actions, T: Transforms>(
     Ok(lacks || is_any_unfit::<A>(alloc, table, &said.actions, &files, &outputs))
 }
 
-/// The actions of a task find what they need in it, or 55.
+/// The actions of a task find what they need in it; otherwise the fault is 55.
 pub fn check_shape<A: Actions, T: Transforms>(
     alloc: Global,
     scope: &Scope<'_, A, T>,

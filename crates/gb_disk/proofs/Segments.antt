@@ -1,4 +1,4 @@
--- The path of a place is made of its segments, one after another.
+-- The path of a place consists of its segments, one after another.
 use Rattle.std.proofs.Common.{◌≡◌, ◌<◌, ◌&&◌, ℕ, true, List, length, get_or, [], ◌∷◌, ◌++◌, append_assoc, IsTrue, refl, sym, ap, ◌∙◌}
 use Rattle.std.specs.List.{join_with_byte, list_all}
 use Rattle.std.proofs.lemmas.Bool.{and_from, and_parts}
@@ -9,7 +9,7 @@ use Rattle.std.specs.Prelude.{nat_le}
 use Rattle.gb_core.specs.Place.{is_place, is_printable, is_segment, segments}
 use Rattle.gb_disk.specs.Disk.{path_in}
 
--- a further segment stands behind a slash
+-- a further segment follows a slash
 join_more : (first segment : List ℕ) (segments : List (List ℕ)) → join_with_byte 47 (first ∷ (segments ++ segment ∷ [])) ≡ join_with_byte 47 (first ∷ segments) ++ 47 ∷ segment
 join_more first segment [] = refl
 join_more first segment (second ∷ segments) =
@@ -31,7 +31,7 @@ step_down base (d ∷ segment) ((c ∷ first) ∷ second ∷ segments) good is =
     two_steps base c (first ++ 47 ∷ join_with_byte 47 (second ∷ segments)) d segment
     ∙ ap (path_in base) (sym (join_more (c ∷ first) (d ∷ segment) (second ∷ segments)))
 
--- each segment of a place is one that a folder can hold
+-- each segment of a place is one that can occur in a folder
 pub good_segment : (place segment : List ℕ) (index : ℕ) → IsTrue (is_place place) → index < length (segments place) → segment ≡ get_or (segments place) index segment
     → IsTrue (is_segment segment)
 good_segment place segment index placed inside is =

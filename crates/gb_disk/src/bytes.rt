@@ -10,10 +10,10 @@ use std::alloc::Global;
 use std::fs::{self, Files, OpenFile};
 use std::io::{self, ErrorKind, Read, Seek, SeekFrom};
 
-/// A file of fewer bytes is read by one call of the system.
+/// A file with fewer bytes is read by one system call.
 const SMALL: u64 = 65_536;
 
-/// Reads once, and again only after an interruption. Answers how many bytes came.
+/// Reads once, and again only after an interruption. Returns the number of bytes read.
 fn read_once<D: Read>(file: &mut D, buf: &mut [u8]) -> io::Result<usize> {
     for _ in 0..u64::MAX {
         match file.read(buf) {
@@ -26,9 +26,9 @@ fn read_once<D: Read>(file: &mut D, buf: &mut [u8]) -> io::Result<usize> {
 }
 
 impl<R: Files> Device<R> {
-    /// Adds the bytes of a span of a file. Answers whether the open file is still the one that `info`
-    /// describes; without `info`, whether it is a file at all. A small file that is read whole is the same
-    /// if it has no further byte.
+    /// Appends the bytes of a span of a file. Returns whether the open file is still the one that
+    /// `info` describes; without `info`, whether it is a file at all. A small file that is read
+    /// whole counts as the same if it has no further byte.
     fn read_from(
         &self,
         path: &str,
@@ -58,9 +58,9 @@ impl<R: Files> Device<R> {
         }
     }
 
-    /// The bytes of a span of the file at a path that `info` describes. `None`: another file is there by
-    /// now, or none; it changed during the read; or it cannot be read. Without `info` the bytes are those
-    /// that one open file gives up to its end.
+    /// The bytes of a span of the file at a path that `info` describes. `None`: another file or no
+    /// file is there by now, the file changed during the read, or it cannot be read. Without `info`
+    /// the bytes are those that one open file yields up to its end.
     pub fn bytes_of(
         &self,
         alloc: Global,
@@ -76,7 +76,7 @@ impl<R: Files> Device<R> {
     {
         let mut bytes = Vec::with_capacity(alloc, span.room())?;
         match self.read_from(path, info, span, &mut bytes) {
-            // An empty file keeps no room.
+            // An empty file keeps no buffer.
             Ok(true) if bytes.is_empty() && span.least == 0 => Ok(Some(Vec::new(alloc))),
             Ok(true) if span.takes(bytes.len() as u64) => Ok(Some(bytes)),
             Ok(_) => Ok(None),

@@ -16,8 +16,8 @@ use gb_folder::folder::FolderFault;
 use std::alloc::Global;
 use std::fs::Files;
 
-/// How often a read looks for a file that nobody changes meanwhile. After that it takes what one open file
-/// gives, as of a log that grows all the time.
+/// How often a read looks up a file and expects that nobody changes it meanwhile. After that it
+/// takes what one open file yields, as for a log that grows all the time.
 const LOOKS: u32 = 3;
 
 /// The bytes, if there are at most `limit`.
@@ -32,7 +32,7 @@ fn within(bytes: Vec<u8>, limit: u64) -> Result<Vec<u8>, FolderFault>
 }
 
 impl<R: Files> Device<R> {
-    /// The places of the files at or beneath the root, in byte order.
+    /// The places of the files at or under the root, in byte order.
     pub fn list(
         &self,
         alloc: Global,
@@ -53,7 +53,7 @@ impl<R: Files> Device<R> {
         Ok(in_order(places))
     }
 
-    /// The places of the files beneath a folder, in any order.
+    /// The places of the files under a folder, in any order.
     fn list_folder(
         &self,
         alloc: Global,
@@ -69,7 +69,7 @@ impl<R: Files> Device<R> {
         Ok(found.files)
     }
 
-    /// The bytes of a file, of which there are at most `limit`, all from one open file.
+    /// The bytes of a file of at most `limit` bytes, all from one open file.
     pub fn read(
         &self,
         alloc: Global,
@@ -87,7 +87,7 @@ impl<R: Files> Device<R> {
             if info.len > limit {
                 return Err(FolderFault::TooLarge);
             }
-            // One byte more shows that a file whose length is not known is too large.
+            // One more byte shows that a file of unknown length is too large.
             let span = Span::of(info.len, 0, limit.saturating_add(1));
             let found = self.bytes_of(alloc, trail.path.as_str(), Some(&info), &span)?;
             if let Some(bytes) = found {
@@ -98,7 +98,8 @@ impl<R: Files> Device<R> {
         within(self.bytes_now(alloc, trail, place, &span)?, limit)
     }
 
-    /// The bytes of a file from `at` on: `len` of them, or fewer where the file ended when it was looked at.
+    /// The bytes of a file from `at` on: `len` of them, or fewer where the file ended at its
+    /// look-up.
     pub fn read_part(
         &self,
         alloc: Global,
@@ -127,7 +128,7 @@ impl<R: Files> Device<R> {
         self.bytes_now(alloc, trail, place, &Span::of(0, at, len))
     }
 
-    /// The bytes of a span that one open file gives up to its end, whoever writes to it.
+    /// The bytes of a span that one open file yields up to its end, whoever writes to it.
     fn bytes_now(
         &self,
         alloc: Global,
@@ -148,7 +149,7 @@ impl<R: Files> Device<R> {
         }
     }
 
-    /// Puts a file in place of what stood there.
+    /// Writes a file, and replaces what was at its place.
     pub fn write(
         &self,
         trail: &mut Trail,
@@ -176,7 +177,7 @@ impl<R: Files> Device<R> {
         self.put(trail, place, bytes)
     }
 
-    /// Takes a file away.
+    /// Removes a file.
     pub fn remove(&self, trail: &mut Trail, place: &Place) -> Result<(), FolderFault>
         ensures at { OnOk result
             (string_bytes trail.new.path ≡ path_in (string_bytes self.now.base) place.now) }
@@ -204,14 +205,14 @@ impl<R: Files> Device<R> {
         }
     }
 
-    /// Whether a file stands beneath the folder at a place.
+    /// Whether a file exists under the folder at a place.
     fn has_file(&self, trail: &mut Trail, place: &Place) -> Result<bool, FolderFault>
         ensures { IfErr result IsOfMachine }
     {
         Ok(!self.walk_through(trail, place)?.files.is_empty())
     }
 
-    /// Removes the folder at a place, which holds no file.
+    /// Removes the folder at a place, which contains no file.
     fn clear(&self, trail: &mut Trail, place: &Place) -> Result<(), FolderFault>
         ensures { IfErr result (λ fault. IsOfMachine fault ⊎ (fault ≡ FolderFault.Blocked)) }
     {
@@ -226,7 +227,7 @@ impl<R: Files> Device<R> {
         Ok(())
     }
 
-    /// Goes through a folder of which no name is told: a bad one is the device's failure.
+    /// Walks through a folder without reporting a name: a bad name is a failure of the device.
     fn walk_through(&self, trail: &mut Trail, place: &Place) -> Result<Found, FolderFault>
         ensures { IfErr result IsOfMachine }
     {

@@ -10,7 +10,7 @@ use gb_folder::folder::FolderFault;
 use std::alloc::{AllocError, Global};
 use std::str;
 
-/// The one place.
+/// A list of this one place.
 #[tactic(auto, using(crate::proofs::Descends::alone_under))]
 pub(crate) fn alone(alloc: Global, place: &Place) -> Result<Vec<Place>, AllocError>
     ensures { IfOk result (λ places. AllUnder place.now places.items) }
@@ -20,7 +20,7 @@ pub(crate) fn alone(alloc: Global, place: &Place) -> Result<Vec<Place>, AllocErr
     Ok(places)
 }
 
-/// Whether a name stands for no entry: the folder itself, the one above it, or what is behind the last NUL.
+/// Whether a name is no entry: the folder itself, its parent, or what follows the last NUL.
 fn is_passed_over(name: &[u8]) -> bool {
     name == b"".as_slice() || name == b".".as_slice() || name == b"..".as_slice()
 }
@@ -56,7 +56,7 @@ fn place_in(alloc: Global, folder: &Place, name: &[u8]) -> Result<Place, FolderF
     }
 }
 
-/// The places in byte order, each once.
+/// The places in byte order, without duplicates.
 pub(crate) fn in_order(places: Vec<Place>) -> Vec<Place>
     ensures under { (root : List ℕ) → AllUnder root places.items → AllUnder root result.items }
     ensures ordered { IsStrictlySortedBy byte_order result.items }

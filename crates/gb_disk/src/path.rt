@@ -4,7 +4,7 @@ ghost use Rattle.gb_disk.specs.Disk.{path_in};
 
 use std::alloc::AllocError;
 
-/// Makes the path that of a place in a folder.
+/// Sets the path to that of a place in a folder.
 pub(crate) fn lead_to(path: &mut String, base: &str, place: &str) -> Result<(), AllocError>
     ensures { OnOk result (string_bytes path.new ≡ path_in base.now place.now) }
 {
@@ -13,7 +13,7 @@ pub(crate) fn lead_to(path: &mut String, base: &str, place: &str) -> Result<(), 
     go_down(path, place)
 }
 
-/// Adds a segment to the path.
+/// Appends a segment to the path.
 pub(crate) fn go_down(path: &mut String, segment: &str) -> Result<(), AllocError>
     ensures { OnOk result (string_bytes path.new ≡ path_in (string_bytes path.old) segment.now) }
 {

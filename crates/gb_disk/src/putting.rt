@@ -1,4 +1,4 @@
-//! A file is written under a name of its own beneath `.gb/new`, and then renamed to its place.
+//! A write creates a file with a name of its own under `.gb/new`, and then renames it to its place.
 ghost use Rattle.std.specs.Prelude.{◌≡◌, ℕ, List, IfOk, IfErr, IsTrue, OnOk, string_bytes};
 ghost use Rattle.gb_disk.specs.Disk.{IsOfMachine, aside, path_in};
 
@@ -20,9 +20,9 @@ const OWN: &str = ".gb";
 /// The folder of files that are not complete yet.
 const ASIDE: &str = ".gb/new";
 
-/// Makes the path that of the file beneath `.gb/new` in which the bytes of a place are written first. Its
-/// name is a hash of the place, so that two builds without a lock, as on NFS, never rename each other's bytes
-/// to the wrong place.
+/// Sets the path to that of the file under `.gb/new` to which the bytes of a place are written
+/// first. Its name is a hash of the place, so that two builds without a lock, as on NFS, never
+/// rename each other's bytes to the wrong place.
 fn lead_aside(path: &mut String, base: &str, place: &Place) -> Result<(), AllocError>
     ensures { OnOk result
         ((name : List ℕ) × (string_bytes path.new ≡ path_in (path_in base.now aside) name)) }
@@ -34,8 +34,9 @@ fn lead_aside(path: &mut String, base: &str, place: &Place) -> Result<(), AllocE
 }
 
 impl<R: Files> Device<R> {
-    /// Puts a file at a place where nothing or a file exists. Whoever reads the place sees the old file or
-    /// all of the new one, except where no rename can be had: there the old file is removed first.
+    /// Writes a file at a place where nothing or a file exists. A reader of the place sees the old
+    /// file or all of the new one, except where a rename is not possible: there the old file is
+    /// removed first.
     pub fn put(&self, trail: &mut Trail, place: &Place, bytes: &[u8]) -> Result<(), FolderFault>
         ensures at { OnOk result
             (string_bytes trail.new.path ≡ path_in (string_bytes self.now.base) place.now) }
@@ -48,8 +49,8 @@ impl<R: Files> Device<R> {
         self.put_there(&mut trail.path, place, bytes)
     }
 
-    /// Writes the bytes of a place beneath `.gb/new`. `false`: that folder cannot be had, or something is at
-    /// the name already.
+    /// Writes the bytes of a place under `.gb/new`. `false`: that folder is not available, or
+    /// something has the name already.
     fn put_aside(&self, trail: &mut Trail, place: &Place, bytes: &[u8]) -> Result<bool, FolderFault>
         ensures at { IfOk result (λ is_put. IsTrue is_put → (name : List ℕ)
             × (string_bytes trail.new.aside ≡ path_in (path_in (string_bytes self.now.base) aside) name)) }
@@ -74,8 +75,8 @@ impl<R: Files> Device<R> {
         }
     }
 
-    /// Whether `.gb/new` is a folder by now. The first write of a session also removes what a stopped build
-    /// left there.
+    /// Whether `.gb/new` is a folder now. The first write of a session also removes what a stopped
+    /// build left there.
     fn make_ready(&self, trail: &mut Trail) -> Result<bool, FolderFault>
         ensures { IfErr result IsOfMachine }
     {
@@ -96,7 +97,8 @@ impl<R: Files> Device<R> {
         Ok(trail.is_ready)
     }
 
-    /// Whether a folder of the tool's own exists, or could be made. A link to a folder is none.
+    /// Whether a folder of the tool's own exists, or could be created. A link to one does not
+    /// count.
     fn has_folder(&self, path: &mut String, folder: &str) -> Result<bool, FolderFault>
         ensures { IfErr result IsOfMachine }
     {
@@ -108,8 +110,8 @@ impl<R: Files> Device<R> {
         }
     }
 
-    /// Renames what was written beneath `.gb/new` to its place. `false`: the place is on another file system,
-    /// or somebody removed what was written.
+    /// Renames the file written under `.gb/new` to its place. `false`: the place is on another file
+    /// system, or somebody removed the written file.
     fn move_to(&self, trail: &mut Trail, place: &Place) -> Result<bool, FolderFault>
         ensures at { OnOk result
             (string_bytes trail.new.path ≡ path_in (string_bytes self.now.base) place.now) }
@@ -128,12 +130,12 @@ impl<R: Files> Device<R> {
         }
     }
 
-    /// Removes what was written beneath `.gb/new`. If that fails, the next build that writes removes it.
+    /// Removes the file written under `.gb/new`. If that fails, the next build that writes does it.
     fn discard(&self, path: &str) {
         let _ = self.rt.remove_file(path);
     }
 
-    /// Makes a file at its place, and removes a file that is there first.
+    /// Creates a file at its place; a file that is there is removed first.
     fn put_there(&self, path: &mut String, place: &Place, bytes: &[u8]) -> Result<(), FolderFault>
         ensures at { OnOk result (string_bytes path.new ≡ path_in (string_bytes self.now.base) place.now) }
         ensures err { IfErr result IsOfMachine }

@@ -1,27 +1,28 @@
-//! What is read of a file.
+//! Which bytes of a file are read.
 ghost use Rattle.std.specs.Prelude.{◌≡◌, ◌≢◌, ◌≤◌, ◌-◌, min, IsTrue};
 
 /// No file has more bytes.
 const LONGEST_FILE: u64 = i64::MAX as u64;
 
-/// Room for a file of which no byte is told: some of the system's files give all that they have to one read.
+/// The buffer size for a file that reports no bytes: some files of the system return all their
+/// bytes in one read.
 const FIRST_ROOM: u64 = 4_096;
 
-/// Bytes of a file: those from `at` on, `most` of them, or fewer where the file ends, but no fewer than
-/// `least`.
+/// A span of a file: the bytes from `at` on, `most` of them, or fewer where the file ends, but no
+/// fewer than `least`.
 #[derive(Clone, Copy)]
 pub(crate) struct Span {
     /// The first byte, counted from 0.
     pub at: u64,
-    /// So many bytes have to come: fewer are a failure of the device.
+    /// The minimum number of bytes: fewer are a failure of the device.
     pub least: u64,
-    /// So many bytes are taken at most.
+    /// The maximum number of bytes.
     pub most: u64,
 }
 
 impl Span {
-    /// Of a file of so many bytes those from `at` on, `len` at most. The system tells none of some files
-    /// that have bytes all the same, as it makes them when they are read.
+    /// The span of a file of `told` bytes: those from `at` on, `len` at most. The system reports no
+    /// bytes for some files that do have bytes, as it generates them when they are read.
     pub fn of(told: u64, at: u64, len: u64) -> Span
         ensures within { result.most ≤ len }
         ensures told { told ≢ 0 → (result.most ≡ min (told - at) len) × (result.least ≡ result.most) }
@@ -32,7 +33,7 @@ impl Span {
         Span { at, least, most }
     }
 
-    /// Room for its bytes, and for one more, as `read_to_end` grows where none is left.
+    /// The buffer size for its bytes and for one more, as `read_to_end` grows a full buffer.
     pub fn room(&self) -> usize {
         let bytes = if self.least == 0 {
             self.most.min(FIRST_ROOM)
@@ -42,7 +43,7 @@ impl Span {
         bytes.saturating_add(1) as usize
     }
 
-    /// Whether it can have so many bytes.
+    /// Whether the span can have this many bytes.
     pub fn takes(&self, len: u64) -> bool
         ensures least { IsTrue result → self.now.least ≤ len }
         ensures most { IsTrue result → len ≤ self.now.most }

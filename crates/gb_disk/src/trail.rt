@@ -1,5 +1,5 @@
-//! What the calls of a folder leave for those that follow: room for a path and for names, the folders met
-//! last, and the file listed last.
+//! What the calls of a folder keep for later calls: buffers for a path and for names, the folders
+//! found last, and the file listed last.
 ghost use Rattle.std.specs.Prelude.{◌≡◌, IfOk};
 ghost use Rattle.gb_disk.specs.Disk.{AllUnder};
 
@@ -8,41 +8,43 @@ use crate::standing::FileInfo;
 use gb_core::place::Place;
 use std::alloc::{AllocError, Global};
 
-/// So many folders are known at most.
+/// The maximum number of known folders.
 const MOST: usize = 8;
 
-/// The folders that were met last, so that the system is asked for a whole path in one of them at once;
-/// and the file that the call before listed alone, so that a read of it does not look it up again.
-///
-/// If somebody else writes in the folder during a build, each place is still seen as it is, with two
-/// exceptions. A look-up by a whole path that finds neither a file nor a folder forgets all and goes down
-/// from the top; each write and each removal goes down from there anyway. First exception: a link in
-/// place of a known folder. Until so many other folders were met or a call fails, `list`, `read` and
-/// `read_part` follow it, if it leads to a folder that has the rest of the place. A link in place of the
-/// tool's own folder is such a one: a file is written beneath it before it is renamed to its place.
-/// Second exception: between a `list` that answers a file alone and the read of it that comes next, the
-/// file gives way to another one of the same length, to a link to such a one, to a pipe or a device.
-/// Whatever is there is opened. If it is no file of the listed length, or cannot be read, it is looked up
+/// The folders that were found last, so that one system call suffices for a whole path in one of
+/// them; and the only file that the preceding call listed, so that a read of it does not look it up
 /// again.
+///
+/// If somebody else writes in the folder during a build, each place is still observed as it is,
+/// with two exceptions. A look-up by a whole path that finds neither a file nor a folder forgets
+/// everything and descends from the top; each write and each removal descends from there anyway.
+/// First exception: a link replaces a known folder. Until `MOST` other folders were found or a call
+/// fails, `list`, `read` and `read_part` follow the link, if it leads to a folder that has the rest
+/// of the place. A link in place of the tool's own folder is such a link: a file is written under
+/// it before it is renamed to its place. Second exception: between a `list` that returns a single
+/// file and the read of it that follows, the file is replaced by another one of the same length, by
+/// a link to such a one, by a pipe or by a device. Whatever is there is opened. If it is not a file
+/// of the listed length, or cannot be read, it is looked up again.
 #[derive(Drop)]
 pub(crate) struct Trail {
-    /// Room for the path that the next call is made at.
+    /// Buffer for the path of the next call.
     pub path: String,
-    /// Room for the path beneath `.gb/new` of a file that is not complete yet.
+    /// Buffer for the path under `.gb/new` of a file that is not complete yet.
     pub aside: String,
     /// Whether `.gb/new` is known to be a folder.
     pub is_ready: bool,
-    /// Whether what a stopped build left beneath `.gb/new` was removed.
+    /// Whether what a stopped build left under `.gb/new` was removed.
     pub is_swept: bool,
-    /// Room for the names of a folder that is listed.
+    /// Buffer for the names of a folder that is listed.
     pub names: Vec<u8>,
-    /// The places at which folders stood, and above which too, the one met last at the end.
+    /// The places where folders were found, with folders above them too; the one found last is at
+    /// the end.
     known: Vec<String>,
-    /// The file that the call before listed alone.
+    /// The file that the preceding call listed, if it listed only this one.
     listed: Option<Listed>,
 }
 
-/// A file at its place, and what its folder listed of it.
+/// A file at its place, and what its folder listed about it.
 #[derive(Drop)]
 struct Listed {
     place: Place,
@@ -63,7 +65,8 @@ impl Trail {
         }
     }
 
-    /// Whether a folder is known to stand at this place and above it. It is then the one met last.
+    /// Whether folders are known to exist at this place and above it. If so, it becomes the one
+    /// found last.
     fn meets(&mut self, folder: &str) -> bool
         ensures { self.new.path ≡ self.old.path }
     {
@@ -76,7 +79,7 @@ impl Trail {
         }
     }
 
-    /// Whether the folder above the place is known, or none is above it.
+    /// Whether the folder above the place is known, or there is none above it.
     pub fn meets_above(&mut self, place: &Place) -> bool
         ensures { self.new.path ≡ self.old.path }
     {
@@ -86,7 +89,7 @@ impl Trail {
         }
     }
 
-    /// Takes up that folders stand above the place.
+    /// Records that folders exist above the place.
     pub fn remember_above(&mut self, place: &Place) -> Result<(), AllocError>
         ensures { self.new.path ≡ self.old.path }
     {
@@ -96,7 +99,7 @@ impl Trail {
         }
     }
 
-    /// Takes up that folders stand at this place and above it.
+    /// Records that folders exist at this place and above it.
     pub fn remember(&mut self, folder: &str) -> Result<(), AllocError>
         ensures { self.new.path ≡ self.old.path }
     {
@@ -105,13 +108,13 @@ impl Trail {
         }
         let copy = String::from_str(*self.path.allocator(), folder)?;
         if self.known.len() == MOST {
-            // The one that was met longest ago.
+            // The one that was found longest ago.
             self.known.remove(0);
         }
         Ok(self.known.push(copy)?)
     }
 
-    /// Lists a file by its own place, and keeps what was listed.
+    /// Lists a file by its own place, and remembers what was listed.
     pub fn list_file(
         &mut self,
         alloc: Global,
@@ -126,7 +129,7 @@ impl Trail {
         Ok(places)
     }
 
-    /// Takes up the file that was listed, if it was one alone.
+    /// Remembers the listed file, if it is the only one.
     pub fn take_up(&mut self, files: &[Place], info: FileInfo) -> Result<(), AllocError>
         ensures { self.new.path ≡ self.old.path }
     {
@@ -139,7 +142,7 @@ impl Trail {
         Ok(())
     }
 
-    /// What the call before listed of the file at the place, if it did; once.
+    /// What the preceding call listed about the file at the place, if it did; returned only once.
     pub fn take_listed(&mut self, place: &Place) -> Option<FileInfo>
         ensures { self.new.path ≡ self.old.path }
     {
@@ -149,14 +152,14 @@ impl Trail {
         }
     }
 
-    /// Forgets the file listed last, and no folder.
+    /// Forgets the file listed last, but no folder.
     pub fn forget_listed(&mut self)
         ensures { self.new.path ≡ self.old.path }
     {
         self.listed = None;
     }
 
-    /// Forgets all but the path.
+    /// Forgets everything but the path.
     pub fn forget(&mut self)
         ensures { self.new.path ≡ self.old.path }
     {

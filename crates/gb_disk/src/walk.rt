@@ -1,4 +1,4 @@
-//! What stands beneath a folder.
+//! What exists under a folder.
 ghost use Rattle.std.specs.Prelude.{◌≡◌, ◌≤◌, ℕ, List, length, IsTrue, IfOk, IfSome, IfErr};
 ghost use Rattle.gb_core.specs.Place.{is_under};
 ghost use Rattle.gb_disk.specs.Disk.{AllUnder, IsOfListing, IsOfMachine};
@@ -13,22 +13,22 @@ use std::alloc::{AllocError, Global};
 use std::fs::Files;
 use std::io::{ErrorKind, Read};
 
-/// A walk that meets more entries is a failure of the device.
+/// A walk that finds more entries is a failure of the device.
 const MOST_ENTRIES: u64 = 1 << 32;
 
-/// The bytes of names that are read at once.
+/// The number of bytes of names that are read at once.
 const NAMES: usize = 4_096;
 
-/// What a walk beneath a root has met.
+/// What a walk under a root has found.
 #[derive(Drop)]
 pub(crate) struct Found {
-    /// The files met so far, by their whole places.
+    /// The files found so far, by their whole places.
     pub files: Vec<Place>,
-    /// The length and the time of the file met last.
+    /// The length and the time of the file found last.
     pub info: FileInfo,
-    /// The root and the folders beneath it, each behind the one that it stands in.
+    /// The root and the folders under it, each after the folder that contains it.
     pub folders: Vec<Place>,
-    /// How many more entries may be met.
+    /// How many more entries may be found.
     left: u64,
 }
 
@@ -48,7 +48,7 @@ impl Found {
         })
     }
 
-    /// The folder that was met as the one of this number, if so many were met.
+    /// The folder that was found with this number, if that many were found.
     fn folder_at(&self, index: usize) -> Result<Option<Place>, AllocError>
         ensures { (root : List ℕ) → AllUnder root self.now.folders.items
             → IfOk result (λ found. IfSome found (λ folder. IsTrue (is_under folder root))) }
@@ -59,7 +59,7 @@ impl Found {
         }
     }
 
-    /// Adds what stands at a place.
+    /// Adds what exists at a place.
     fn add(&mut self, place: Place, standing: Standing) -> Result<(), FolderFault>
         ensures files { (root : List ℕ) → IsTrue (is_under place root)
             → AllUnder root self.old.files.items → AllUnder root self.new.files.items }
@@ -84,7 +84,7 @@ impl Found {
     }
 }
 
-/// Reads the next names of a folder: how many bytes they have, none at its end.
+/// Reads the next names of a folder. Returns the number of their bytes, zero at its end.
 fn next_names<D: Read>(dir: &mut D, names: &mut [u8]) -> Result<usize, FolderFault>
     ensures within { IfOk result (λ read. read ≤ length names.new) }
     ensures err { IfErr result IsOfMachine }
@@ -100,7 +100,7 @@ fn next_names<D: Read>(dir: &mut D, names: &mut [u8]) -> Result<usize, FolderFau
 }
 
 impl<R: Files> Device<R> {
-    /// Goes through the folder at a root.
+    /// Walks through the folder at a root.
     pub fn walk(&self, alloc: Global, trail: &mut Trail, root: &Place) -> Result<Found, FolderFault>
         ensures under { IfOk result (λ found. AllUnder root.now found.files.items) }
         ensures err { IfErr result IsOfListing }
@@ -112,7 +112,7 @@ impl<R: Files> Device<R> {
         Ok(found)
     }
 
-    /// Meets what stands in each folder that was met, or is met meanwhile.
+    /// Visits the entries of each folder that was found, or is found meanwhile.
     fn enter_all(
         &self,
         alloc: Global,
@@ -135,7 +135,7 @@ impl<R: Files> Device<R> {
         Err(FolderFault::Device)
     }
 
-    /// Meets what stands in a folder.
+    /// Visits the entries of a folder.
     fn enter(
         &self,
         alloc: Global,
@@ -166,7 +166,7 @@ impl<R: Files> Device<R> {
         Err(FolderFault::Device)
     }
 
-    /// Meets what stands at the places.
+    /// Visits what exists at the places.
     fn meet(
         &self,
         path: &mut String,

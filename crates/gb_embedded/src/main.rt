@@ -1,6 +1,7 @@
-//! Builds a folder in memory twice, and prints what becomes of it.
+//! Builds a folder in memory twice, and prints the results.
 //!
-//! An example for whoever embeds builds: it names `gb_build`, `gb_kinds` and the crate of their macros alone.
+//! An example for programs that embed builds: it names `gb_build`, `gb_kinds` and the crate of
+//! their macros alone.
 #![tactic(auto)]
 
 use gb_answer::{builtin_actions, builtin_functions};
@@ -45,7 +46,7 @@ fn built_with(rt: &HostRuntime, actions: ActionTable<StoredAction>) -> Result<u8
     printed(rt, &answers)
 }
 
-/// A script is put, and built twice.
+/// The events: a script is stored and built twice.
 fn events(alloc: Global) -> Result<Vec<Event>, Fault> {
     let Ok(place) = Place::read(alloc, "build.gb") else {
         return Err(Fault::OutOfMemory);

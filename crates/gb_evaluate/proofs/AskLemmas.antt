@@ -1,4 +1,4 @@
--- What providers answer is what the whole table gives.
+-- What providers return is what the whole table gives.
 use Rattle.std.specs.Prelude.{ℕ, suc, ◌≡◌, ◌⊎◌, ◌<◌, Bool, true, false, All, List, [], ◌∷◌, ◌++◌, length, map, refl, option_map, Option, Some, None, Result, Ok, Err, slice_get}
 use Rattle.std.proofs.Common.{sym, ap, subst, ◌∙◌, inl, inr, arith}
 use Rattle.std.proofs.lemmas.Option.{slice_get-map, slice_get_within}
@@ -41,7 +41,7 @@ use Rattle.gb_evaluate.specs.Over.{IsOver, IsToldOf, Tells}
 -- ---- What rules read
 
 module _ {M F Z : Type 0} (nodes : List (Expression M F Z)) (x : ℕ) where
-  -- it stands before, or has a name
+  -- it is before, or has a name
   abbrev Fine : ℕ → Type 0
   Fine s = (s < x) ⊎ (is_named (slice_get nodes s) ≡ true)
 
@@ -182,7 +182,7 @@ module _ {M F Z S A : Type 0} (tables : Tables M F Z S A) (source : Source) (nam
       let there = circles_stay tables.means number nodes all over.complete.laid.part entry into.0 apart into.1 in
       (map number into.0, there.0, subst (λ (ns : List (List ℕ)). IsLeastRound ns names) (sym there.1) into.2)
 
-  -- ---- Answers
+  -- ---- Results
 
   pub ok_tells : (entry : ℕ) (value : Option Value) → IsGot tables.means nodes entry (Ok value) → given_at tables source (number entry) ≡ Ok value
   ok_tells entry (Some value) is = ap (given_by tables source (number entry)) (answered_there entry (outcomes.Given value) is)
@@ -209,7 +209,7 @@ module _ {M F Z S A : Type 0} (tables : Tables M F Z S A) (source : Source) (nam
   pub tasks_there : (entry : ℕ) → HasValue tables.means nodes entry → (tasks : List (List ℕ)) → produced_by tables.means nodes entry ≡ Some (produced.Tasks tasks) → tasks ≡ producers_at tables source (number entry)
   tasks_there entry value tasks e = sym (ap tasks_from (part_produces tables.means number nodes all over.complete.laid.part entry tasks e))
 
--- what has a value fails to tell its tasks only for want of memory
+-- what has a value fails to give its tasks only when memory runs out
 pub only_memory : {M F Z S : Type 0} (means : Meanings M F Z S) (nodes : List (Expression M F Z)) (entry : ℕ) → HasValue means nodes entry → (fault : ProviderFault) → AreProducers means nodes entry (Err fault) → fault ≡ providers.OutOfMemory
 only_memory means nodes entry value fault are =
     let has = given_has_tasks means nodes entry value.0 value.1 in of has fault are

@@ -1,4 +1,4 @@
--- What is known of registered tasks by their numbers.
+-- What is known about registered tasks by their numbers.
 use Rattle.std.specs.Prelude.{ℕ, ◌≡◌, ◌<◌, Bool, true, false, cond, List, [], ◌∷◌, map, length, get_or, nat_lt, Option, Some, None, Result, Ok, Err, IfOk, bytes_eq, filter_map, find, option_map, position, slice_get, refl}
 use Rattle.std.specs.List.{cons_option, position_or_len}
 use Rattle.std.proofs.Common.{sym, ap, subst, ◌∙◌, inl, inr, arith}
@@ -23,7 +23,7 @@ use Rattle.gb_declare.specs.Joined.{Joined}
 use Rattle.gb_declare.specs.Realised.{first_or, no_output, unknown_output}
 use Rattle.gb_evaluate.specs.Over.{AreKnown, IsFault, fault_in}
 
--- ---- Answers
+-- ---- Results
 
 pub first_told : (other : Fault) (fs : List Fault) (fault : Fault) → first_of fs ≡ Some fault → fault ≡ first_or other fs
 first_told other [] fault is = cc

@@ -1,4 +1,4 @@
--- Outputs where they are to lie.
+-- Outputs and their required positions.
 use Rattle.std.specs.Prelude.{ℕ, ◌≡◌, List, if◌then◌else◌, Result, Ok, Err}
 use Rattle.std.proofs.Common.{sym, subst}
 use Rattle.gb_action.specs.declared.output.Form.{Form}
@@ -15,7 +15,7 @@ use Rattle.gb_declare.specs.Whole.{build_folder, spots, whole}
 use Rattle.gb_evaluate.specs.Given.{IsSorted}
 use Rattle.gb_evaluate.specs.Evaluated.{IsBuiltIn}
 
--- an output, beneath a build folder or not
+-- an output, under a build folder or not
 abbrev lies : Path → List ℕ → Output → Result Output Trouble
 lies path build output = if is_beneath output.place build then Ok output else Err (Plain (OutputOutsideBuild path output.place))
 

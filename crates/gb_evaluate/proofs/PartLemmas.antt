@@ -104,7 +104,7 @@ parts_for tables source number project task parts counted are =
       arguments = back_for tables source number project (e ++ (o ++ u) ++ v ++ r ++ w) a (E ++ C ++ V ++ R ++ W) A l5 are;
     }
 
--- ---- What is left of a row
+-- ---- The rest of a row
 
 pub left_counted : {X Y : Type 0} (these others row : List X) (xs ys all : List Y) → these ++ others ≡ row → length these ≡ length xs → length row ≡ length all → all ≡ xs ++ ys → length others ≡ length ys
 left_counted these others row xs ys all cut counted count is =

@@ -72,7 +72,7 @@ module _ {M F Z S A : Type 0} (tables : Tables M F Z S A) (source : Source) (num
   pub back_for : (ps qs : List Node) (xs ys : List Tree) → length ps ≡ length xs → AreFor tables source number project (ps ++ qs) (xs ++ ys) → AreFor tables source number project qs ys
   back_for ps qs xs ys n are = backs_same (numbers_in number ps) _ (numbers_in number qs) _ (counted ps xs n) (apart ps qs xs ys are)
 
--- ---- What is told of an expression by its node
+-- ---- The result of an expression by its node
 
 module _ {M F Z S A : Type 0} (tables : Tables M F Z S A) (source : Source) (number : ℕ → ℕ) (at : Registered) (path : Path) (is : at.path ≡ path) where
   module _ (entry : ℕ) (tree : Tree) (same : entry ≡ place_in_whole tables source at.project tree) (name : List ℕ) where
@@ -114,7 +114,7 @@ pub passes_there : {M F Z S A : Type 0} (tables : Tables M F Z S A) (source : So
     → Tells tables source (passes tables source at (spots tables source) (whole tables source) condition) r
 passes_there tables source at entry condition same r told = subst (λ e. Tells tables source (truth_at tables source at condition.test e) r) same told
 
--- ---- One after another, with the nodes that are left
+-- ---- One after another, with the remaining nodes
 
 module _ {M F Z S A : Type 0} (tables : Tables M F Z S A) (source : Source) (number : ℕ → ℕ) (project : Path) {X Y : Type 0} (tree_of : X → Tree) (f : X → Result Y Trouble) (all : List X) where
   -- these are left, with the nodes for their expressions

@@ -1,4 +1,4 @@
--- What is told of one step after another.
+-- The results of one step after another.
 use Rattle.std.specs.Prelude.{◌≡◌, Result, Ok, Err}
 use Rattle.std.proofs.Common.{ap, subst, ◌∙◌, sym, inl, inr}
 use Rattle.gb_registry.specs.Source.{Source}
@@ -14,7 +14,7 @@ module _ {M F Z S A : Type 0} (tables : Tables M F Z S A) (source : Source) wher
   first_fails first next fault (inl out) = inl out
   first_fails first next fault (inr (trouble, is, told)) = inr (trouble, ap (λ r. and_then r next) is, told)
 
-  -- what the second gives both give
+  -- what the second gives is what both give
   pub then_gives : {X Y : Type 0} (first : Result X Trouble) (next : X → Result Y Trouble) (x : X) (y : Result Y Fault) → first ≡ Ok x → Tells tables source (next x) y → Tells tables source (and_then first next) y
   then_gives first next x y is told = subst (λ r. Tells tables source (and_then r next) y) (sym is) told
 

@@ -1,4 +1,4 @@
--- What becomes of each, one after another.
+-- The result of each, one after another.
 use Rattle.std.specs.Prelude.{ℕ, suc, ◌+◌, ◌<◌, ◌≤◌, ◌≡◌, Bool, true, false, ◌&&◌, List, [], ◌∷◌, ◌++◌, drop, get_or, length, map, refl, Result, Ok, Err}
 use Rattle.std.proofs.Common.{add-one, sym, ap, subst, ◌∙◌, inl, inr}
 use Rattle.std.proofs.Math.Seq.{drop-cons}
@@ -25,7 +25,7 @@ pub then_same : {X Y E : Type 0} (r : Result X E) (f g : X → Result Y E) → (
 then_same (Ok x) f g same = same x
 then_same (Err e) f g same = refl
 
--- what becomes of each of those that are made of others
+-- the results for elements that are made from others
 pub each_map : {X Y Z E : Type 0} (f : Y → Result Z E) (h : X → Y) (xs : List X) → each_of (λ x. f (h x)) xs ≡ each_of f (map h xs)
 each_map f h [] = refl
 each_map f h (x ∷ xs) = ap (λ r. and_then (f (h x)) (λ y. and_then r (λ ys. Ok (y ∷ ys)))) (each_map f h xs)
@@ -59,7 +59,7 @@ module _ {M F Z S A : Type 0} (tables : Tables M F Z S A) (source : Source) {X Y
   fails_all all done x rest fault walked (inl out) = inl out
   fails_all all done x rest fault walked (inr (trouble, is, told)) = inr (trouble, walk_fails f all done x rest trouble walked is, told)
 
--- what is left of a row at a place in it
+-- the rest of a row at a position in it
 pub left_at : {X Y : Type 0} (f : X → Y) (xs : List X) (i : ℕ) (d : X) → i < length xs → map f (drop i xs) ≡ f (get_or xs i d) ∷ map f (drop (i + 1) xs)
 left_at f xs i d within =
     let cut : drop i xs ≡ get_or xs i d ∷ drop (i + 1) xs = rw add-one (drop-cons xs i d within) in
@@ -84,7 +84,7 @@ module _ {Node Y : Type 0} (f : ℕ → Result Y Trouble) (number : Node → ℕ
       fails_all tables source f (map number row) done (number (get_or row i d)) (map number (drop (i + 1) row)) fault
       (subst (IsWalked f (map number row) done) (left_at number row i d within) walked) told
 
--- the same by the item that stands there
+-- the same by the item at that position
 pub item_left : {X Y : Type 0} (f : X → Y) (xs : List X) (i : ℕ) (x : X) → i < length xs → x ≡ get_or xs i x → map f (drop i xs) ≡ f x ∷ map f (drop (i + 1) xs)
 item_left f xs i x within is = left_at f xs i x within ∙ ap (λ y. f y ∷ map f (drop (i + 1) xs)) (sym is)
 
@@ -98,7 +98,7 @@ pub one_more_holds : (truths : List Bool) (all holds : Bool) → list_all (λ tr
 one_more_holds truths all holds is =
     list_all-append (λ truth. truth) truths (holds ∷ []) ∙ ap (λ a. a && (holds && true)) is ∙ ap (λ h. all && h) (with_true holds)
 
--- one less is left behind an item
+-- one less is left after an item
 pub one_less : {X : Type 0} (xs : List X) (i : ℕ) (d : X) → i < length xs → length (drop i xs) ≡ suc (length (drop (i + 1) xs))
 one_less xs i d within =
     let cut : drop i xs ≡ get_or xs i d ∷ drop (i + 1) xs = rw add-one (drop-cons xs i d within) in

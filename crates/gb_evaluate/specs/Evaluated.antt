@@ -1,4 +1,4 @@
--- What a declared task comes to, part by part.
+-- The evaluated form of a declared task, part by part.
 use Rattle.std.specs.Prelude.{ℕ, ◌≡◌, Bool, not, ◌&&◌, List, Option, Result, Ok}
 use Rattle.std.specs.List.{list_all}
 use Rattle.gb_core.specs.declared.value.Value.{Value}
@@ -49,7 +49,7 @@ module _ {M F Z S A : Type 0} (tables : Tables M F Z S A) (source : Source) (at 
   abbrev pub actions_of : List Call → Result (List Action) Trouble
   actions_of calls = each_of (action_of tables source at (spots tables source) (whole tables source)) calls
 
-  -- whether it runs, and whether it is stale
+  -- whether it runs, and whether it is out of date by `upToDateWhen`
   abbrev pub flags_of : Joined → Result Flags Trouble
   flags_of task =
       and_then (enabled_of task.enabled) (λ enabled.
@@ -66,7 +66,7 @@ module _ {M F Z S A : Type 0} (tables : Tables M F Z S A) (source : Source) (at 
       and_then (actions_of task.actions) (λ actions.
       Ok (record { values = values; files = files; outputs = outputs; actions = actions })))))
 
--- a task as a build runs it, of its parts
+-- a task as a build runs it, from its parts
 abbrev pub declaration_of : Path → Joined → Flags → Contents → List Path → TaskDeclaration
 declaration_of path task flags contents needs = record {
   path = path;

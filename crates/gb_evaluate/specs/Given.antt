@@ -1,4 +1,4 @@
--- What the expressions of the whole table give, by their numbers.
+-- The values of the expressions of the whole table, by their numbers.
 use Rattle.std.specs.Prelude.{ℕ, ◌≡◌, ◌⊎◌, Bool, List, Option, Some, Result, Ok, Err}
 use Rattle.gb_core.specs.declared.value.Value.{Value}
 use Rattle.gb_provider.specs.Answers.{value_of}
@@ -21,11 +21,11 @@ use Rattle.gb_declare.specs.Realised.{present, tasks_from, truth_of}
 use Rattle.gb_declare.specs.Whole.{spots, whole}
 
 module _ {M F Z S A : Type 0} (tables : Tables M F Z S A) (source : Source) where
-  -- its value, or nothing; or what hinders it
+  -- its value, or nothing; or what prevents it
   abbrev pub given_at : ℕ → Result (Option Value) Trouble
   given_at entry = given_by tables source entry (value_of tables.means (whole tables source) entry)
 
-  -- its value for something of this name of a task, which has to have one
+  -- its value for something of this name of a task, which must have one
   abbrev pub required_at : Path → List ℕ → ℕ → Result Value Trouble
   required_at path name entry = and_then (given_at entry) (present path name)
 
@@ -35,7 +35,7 @@ module _ {M F Z S A : Type 0} (tables : Tables M F Z S A) (source : Source) wher
   abbrev pub flag_at : Path → List ℕ → ℕ → Result Bool Trouble
   flag_at path name entry = and_then (required_at path name entry) (as_flag name)
 
-  -- what a test says of it
+  -- the result of a test on it
   abbrev pub truth_at : Registered → Function → ℕ → Result Bool Trouble
   truth_at at test entry =
       and_then (given_at entry)
@@ -50,7 +50,7 @@ module _ {M F Z S A : Type 0} (tables : Tables M F Z S A) (source : Source) wher
 abbrev pub HasValue : {M F Z S : Type 0} → Meanings M F Z S → List (Expression M F Z) → ℕ → Type 0
 HasValue means nodes entry = (value : Value) × (value_of means nodes entry ≡ Some (Given value))
 
--- the faults that `get` may have
+-- the possible faults of `get`
 abbrev pub IsOfGet : ProviderFault → Type 0
 IsOfGet (faults.Circular names) = Unit {0}
 IsOfGet (faults.Step fault) = ⊥
@@ -58,7 +58,7 @@ IsOfGet faults.NoValue = ⊥
 IsOfGet (faults.Value fault) = Unit {0}
 IsOfGet faults.OutOfMemory = Unit {0}
 
--- what a value is expected to be, it is; or that it is not is told, or memory ran out
+-- a value has the expected sort; or it is reported that it has not, or memory ran out
 abbrev pub IsSorted : {X : Type 0} → Result X Trouble → Result X Fault → Type 0
 IsSorted expected (Ok x) = expected ≡ Ok x
 IsSorted expected (Err fault) = (fault ≡ OutOfMemory) ⊎ (expected ≡ Err (Plain fault))

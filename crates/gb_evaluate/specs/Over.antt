@@ -1,4 +1,4 @@
--- Providers in which all that the scripts declare stands, and what else answers about tasks take.
+-- Providers that contain everything that the scripts declare, and the other context of evaluating tasks.
 use Rattle.std.specs.Prelude.{ℕ, ◌≡◌, ◌⊎◌, List, map, Option, Some, None, Result, Ok, Err}
 use Rattle.gb_provider.specs.declared.expression.Expression.{Expression}
 use Rattle.gb_provider.specs.declared.fault.ProviderFault.{ProviderFault}
@@ -30,7 +30,7 @@ abbrev pub IsFault : Fault → Fault → Type 0
 IsFault known fault = (fault ≡ OutOfMemory) ⊎ (fault ≡ known)
 
 module _ {M F Z S A : Type 0} (tables : Tables M F Z S A) (source : Source) where
-  -- of all registered tasks, in the order of registration
+  -- for all registered tasks, in the order of registration
   abbrev pub declaring_faults : List (Option Fault)
   declaring_faults =
       map (λ task. fault_in (declared tables source.names source.said task)) (tasks_of source.said)
@@ -41,21 +41,21 @@ module _ {M F Z S A : Type 0} (tables : Tables M F Z S A) (source : Source) wher
     pub tasks : source.names.tasks ≡ paths_of source.said
     pub faults : why ≡ declaring_faults
 
-  -- These, and all that the scripts declare, by these numbers.
+  -- These, and everything that the scripts declare, by these numbers.
   pub record IsOver (names : Names) (why : List (Option Fault)) (nodes : List (Expression M F Z))
       (number : ℕ → ℕ) : Type 0 where
     pub known : AreKnown names why
     pub complete : IsComplete tables source number nodes
 
-  -- What is expected is given; or its trouble is told, or memory ran out.
+  -- The expected value is given; or its trouble is reported, or memory ran out.
   abbrev pub Tells : {X : Type 0} → Result X Trouble → Result X Fault → Type 0
   Tells expected (Ok x) = expected ≡ Ok x
   Tells expected (Err fault) =
       (fault ≡ OutOfMemory)
       ⊎ ((trouble : Trouble) × (expected ≡ Err trouble) × IsTold tables source trouble fault)
 
--- What is told tells what is expected of any scripts, by any numbers, that these names, faults
--- and expressions are over.
+-- The result matches the expected one, in the sense of `Tells`, for any scripts, by any numbers, that fit
+-- these names, faults and expressions.
 abbrev pub TellsOver : {M F Z S A X : Type 0} → Tables M F Z S A → Names → List (Option Fault)
     → List (Expression M F Z) → (Source → (ℕ → ℕ) → Result X Trouble) → Result X Fault → Type 0
 TellsOver tables names why nodes expected told =
@@ -63,8 +63,8 @@ TellsOver tables names why nodes expected told =
     → Tells tables source (expected source number) told
 
 module _ {M F Z S A : Type 0} (tables : Tables M F Z S A) (names : Names) (why : List (Option Fault)) where
-  -- The fault of a provider is told as this one: a circle by its names, the fault of a value as definitions
-  -- tell it; or memory ran out.
+  -- The fault of a provider is reported as this one: a circle by its names, the fault of a value as the
+  -- definitions report it; or memory ran out.
   abbrev pub IsToldOf : ProviderFault → Fault → Type 0
   IsToldOf (providers.Circular texts) known = known ≡ Circular texts
   IsToldOf (providers.Value fault) known =

@@ -45,14 +45,14 @@ pub record AreAllWithin {M F Z : Type 0} (nodes : List (Expression M F Z)) (part
   pub outputs : AreWithin nodes parts.outputs.now
   pub arguments : AreWithin nodes parts.arguments.now
 
--- Nodes with values where a declaration needs them to have some.
+-- Nodes with values where a declaration requires them to have values.
 pub record HaveAllValues {M F Z S : Type 0} (means : Meanings M F Z S) (nodes : List (Expression M F Z))
     (parts : Parts) : Type 0 where
   pub values : HaveValues means nodes parts.values.now
   pub roots : HaveValues means nodes parts.roots.now
   pub arguments : HaveValues means nodes parts.arguments.now
 
--- Nodes that stand for the expressions of a task of a project, in each part.
+-- Nodes that represent the expressions of a task of a project, in each part.
 pub record AreAllFor {M F Z S A : Type 0} (tables : Tables M F Z S A) (source : Source) (number : ℕ → ℕ)
     (project : Path) (task : Joined) (parts : Parts) : Type 0 where
   pub enabled : AreFor tables source number project parts.enabled.now (option_to_list task.enabled)
@@ -67,7 +67,7 @@ pub record AreAllFor {M F Z S A : Type 0} (tables : Tables M F Z S A) (source : 
   pub arguments : AreFor tables source number project parts.arguments.now
       (flat_map (λ call. call.arguments) task.actions)
 
--- What is told tells what is expected of a task that is as said, as in `TellsOf`, by the parts of its row.
+-- The result matches the expected one for a task as given, as in `TellsOf`, by the parts of its row.
 abbrev pub TellsOfParts : {M F Z S A X : Type 0} → Tables M F Z S A → Names → List (Option Fault)
     → List (Expression M F Z) → (Registered → Type 0) → Joined → Parts
     → (Source → Registered → Result X Trouble) → Result X Fault → Type 0
@@ -76,7 +76,7 @@ TellsOfParts tables names why nodes IsSaid task parts expected told =
     → (at : Registered) → IsSaid at → AreAllFor tables source number at.project task parts
     → Tells tables source (expected source at) told
 
--- All that are to be patterns are patterns.
+-- All texts that must be patterns are patterns.
 pub record HasPatterns (files : InputFiles) : Type 0 where
   pub include : All (λ text. is_pattern text ≡ true) files.include
   pub exclude : All (λ text. is_pattern text ≡ true) files.exclude

@@ -1,4 +1,4 @@
--- What is told of a task's expressions, whose nodes stand in a row.
+-- The results of a task's expressions, whose nodes are in a row.
 use Rattle.std.specs.Prelude.{ℕ, ◌≡◌, ◌<◌, All, List, length, map, Option, Result}
 use Rattle.gb_provider.specs.declared.expression.Expression.{Expression}
 use Rattle.gb_provider.specs.declared.expression.Node.{Node}
@@ -27,14 +27,15 @@ HaveValues means nodes row = All (λ node. HasValue means nodes node.number) row
 abbrev pub numbers_in : (ℕ → ℕ) → List Node → List ℕ
 numbers_in number row = map (λ node. number node.number) row
 
--- nodes that stand for these expressions of a project
+-- nodes that represent these expressions of a project
 abbrev pub AreFor : {M F Z S A : Type 0} → Tables M F Z S A → Source → (ℕ → ℕ) → Path → List Node → List Tree
     → Type 0
 AreFor tables source number project row trees =
     numbers_in number row ≡ map (place_in_whole tables source project) trees
 
--- What is told tells what is expected of a task that is as said, of any scripts and by any numbers that these
--- names, faults and expressions are over, where the nodes in the row stand for these expressions of the task.
+-- The result matches the expected one, in the sense of `Tells`, for a task as given, for any scripts and by
+-- any numbers that fit these names, faults and expressions, where the nodes in the row represent these
+-- expressions of the task.
 abbrev pub TellsOf : {M F Z S A X : Type 0} → Tables M F Z S A → Names → List (Option Fault)
     → List (Expression M F Z) → (Registered → Type 0) → List Node → List Tree
     → (Source → Registered → Result X Trouble) → Result X Fault → Type 0

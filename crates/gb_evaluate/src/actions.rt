@@ -29,7 +29,7 @@ use gb_report::fault::Fault;
 use gb_script::script::Call;
 use std::alloc::Global;
 
-/// The action that a call names, given these arguments: there has to be one (40) that takes them (43).
+/// The action that a call names, with these arguments: it must exist (40) and accept them (43).
 fn fitting<A: Actions, T: Transforms>(
     context: &Context<'_, A, T>,
     path: &TaskPath,
@@ -54,7 +54,7 @@ fn fitting<A: Actions, T: Transforms>(
     })
 }
 
-/// The action of a call, whose arguments have to have values (33).
+/// The action of a call, whose arguments must have values (33).
 fn action<A: Actions, T: Transforms>(
     alloc: Global,
     context: &Context<'_, A, T>,
@@ -76,7 +76,8 @@ fn action<A: Actions, T: Transforms>(
     fitting(context, path, call, args)
 }
 
-/// The actions of a task in order: what each is given (33), that it is one (40) and takes it (43).
+/// The actions of a task in order: each needs the values of its arguments (33), must exist (40),
+/// and must accept the arguments (43).
 pub fn actions<A: Actions, T: Transforms>(
     alloc: Global,
     context: &Context<'_, A, T>,

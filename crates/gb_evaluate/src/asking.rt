@@ -1,4 +1,4 @@
-//! What an expression of a task gives.
+//! The value of an expression of a task.
 ghost use Rattle.std.specs.Prelude.{◌≡◌, ◌<◌, ℕ, length, IfOk, Ok};
 ghost use Rattle.gb_provider.specs.Answers.{IsGot};
 ghost use Rattle.gb_provider.specs.Meanings.{meaning_of};
@@ -30,7 +30,7 @@ use gb_report::fault::Fault;
 use gb_script::function::Function;
 use std::alloc::{AllocError, Global};
 
-/// The fault of `get`, as it is told.
+/// The fault of `get`, as it is reported.
 fn fault_of<A: Actions, T: Transforms>(
     alloc: Global,
     context: &Context<'_, A, T>,
@@ -49,7 +49,7 @@ fn fault_of<A: Actions, T: Transforms>(
     }
 }
 
-/// The value of an expression, or nothing. Its fault is told as that of a script.
+/// The value of an expression, or nothing. Its fault is reported as that of a script.
 pub fn ask<A: Actions, T: Transforms>(
     alloc: Global,
     context: &Context<'_, A, T>,
@@ -70,7 +70,7 @@ pub fn ask<A: Actions, T: Transforms>(
     }
 }
 
-/// The value of an expression, which has to have one for what has this name of a task (33).
+/// The value of an expression, which must have one for the part of a task with this name (33).
 pub fn require<A: Actions, T: Transforms>(
     alloc: Global,
     context: &Context<'_, A, T>,
@@ -93,7 +93,7 @@ pub fn require<A: Actions, T: Transforms>(
     }
 }
 
-/// The place that an expression gives, which has to give one (33, 34).
+/// The place that an expression gives. It must give one (33, 34).
 pub fn require_place<A: Actions, T: Transforms>(
     alloc: Global,
     context: &Context<'_, A, T>,
@@ -123,7 +123,7 @@ fn place_in(alloc: Global, value: Value, name: &Name) -> Result<Place, Fault>
     }
 }
 
-/// The truth that an expression gives, which has to give one (33, 34).
+/// The flag that an expression gives. It must give one (33, 34).
 pub fn require_flag<A: Actions, T: Transforms>(
     alloc: Global,
     context: &Context<'_, A, T>,
@@ -152,7 +152,7 @@ fn flag_in(alloc: Global, value: Value, name: &Name) -> Result<bool, Fault>
     }
 }
 
-/// What a stored test says of a value.
+/// The result of a stored test on a value.
 fn ask_test<T: Transforms>(
     alloc: Global,
     stored: &T::Test,
@@ -171,7 +171,7 @@ fn ask_test<T: Transforms>(
     }
 }
 
-/// What a test says of a value, or of none (31).
+/// The result of a test on a value, or on no value (31).
 fn truth_of<A: Actions, T: Transforms>(
     alloc: Global,
     context: &Context<'_, A, T>,
@@ -192,7 +192,7 @@ fn truth_of<A: Actions, T: Transforms>(
     }
 }
 
-/// What a test says of an expression: that it fails, where that has no value.
+/// The result of a test on an expression. The test fails where the expression has no value.
 pub fn passes<A: Actions, T: Transforms>(
     alloc: Global,
     context: &Context<'_, A, T>,

@@ -31,7 +31,7 @@ fn enabled_word(alloc: Global) -> Result<Name, AllocError>
     }
 }
 
-/// Whether a task is enabled: it says nothing, or what is true (33, 34).
+/// Whether a task is enabled: `enabled` is absent, or true (33, 34).
 pub fn is_enabled<A: Actions, T: Transforms>(
     alloc: Global,
     context: &Context<'_, A, T>,
@@ -56,7 +56,7 @@ pub fn is_enabled<A: Actions, T: Transforms>(
     require_flag(alloc, context, providers, *node, path, &name)
 }
 
-/// Whether all conditions hold. Each is evaluated, also behind one that does not hold.
+/// Whether all conditions hold. Each is evaluated, even after one that does not hold.
 pub fn all_hold<A: Actions, T: Transforms>(
     alloc: Global,
     context: &Context<'_, A, T>,

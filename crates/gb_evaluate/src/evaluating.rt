@@ -1,4 +1,4 @@
-//! A declared task evaluated.
+//! Evaluates a declared task.
 ghost use Rattle.std.specs.Prelude.{◌≡◌, IfOk, length};
 ghost use Rattle.gb_registry.specs.Tables.{tables_of};
 ghost use Rattle.gb_declare.specs.Realised.{evaluated};
@@ -30,7 +30,7 @@ use gb_provider::transforms::Transforms;
 use gb_report::fault::Fault;
 use std::alloc::{AllocError, Global};
 
-/// Whether a task runs, and whether it is stale.
+/// Whether a task runs, and whether it is out of date by `upToDateWhen`.
 fn flags<A: Actions, T: Transforms>(
     alloc: Global,
     context: &Context<'_, A, T>,
@@ -138,9 +138,9 @@ fn declaration(
     })
 }
 
-/// What a declared task comes to, or the first fault of its expressions in the order in which they are
-/// evaluated: of `enabled`, the tests, values, files, outputs by name, and actions in their order. A fault
-/// leaves the providers as they were.
+/// The evaluated form of a declared task, or the first fault of its expressions in the order in
+/// which they are evaluated: of `enabled`, the tests, values, files, outputs by name, and actions
+/// in their order. A fault leaves the providers unchanged.
 pub fn evaluated<A: Actions, T: Transforms>(
     alloc: Global,
     context: &Context<'_, A, T>,

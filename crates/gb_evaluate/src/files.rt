@@ -52,7 +52,7 @@ fn patterns(alloc: Global, texts: &[Text]) -> Result<Patterns, AllocError>
     Ok(Patterns::from_vec(found))
 }
 
-/// The property as it is said, over these roots.
+/// The property as declared, with these roots.
 fn with_roots(
     alloc: Global,
     name: &Name,
@@ -87,7 +87,7 @@ fn with_roots(
     })
 }
 
-/// A file property, whose roots have to be places (33, 34).
+/// A file property, whose roots must be places (33, 34).
 fn property<A: Actions, T: Transforms>(
     alloc: Global,
     context: &Context<'_, A, T>,
@@ -111,7 +111,7 @@ fn property<A: Actions, T: Transforms>(
     Ok(with_roots(alloc, name, files, roots)?)
 }
 
-/// The file properties of a task by their names, whose roots have to be places (33, 34).
+/// The file properties of a task by their names, whose roots must be places (33, 34).
 pub fn properties<A: Actions, T: Transforms>(
     alloc: Global,
     context: &Context<'_, A, T>,

@@ -1,7 +1,7 @@
-//! What a declared task comes to: its expressions evaluated, up to the first fault.
+//! Evaluates the expressions of a declared task, up to the first fault.
 //!
-//! [`asking`] asks one expression, and tells the fault where it gives none; [`evaluating`] goes through the
-//! parts of a task in the order in which their faults count.
+//! [`asking`] evaluates one expression, and reports the fault where it gives no value;
+//! [`evaluating`] goes through the parts of a task in the order in which their faults are reported.
 #![tactic(auto)]
 
 mod actions;

@@ -43,7 +43,7 @@ fn add_producers<A: Actions, T: Transforms>(
     Ok(())
 }
 
-/// The tasks that a task depends on, and those that what it reads comes from.
+/// The tasks that a task depends on, and the tasks that produce what it reads.
 pub fn needs<A: Actions, T: Transforms>(
     alloc: Global,
     context: &Context<'_, A, T>,

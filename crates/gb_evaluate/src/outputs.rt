@@ -28,7 +28,7 @@ use gb_script::expression::Expression;
 use std::alloc::Global;
 use std::collections::BTreeMap;
 
-/// An output, which has to lie strictly beneath the build folder (56).
+/// An output, which must lie strictly under the build folder (56).
 fn built(path: &TaskPath, build: &Place, output: Output) -> Result<Output, Fault>
     ensures { IsSorted (if is_beneath output.place build.now then Ok output
         else Err (Plain (OutputOutsideBuild path.now output.place))) result }
@@ -40,8 +40,8 @@ fn built(path: &TaskPath, build: &Place, output: Output) -> Result<Output, Fault
     }
 }
 
-/// An output of this name and form, whose place has to be one (33, 34) strictly beneath the build folder
-/// (56).
+/// An output of this name and form, whose place must be one (33, 34) strictly under the build
+/// folder (56).
 fn output<A: Actions, T: Transforms>(
     alloc: Global,
     context: &Context<'_, A, T>,
@@ -66,8 +66,8 @@ fn output<A: Actions, T: Transforms>(
     built(path, build, Output { name, form, place })
 }
 
-/// The outputs of a task by their names, whose places have to be some (33, 34) strictly beneath the build
-/// folder of the project (56).
+/// The outputs of a task by their names, whose places must be given (33, 34) and lie strictly under
+/// the build folder of the project (56).
 pub fn outputs<A: Actions, T: Transforms>(
     alloc: Global,
     context: &Context<'_, A, T>,

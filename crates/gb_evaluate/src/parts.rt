@@ -15,7 +15,7 @@ use gb_provider::expression::Node;
 use gb_script::script::InputFiles;
 use std::collections::BTreeMap;
 
-/// Whether a task runs, and whether it is stale.
+/// Whether a task runs, and whether it is out of date by `upToDateWhen`.
 #[derive(Clone, Copy, PartialEq, Eq)]
 pub struct Flags {
     /// Neither is `enabled` false nor a test of `onlyIf`.
@@ -31,16 +31,16 @@ pub struct Contents {
     pub values: NamedValues,
     /// The inputs that are files, in the order of their names.
     pub files: FileProperties,
-    /// What it makes, in the order of the names.
+    /// The outputs, in the order of their names.
     pub outputs: Outputs,
-    /// What it does, in the order in which it does it.
+    /// The actions, in the order in which they run.
     pub actions: ActionList<Action>,
 }
 
-/// The nodes of a task's expressions, by what they are for.
+/// The nodes of a task's expressions, by their use.
 #[derive(Clone, Copy)]
 pub struct Parts<'a> {
-    /// The value of `enabled`, if it is said.
+    /// The value of `enabled`, if there is one.
     pub enabled: &'a [Node],
     /// The values that `onlyIf` tests.
     pub only_if: &'a [Node],
@@ -52,7 +52,7 @@ pub struct Parts<'a> {
     pub roots: &'a [Node],
     /// The places of the outputs.
     pub outputs: &'a [Node],
-    /// What all actions are given.
+    /// The arguments of all actions.
     pub arguments: &'a [Node],
 }
 
@@ -68,7 +68,7 @@ fn count_roots(files: &BTreeMap<Name, &InputFiles>) -> usize
     count
 }
 
-/// The first nodes of a row, this many, and those behind them.
+/// The first nodes of a row, this many, and those after them.
 pub(crate) fn split_at(row: &[Node], count: usize) -> (&[Node], &[Node])
     requires { count ≤ length row.now }
     ensures whole { result.0.now ++ result.1.now ≡ row.now }

@@ -1,4 +1,4 @@
-//! What expressions in a row give.
+//! The values of expressions in a row.
 ghost use Rattle.std.specs.Prelude.{◌≡◌, IfOk};
 ghost use Rattle.gb_registry.specs.Tables.{tables_of};
 ghost use Rattle.gb_declare.specs.Realised.{each_of};
@@ -19,7 +19,7 @@ use gb_provider::transforms::Transforms;
 use gb_report::fault::Fault;
 use std::alloc::Global;
 
-/// The places that expressions give, each of which has to give one (33, 34).
+/// The places that expressions give. Each must give one (33, 34).
 pub fn places<A: Actions, T: Transforms>(
     alloc: Global,
     context: &Context<'_, A, T>,
@@ -45,7 +45,7 @@ pub fn places<A: Actions, T: Transforms>(
     Ok(Places::from_vec(found))
 }
 
-/// The values that expressions give, each of which has to give one (33).
+/// The values that expressions give. Each must give one (33).
 pub fn arguments<A: Actions, T: Transforms>(
     alloc: Global,
     context: &Context<'_, A, T>,

@@ -1,4 +1,4 @@
-//! How faults of expressions are told.
+//! How faults of expressions are reported.
 ghost use Rattle.std.specs.Prelude.{◌≡◌, ◌⊎◌, ℕ, IfOk};
 ghost use Rattle.gb_registry.specs.Projects.{root_path};
 ghost use Rattle.gb_registry.specs.References.{lookup_faults};
@@ -49,7 +49,8 @@ fn no_task(
     }
 }
 
-/// Why a task has no such output: there is no such task, it is at fault, or it has none of the name (59).
+/// Why a task has no such output: there is no such task, it is at fault, or it has none of the name
+/// (59).
 fn no_output<A: Actions, T: Transforms>(
     alloc: Global,
     context: &Context<'_, A, T>,
@@ -73,7 +74,7 @@ fn no_output<A: Actions, T: Transforms>(
     }
 }
 
-/// The fault of a value, as it is told.
+/// The fault of a value, as it is reported.
 pub(crate) fn told<A: Actions, T: Transforms>(
     alloc: Global,
     context: &Context<'_, A, T>,

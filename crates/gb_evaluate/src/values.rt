@@ -20,7 +20,7 @@ use gb_script::expression::Expression;
 use std::alloc::Global;
 use std::collections::BTreeMap;
 
-/// The values of inputs by their names, each of which has to have one (33).
+/// The values of inputs by their names. Each must have one (33).
 pub fn values<A: Actions, T: Transforms>(
     alloc: Global,
     context: &Context<'_, A, T>,

@@ -1,4 +1,4 @@
--- What the turns of a plan ask for together.
+-- What the executions of a plan's tasks request together.
 use Rattle.std.specs.Prelude.{ℕ, ◌≡◌, ◌||◌, ◌++◌, Bool, true, false, List, [], ◌∷◌, Option, length}
 use Rattle.std.proofs.Common.{refl, sym, ap, subst, arith}
 use Rattle.gb_action.specs.Meanings.{Meanings}
@@ -26,7 +26,7 @@ right true b e = refl
 right false b e = e
 
 module _ {F S : Type 0} (failures : F → ℕ) (may_leave : F → Tearing) (asked : F → Call → F → Type 0) (meanings : Meanings S) (rows : Rows S) (options : Options) where
-  -- ---- One turn more
+  -- ---- One execution more
 
   pub turns_more : (plan : List Planned) (records : List (Option Record)) (reports : List TaskReport) (planned : Planned) (last : Option Record) (report : TaskReport) (old mid new : F)
       → TurnsAsk failures may_leave asked meanings rows options plan records reports old mid → TurnAsks failures may_leave asked meanings rows options planned.task last report.outcome report.lines mid new
@@ -39,7 +39,7 @@ module _ {F S : Type 0} (failures : F → ℕ) (may_leave : F → Tearing) (aske
   turns_more (p ∷ plan) [] reports planned last report old mid new turns turn = absurd turns
   turns_more (p ∷ plan) (l ∷ records) [] planned last report old mid new turns turn = absurd turns
 
-  -- ---- Where changes are asked for
+  -- ---- Where changes are requested
 
   changed_places : (task : Task) (last : Option Record) (old new : F) → ChangesOnceRead failures may_leave asked meanings rows options task last old new
       → Asks failures may_leave asked (changes_at (is_of_turn task)) old new
@@ -60,7 +60,7 @@ module _ {F S : Type 0} (failures : F → ℕ) (may_leave : F → Tearing) (aske
   unfolding changes_at
   wider test wide within old new asks = asks_more (λ place next may. change_at wide place next (within place may)) asks
 
-  -- the turns ask for changes at outputs and records of the plan's tasks alone
+  -- the executions request changes only at outputs and records of the plan's tasks
   pub turns_places : (plan : List Planned) (records : List (Option Record)) (reports : List TaskReport) (old new : F)
       → TurnsAsk failures may_leave asked meanings rows options plan records reports old new → Asks failures may_leave asked (changes_at (is_of_turns plan)) old new
   turns_places [] [] [] old new turns = subst (λ (f : F). Asks failures may_leave asked (changes_at (is_of_turns [])) old f) (sym turns) (asks_nothing old)

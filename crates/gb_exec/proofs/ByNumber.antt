@@ -41,7 +41,7 @@ contained xs i x is = (i, slice_get_within xs i x is, get_or_from_slice_get xs i
 pub contains_any : {X : Type 0} (p : X → Bool) (xs : List X) (x : X) → Contains xs x → p x ≡ true → list_any p xs ≡ true
 contains_any p xs x c h = some_at p xs c.0 x (slice_get-get_or xs c.0 x c.1 ∙ ap Some c.2) h
 
--- an element that is not the default stands in the list
+-- an element that is not the default is in the list
 pub any_default : {X : Type 0} (p : X → Bool) (xs : List X) (i : ℕ) (d : X) → p d ≡ false → p (get_or xs i d) ≡ true → list_any p xs ≡ true
 any_default p [] i d none h = not_true (sym none ∙ h)
 any_default p (x ∷ xs) zero d none h = ap (λ b. b || list_any p xs) h

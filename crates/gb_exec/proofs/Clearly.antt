@@ -1,4 +1,5 @@
--- Whether what was seen is clear is decided, and what is clear stays so with fewer contents.
+-- Whether the contents that were read are collision-free is decided, and collision-free contents stay so with
+-- fewer of them.
 use Rattle.std.specs.Prelude.{ℕ, ◌≡◌, ◌⊎◌, Bool, true, false, not, ◌&&◌, List, bytes_eq}
 use Rattle.std.specs.List.{list_any}
 use Rattle.std.specs.Cmp.Lexicographic.{bytes_decides}

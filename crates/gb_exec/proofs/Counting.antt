@@ -1,4 +1,4 @@
--- How often the device is blamed, one report more at a time.
+-- How often faults are attributed to the device, one report more at a time.
 use Rattle.std.specs.Prelude.{ℕ, ◌≡◌, ◌≤◌, ◌+◌, Bool, true, false, cond, List, [], ◌∷◌, ◌++◌}
 use Rattle.std.specs.List.{fold}
 use Rattle.std.proofs.Common.{refl, sym, ap, subst, inl, inr, arith}

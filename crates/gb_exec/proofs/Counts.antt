@@ -1,4 +1,4 @@
--- Counts of refusals: what many of them come to.
+-- Counts of refusals: the sum of many of them.
 use Rattle.std.proofs.Common.{◌≡◌, ◌+◌, ◌-◌, ◌^◌, ℕ, Bool, true, false, not, cond, List, [], ◌∷◌, ◌++◌, length, arith, refl}
 use Rattle.std.specs.List.{count_by, fold, items_where_true}
 use Rattle.std.proofs.Math.Nat.{sub-add-min_cancel}

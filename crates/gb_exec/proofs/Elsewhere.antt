@@ -1,4 +1,4 @@
--- A turn remembers and forgets of its own task alone.
+-- An execution changes what is remembered only of its own task.
 use Rattle.std.specs.Prelude.{◌≡◌, true, false, not, cond, Option, Some, None, bytes_eq}
 use Rattle.std.proofs.Common.{refl, ap, ◌∙◌, inl, inr}
 use Rattle.gb_folder.specs.Files.{is_empty}
@@ -65,7 +65,7 @@ module _ (kinds : Kinds) (options : Options) (task : Task) (old new : World) (pa
   leaves_others (outcomes.Failed fault) leaves = failure fault (early_case task old.folder) leaves
   leaves_others outcomes.NotRun leaves = same leaves
 
--- of another task than that whose turn it is the same is remembered
+-- of every task but the executed one the same is remembered
 pub turn_leaves_others : (rules : Rules) (moment : Moment) (planned : Planned) (report : TaskReport) (new : Standing) → Turn rules moment planned report new
     → (path : Path) → bytes_eq path planned.task.path ≡ false → recalled new.world.memory path ≡ recalled moment.world.memory path
 turn_leaves_others rules moment planned report new turn path other = elim turn.2 [

@@ -1,4 +1,4 @@
--- What was told in two parts was told as a whole.
+-- A notification in two parts is a notification of the whole.
 use Rattle.std.proofs.Common.{◌≡◌, ◌≤◌, ◌+◌, ℕ, Bool, true, false, not, List, [], ◌∷◌, ◌++◌, length, ap, sym, ◌∙◌, arith, refl}
 use Rattle.std.specs.List.{AllZip, count_by, items_where_true}
 use Rattle.std.proofs.lemmas.List.{length-append, append_assoc}
@@ -24,7 +24,7 @@ kept_short (b ∷ bs) [] = omega arith
 kept_short (true ∷ bs) (x ∷ xs) = let rest = kept_short bs xs in omega (arith, rest)
 kept_short (false ∷ bs) (x ∷ xs) = let rest = kept_short bs xs in omega (arith, rest)
 
--- who kept as many has kept all
+-- a listener that kept as many has kept all
 kept_whole : (bs : List Bool) (xs : List Heard) → length (items_where_true bs xs) ≡ length xs → items_where_true bs xs ≡ xs
 kept_whole [] [] same = refl
 kept_whole [] (x ∷ xs) same = absurd (omega (arith, same))
@@ -37,7 +37,7 @@ kept_whole (false ∷ bs) (x ∷ xs) same = let short = kept_short bs xs in absu
 pair_is : (ear : Ear) (hears : List Heard) (count : ℕ) → ear.0 ≡ hears → ear.1 ≡ count → ear ≡ (hears, count)
 pair_is (heard, refused) hears count same also = ap (λ (xs : List Heard). (xs, refused)) same ∙ ap (λ (n : ℕ). (hears, n)) also
 
--- who has heard as many as were told has heard them all, and refused none
+-- a listener that got as many notifications as were sent has got them all, and refused none
 heard_whole : (told : List Heard) (old new : Ear) → HearsSome told old new → length new.0 ≡ length old.0 + length told → HearsAll told old new
 heard_whole told old new some long =
     let is = ap (λ (ear : Ear). length ear.0) some.2 in
@@ -66,7 +66,7 @@ module _ (first later : List Heard) (old mid new : Ear) where
             (counted_both old.1 (count_by not a.0) (count_by not b.0) ∙ ap (counted old.1) (sym (refused_both a.0 b.0))),
       )
 
-  -- who has heard it all has heard each part
+  -- a listener that got all notifications got those of each part
   parts : HearsSome first old mid → HearsSome later mid new → HearsAll (first ++ later) old new → HearsAll first old mid × HearsAll later mid new
   parts a b all =
       let total = ap (λ (ear : Ear). length ear.0) all in

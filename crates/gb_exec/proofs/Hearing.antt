@@ -1,4 +1,4 @@
--- What listeners hear of one report more.
+-- The notifications of one report more.
 use Rattle.std.specs.Prelude.{ℕ, ◌≡◌, true, false, cond, List, [], ◌∷◌, ◌++◌}
 use Rattle.std.specs.List.{AllZip}
 use Rattle.std.proofs.Common.{refl, ap, sym, ◌∙◌}
@@ -27,7 +27,7 @@ each_told (ear ∷ ears) = (
   each_told ears,
 )
 
--- told of nothing, all have heard it
+-- where there is nothing to notify of, all were notified
 pub untold : (ears : List Ear) → AllTold [] true ears ears
 untold ears = record { each = each_told ears; whole = (λ _. all_heard ears, λ _. refl) }
 

@@ -25,7 +25,7 @@ none_failed : (count : ℕ) → list_any has_failed (replicate count ToCome) ≡
 none_failed zero = refl
 none_failed (suc count) = none_failed count
 
--- ---- Before the first turn
+-- ---- Before the first execution
 
 pub at_first : (needs finalizers : List (List ℕ)) (wanted : List Bool) (endings called serving : ℕ)
     → endings ≡ length needs → called ≡ length needs → serving ≡ length needs → IsWired needs finalizers wanted
@@ -106,7 +106,7 @@ module _ (progress : Progress) (marks : List Bool) (are : (task : ℕ) → (mark
   serves_spread task (by_call is) = marked ((are task).1 is)
   serves_spread task (needed {later} s c) = further (serves_spread later s) c
 
--- ---- The end of a turn
+-- ---- The end of an execution
 
 module _ (progress : Progress) (marks serving : List Bool) (is_spread some_failed : Bool) (keeps : Keeps progress marks serving is_spread some_failed)
     (task : ℕ) (ending : Ending) (known : task < length progress.needs) (to_come : ending_in progress.endings task ≡ ToCome) where

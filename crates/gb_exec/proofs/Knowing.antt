@@ -1,4 +1,5 @@
--- What was read of a task is known of it when its turn comes, where what was seen is clear.
+-- What was read of a task is known of it when its execution begins, where the contents that were read are
+-- collision-free.
 use Rattle.std.specs.Prelude.{ℕ, ◌≡◌, ◌⊎◌, ◌++◌, List, [], ◌∷◌, Contains, Option, Some, None, bytes_eq, slice_get, slice_index_or, IsTrue, false}
 use Rattle.std.specs.List.{AllZip, flat_map, list_any}
 use Rattle.std.proofs.Common.{zero, suc, sym, subst, inl, inr}

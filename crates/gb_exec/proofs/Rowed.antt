@@ -1,4 +1,4 @@
--- Rows made from a plan tell its needs and finalizers; and what a task needs stands before it.
+-- Rows made from a plan have its needs and finalizers; and what a task needs comes before it.
 use Rattle.std.specs.Prelude.{ℕ, zero, suc, ◌≡◌, ◌<◌, ◌⊎◌, ◌↔◌, Bool, true, false, cond, ◌||◌, List, [], ◌∷◌, ◌++◌, map, length, get_or, take, bytes_eq, refl, Contains, Some, slice_get, option_map}
 use Rattle.std.proofs.Common.{sym, ap, subst, ◌∙◌, inl, inr, arith, append-nil}
 use Rattle.std.proofs.lemmas.Option.{slice_get_within, slice_get-map, get_or_from_slice_get}
@@ -41,9 +41,9 @@ module _ (plan : List Planned) (numbers : Numbers) (tell : TellNumbers (order pl
     );
   }
 
--- ---- What is needed stands before
+-- ---- What is needed comes before
 
--- when its turn comes, each task is ready
+-- when its execution begins, each task is ready
 ready_at : (plan : List Planned) (standing : List Path) (rest : List Planned) → stuck plan standing rest ≡ [] → (number : ℕ) (planned : Planned)
     → slice_get rest number ≡ Some planned → is_ready plan (standing ++ order (take number rest)) planned.task ≡ true
 ready_at plan standing [] none number planned here = none_some here

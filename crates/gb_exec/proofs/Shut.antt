@@ -1,4 +1,5 @@
--- What is in the way of a record in a build was so before it: so its turns fail by what stood at first.
+-- What is in the way of a record in a build was so before it: so its executions fail by what existed at
+-- first.
 use Rattle.std.specs.Prelude.{◌≡◌, ◌⊎◌, ◌||◌, Bool, true, false, not, List, [], ◌∷◌, Option, IsTrue}
 use Rattle.std.specs.List.{AllByRecursion, list_any}
 use Rattle.std.specs.Cmp.Lexicographic.{bytes_decides}
@@ -27,7 +28,7 @@ use Rattle.gb_turn.proofs.Own.{blocked_where, false_if, kept_at, not_in_own_way}
 use Rattle.gb_turn.proofs.Parts.{blocked_by_own}
 use Rattle.gb_exec.specs.Building.{is_of_turns}
 
--- a task that records can stand of, and none of whose outputs is the tool's own
+-- a task that can have a record, and none of whose outputs is the tool's own
 pub record HasOwnPlaces (planned : Planned) : Type 0 where
   pub is_path : IsTrue (is_task_path planned.task.path)
   pub not_own : list_any (λ output. is_own output.place) planned.task.outputs ≡ false
@@ -144,7 +145,7 @@ module _ (kinds : Kinds) (registry_of : Registering) (may_leave second : Tearing
   may_so (faults.BadLine a) may = absurd may
   may_so faults.Usage may = absurd may
 
-  -- a turn over what stands now in the tool's own is one over what stood there at first
+  -- an execution over the tool's own files of now is one over those of the beginning
   pub turn_so : (report : TaskReport) → Turn (rules_in (setting_with kinds registry_of second) (own_files now) options plan) moment planned report new
       → Turn (rules_in (setting_with kinds registry_of may_leave) (own_files old) options plan) moment planned report new
   turn_so report turn = turn_weaker kinds options plan (may_come (setting_with kinds registry_of second) (own_files now) options) (may_come (setting_with kinds registry_of may_leave) (own_files old) options) moment planned report new may_so turn

@@ -1,4 +1,4 @@
--- A dry run: nothing starts, and nothing is told or blamed.
+-- A dry run: nothing starts, no listener is notified, and no fault is attributed to the device.
 use Rattle.std.specs.Prelude.{ℕ, ◌≡◌, ◌+◌, Bool, true, List, [], ◌∷◌, IsTrue}
 use Rattle.std.specs.List.{AllZip, fold}
 use Rattle.std.proofs.Common.{refl, sym, subst, ◌∙◌, inl, arith, add-zero}

@@ -1,4 +1,4 @@
--- The turn of one task, started or passed over.
+-- The execution of one task, started or passed over.
 use Rattle.std.specs.Prelude.{ℕ, ◌≡◌, false, List, [], ◌∷◌, ◌++◌, Option, Some, None, is_some, slice_get}
 use Rattle.std.specs.List.{flat_map, list_any}
 use Rattle.std.proofs.Common.{zero, suc, refl, sym, ap, subst, ◌∙◌, inl, inr}
@@ -48,7 +48,7 @@ pub read_so : (kinds : Kinds) (task : Task) (world : World) (read : Option Recor
 read_so kinds task world None known = ap is_some known
 read_so kinds task world (Some run) known = ap is_some known.1
 
--- ---- Turns
+-- ---- Executions
 
 pub turn_passed : (kinds : Kinds) (registry_of : Registering) (may_leave : Tearing) (options : Options) (plan : Plan) (moment : Moment) (planned : Planned) (report : TaskReport)
     (folder : Contents) (after : ℕ) → report ≡ report_with NotRun planned → (¬ DoesStart options plan moment planned) → moment.world.folder ≡ outside folder → Standing folder.files moment.world.memory

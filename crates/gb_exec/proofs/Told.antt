@@ -1,4 +1,4 @@
--- Listeners are told one after another, and of one thing after another.
+-- Listeners are notified one after another, and of one thing after another.
 use Rattle.std.proofs.Common.{◌≡◌, ◌<◌, ◌+◌, ℕ, Bool, true, false, ◌&&◌, List, [], ◌∷◌, ◌++◌, length, take, drop, get_or, ap, sym, subst, ◌∙◌, inl, inr, arith, refl, append-nil}
 use Rattle.std.specs.List.{AllZip}
 use Rattle.std.proofs.lemmas.Bool.{cases_Bool, false≢true}
@@ -30,7 +30,7 @@ both_of false b e = absurd (false≢true e)
 
 -- ---- One listener more
 
--- who refuses has not heard
+-- a listener that refuses has not got the notification
 refused_not_heard : (told : Heard) (old new : Ear) → Refuses old new → HearsAll (told ∷ []) old new → ⊥
 refused_not_heard told old new refuses heard =
     let longer = ap (λ (ear : Ear). length ear.0) (sym refuses ∙ heard) in
@@ -59,7 +59,7 @@ one_more told all r olds news old new before heard refused = record {
 pub none_yet : (told : Heard) → AllTold (told ∷ []) true [] []
 none_yet told = record { each = tt; whole = (λ _. tt, λ _. refl) }
 
--- the listener at an index, of those of which the ones before it were told
+-- the listener at an index, where those before it were notified
 pub step : (told : Heard) (all r : Bool) (olds news : List Ear) (at : ℕ) (old new : Ear) → at < length news → length olds ≡ length news → get_or news at old ≡ old
     → AllTold (told ∷ []) all (take at olds) (take at news) → drop at news ≡ drop at olds
     → (r ≡ true → HearsAll (told ∷ []) old new) → (r ≡ false → Refuses old new)

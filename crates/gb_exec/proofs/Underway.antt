@@ -1,4 +1,4 @@
--- A build that is underway: what holds between two turns, and one turn more.
+-- A build that is underway: what holds between two executions, and one execution more.
 use Rattle.std.specs.Prelude.{ℕ, ◌≡◌, ◌≤◌, ◌⊎◌, ◌||◌, Bool, true, false, not, List, [], ◌∷◌, ◌++◌, map, bytes_eq, IsTrue}
 use Rattle.std.specs.List.{AllByRecursion, flat_map, list_any}
 use Rattle.std.proofs.Common.{refl, sym, ap, ap₂, subst, ◌∙◌, inl, inr, append_assoc, arith}
@@ -66,7 +66,7 @@ places_append [] rest = refl
 places_append (planned ∷ front) rest =
     ap (λ (places : List Place). output_places planned.task ++ places) (places_append front rest) ∙ sym (append_assoc (output_places planned.task) (places_of front) (places_of rest))
 
--- no task that had its turn has an output at a place of one that comes
+-- no executed task has an output at a place of a task to come
 made_apart : (front rest : List Planned) (planned : Planned) → some_overlap (places_of (front ++ planned ∷ rest)) ≡ false → (q : Place) → is_made_by front q ≡ true
     → is_output_of planned.task q ≡ false
 made_apart front rest planned apart q made =
@@ -101,12 +101,12 @@ module _ (kinds : Kinds) (registry_of : Registering) (may_leave : Tearing) (clea
   abbrev pub granted : Guard
   granted = guard setting clear old
 
-  -- the records of what is remembered stand, and of the tasks to come it is what was at first
+  -- the records of what is remembered exist, and of the tasks to come it is what was remembered at first
   pub record IsStill (rest : List Planned) (files : Files) (memory : Memory) : Type 0 where
     pub standing : Standing files memory
     pub same : AllByRecursion (λ planned. recalled memory planned.task.path ≡ recalled old.remembered planned.task.path) rest
 
-  -- not all that was seen was clear
+  -- not all contents that were read are collision-free
   pub record IsLost (seen_now : List Bytes) : Type 0 where
     pub some : List Bytes
     pub not_clear : ¬ granted some
@@ -120,14 +120,14 @@ module _ (kinds : Kinds) (registry_of : Registering) (may_leave : Tearing) (clea
     pub failures : moment.failures ≡ now.failures
     pub differs : DiffersOnlyAt (is_made_by front) (outside old.contents).files (outside now.contents).files
     pub keeps : Among seen seen_now
-    -- what was seen stood before, or stays at the outputs made so far
+    -- what was read existed before, or stays at the outputs made so far
     pub among : (later : Files) → files_where (is_made_by front) later ≡ files_where (is_made_by front) (outside now.contents).files
         → Among seen_now (seen ++ contents_outside old.contents ++ contents_in later)
     pub known : IsStill rest now.contents.files moment.world.memory ⊎ IsLost seen_now
     pub joins : (reports : List TaskReport) (new : Stands) → Turns rules granted seen_now rest moment reports new
         → Turns rules granted seen plan (first_moment (record { world = world_in old; failures = old.failures })) (done ++ reports) new
 
-  -- ---- Before the first turn
+  -- ---- Before the first execution
 
   pub begun : (IsTrue clear → Standing old.contents.files old.remembered) → IsUnderway [] plan [] (record { contents = old.contents; failures = old.failures })
   begun stands = record {
@@ -151,7 +151,7 @@ module _ (kinds : Kinds) (registry_of : Registering) (may_leave : Tearing) (clea
       by true e = inl (record { standing = stands e; same = all_same plan })
       by false e = inr (record { some = []; not_clear = λ given. not_false (sym given.0 ∙ e); among = λ c h. not_true h })
 
-  -- ---- One turn more
+  -- ---- One execution more
 
   module _ (front rest : List Planned) (planned : Planned) (whole : plan ≡ front ++ planned ∷ rest) (done : List TaskReport) (now : Shown) (u : IsUnderway front (planned ∷ rest) done now)
       (report : TaskReport) (next : Shown) (count : now.failures ≤ next.failures) (is_folder : IsFolder next.contents.files)
@@ -175,7 +175,7 @@ module _ (kinds : Kinds) (registry_of : Registering) (may_leave : Tearing) (clea
     last_of_front : (q : Place) → is_output_of planned.task q ≡ true → is_made_by (front ++ planned ∷ []) q ≡ true
     last_of_front q e = any_append (λ (p : Planned). is_output_of p.task q) front (planned ∷ []) ∙ or_right (is_made_by front q) (is_output_of planned.task q || false) (ap (λ b. b || false) e)
 
-    -- what stands at the outputs made so far stays
+    -- what is at the outputs made so far stays
     stays : (later : Files) → files_where (is_made_by (front ++ planned ∷ [])) later ≡ files_where (is_made_by (front ++ planned ∷ [])) (outside next.contents).files
         → files_where (is_made_by front) later ≡ files_where (is_made_by front) (outside now.contents).files
     stays later e =
@@ -257,7 +257,7 @@ module _ (kinds : Kinds) (registry_of : Registering) (may_leave : Tearing) (clea
               others more apart_all.1 same_all.1,
             )
 
-  -- ---- After the last turn
+  -- ---- After the last execution
 
   pub built : (done : List TaskReport) (new : Shown) → options.dry_run ≡ false → IsUnderway plan [] done new → HasBuilt setting clear seen options plan old done new
   built done new wet u = record {

@@ -1,4 +1,4 @@
--- What a build asks of a folder, whichever it is, and what it reports by what was answered: task after task.
+-- The calls of a build, over any folder, and what it reports by the answers: task after task.
 use Rattle.std.specs.Prelude.{ℕ, ◌≡◌, List, [], ◌∷◌, Option}
 use Rattle.gb_action.specs.Meanings.{Meanings}
 use Rattle.gb_folder.specs.Calls.{Call}
@@ -12,8 +12,8 @@ use Rattle.gb_turn.specs.ByOutcome.{TurnAsks}
 
 module _ {F S : Type 0} (failures : F → ℕ) (may_leave : F → Tearing) (asked : F → Call → F → Type 0)
     (meanings : Meanings S) (rows : Rows S) (options : Options) where
-  -- The executions of the tasks of a plan, one after another, each from where the one before it ended: of each
-  -- task the record that was read of it, and its report.
+  -- The executions of the tasks of a plan, one after another, each from the state in which the one before it
+  -- ended: for each task the record that was read of it, and its report.
   abbrev pub TurnsAsk : List Planned → List (Option Record) → List TaskReport → F → F → Type 0
   TurnsAsk [] [] [] old new = new ≡ old
   TurnsAsk (planned ∷ plan) (last ∷ records) (report ∷ reports) old new =

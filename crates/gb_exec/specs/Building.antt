@@ -1,4 +1,4 @@
--- What a build asks of its plan, and where its tasks change files.
+-- What a build requires of its plan, and where its tasks change files.
 use Rattle.std.specs.Prelude.{◌≡◌, Bool, true, List, []}
 use Rattle.std.specs.List.{AllByRecursion, list_any}
 use Rattle.gb_action.specs.Meanings.{Meanings}
@@ -9,7 +9,7 @@ use Rattle.gb_plan.specs.declared.plan.Planned.{Planned}
 use Rattle.gb_turn.specs.Buildable.{IsBuildable}
 use Rattle.gb_turn.specs.Turned.{is_of_turn}
 
--- Each task of the plan can be built, stands once and gets ready, and the plan is sound.
+-- Each task of the plan can be built, occurs once and gets ready, and the plan is sound.
 pub record CanBuild {S : Type 0} (meanings : Meanings S) (rows : Rows S) (plan : Plan) : Type 0 where
   pub tasks : AllByRecursion (λ planned. IsBuildable meanings rows planned.task) plan
   pub once : no_repeats (order plan) ≡ true

@@ -1,4 +1,4 @@
--- What a build leaves, over a folder that tells what it holds.
+-- What a build leaves, over a folder whose contents are known.
 use Rattle.std.specs.Prelude.{ℕ, Bool, List, Option, IsTrue, Contains}
 use Rattle.std.specs.List.{AllByRecursion, AllZip, flat_map}
 use Rattle.gb_folder.specs.Files.{Bytes, Contents}
@@ -20,8 +20,8 @@ use Rattle.gb_report.specs.declared.report.TaskReport.{TaskReport}
 
 -- ---- Before a build
 
--- The records of what is remembered stand in the folder, and all of it is true; these are what was read of
--- the plan's tasks; and all contents that are remembered were seen.
+-- The records of what is remembered exist in the folder, and all of it is true; these are what was read of
+-- the plan's tasks; and all remembered contents are among those that were read.
 pub record AreWorth (kinds : Kinds) (plan : Plan) (records : List (Option Record)) (seen : List Bytes)
     (folder : Contents) (remembered : Memory) : Type 0 where
   pub standing : Standing folder.files remembered
@@ -30,9 +30,9 @@ pub record AreWorth (kinds : Kinds) (plan : Plan) (records : List (Option Record
   pub was_seen : (bytes : Bytes) → Contains (flat_map (λ entry. contents_of entry.1) remembered) bytes
       → Contains seen bytes
 
--- ---- One turn
+-- ---- One execution
 
--- It was the turn of a task of the plan, and the records of what is remembered after it stand.
+-- This was the execution of a task of the plan, and the records of what is remembered after it exist.
 pub record IsTurnOf (setting : Setting) (options : Options) (plan : Plan) (moment : Moment)
     (planned : Planned) (report : TaskReport) (old : Contents) (after : ℕ) (new : Contents) : Type 0 where
   pub memory : Memory
@@ -42,12 +42,13 @@ pub record IsTurnOf (setting : Setting) (options : Options) (plan : Plan) (momen
 
 -- ---- After a build
 
--- a build goes by its records where all was clear before it, and no two contents seen in it have one digest
+-- a build is based on its records where all was collision-free before it, and no two contents read in it have
+-- one digest
 abbrev pub guard : Setting → Bool → State → Guard
 guard setting clear old = StillClear setting (IsTrue clear) old
 
--- From a state to this folder it is a build of the plan, as far as what was seen is clear; and if all of that
--- is, the records of what is remembered stand after it.
+-- From a state to this folder it is a build of the plan, where the contents that were read are
+-- collision-free. If all of these are, the records of what is remembered exist after it.
 pub record HasBuilt (setting : Setting) (clear : Bool) (seen : List Bytes) (options : Options) (plan : Plan)
     (old : State) (reports : List TaskReport) (new : Shown) : Type 0 where
   pub remembered : Memory

@@ -1,4 +1,4 @@
--- How often a build blames the device.
+-- How often a build attributes a fault to the device.
 use Rattle.std.specs.Prelude.{ℕ, List, count_by}
 use Rattle.gb_meaning.specs.Headline.{failed_by_device}
 use Rattle.gb_report.specs.declared.report.TaskReport.{TaskReport}

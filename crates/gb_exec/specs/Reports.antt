@@ -5,7 +5,7 @@ use Rattle.gb_plan.specs.declared.plan.Planned.{Planned}
 use Rattle.gb_report.specs.declared.report.Outcome.{Outcome}
 use Rattle.gb_report.specs.declared.report.TaskReport.{TaskReport}
 
--- the report tells of the task
+-- the report is of the task
 pub record IsOf (planned : Planned) (report : TaskReport) : Type 0 where
   pub path : report.path ≡ planned.task.path
   pub has_actions : report.has_actions ≡ not (is_empty planned.task.actions)

@@ -1,4 +1,4 @@
--- Which tasks start. They are numbered 0, 1, .. in the order of their turns.
+-- Which tasks start. They are numbered 0, 1, .. in the order of their executions.
 use Rattle.std.specs.Prelude.{ℕ, ◌≡◌, ◌<◌, [], Bool, true, false, not, ◌&&◌, ◌⊎◌, ◌↔◌, List, map, length}
 use Rattle.std.specs.Prelude.{Contains, IsTrue, Vec, slice_index_or}
 use Rattle.std.specs.List.{list_any}
@@ -8,7 +8,7 @@ use Rattle.gb_report.specs.declared.report.Outcome.TheVariants as outcomes
 use Rattle.gb_exec.specs.declared.starts.Ending.{Ending}
 use Rattle.gb_exec.specs.declared.starts.Ending.TheVariants.{ToCome, Executed, Well, Failed, NotRun}
 
--- rows of numbers, without where they lie
+-- rows of numbers, without their allocations
 abbrev pub rows : List (Vec ℕ Global) → List (List ℕ)
 rows vecs = map (λ v. v.items) vecs
 
@@ -19,7 +19,7 @@ abbrev pub mark_at : List Bool → ℕ → Bool
 mark_at marks number = slice_index_or marks number false
 
 -- Of each task those that it needs and those that finalize it; whether it is wanted, as it is selected or a
--- task of the plan needs it; and how its turn ended, if it has had it.
+-- task of the plan needs it; and how its execution ended, if it has ended.
 pub record Progress : Type 0 where
   pub needs : List (List ℕ)
   pub finalizers : List (List ℕ)
@@ -36,7 +36,7 @@ pub record IsWired (needs finalizers : List (List ℕ)) (wanted : List Bool) : T
 abbrev pub ending_in : List Ending → ℕ → Ending
 ending_in endings task = slice_index_or endings task ToCome
 
--- how a turn with this outcome ended
+-- how an execution with this outcome ended
 abbrev pub ending_of : Outcome → Ending
 ending_of (outcomes.Failed fault) = Failed
 ending_of outcomes.NotRun = NotRun
@@ -89,7 +89,7 @@ pub data Serves (progress : Progress) : ℕ → Type 0 where
   needed : {later : ℕ} {task : ℕ} → Serves progress later → Contains (row progress.needs later) task
       → Serves progress task
 
--- a task has failed, and the build is not to go on
+-- a task has failed, and the build is not to continue
 abbrev pub is_stopping : Bool → Progress → Bool
 is_stopping keep_going progress = list_any has_failed progress.endings && not keep_going
 
@@ -112,8 +112,8 @@ pub data Spreads (needs : List (List ℕ)) (marks : List Bool) : ℕ → Type 0 
 
 -- ---- What is kept
 
--- The marks are true of the endings so far: what is called, and where it has been looked for, what serves a
--- finalizer.
+-- The marks are true of the endings so far: which tasks are called, and, once that was computed, which serve
+-- a finalizer.
 pub record Keeps (progress : Progress) (called serving : List Bool)
     (is_spread some_failed : Bool) : Type 0 where
   pub wired : IsWired progress.needs progress.finalizers progress.wanted

@@ -1,4 +1,4 @@
--- What a call leaves of what listeners have heard.
+-- How a call changes the notifications that listeners have got.
 use Rattle.std.specs.Prelude.{ℕ, ◌≡◌, ◌↔◌, Bool, true, not, ◌&&◌, List, ◌++◌, Option, None, Some}
 use Rattle.std.specs.List.{AllZip}
 use Rattle.std.specs.Borrow.{Bor}
@@ -9,30 +9,30 @@ use Rattle.gb_report.specs.declared.report.Heard.TheVariants as heard
 use Rattle.gb_report.specs.declared.report.Report.{Report}
 use Rattle.gb_report.specs.declared.report.Outcome.{Outcome}
 
--- what is told of a task: that its turn has come, or with which outcome it ended
+-- the notification of a task: that its execution begins, or with which outcome it ended
 abbrev pub told_of : List ℕ → Option (Bor Outcome) → Heard
 told_of task None = heard.Start task
 told_of task (Some outcome) = heard.End task outcome.now
 
--- it has refused what it was told: it counts one refusal more, and has heard no more
+-- the listener has refused the notification: it counts one refusal more, and has got no further notification
 abbrev pub Refuses : Ear → Ear → Type 0
 Refuses old new = new ≡ (old.0, counted old.1 1)
 
--- All listeners were told; and it is known whether each has heard it all.
+-- All listeners were notified; and the result is whether each has accepted all of it.
 pub record AllTold (told : List Heard) (all_heard : Bool) (old new : List Ear) : Type 0 where
   pub each : AllZip (HearsSome told) old new
   pub whole : (all_heard ≡ true) ↔ AllZip (HearsAll told) old new
 
--- ---- What tellings come to
+-- ---- The result of many notifications
 
--- Told of some things and then of others, listeners were told of them all.
+-- If listeners were notified of some things and then of others, they were notified of all of them.
 abbrev pub ToldMore : Type 0
 ToldMore =
     (first later : List Heard) (all_first all_later : Bool) (old mid new : List Ear)
     → AllTold first all_first old mid
     → AllTold later all_later mid new → AllTold (first ++ later) (all_first && all_later) old new
 
--- Who was told of each task of a report that was started has heard the build.
+-- Listeners that were notified of each started task of a report were notified of the build.
 abbrev pub ToldIsHeard : Type 0
 ToldIsHeard =
     (report : Report) (all_heard : Bool) (old new : List Ear) → report.listener_refused ≡ not all_heard

@@ -1,4 +1,4 @@
--- What the contract of `execute` speaks of.
+-- The definitions that the contract of `execute` uses.
 pub use Rattle.gb_exec.specs.Asking.{TurnsAsk}
 pub use Rattle.gb_exec.specs.Building.{CanBuild, is_of_turns}
 pub use Rattle.gb_exec.specs.Built.{AreWorth, HasBuilt}

@@ -33,10 +33,11 @@ use gb_printer::printer::Printer;
 use gb_report::report::{Options, Report, TaskReport, TaskReports};
 use std::alloc::{AllocError, Global};
 
-/// Builds a plan. `records` has what was read of its tasks' records, in their order. Each task that starts is
-/// told to all listeners before its turn and after it, and its part is printed as soon as its turn has ended.
-/// It fails only for want of memory before the first turn, with nothing changed, nothing told and nothing
-/// printed; what goes wrong later is told as a task's failure. In a dry run nothing starts, each task is
+/// Builds a plan. `records` has what was read of its tasks' records, in their order. All listeners
+/// are notified of each task that starts, before its execution and after it, and the part of the
+/// task is printed as soon as its execution has ended. The build fails only for want of memory
+/// before the first execution, with nothing changed, no listener notified and nothing printed; what
+/// goes wrong later is reported as a task's failure. In a dry run nothing starts, each task is
 /// reported as skipped, and nothing is printed.
 pub fn execute<A: Actions, F: Folder, L: TaskListener, P: Printer>(
     alloc: Global,
@@ -55,7 +56,7 @@ pub fn execute<A: Actions, F: Folder, L: TaskListener, P: Printer>(
     ensures unprinted { OnErr result (printer.new ≡ printer.old) }
     ensures dry_run { IfOk result (λ report. report.dry_run ≡ options.dry_run) }
     ensures of_tasks { IfOk result (λ report. AllZip IsOf plan.now report.tasks) }
-    // Over any folder: which tasks start, and what each may answer.
+    // Over any folder: which tasks start, and which outcomes are possible for each.
     ensures outline { IfOk result (λ report. Outlines options plan.now report.tasks) }
     ensures heard { IfOk result (λ report.
         HaveHeard report (map L.ear listeners.old.items) (map L.ear listeners.new.items)) }
@@ -64,18 +65,18 @@ pub fn execute<A: Actions, F: Folder, L: TaskListener, P: Printer>(
         Prints P.contents P.whole (parts_text report) printer.old printer.new) }
     ensures count { F.failures folder.old ≤ F.failures folder.new }
     ensures tearing { SameTearing (F.may_leave folder.old) (F.may_leave folder.new) }
-    // Over any folder: task after task, each from where the one before it ended, what its outcome lets it ask
-    // for.
+    // Over any folder: task after task, each from the state in which the one before it ended, makes
+    // the calls that its outcome permits.
     ensures asks { IfOk result (λ report. TurnsAsk F.failures F.may_leave F.asked A.meanings table.now options
         plan.now records.now report.tasks folder.old folder.new) }
-    // The device is blamed no more often than it failed.
+    // Faults are attributed to the device no more often than it failed.
     ensures device { IfOk result (λ report.
         HasFailed (times_blamed report.tasks) (F.failures folder.old) (F.failures folder.new)) }
     ensures dry { options.dry_run ≡ true → folder.new ≡ folder.old }
     ensures changes { IsTrue F.tells
         → ChangesOnly (is_of_turns plan.now) (F.contents folder.old) (F.contents folder.new) }
-    // From records that are worth it, this is a build of the plan, and the records of what is remembered
-    // stand after it.
+    // If `AreWorth` holds of the records, this is a build of the plan, and the records of what is
+    // remembered exist after it.
     ensures build { IsTrue F.tells → IfOk result (λ report. (kinds : Kinds) (registry_of : Registering)
         (remembered : Memory) (clear : Bool) (seen : List Bytes)
         → IsGranted A.meanings table.now kinds (F.may_leave folder.old)

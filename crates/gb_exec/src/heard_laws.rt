@@ -1,12 +1,12 @@
-//! What many calls come to, each the contract of a function that does nothing.
+//! Laws of the notifications of many calls, each the contract of a function that does nothing.
 ghost use Rattle.gb_exec.specs.Telling.{ToldIsHeard, ToldMore};
 
-/// Calls one after another are one telling of all that was told.
+/// Calls one after another notify of the same things as one call with all of them.
 pub fn told_more()
     ensures { ToldMore }
 {}
 
-/// Listeners that were told of each started task have heard the build.
+/// Listeners that were notified of each started task were notified of the build.
 pub fn told_is_heard()
     ensures { ToldIsHeard }
 {}

@@ -1,16 +1,17 @@
 //! The execution of a plan, task by task.
 //!
 //! [`execute`] executes the tasks of a [`Plan`] in order over a [`Folder`], from the records that
-//! [`read_records`] has read. Each [`TaskListener`] is notified when a task starts and when it ends, the
-//! part of each task is printed once it has ended, and a [`Report`] has the outcome of each.
+//! [`read_records`] has read. Each [`TaskListener`] is notified when a task starts and when it
+//! ends, the part of each task is printed once it has ended, and a [`Report`] has the outcome of
+//! each.
 //!
-//! How it works: [`starts`] says which tasks start, by the outcomes of those before them. For each that
-//! starts, the listeners are notified, `gb_turn` executes it, the listeners are notified again, and its
-//! part of the report is printed. Memory for the report is taken before the first task, so that a build
-//! that has begun always has one. A dry run executes nothing.
+//! How it works: [`starts`] decides which tasks start, by the outcomes of those before them. For
+//! each that starts, the listeners are notified, `gb_turn` executes it, the listeners are notified
+//! again, and its part of the report is printed. Memory for the report is reserved before the first
+//! task, so that a build that has begun always has one. A dry run executes nothing.
 //!
-//! Whoever builds from scripts calls `gb_build`. `specs/Words.antt` hands on the definitions that the
-//! contract of [`execute`] names, so that the clauses of a caller can use them.
+//! Whoever builds from scripts calls `gb_build`. `specs/Words.antt` re-exports the definitions that
+//! the contract of [`execute`] names, so that the clauses of a caller can use them.
 #![tactic(auto)]
 
 pub mod building;

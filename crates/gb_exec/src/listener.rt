@@ -1,4 +1,4 @@
-//! What a listener is, and one that keeps what it hears.
+//! The trait of a listener, and a listener that keeps the notifications that it gets.
 ghost use Rattle.std.specs.Prelude.{◌≡◌, ◌++◌, [], ◌∷◌, OnOk, OnErr};
 ghost use Rattle.gb_meaning.specs.Headline.{HearsAll};
 ghost use Rattle.gb_report.specs.declared.report.Heard.TheVariants.{Start, End};
@@ -9,20 +9,21 @@ use gb_report::report::{Heard, Outcome};
 use std::alloc::{AllocError, Global};
 use std::marker::Model;
 
-/// One who is told of each task that starts. A call that is refused for memory leaves what was heard, and is
-/// counted.
+/// A listener is notified of each task that starts. A call that is refused for memory leaves the
+/// earlier notifications as they are, and is counted.
 pub trait TaskListener: Drop {
     ghost use Rattle.gb_meaning.specs.Headline.{Ear};
 
-    /// What it has heard, and how many calls it has refused: one more for each, up to the last value.
+    /// The notifications that it got, and how many calls it has refused: one more for each, up to
+    /// the last value.
     ghost ear: { Self → Ear };
 
-    /// The task's turn has come.
+    /// The task's execution begins.
     fn before_execute(&mut self, alloc: Global, task: &TaskPath) -> Result<(), AllocError>
         ensures ok { OnOk result (HearsAll (Start task.now ∷ []) (ear self.old) (ear self.new)) }
         ensures err { OnErr result (Refuses (ear self.old) (ear self.new)) };
 
-    /// The task's turn has ended.
+    /// The task's execution has ended.
     fn after_execute(
         &mut self,
         alloc: Global,
@@ -32,12 +33,12 @@ pub trait TaskListener: Drop {
         ensures ok { OnOk result (HearsAll (End task.now outcome.now ∷ []) (ear self.old) (ear self.new)) }
         ensures err { OnErr result (Refuses (ear self.old) (ear self.new)) };
 
-    /// What it has heard.
+    /// The notifications that it got.
     fn heard(&self) -> &[Heard]
         ensures { result.now ≡ (ear self.now).0 };
 }
 
-/// A listener that keeps what it hears.
+/// A listener that keeps the notifications that it gets.
 #[derive(Drop)]
 pub struct Recorder {
     heard: Vec<Heard>,
@@ -55,7 +56,7 @@ impl Model for Recorder {
 }
 
 impl Recorder {
-    /// It has heard nothing yet.
+    /// It has got no notification yet.
     pub fn new(alloc: Global) -> Recorder
         ensures { result ≡ ([], 0) }
     {

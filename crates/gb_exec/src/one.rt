@@ -1,4 +1,4 @@
-//! The turn of one task of a plan.
+//! The execution of one task of a plan.
 ghost use Rattle.std.specs.Prelude.{◌≡◌, ◌<◌, [], ◌∷◌, ℕ, List, None, Some, false, map, length};
 ghost use Rattle.std.specs.Prelude.{slice_get, slice_index_or, IsTrue};
 ghost use Rattle.gb_folder.specs.Files.{HasRisen};
@@ -38,8 +38,8 @@ use gb_report::report::{Options, Outcome, TaskReport};
 use gb_turn::turn::take_turn;
 use std::alloc::Global;
 
-/// What a build goes by: its tasks in their order, what is stored of their actions, the record that was read
-/// of each task, and how it is to be done.
+/// The input of a build: its tasks in their order, what is stored of their actions, the record that
+/// was read of each task, and the options of the build.
 #[derive(Drop)]
 pub(crate) struct Build<'a, S> {
     pub(crate) tasks: &'a [Planned],
@@ -48,7 +48,7 @@ pub(crate) struct Build<'a, S> {
     pub(crate) options: Options,
 }
 
-/// What became of a task, and whether all listeners heard of it.
+/// The report of a task, and whether all listeners were notified of it.
 #[derive(Drop)]
 pub(crate) struct Taken {
     pub(crate) report: TaskReport,
@@ -68,7 +68,7 @@ fn passed(alloc: Global, planned: &Planned, path: TaskPath) -> TaskReport
     }
 }
 
-/// Takes the turn of the task of a number, if it starts. The path is the task's own.
+/// Executes the task of a number, if it starts. The path is the task's own.
 pub(crate) fn take_one<A: Actions, F: Folder, L: TaskListener>(
     alloc: Global,
     folder: &mut F,
@@ -89,7 +89,7 @@ pub(crate) fn take_one<A: Actions, F: Folder, L: TaskListener>(
         → IsOf planned result.report }
     ensures heard { AllTold (heard_of false (result.report ∷ [])) result.all_heard
         (map L.ear listeners.old.items) (map L.ear listeners.new.items) }
-    // Over any folder: it asks for what its outcome lets it ask for.
+    // Over any folder: it makes the calls that its outcome permits.
     ensures asks { (planned : Planned) → slice_get build.now.tasks.now index ≡ Some planned
         → TurnAsks F.failures F.may_leave F.asked A.meanings build.now.table.now build.now.options
         planned.task (slice_index_or build.now.records.now index None) result.report.outcome
@@ -99,12 +99,13 @@ pub(crate) fn take_one<A: Actions, F: Folder, L: TaskListener>(
     ensures changes { IsTrue F.tells → (planned : Planned)
         → slice_get build.now.tasks.now index ≡ Some planned
         → ChangesOnly (is_of_turn planned.task) (F.contents folder.old) (F.contents folder.new) }
-    // Over any folder, at each moment with the outcomes so far, this is what is to hold of its report.
+    // Over any folder, at each moment with the outcomes so far, its report is one that the outline
+    // permits.
     ensures outline { (moment : Moment) (planned : Planned)
         → slice_get build.now.tasks.now index ≡ Some planned
         → AreEndings build.now.tasks.now moment.outcomes starts.old.endings
         → IsOutline build.now.options build.now.tasks.now moment planned result.report }
-    // Where what was read of the task is known of it, this is its turn.
+    // Where the record that was read of the task is known of it, this is its execution.
     ensures turn { IsTrue F.tells → (kinds : Kinds) (registry_of : Registering) (moment : Moment)
         (planned : Planned) → slice_get build.now.tasks.now index ≡ Some planned
         → IsGranted A.meanings build.now.table.now kinds (F.may_leave folder.old)

@@ -1,4 +1,4 @@
-//! The tasks of a plan, numbered as they stand in it.
+//! The tasks of a plan, numbered in its order.
 ghost use Rattle.std.specs.Prelude.{◌≡◌, ◌<◌, ◌⊎◌, ◌↔◌, [], ℕ, true, map, length, replicate};
 ghost use Rattle.std.specs.Prelude.{Contains, IfOk, vec_len};
 ghost use Rattle.gb_graph.specs.Ranked.{numbers_in};
@@ -89,7 +89,7 @@ fn mark_rows(table: &[Vec<usize>], marks: &mut Vec<bool>)
     }
 }
 
-/// A plan before its first turn.
+/// A plan before its first execution.
 pub fn starts_of(alloc: Global, plan: &[Planned]) -> Result<Starts, AllocError>
     requires once { no_repeats (order plan.now) ≡ true }
     requires all_ready { stuck plan.now [] plan.now ≡ [] }

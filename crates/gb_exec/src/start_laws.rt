@@ -1,4 +1,4 @@
-//! What numbers are worth, each the contract of a function that does nothing.
+//! Laws of starting tasks by number, each the contract of a function that does nothing.
 ghost use Rattle.gb_exec.specs.Plans.{NeedsByNumber, StartsByNumber};
 
 /// A task starts by its number exactly where the definition of a build starts it.

@@ -1,4 +1,4 @@
-//! Which task starts when its turn comes.
+//! Whether a task starts, at its place in the order.
 ghost use Rattle.std.specs.Prelude.{◌≡◌, ◌<◌, ◌⊎◌, ◌↔◌, ℕ, true, false, length, Contains, IsTrue, IfOk};
 ghost use Rattle.std.specs.Prelude.{map, slice_set, vec_len};
 ghost use Rattle.std.specs.List.{list_any};
@@ -10,16 +10,16 @@ use gb_report::report::Outcome;
 use std::alloc::{AllocError, Global};
 use std::marker::Model;
 
-/// How a task's turn ended, as far as it counts for the tasks after it.
+/// How a task's execution ended, in the terms that matter to the tasks after it.
 #[derive(Clone, Copy, Debug, PartialEq, Eq)]
 pub enum Ending {
-    /// Its turn is to come.
+    /// Its execution is still to come.
     ToCome,
     /// Its actions ran to their end, or it has none and a task that it needs was executed.
     Executed,
     /// It was started, was not executed, and did not fail.
     Well,
-    /// Its turn ended in a fault.
+    /// Its execution ended in a fault.
     Failed,
     /// It was not started, and will not be.
     NotRun,
@@ -28,7 +28,7 @@ pub enum Ending {
 impl Ending {
     ghost use Rattle.gb_exec.specs.Starts.{ending_of, has_failed, has_started};
 
-    /// How a turn with this outcome ended.
+    /// How an execution with this outcome ended.
     pub fn of(outcome: &Outcome) -> Ending
         ensures { result ≡ ending_of outcome.now }
     {
@@ -96,7 +96,8 @@ pub(crate) fn mark_all(row: &[usize], marks: &mut Vec<bool>)
     }
 }
 
-/// Marks all that the rows reach from what is marked. Each row has lesser numbers, so one way down is enough.
+/// Marks all that the rows reach from the marked numbers. Each row has lesser numbers, so one pass
+/// downwards is enough.
 fn spread(needs: &[Vec<usize>], marks: &mut Vec<bool>)
     requires marks { vec_len marks.old ≡ length needs.now }
     requires lesser { (later task : ℕ) → Contains (row (rows needs.now) later) task → task < later }
@@ -122,7 +123,7 @@ fn copy_marks(marks: &[bool], copied: &mut Vec<bool>)
     }
 }
 
-/// The tasks of a plan, and how their turns ended so far.
+/// The tasks of a plan, and how their executions ended so far.
 #[derive(Drop)]
 pub struct Starts {
     needs: Vec<Vec<usize>>,
@@ -133,7 +134,7 @@ pub struct Starts {
     called: Vec<bool>,
     /// Those, and what they need, and so on.
     serving: Vec<bool>,
-    /// Whether none was called since `serving` was looked for.
+    /// Whether none was called since `serving` was computed.
     is_spread: bool,
     some_failed: bool,
 }
@@ -166,8 +167,9 @@ impl Starts {
     ghost use Rattle.gb_exec.specs.Starts.{has_executed_need, is_stopping, lacks_need};
     ghost use Rattle.gb_exec.specs.declared.starts.Ending.TheVariants.{ToCome};
 
-    /// Before the first turn. Of each task the numbers of those that it needs, all less than its own, and of
-    /// those that finalize it; and whether it is selected, or a task of the plan needs it.
+    /// Before the first execution. Of each task the numbers of those that it needs, all less than
+    /// its own, and of those that finalize it; and whether it is selected, or a task of the plan
+    /// needs it.
     pub fn new(
         alloc: Global,
         needs: Vec<Vec<usize>>,
@@ -197,8 +199,8 @@ impl Starts {
         })
     }
 
-    /// Whether the task finalizes one that was started, or is reached by needs from such a one. Takes no
-    /// memory.
+    /// Whether the task finalizes one that was started, or is reached by needs from such a one.
+    /// Allocates no memory.
     fn serves(&mut self, task: usize) -> bool
         requires known { task < length self.old.needs }
         ensures same { self.new ≡ self.old }
@@ -220,7 +222,7 @@ impl Starts {
         some_ended_badly(self.needs[task].as_slice(), self.endings.as_slice())
     }
 
-    /// Whether a task that it needs was executed. Takes no memory.
+    /// Whether a task that it needs was executed. Allocates no memory.
     pub fn has_executed_need(&self, task: usize) -> bool
         requires known { task < length self.now.needs }
         ensures { result ≡ has_executed_need self.now task }
@@ -236,14 +238,14 @@ impl Starts {
         self.wanted[task] || self.called[task]
     }
 
-    /// Whether a task has failed, and the build is not to go on.
+    /// Whether a task has failed, and the build is not to continue.
     fn is_stopping(&self, keep_going: bool) -> bool
         ensures { result ≡ is_stopping keep_going self.now }
     {
         self.some_failed && !keep_going
     }
 
-    /// Whether the task starts, its turn having come. Takes no memory.
+    /// Whether the task starts, when it is next in the order. Allocates no memory.
     pub fn does_start(&mut self, task: usize, keep_going: bool) -> bool
         requires known { task < length self.old.needs }
         ensures same { self.new ≡ self.old }
@@ -258,7 +260,7 @@ impl Starts {
         self.serves(task)
     }
 
-    /// Notes with which outcome the task's turn ended. Takes no memory.
+    /// Records the outcome of the task's execution. Allocates no memory.
     pub fn end(&mut self, task: usize, outcome: &Outcome)
         requires known { task < length self.old.needs }
         requires to_come { ending_in self.old.endings task ≡ ToCome }

@@ -1,4 +1,4 @@
-//! Telling all listeners.
+//! The notification of all listeners.
 ghost use Rattle.std.specs.Prelude.{◌≡◌, ◌∷◌, [], map, true, false};
 ghost use Rattle.gb_meaning.specs.Headline.{HearsAll};
 ghost use Rattle.gb_exec.specs.Telling.{AllTold, Refuses, told_of};
@@ -8,7 +8,8 @@ use gb_core::path::TaskPath;
 use gb_report::report::Outcome;
 use std::alloc::Global;
 
-/// Tells one listener that a task's turn has come, or with which outcome it ended: whether it has heard it.
+/// Notifies one listener that a task's execution begins, or with which outcome it ended. Returns
+/// whether the listener has accepted it.
 fn tell_one<L: TaskListener>(
     alloc: Global,
     listener: &mut L,
@@ -25,8 +26,9 @@ fn tell_one<L: TaskListener>(
     }
 }
 
-/// Tells all listeners that a task's turn has come, or with which outcome it ended: whether each has heard
-/// it. A listener that refuses keeps none of the others from hearing.
+/// Notifies all listeners that a task's execution begins, or with which outcome it ended. Returns
+/// whether each has accepted it. A listener that refuses does not keep the others from being
+/// notified.
 pub fn tell<L: TaskListener>(
     alloc: Global,
     listeners: &mut Vec<L>,

@@ -1,4 +1,4 @@
-//! The turns of all tasks of a plan.
+//! The executions of all tasks of a plan.
 ghost use Rattle.std.specs.Prelude.{◌≡◌, ◌≤◌, ◌<◌, ◌+◌, ◌++◌, ◌∷◌, Bool, List, true, false, [], map, length};
 ghost use Rattle.std.specs.Prelude.{replicate, IsTrue, vec_len};
 ghost use Rattle.std.specs.List.{AllZip, flat_map};
@@ -37,7 +37,7 @@ use gb_report::report::TaskReport;
 use gb_turn::case_laws::what_is_read_is_known;
 use std::alloc::Global;
 
-/// Puts a report behind the others, for which there is room.
+/// Appends a report to the others, for which there is room.
 fn push_reserved(reports: &mut Vec<TaskReport>, report: TaskReport)
     requires { vec_len reports.old < vec_capacity reports.old }
     ensures items { reports.new.items ≡ reports.old.items ++ report ∷ [] }
@@ -50,9 +50,9 @@ fn push_reserved(reports: &mut Vec<TaskReport>, report: TaskReport)
     }
 }
 
-/// Takes the turns of all tasks, in their order, prints the part of each as soon as its turn has ended, and
-/// puts their reports into the room that there is for them. Tells whether all listeners heard all of it. The
-/// paths are those of the tasks.
+/// Executes all tasks, in their order, prints the part of each as soon as its execution has ended,
+/// and puts their reports into the room that is reserved for them. Returns whether all listeners
+/// were notified of all of it. The paths are those of the tasks.
 pub(crate) fn take_turns<A: Actions, F: Folder, L: TaskListener, P: Printer>(
     alloc: Global,
     folder: &mut F,
@@ -104,7 +104,7 @@ pub(crate) fn take_turns<A: Actions, F: Folder, L: TaskListener, P: Printer>(
     let mut all_heard = true;
     let mut index = 0;
     for path in paths {
-        // Records stand of paths of tasks alone, which this shows to be one.
+        // Records exist only for paths of tasks; this shows that the path is one.
         let _path = path.as_str();
         let taken = take_one::<A, F, L>(alloc, folder, build, starts, index, path, listeners);
         all_heard = all_heard && taken.all_heard;

@@ -16,7 +16,7 @@ use Rattle.gb_feed.specs.Sites.{for_site, xml, xml_address}
 
 -- ---- Entries
 
--- a day, at its begin in UTC
+-- a day at its beginning in UTC
 unfoldable pub updated : List ℕ → List ℕ
 updated date = codes "<updated>" ++ (xml date ++ codes "T00:00:00Z</updated>\n")
 
@@ -41,7 +41,7 @@ feed_entry base path title date =
     codes "<entry>\n" ++ (titled title ++ (at_address (xml_address base path)
     ++ (updated date ++ codes "</entry>\n")))
 
--- where the entry of a date is among all, and after that the path of its text
+-- the sort path of an entry: its date, and then the path of its text
 abbrev pub dated_path : List ℕ → List ℕ → Option (List ℕ)
 dated_path date path = if is_date date then as_path (date ++ codes "/" ++ path) else None
 
@@ -49,7 +49,7 @@ abbrev pub with_entry : Tree → List ℕ → List ℕ → Option (List ℕ) →
 with_entry days path made None = Err (path ++ codes ": date is not YYYY-MM-DD")
 with_entry days path made (Some day) = Ok (put byte_order day made days)
 
--- a text without a date has no entry, and one that is no page has none
+-- a text without a date has no entry, and neither has a text that is no page
 abbrev pub with_page : List ℕ → Tree → List ℕ → List ℕ → Option (List ℕ) → Option (List ℕ) → Option (List ℕ)
     → Result Tree (List ℕ)
 with_page base days path text (Some name) (Some page) (Some date) =
@@ -63,7 +63,7 @@ with_file base days path text =
     with_page base days path text (stem path) (page_path (stem path))
     (value_of (codes "date") (front_matter text))
 
--- the entries of all texts by their dates, beside others
+-- the entries of all texts by their dates, added to others
 abbrev pub entries : List ℕ → Tree → Tree → Result Tree (List ℕ)
 entries base days [] = Ok days
 entries base days (file ∷ files) =
@@ -96,7 +96,7 @@ abbrev pub feed_text : List ℕ → List ℕ → Tree → List ℕ → List ℕ
 feed_text title base days date =
     feed_begun title base date ++ (latest_first days ++ codes "</feed>\n")
 
--- it is as old as its latest page
+-- its date is that of its latest page
 abbrev pub by_latest : List ℕ → List ℕ → Tree → Option (List ℕ × List ℕ) → Result Tree (List ℕ)
 by_latest title base days None = Err (codes "no page with a date")
 by_latest title base days (Some latest) =

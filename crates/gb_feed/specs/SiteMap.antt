@@ -9,7 +9,7 @@ use Rattle.gb_pages.specs.FrontMatter.{front_matter, value_of}
 use Rattle.gb_pages.specs.Paths.{page_path, stem}
 use Rattle.gb_feed.specs.Sites.{for_site, xml, xml_address}
 
--- the date of a page, as its front matter has it
+-- the date of a page, as given in its front matter
 abbrev pub lastmod : Option (List ℕ) → List ℕ
 lastmod None = []
 lastmod (Some date) = codes "<lastmod>" ++ (xml date ++ codes "</lastmod>")

@@ -11,7 +11,7 @@ use Rattle.gb_pages.specs.Paths.{before}
 abbrev pub is_site : List ℕ → Bool
 is_site base = is_safe base && (has_scheme base && is_some (before (codes "/") base))
 
--- a text as it is in XML, where no control character may be
+-- a text as written in XML, without control characters
 abbrev pub xml_byte : ℕ → List ℕ
 xml_byte b = if nat_lt b 32 then [] else escaped_byte b
 

@@ -4,7 +4,7 @@ ghost use Rattle.std.specs.Char.{is_ascii_digit};
 ghost use Rattle.std.specs.List.{prefix_len};
 ghost use Rattle.gb_feed.specs.Dates.{is_date, is_day, is_month};
 
-/// Whether a text is a date: four digits, a month and a day. It may be one of 31 days in each month.
+/// Whether a text is a date: four digits, a month and a day. Each month may have 31 days.
 pub(crate) fn is_date(text: &[u8]) -> bool
     ensures { result ≡ is_date text.now }
 {
@@ -16,7 +16,7 @@ pub(crate) fn is_date(text: &[u8]) -> bool
         && is_day(text[8], text[9])
 }
 
-/// How many digits are at the begin.
+/// How many digits are at the beginning.
 fn digits(text: &[u8]) -> usize
     ensures { result ≡ prefix_len is_ascii_digit text.now }
 {

@@ -1,4 +1,4 @@
-//! The pages that have a date, for programs that read news: the kind `atomFeed`.
+//! An Atom feed of the pages that have a date: the kind `atomFeed`.
 ghost use Rattle.std.specs.Prelude.{◌≡◌, ◌++◌, ◌-◌, ◌∷◌, [], codes, length, take, Ok, IfOk, OnOk};
 ghost use Rattle.std.specs.Prelude.{MatchResult};
 ghost use Rattle.gb_feed.specs.Feed.{at_address, by_latest, dated_path, entries, feed_begun, feed_entry};
@@ -27,9 +27,10 @@ use gb_pages::paths::{as_path, page_path, stem};
 use gb_with::tree_kind::{TreeKind, files_of};
 use std::alloc::{AllocError, Global};
 
-/// The kind `atomFeed(TITLE, ADDRESS)`: a file `feed.xml`, an Atom feed (RFC 4287) with an entry for the page
-/// of each `.md` file of `src` whose front matter has a `date`, the latest first, of the site at the address.
-/// It fails where a date is not as `2026-03-01`, and where no page has one.
+/// The kind `atomFeed(TITLE, ADDRESS)`: a file `feed.xml`, an Atom feed (RFC 4287) of the site at
+/// the address, with an entry for the page of each `.md` file of `src` whose front matter has a
+/// `date`, the latest first. It fails if a date does not have the form `2026-03-01`, and if no page
+/// has one.
 #[derive(Drop)]
 pub struct AtomFeed;
 
@@ -90,7 +91,7 @@ fn by_latest(
     }
 }
 
-/// The one file, as old as the page at the latest day.
+/// The one file, dated by the page with the latest date.
 fn one_feed(
     alloc: Global,
     title: &[u8],
@@ -112,7 +113,7 @@ fn one_feed(
     Ok(made)
 }
 
-/// The first ten bytes, or all.
+/// The first ten bytes, or all of them.
 fn first_ten(text: &[u8]) -> &[u8]
     ensures { result.now ≡ take 10 text.now }
 {
@@ -160,7 +161,7 @@ fn feed_address(alloc: Global, base: &[u8]) -> Result<Vec<u8>, AllocError>
     Ok(address)
 }
 
-/// Writes the link to the feed itself, whose address is in XML.
+/// Writes the link to the feed itself; its address is in XML.
 #[tactic(auto, unfolding(crate::specs::Feed::self_link))]
 fn self_link(feed: &mut Vec<u8>, address: &[u8]) -> Result<(), AllocError>
     ensures { OnOk result (feed.new.items ≡ feed.old.items ++ self_link address.now) }
@@ -191,7 +192,7 @@ fn quoted(feed: &mut Vec<u8>, value: &[u8]) -> Result<(), AllocError>
     Ok(())
 }
 
-/// Writes the author, who has the name of the feed.
+/// Writes the author, whose name is that of the feed.
 #[tactic(auto, unfolding(crate::specs::Feed::author))]
 fn author(feed: &mut Vec<u8>, title: &[u8]) -> Result<(), AllocError>
     ensures { OnOk result (feed.new.items ≡ feed.old.items ++ author title.now) }
@@ -224,7 +225,7 @@ fn entries(alloc: Global, base: &[u8], files: &[(RelPath, Bytes)]) -> Result<Fil
     Ok(days)
 }
 
-/// Puts the entry of a text at its date, if it has one.
+/// Stores the entry of a text at its date, if it has one.
 fn put_file(
     alloc: Global,
     base: &[u8],
@@ -249,7 +250,7 @@ fn put_file(
     put_entry(alloc, days, path, made, date)
 }
 
-/// Puts the entry of a text at a date.
+/// Stores the entry of a text at a date.
 fn put_entry(
     alloc: Global,
     days: &mut Files,
@@ -272,7 +273,7 @@ fn put_entry(
     }
 }
 
-/// The position of the entry of a text among all.
+/// The sort path of a text's entry.
 fn dated_path(alloc: Global, date: &[u8], path: &RelPath) -> Result<Option<RelPath>, AllocError>
     ensures { IfOk result (λ day. day ≡ dated_path date.now path.now) }
 {
@@ -318,7 +319,7 @@ fn titled(made: &mut Vec<u8>, title: &[u8]) -> Result<(), AllocError>
     Ok(())
 }
 
-/// Writes an address, which is in XML, as an id and as a link.
+/// Writes an address in XML, as an id and as a link.
 #[tactic(auto, unfolding(crate::specs::Feed::at_address))]
 fn at_address(made: &mut Vec<u8>, address: &[u8]) -> Result<(), AllocError>
     ensures { OnOk result (made.new.items ≡ made.old.items ++ at_address address.now) }
@@ -327,7 +328,7 @@ fn at_address(made: &mut Vec<u8>, address: &[u8]) -> Result<(), AllocError>
     link_at(made, address)
 }
 
-/// Writes an address, which is in XML, as an id.
+/// Writes an address in XML, as an id.
 fn id_at(made: &mut Vec<u8>, address: &[u8]) -> Result<(), AllocError>
     ensures { OnOk result (made.new.items ≡ made.old.items ++ id_at address.now) }
 {
@@ -337,7 +338,7 @@ fn id_at(made: &mut Vec<u8>, address: &[u8]) -> Result<(), AllocError>
     Ok(())
 }
 
-/// Writes a link to an address, which is in XML.
+/// Writes a link to an address in XML.
 fn link_at(made: &mut Vec<u8>, address: &[u8]) -> Result<(), AllocError>
     ensures { OnOk result (made.new.items ≡ made.old.items ++ link_at address.now) }
 {
@@ -347,7 +348,7 @@ fn link_at(made: &mut Vec<u8>, address: &[u8]) -> Result<(), AllocError>
     Ok(())
 }
 
-/// Writes a day, at its begin in UTC.
+/// Writes a day at its beginning in UTC.
 #[tactic(auto, unfolding(crate::specs::Feed::updated))]
 fn updated(made: &mut Vec<u8>, date: &[u8]) -> Result<(), AllocError>
     ensures { OnOk result (made.new.items ≡ made.old.items ++ updated date.now) }

@@ -9,14 +9,14 @@ use gb_markdown::address::{address_of, has_scheme, is_safe};
 use gb_markdown::page::text;
 use std::alloc::{AllocError, Global};
 
-/// Whether an address may be that of a site: it is safe, has a scheme and ends in `/`.
+/// Whether an address may be the address of a site: it is safe, has a scheme and ends in `/`.
 pub(crate) fn is_site(base: &[u8]) -> bool
     ensures { result ≡ is_site base.now }
 {
     is_safe(base) && has_scheme(base) && base.strip_suffix(b"/").is_some()
 }
 
-/// The failure of a kind whose argument is no address of a site.
+/// The failure of a kind whose argument is not the address of a site.
 pub(crate) fn no_site(alloc: Global, base: &str) -> Result<ActionFault, AllocError>
     ensures { IfOk result (λ fault. fault ≡ ActionFailed (codes "no address of a site: " ++ base.now)) }
 {
@@ -24,7 +24,7 @@ pub(crate) fn no_site(alloc: Global, base: &str) -> Result<ActionFault, AllocErr
     Ok(ActionFault::ActionFailed(text))
 }
 
-/// Writes a text without its control characters, with its signs escaped that mean something in XML.
+/// Writes a text without its control characters, and escapes the signs that have a meaning in XML.
 pub(crate) fn xml(made: &mut Vec<u8>, words: &[u8]) -> Result<(), AllocError>
     ensures { OnOk result (made.new.items ≡ made.old.items ++ xml words.now) }
 {

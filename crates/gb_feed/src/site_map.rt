@@ -1,4 +1,4 @@
-//! The addresses of all pages for search engines: the kind `siteMap`.
+//! The addresses of all pages, for search engines: the kind `siteMap`.
 ghost use Rattle.std.specs.Prelude.{◌≡◌, ◌++◌, ◌∷◌, [], codes, IfOk, OnOk};
 ghost use Rattle.std.specs.Option.{option_copied};
 ghost use Rattle.gb_pages.specs.Paths.{page_path, stem};

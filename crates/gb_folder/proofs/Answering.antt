@@ -1,4 +1,4 @@
--- What was answered on a part of the way was answered on all of it.
+-- An answer returned in a part of a sequence of calls was returned in the whole sequence.
 use Rattle.std.proofs.Common.{ℕ}
 use Rattle.gb_folder.specs.Answers.{IsOnWay, WereRead}
 use Rattle.gb_folder.specs.Calls.{Asks, Call, no_change}

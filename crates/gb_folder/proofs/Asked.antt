@@ -1,4 +1,4 @@
--- What calls one after another ask of a folder: for callers of folders.
+-- What sequences of calls request of a folder: lemmas for callers of folders.
 use Rattle.std.proofs.Common.{◌≡◌, ◌≤◌, ℕ, Bool, true, List, Option, Some, None, refl, sym, arith, subst}
 use Rattle.gb_folder.specs.Calls.{Call, Lists, Reads, ReadsPart, Writes, Removes, Permit, IsPermitted, Leads, none, then, Asks, no_change, put_at, taken_at, takes_at, changes_at}
 use Rattle.gb_folder.specs.Files.{Tearing, SameTearing}
@@ -60,13 +60,13 @@ pub asks_more : {F : Type 0} {failures : F → ℕ} {may_leave : F → Tearing} 
     → Asks failures may_leave asked some old new → Asks failures may_leave asked more old new
 asks_more wider some = record { count = some.count; tearing = some.tearing; calls = λ led. leads_on led (leads_more wider (some.calls none)) }
 
--- where no change is asked for, any may be
+-- calls that request no change fit any permission
 pub asks_reading : {F : Type 0} {failures : F → ℕ} {may_leave : F → Tearing} {asked : F → Call → F → Type 0} {permit : Permit} {old new : F}
     → Asks failures may_leave asked no_change old new → Asks failures may_leave asked permit old new
 unfolding no_change
 asks_reading reads = asks_more (λ place next none. absurd none) reads
 
--- one write, or one removal, where it may be asked for
+-- one write, or one removal, where it is permitted
 pub asks_put : {F : Type 0} {failures : F → ℕ} {may_leave : F → Tearing} {asked : F → Call → F → Type 0} {permit : Permit} {old new : F}
     (place bytes : List ℕ) → permit place (Some bytes)
     → Asks failures may_leave asked (put_at place bytes) old new → Asks failures may_leave asked permit old new

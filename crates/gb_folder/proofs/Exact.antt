@@ -1,4 +1,4 @@
--- What a call answers, clause by clause, is what its definition says: for the contracts of calls.
+-- The answer of a call, clause by clause, is the one of its definition: lemmas for the contracts of calls.
 use Rattle.std.specs.Prelude.{ℕ, ◌≡◌, ◌≢◌, ◌<◌, ◌≤◌, false, Option, Some, None, Result, Ok, Err, IfErr, IfOk, IsSome, IsSomeAnd, OnOk, IsTrue, length, take, drop}
 use Rattle.std.specs.Global.{Global}
 use Rattle.std.specs.List.{AllPass}

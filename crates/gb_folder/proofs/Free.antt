@@ -1,4 +1,4 @@
--- Where a file stands, no other is in its way.
+-- No other file is in the way of a file that exists.
 use Rattle.std.proofs.Common.{◌≡◌, ℕ, true, false, cond, not, List, [], ◌∷◌, Some, refl, ◌∙◌, ap}
 use Rattle.std.proofs.lemmas.Bool.{and_parts, not-true}
 use Rattle.std.proofs.lemmas.Option.{none-some}

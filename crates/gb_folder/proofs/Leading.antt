@@ -1,4 +1,4 @@
--- Calls one after another, and what follows from them: of any folder, and of one with known contents.
+-- Sequences of calls, and what follows from them: over any folder, and over one with known contents.
 use Rattle.std.specs.Prelude.{◌≡◌, ◌≤◌, ◌++◌, List, [], ◌∷◌, Option, Some, None, Ok, Err, IsTrue}
 use Rattle.std.specs.List.{AllByRecursion}
 use Rattle.std.proofs.Common.{refl, sym, subst, arith}
@@ -28,7 +28,7 @@ module _ {F : Type 0} (device : Device F) where
   count_of old new [] same = subst (λ (f : F). device.failures old ≤ device.failures f) (sym same) (omega arith)
   count_of old new (call ∷ calls) led = omega (arith, led.1.count, count_of led.0 new calls led.2)
 
--- what each call says of one device it says of another
+-- if each valid call of one device is valid for another, so is each sequence of calls
 pub leads_as : {F : Type 0} (first second : Device F) → ((old : F) (call : Call) (new : F) → IsCalled first old call new → IsCalled second old call new)
     → (old new : F) (calls : List Call) → Leads first old calls new → Leads second old calls new
 leads_as first second same_call old new [] same = same

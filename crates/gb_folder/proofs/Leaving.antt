@@ -1,4 +1,4 @@
--- What is left at the place of a write or a removal that was stopped.
+-- What a stopped write or removal leaves at its place.
 use Rattle.std.proofs.Common.{◌≡◌, ℕ, true, false, cond, T, List, Option, Some, None, refl, sym, ◌∙◌, ap, subst, inl, inr, not}
 use Rattle.std.specs.Prelude.{◌⊎◌, ◌≢◌, Result, Ok, Err, OnOk, IfErr, IsErrOf, bytes_eq}
 use Rattle.std.specs.Cmp.Lexicographic.{nat_list_cmp_total, bytes_decides}
@@ -27,7 +27,7 @@ taken_same files place other stands =
       | false ↦ λ _. refl
     ] refl)
 
--- what stood, left at its place, changes nothing
+-- leaving at a place what was there changes nothing
 left_as_it_stood : (files : Files) (place : List ℕ) → IsFolder files → files ≡ with_left files place (file_at files place)
 left_as_it_stood files place sound =
     elim (file_at files place) as (λ o. file_at files place ≡ o → files ≡ with_left files place o) [
@@ -40,7 +40,7 @@ left_as_it_stood files place sound =
     sorted : T (is_sorted byte_order files)
     sorted = subst T (sym sound.in_order) tt
 
--- the files are the old ones, but for one place, at which is left what may be
+-- the files are the old ones, except at one place, which has what may be left there
 abbrev pub Left : FaultMode → Tearing → Contents → Contents → List ℕ → Option (List ℕ) → Type 0
 Left mode inner old new place next =
     (left : Option (List ℕ)) × may_leave_by mode inner place (file_at old.files place) next left × (new ≡ record old { files = with_left old.files place left })
@@ -51,7 +51,7 @@ may_stand Stop inner place stood next = inl refl
 may_stand (StopTorn bytes) inner place stood None = inl refl
 may_stand (StopTorn bytes) inner place stood (Some next) = inl refl
 
--- a call that does not reach the inner folder leaves what stood there
+-- a call that does not reach the inner folder leaves what was there
 pub nothing_touched : (mode : FaultMode) (inner : Tearing) (folder : Contents) (place : List ℕ) (next : Option (List ℕ)) → IsFolder folder.files
     → Left mode inner folder folder place next
 nothing_touched mode inner folder place next sound = (

@@ -1,4 +1,4 @@
--- What is noted of a call that changes nothing.
+-- The notes of a call that changes nothing.
 use Rattle.std.specs.Prelude.{List, [], ◌++◌, ◌≡◌}
 use Rattle.std.proofs.Common.{sym}
 use Rattle.std.proofs.lemmas.List.{append-nil}

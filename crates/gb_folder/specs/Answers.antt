@@ -1,9 +1,9 @@
--- What calls answered on the way from one state of a folder to another, over any folder.
+-- Answers of calls that were made between two states of a folder, over any folder.
 use Rattle.std.specs.Prelude.{ℕ, List, Ok}
 use Rattle.gb_folder.specs.Calls.{Asks, Call, Lists, Reads, no_change}
 use Rattle.gb_folder.specs.Files.{Bytes, Place, Tearing}
 
--- The call was asked on the way from the one folder to the other, on which no change was asked for.
+-- The call was made between the two states of the folder, and no change was requested between them.
 pub record IsOnWay {F : Type 0} (failures : F → ℕ) (may_leave : F → Tearing) (asked : F → Call → F → Type 0)
     (call : Call) (old new : F) : Type 0 where
   pub before : F
@@ -12,13 +12,13 @@ pub record IsOnWay {F : Type 0} (failures : F → ℕ) (may_leave : F → Tearin
   pub is : asked before call after
   pub rest : Asks failures may_leave asked no_change after new
 
--- the bytes were answered as those of the file at the place, all at once
+-- the bytes were returned as those of the file at the place, in one call
 abbrev pub WereRead : {F : Type 0} → (F → ℕ) → (F → Tearing) → (F → Call → F → Type 0) → F → F → Place → Bytes
     → Type 0
 WereRead failures may_leave asked old new place bytes =
     (limit : ℕ) × IsOnWay failures may_leave asked (Reads place limit (Ok bytes)) old new
 
--- these places were answered as all at or beneath the root
+-- these places were returned as all those at or under the root
 abbrev pub WereListed : {F : Type 0} → (F → ℕ) → (F → Tearing) → (F → Call → F → Type 0) → F → F → Place
     → List Place → Type 0
 WereListed failures may_leave asked old new root places =

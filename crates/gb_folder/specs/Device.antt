@@ -1,4 +1,4 @@
--- What folders of one type say of their calls, and calls one after another as a value.
+-- The calls that a folder type declares as valid, and sequences of calls as values.
 use Rattle.std.specs.Prelude.{ℕ, ◌≡◌, ◌≢◌, ◌<◌, ◌≤◌, Bool, List, [], ◌∷◌, Some, Result, Ok, Err, IsTrue}
 use Rattle.std.specs.Prelude.{⊤, length}
 use Rattle.std.specs.List.{AllPass}
@@ -11,7 +11,7 @@ use Rattle.gb_folder.specs.Semantics.{Answer, Answers}
 use Rattle.gb_folder.specs.declared.folder.FolderFault.{FolderFault}
 use Rattle.gb_folder.specs.declared.folder.FolderFault.TheVariants as folders
 
--- what folders of a type say of themselves
+-- the declarations of a folder type about itself
 pub record Device (F : Type 0) : Type 1 where
   pub failures : F → ℕ
   pub may_leave : F → Tearing
@@ -29,7 +29,7 @@ device_of failures may_leave asked tells contents = record {
   contents = contents;
 }
 
--- ---- Answers that no folder gives, whatever it holds
+-- ---- Answers that no folder gives, whatever its contents
 
 abbrev pub ListsWell : Place → Result (List Place) FolderFault → Type 0
 ListsWell root (Ok places) =
@@ -63,8 +63,8 @@ IsWell (Removes place answer) = RemovesWell answer
 
 -- ---- Calls
 
--- One call: the folder was asked and answered. The count of failures does not fall, and it rises where the
--- device failed. Where the contents of a folder are known, the answer is exact.
+-- One call of a folder, with its answer. The count of failures does not fall, and it rises if the device
+-- failed. If the contents of the folder are known, the answer is exact.
 pub record IsCalled {F : Type 0} (device : Device F) (old : F) (call : Call) (new : F) : Type 0 where
   pub asked : device.asked old call new
   pub well : IsWell call
@@ -74,7 +74,7 @@ pub record IsCalled {F : Type 0} (device : Device F) (old : F) (call : Call) (ne
   pub exact : IsTrue device.tells
       → Answers (device.may_leave old) (device.contents old) call (device.contents new)
 
--- These calls, one after another, lead from the one folder to the other.
+-- These calls, one after another, lead from the first state of the folder to the second.
 abbrev pub Leads : {F : Type 0} → Device F → F → List Call → F → Type 0
 Leads device old [] new = new ≡ old
 Leads {F = F} device old (call ∷ calls) new =

@@ -1,18 +1,18 @@
--- What calls it takes to do something with each item of a list.
+-- The calls that it takes to process each item of a list.
 use Rattle.std.specs.Prelude.{◌≡◌, ◌++◌, List, [], ◌∷◌, Result, Ok, Err}
 use Rattle.gb_folder.specs.Calls.{Call}
 
--- the outcome of work that yields nothing by itself: it went well, or this fault ended it
+-- the outcome of work without a result of its own: success, or the fault that ended it
 abbrev pub Ended : Type 0 → Type 0
 Ended E = Result (Unit {0}) E
 
--- After an item that went well the next follows. One that did not is the last.
+-- After an item that succeeded the next one follows. An item that failed is the last.
 abbrev pub OrStops : {E Y : Type 0} → Ended E → Type 0 → List Call → List Y → Ended E → Type 0
 OrStops (Ok done) next later more result = next
 OrStops (Err fault) next later more result = (later ≡ []) × (more ≡ []) × (result ≡ Err fault)
 
--- Something was done with each item by these calls, and yielded these things, up to the first item that
--- failed. `One` says of an item which calls it takes, what it yields, and how it ended.
+-- Each item was processed by these calls, and yielded these values, up to the first item that failed. `One`
+-- relates an item to the calls that it takes, to what it yields, and to its outcome.
 abbrev pub Each : {E X Y : Type 0} → (X → List Call → List Y → Ended E → Type 0) → List X → List Call
     → List Y → Ended E → Type 0
 Each One [] calls made result = (calls ≡ []) × (made ≡ []) × (result ≡ Ok tt)

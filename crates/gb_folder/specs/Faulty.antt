@@ -12,7 +12,7 @@ use Rattle.gb_folder.specs.declared.folder.FolderFault.TheVariants.{Device}
 abbrev pub one_more : ℕ → ℕ
 one_more count = min (count + 1) (2 ^ 64 - 1)
 
--- the call of this number fails, where call `at` is the first that does
+-- the call of this number fails, if call `at` is the first that does
 abbrev pub fails_at : FaultMode → ℕ → ℕ → Bool
 fails_at FailOnce at call = call == at
 fails_at Stop at call = nat_le at call
@@ -22,7 +22,7 @@ fails_at (StopTorn bytes) at call = nat_le at call
 abbrev pub fails_next : FaultPlan → Bool
 fails_next plan = fails_at plan.mode plan.at (one_more plan.calls)
 
--- the plan behind one call
+-- the plan after one call
 abbrev pub after_call : FaultPlan → FaultPlan
 after_call plan = record plan {
   calls = one_more plan.calls;
@@ -38,8 +38,8 @@ is_torn (StopTorn bytes) = true
 abbrev pub tears : FaultPlan → Bool
 tears plan = is_torn plan.mode && plan.calls == plan.at
 
--- What a call does: it is counted; one that fails as planned answers the device's fault and leaves the inner
--- folder as it was, but for a write that is torn; any other is the inner folder's.
+-- The effect of a call: it is counted; one that fails as planned returns the device's fault and leaves the
+-- inner folder unchanged, except for a torn write; any other is a call of the inner folder.
 pub record CallOf (old : FaultPlan) (fault : Option FolderFault) (new : FaultPlan) (Kept Asked : Type 0)
     : Type 0 where
   pub counted : new ≡ after_call old
@@ -47,8 +47,8 @@ pub record CallOf (old : FaultPlan) (fault : Option FolderFault) (new : FaultPla
   pub kept : IsTrue (fails_next old) → tears new ≡ false → Kept
   pub asked : fails_next old ≡ false → Asked
 
--- what a stopped call may leave at the place: what stood there or what the inner folder leaves, or of a torn
--- write the given bytes or what the inner folder leaves of them
+-- what a stopped call may leave at the place: what was there or what the inner folder leaves; for a torn
+-- write also the given bytes or what the inner folder leaves of them
 abbrev pub may_leave_by : FaultMode → Tearing → Tearing
 may_leave_by (StopTorn bytes) inner place stood (Some next) left =
     (left ≡ stood) ⊎ (left ≡ Some bytes.items) ⊎ inner place stood (Some next) left

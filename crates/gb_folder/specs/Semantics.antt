@@ -1,4 +1,4 @@
--- What a folder answers to a call, and what it then holds.
+-- The answer of a folder to a call, and its contents after the call.
 use Rattle.std.specs.Prelude.{ℕ, ◌≡◌, ◌<◌, ◌≤◌, false, List, [], ◌∷◌, Some, None, Result, Ok, Err, IsTrue}
 use Rattle.std.specs.Prelude.{length, take, drop, IsSome}
 use Rattle.gb_folder.specs.Calls.{Call, Lists, Reads, ReadsPart, Writes, Removes}
@@ -63,7 +63,7 @@ Removed may_leave old place (Err folders.Blocked) new = IsTrue (is_blocked old.f
 Removed may_leave old place (Err folders.TooLarge) new = ⊥
 Removed may_leave old place (Err folders.BadFileName) new = ⊥
 
--- What a call answers over these contents, and which contents it leaves.
+-- The answer of a call over these contents, and the contents that it leaves.
 abbrev pub Answers : Tearing → Contents → Call → Contents → Type 0
 Answers may_leave old (Lists root answer) new = Listed old root answer × (new ≡ old)
 Answers may_leave old (Reads place limit answer) new = Read old place limit answer × (new ≡ old)

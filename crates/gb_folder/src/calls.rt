@@ -1,4 +1,5 @@
-//! The five calls of a folder, each with one clause: which call it was, what was answered, and where it led.
+//! The five calls of a folder, each with one clause: the call, its answer, and the resulting
+//! folder.
 ghost use Rattle.gb_folder.specs.Calls.{Lists, Reads, ReadsPart, Writes, Removes, answered};
 ghost use Rattle.gb_folder.specs.Device.{IsCalled};
 
@@ -6,7 +7,7 @@ use crate::folder::{Folder, FolderFault};
 use gb_core::place::Place;
 use std::alloc::Global;
 
-/// The places of the files at or beneath the root, in byte order.
+/// The places of the files at or under the root, in byte order.
 pub fn list<F: Folder>(
     alloc: Global,
     folder: &mut F,
@@ -17,7 +18,7 @@ pub fn list<F: Folder>(
     folder.list(alloc, root)
 }
 
-/// The bytes of a file, of which there are at most `limit`.
+/// The bytes of a file of at most `limit` bytes.
 pub fn read<F: Folder>(
     alloc: Global,
     folder: &mut F,
@@ -42,7 +43,7 @@ pub fn read_part<F: Folder>(
     folder.read_part(alloc, place, at, len)
 }
 
-/// Puts a file of at most `limit` bytes, and makes the folders above it.
+/// Writes a file of at most `limit` bytes, and creates the folders above it.
 pub fn write<F: Folder>(
     folder: &mut F,
     place: &Place,

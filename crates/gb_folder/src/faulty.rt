@@ -1,4 +1,4 @@
-//! A folder whose device fails at a chosen call, to try what a build does then.
+//! A folder whose device fails at a chosen call, to test how a build reacts.
 ghost use Rattle.std.specs.Prelude.{◌≡◌, ◌≢◌, ◌≤◌, ℕ, List, Option, IsTrue, false};
 ghost use Rattle.gb_folder.specs.Files.{HasRisen, SameTearing, file_at, with_left};
 
@@ -13,11 +13,12 @@ pub enum FaultMode {
     FailOnce,
     /// At that call and at all later ones.
     Stop,
-    /// The same; a write that fails first leaves these bytes, where the inner folder takes them.
+    /// As `Stop`; if the first failing call is a write, it leaves these bytes, where the inner
+    /// folder accepts them.
     StopTorn(Vec<u8>),
 }
 
-/// Which calls fail, and what was called so far.
+/// Which calls fail, and how many calls were made so far.
 #[derive(Drop)]
 pub struct FaultPlan {
     mode: FaultMode,
@@ -30,7 +31,7 @@ pub struct FaultPlan {
 impl FaultPlan {
     ghost use Rattle.gb_folder.specs.Faulty.{after_call, fails_next, failures_in_all};
 
-    /// Counts a call, and tells whether it fails.
+    /// Counts a call, and returns whether it fails.
     fn fails(&mut self) -> bool
         ensures is { result ≡ fails_next self.old }
         ensures counted { self.new ≡ after_call self.old }
@@ -50,7 +51,8 @@ impl FaultPlan {
     }
 }
 
-/// A folder over another, whose device fails as planned. It tells what the inner one tells.
+/// A folder over another, whose device fails as planned. Its contents are known where those of the
+/// inner folder are.
 #[derive(Drop)]
 pub struct FaultyFolder<F> {
     inner: F,
@@ -60,7 +62,7 @@ pub struct FaultyFolder<F> {
 impl<F: Folder + Drop> FaultyFolder<F> {
     ghost use Rattle.gb_folder.specs.Faulty.{may_leave_by, tears};
 
-    /// The folder over `inner`, of which call `at` fails.
+    /// The folder over `inner`, whose call `at` fails.
     pub fn new(inner: F, at: u64, mode: FaultMode) -> FaultyFolder<F>
         ensures inner { result.inner ≡ inner }
         ensures plan { result.plan ≡ record { mode = mode; at = at; calls = 0; failed = 0 } }
@@ -76,14 +78,14 @@ impl<F: Folder + Drop> FaultyFolder<F> {
         }
     }
 
-    /// The folder beneath, as the calls left it.
+    /// The inner folder, as the calls left it.
     pub fn into_inner(self) -> F
         ensures { result ≡ self.inner }
     {
         self.inner
     }
 
-    /// Leaves the given bytes at the place of a write, where this is the first call that fails.
+    /// Leaves the given bytes at the place of a write if this is the first call that fails.
     fn tear(&mut self, place: &Place)
         ensures plan { self.new.plan ≡ self.old.plan }
         ensures whole { tears self.old.plan ≡ false → self.new.inner ≡ self.old.inner }

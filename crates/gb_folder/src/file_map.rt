@@ -1,4 +1,4 @@
-//! Files in memory by the texts of their places, of which one may stand at a folder of another.
+//! Files in memory by the text of their places; one file may be at an ancestor folder of another.
 ghost use Rattle.std.specs.Prelude.{◌≡◌, [], length, IsTrue, IfOk, OnOk, OnErr};
 ghost use Rattle.std.specs.FinMap.Entries.{is_sorted};
 ghost use Rattle.gb_core.specs.Lists.{byte_order};
@@ -11,8 +11,8 @@ use std::alloc::{AllocError, Global};
 use std::collections::BTreeMap;
 use std::marker::Model;
 
-/// Files by the bytes of their places. Other than in a folder, any text may stand for a place, and
-/// one file may be in the way of another.
+/// Files by the bytes of their places. Unlike in a folder, any text can be a place, and one file
+/// may be in the way of another.
 #[derive(Drop)]
 pub struct FileMap {
     alloc: Global,
@@ -30,7 +30,7 @@ impl Model for FileMap {
 }
 
 impl FileMap {
-    /// No file yet.
+    /// The empty map.
     pub fn new(alloc: Global) -> FileMap
         ensures { result ≡ [] }
     {
@@ -40,14 +40,14 @@ impl FileMap {
         }
     }
 
-    /// How many files there are.
+    /// The number of files.
     pub fn len(&self) -> usize
         ensures { result ≡ length self.now }
     {
         self.held.len()
     }
 
-    /// Puts a file, in the place of one that stands there.
+    /// Stores a file, and replaces the file at its place, if there is one.
     pub fn put(&mut self, text: &str, bytes: &[u8]) -> Result<(), AllocError>
         ensures ok { OnOk result (self.new ≡ with_file self.old text.now bytes.now) }
         ensures err { OnErr result (self.new ≡ self.old) }
@@ -55,14 +55,14 @@ impl FileMap {
         put(self.alloc, &mut self.held, text, bytes)
     }
 
-    /// Whether a file stands at a folder of the place, or beneath it.
+    /// Whether a file is at an ancestor folder of the place, or under the place.
     pub fn is_blocked(&self, place: &Place) -> Result<bool, AllocError>
         ensures { IfOk result (λ blocked. blocked ≡ is_blocked self.now place.now) }
     {
         is_held_blocked(self.alloc, &self.held, place)
     }
 
-    /// The places of the files at or beneath the root, in byte order.
+    /// The places of the files at or under the root, in byte order.
     pub fn list_under(&self, alloc: Global, root: &Place) -> Result<Vec<Place>, AllocError>
         requires { IsTrue (are_placed self.now) }
         ensures { IfOk result (λ places. places.items ≡ places_under self.now root.now) }

@@ -1,4 +1,4 @@
-//! What follows from calls of a folder, one after another.
+//! Theorems about sequences of folder calls.
 ghost use Rattle.std.specs.Prelude.{Bool, List, IsTrue};
 ghost use Rattle.std.specs.List.{AllByRecursion};
 ghost use Rattle.gb_folder.specs.Calls.{Asks, Call, IsPermitted, changes_at};
@@ -8,13 +8,13 @@ ghost use Rattle.gb_folder.specs.Semantics.{AnswersAll};
 
 use crate::folder::Folder;
 
-/// A folder whose contents are known answers each call by them, as the calls before it left them.
+/// A folder with known contents answers each call by them, as the calls before it left them.
 pub fn calls_are_exact<F: Folder>()
     ensures { (old new : F) (calls : List Call) → IsTrue F.tells → Leads F.device old calls new
         → AnswersAll (F.may_leave old) (F.contents old) calls (F.contents new) }
 {}
 
-/// Calls that change files only where a test holds ask for no other change.
+/// Calls that change files only where a test holds request no other change.
 pub fn calls_ask_for_no_more<F: Folder>()
     ensures { (test : Place → Bool) (old new : F) (calls : List Call)
         → AllByRecursion (IsPermitted (changes_at test)) calls → Leads F.device old calls new

@@ -1,4 +1,4 @@
-//! The only way in which the build reaches files.
+//! The only way in which the build accesses files.
 //!
 //! [`Folder`](folder::Folder) is five calls over places. Code over a folder is proved once, for every type of
 //! folder. Where the contents of a folder are known, as those of a [`MemoryFolder`](memory::MemoryFolder),
@@ -10,13 +10,13 @@
 //! contents, and [`calls`] has the five calls with one clause each. `specs/Each.antt` has the calls of a
 //! function that goes over a list.
 //!
-//! [`FaultyFolder`](faulty::FaultyFolder) fails at a chosen call of the folder that it holds, and
-//! [`NotedFolder`](noted::NotedFolder) records which changes it was asked for.
+//! [`FaultyFolder`](faulty::FaultyFolder) fails at a chosen call of its inner folder, and
+//! [`NotedFolder`](noted::NotedFolder) records the requested changes.
 //!
 //! [`FileMap`](file_map::FileMap) holds files without being a folder: one may be in the way of another.
 //!
-//! Set aside: handles, streams, folders as objects of their own, permissions and times. A folder exists where
-//! a file exists under it, and a large file is read in parts.
+//! Out of scope: handles, streams, folders as objects of their own, permissions and times. A folder
+//! exists where a file exists under it, and a large file is read in parts.
 #![tactic(auto)]
 
 pub mod calls;

@@ -1,7 +1,7 @@
-//! How large a file may be, and how many files stand in one tree.
+//! The maximum size of a file, and the maximum number of files in one tree.
 
-/// The most bytes of a file.
+/// The maximum number of bytes of a file.
 pub const MAX_FILE: u64 = 8_388_608;
 
-/// The most files of a tree of files: of one property, or of one output.
+/// The maximum number of files in a tree of files: in that of one property, or of one output.
 pub const MAX_FILES: usize = 65_536;

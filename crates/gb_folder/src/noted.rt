@@ -1,4 +1,4 @@
-//! A folder over another one that notes which changes are asked of it, to see what a build does.
+//! A folder over another one that records the requested changes, to observe what a build does.
 ghost use Rattle.std.specs.Prelude.{◌≡◌, [], IfOk};
 
 use super::folder::{Folder, FolderFault};
@@ -6,17 +6,17 @@ use gb_core::bytes::Bytes;
 use gb_core::place::Place;
 use std::alloc::{AllocError, Global};
 
-/// A change that was asked for, whatever was answered.
+/// A requested change, whatever the answer was.
 #[derive(Drop)]
 pub struct Note {
-    /// Where it was to be.
+    /// The place of the change.
     pub place: Place,
-    /// The bytes that were to be put there; none where the file there was to be taken away.
+    /// The bytes to be written there; none for a removal.
     pub next: Option<Bytes>,
 }
 
-/// Notes each write and each removal before it hands it on. Where there is no memory for the note, the call
-/// is not made. It tells what the inner folder tells.
+/// Records each write and each removal before it passes the call on. If there is no memory for the
+/// note, the call is not made. Its contents are known where those of the inner folder are.
 #[derive(Drop)]
 pub struct NotedFolder<F> {
     alloc: Global,
@@ -25,7 +25,7 @@ pub struct NotedFolder<F> {
 }
 
 impl<F: Folder + Drop> NotedFolder<F> {
-    /// The folder over `inner`, of which nothing is noted yet.
+    /// The folder over `inner`, without notes yet.
     pub fn new(alloc: Global, inner: F) -> NotedFolder<F>
         ensures inner { result.inner ≡ inner }
         ensures notes { result.notes.items ≡ [] }
@@ -37,7 +37,7 @@ impl<F: Folder + Drop> NotedFolder<F> {
         }
     }
 
-    /// What was asked for so far, in its order.
+    /// The changes requested so far, in order.
     pub fn notes(&self) -> &[Note]
         ensures { result.now ≡ self.now.notes.items }
     {

@@ -1,11 +1,11 @@
-//! The texts beneath a place, as a range of texts in byte order.
+//! The texts under a place, as a range of texts in byte order.
 ghost use Rattle.std.specs.Prelude.{◌≡◌, ◌∷◌, ◌++◌, [], string_bytes, IfOk};
 
 use gb_core::place::Place;
 use std::alloc::{AllocError, Global};
 use std::ops::Range;
 
-/// The texts beneath a place: those from `place/` on that are below `place0` (`0` is the byte behind `/`).
+/// The texts under a place: from `place/` on and less than `place0` (`0` is the byte after `/`).
 pub fn inside(alloc: Global, place: &Place) -> Result<Range<String>, AllocError>
     ensures start { IfOk result (λ texts. string_bytes texts.start ≡ place.now ++ 47 ∷ []) }
     ensures end { IfOk result (λ texts. string_bytes texts.end ≡ place.now ++ 48 ∷ []) }

@@ -41,7 +41,7 @@ use Rattle.gb_foretell.specs.declared.coming.Foretold.{Foretold}
 use Rattle.gb_foretell.proofs.Keeping.{predictions_are_kept}
 use Rattle.gb_foretell.proofs.Telling.{by_machine, empty_mapped}
 
--- where it is decided to run incrementally, the reasons are the changes
+-- if the decision is to run incrementally, the reasons are the changes
 by_basis : ChangesAreReasons → (options : Options) (task : Task) (folder : Contents) (read : Option Record) (changes : List Changes) (why : List Reason) (basis : Basis)
     → GoesBy options task read (decisions.Incremental changes) basis → IsBasisIn options task folder basis → AreReasons options task folder read why
     → is_empty task.outputs ≡ false → why ≡ change_reasons changes

@@ -29,7 +29,8 @@ use Rattle.gb_foretell.specs.declared.coming.Coming.TheVariants as comings
 
 -- ---- The same files for a task
 
--- The task finds the same in both worlds: what it reads, what hinders that, its outputs, and what is remembered.
+-- The task finds the same in both worlds: what it reads, the faults of that, its outputs, and what is
+-- remembered.
 pub record FindsSame (task : Task) (one other : World) : Type 0 where
   pub trees : trees_of task one.folder.files ≡ trees_of task other.folder.files
   pub faults : input_faults task one.folder ≡ input_faults task other.folder
@@ -46,7 +47,7 @@ turned_round task one other finds = record {
   remembered = sym finds.remembered;
 }
 
--- a list of what is made of each tree, where the trees are the same
+-- a list of what is made of each tree, if the trees are the same
 module _ {Y : Type 0} (f : FileProperty → Tree → Y) (test : FileProperty → Bool) (one other : Files) where
   abbrev named : Files → List FileProperty → Trees
   named files properties = map (λ (p : FileProperty). let tree : List ℕ × Tree = (p.name, tree_of p files) in tree) properties

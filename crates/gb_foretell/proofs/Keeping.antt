@@ -49,7 +49,7 @@ abbrev changed : Pairs → List Place
 changed [] = []
 changed (pair ∷ pairs) = cond (may_change pair.1) (output_places pair.0.task ++ changed pairs) (changed pairs)
 
--- the place is at or beneath none of them
+-- the place is at or under none of them
 abbrev is_left : Pairs → Place → Bool
 is_left before q = not (list_any (is_under q) (changed before))
 
@@ -266,7 +266,7 @@ module _ (kinds : Kinds) (options : Options) (task : Task) (old new : World) whe
 
 -- ---- Plans
 
--- what is behind others is none of them
+-- what comes after others is none of them
 not_before : (xs : List Path) (y : Path) (ys : List Path) → no_repeats (xs ++ y ∷ ys) ≡ true → has_path xs y ≡ false
 not_before [] y ys e = refl
 not_before (x ∷ xs) y ys e =

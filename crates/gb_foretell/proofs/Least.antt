@@ -1,4 +1,4 @@
--- The least number of which something holds, found one after another; and what it says of a plan.
+-- The least number for which something holds, found one after another; and what it means for a plan.
 use Rattle.std.specs.Prelude.{ℕ, zero, suc, ◌≡◌, ◌≤◌, ◌<◌, ◌+◌, ◌⊎◌, ◌↔◌, ◌&&◌, Bool, true, false, cond, List, [], ◌∷◌, ◌++◌, length, get_or, take, Option, None, Some, Contains, find, nat_lt, option_map, slice_get, IsTrue}
 use Rattle.std.specs.List.{flat_map, list_any, zip}
 use Rattle.std.proofs.Common.{refl, sym, ap, subst, ◌∙◌, inl, inr, arith, true≢false}
@@ -77,7 +77,7 @@ module _ {X : Type 0} (H : X → ℕ → Type 0) where
   in_by (y ∷ xs) x n (inl e) h = inl (subst (λ (z : X). H z n) e h)
   in_by (y ∷ xs) x n (inr at) h = inr (in_by xs x n at h)
 
--- ---- Outputs by their index in a row
+-- ---- Outputs by their index in a list
 
 module _ (row : List TaskPlace) (told : List Foretold) where
   -- that at an index is one which its task may change

@@ -45,7 +45,7 @@ front_long [] i less = absurd (omega (arith, less))
 front_long (x ∷ xs) zero less = refl
 front_long (x ∷ xs) (suc i) less = ap suc (front_long xs i (omega (arith, less)))
 
--- pairs with the front of a list that is as long
+-- pairs with the prefix of a list that is as long
 pub zip_front : {X Y : Type 0} (xs : List X) (ys : List Y) (i : ℕ) → length ys ≡ i → zip (take i xs) ys ≡ zip xs ys
 zip_front [] ys zero long = refl
 zip_front [] ys (suc i) long = refl

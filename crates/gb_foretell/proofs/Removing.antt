@@ -53,7 +53,7 @@ every : (files : Files) → none_passes (λ q. false) files ≡ true
 every [] = refl
 every (file ∷ files) = every files
 
--- there is no place of a file at the outputs just where there is no file
+-- there is no place of a file at the outputs exactly if there is no file
 pub none_at : (outputs : List Output) (files : Files)
     → is_empty (places_at outputs files) ≡ is_empty (files_where (λ q. list_any (λ (output : Output). is_under q output.place) outputs) files)
 none_at outputs files = walk outputs ∙ sym (none_where (λ q. list_any (λ (output : Output). is_under q output.place) outputs) files)

@@ -37,7 +37,7 @@ use Rattle.gb_foretell.specs.declared.coming.Coming.TheVariants as comings
 
 -- ---- Reasons
 
--- the reasons by what of the present they hang on
+-- the reasons, by the parts of the present that they depend on
 abbrev by_parts : Record → Record → Bool → Bool → List Reason
 by_parts run now rerun stale =
     if rerun then reasons.Rerun ∷ []
@@ -119,7 +119,7 @@ module _ (kinds : Kinds) (options : Options) (task : Task) (folder : Contents) w
     reasons = λ other is_other. is.2 ∙ same_reasons options task _ _ run present other so is_other;
   }
 
-  -- what is explained by what a decision goes by is found so
+  -- what is explained by the basis of a decision is found so
   pub found_by : (old : Option Record) (decision : Decision) (basis : Basis) (coming : Coming) → GoesBy options task old decision basis
       → IsBasisIn options task folder basis → IsExplained kinds task old decision basis coming → IsFound kinds options task folder old coming
   found_by None decision (bases.Anew causes.NoRecord) coming goes so is = forgotten_found coming is
@@ -135,7 +135,7 @@ module _ (kinds : Kinds) (options : Options) (task : Task) (folder : Contents) w
       ((bases.Anew causes.Grown, (refl, goes.1), so), so)
   found_by (Some run) decision (bases.Compared present) coming goes so is = compared_found run decision present coming goes so is
 
-  -- ---- What is told
+  -- ---- What is predicted
 
   module _ (old : Option Record) where
     foretold_of : (before after : ℕ) (coming : Coming) → early_case task folder ≡ None → IsFound kinds options task folder old coming
@@ -168,7 +168,7 @@ module _ (kinds : Kinds) (options : Options) (task : Task) (folder : Contents) w
     last_none [] ys e = e
     last_none (x ∷ xs) ys e = absurd (cc)
 
-    -- whether files are removed of a task without source, or what hinders listing its outputs
+    -- whether files are removed of a task without source, or the faults of listing its outputs
     pub sourceless_foretold : (before mid after : ℕ) (found : Result Coming Fault) → before ≤ mid → mid ≤ after → early_case task folder ≡ Some HasNoSource
         → IfOk found (λ coming. (removes : Bool) × (coming ≡ comings.HasNoSource removes) × (removes ≡ not (is_empty (output_files task folder.files))))
         → IfErr found (CannotRead mid after (listing_faults task folder)) → IsForetold kinds options task folder old before after (told_of found)

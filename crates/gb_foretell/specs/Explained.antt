@@ -1,4 +1,4 @@
--- What is predicted of a task by what was decided of it.
+-- The prediction for a task from the decision on it.
 use Rattle.std.specs.Prelude.{◌≡◌, ◌≢◌, if◌then◌else◌, Option}
 use Rattle.gb_folder.specs.Files.{is_empty}
 use Rattle.gb_history.specs.Record.{Record}
@@ -18,7 +18,7 @@ use Rattle.gb_foretell.specs.Foretold.{RunsFor}
 use Rattle.gb_foretell.specs.declared.coming.Coming.{Coming}
 use Rattle.gb_foretell.specs.declared.coming.Coming.TheVariants as comings
 
--- why a task runs that has no record: one without outputs never has one
+-- why a task without a record runs: one without outputs never has one
 abbrev pub why_without : Task → Reason
 why_without task = if is_empty task.outputs then reasons.NoOutputs else reasons.NoRecord
 
@@ -30,7 +30,7 @@ IsCompared kinds task old decision present (comings.Runs by_changes why) =
     × (why.items ≡ reasons_of old present)
 IsCompared kinds task old decision present other = ⊥
 
--- the prediction, by what the decision goes by
+-- the prediction, by the basis of the decision
 abbrev pub IsExplained : Kinds → Task → Option Record → Decision → Basis → Coming → Type 0
 IsExplained kinds task old decision (bases.Anew causes.NoRecord) coming = RunsFor (why_without task) coming
 IsExplained kinds task old decision (bases.Anew causes.Rerun) coming = RunsFor reasons.Rerun coming

@@ -1,4 +1,4 @@
--- The outcome of a task on a folder as it is, in the words of builds.
+-- The outcome of a task on a folder as it is, in the terms of builds.
 use Rattle.std.specs.Prelude.{ℕ, ◌≡◌, ◌≢◌, Bool, false, true, not, List, []}
 use Rattle.std.specs.Prelude.{◌∷◌, map, Option, Some, None, Result, Ok, Err, ⊤}
 use Rattle.std.specs.List.{AllZip, flat_map, zip}
@@ -32,7 +32,7 @@ AreReasons options task folder old reasons =
     (present : Present) → IsPresentOf options task (digests_in (trees_of task folder.files))
     (map (recorded_of folder.files) task.outputs) present → reasons ≡ reasons_of old present
 
--- It is decided that the task runs, incrementally or in full, and these are the reasons.
+-- The decision is that the task runs, incrementally or in full, and these are the reasons.
 pub record IsRun (kinds : Kinds) (options : Options) (task : Task) (folder : Contents)
     (old : Option Record) (goes_on : Bool) (told : List Reason) : Type 0 where
   pub decision : Decision
@@ -76,17 +76,17 @@ is_of_machine faults.OutOfMemory = true
 is_of_machine (faults.Device place) = true
 is_of_machine other = false
 
--- there is a reason where the task runs for reasons
+-- there is a reason if the task runs for reasons
 abbrev pub IsReasoned : Coming → Type 0
 IsReasoned (comings.Runs by_changes reasons) = reasons.items ≢ []
 IsReasoned other = ⊤
 
--- the prediction for a task that was to be read
+-- the prediction for a task, from the result of reading it
 abbrev pub told_of : Result Coming Fault → Coming
 told_of (Ok coming) = coming
 told_of (Err fault) = comings.CannotRead fault
 
--- Each of these tasks, with what was read of its record, is predicted so.
+-- Each of these tasks, with what was read of its record, has this prediction.
 abbrev pub AreForetold : Kinds → Options → Contents → ℕ → ℕ → Plan → List (Option Record) → List Foretold
     → Type 0
 AreForetold kinds options folder before after plan records told =

@@ -1,5 +1,5 @@
--- How marks are found: the first task that may change an output which a task reads, by sorted outputs; and
--- the tasks that do not start, by their paths.
+-- How marks are found: the first task that may change an output that a task reads, by sorted outputs; and the
+-- tasks that do not start, by their paths.
 use Rattle.std.specs.Prelude.{ℕ, ◌≡◌, ◌≤◌, ◌⊎◌, true, List, [], ◌∷◌, Option, None, Some, Contains, IsTrue}
 use Rattle.std.specs.Prelude.{◌<◌, ⊤, if◌then◌else◌, length, nat_lt, option_and_then, slice_get}
 use Rattle.gb_core.specs.Place.{overlaps}
@@ -11,7 +11,7 @@ use Rattle.gb_plan.specs.Task.{Path}
 use Rattle.gb_foretell.specs.Marks.{culprit, culprit_at, may_change}
 use Rattle.gb_foretell.specs.declared.coming.Foretold.{Foretold}
 
--- it is the least number of which this holds; or it holds of none
+-- it is the least number for which this holds; or it holds for none
 abbrev pub IsLeast : (ℕ → Type 0) → Option ℕ → Type 0
 IsLeast Holds None = (number : ℕ) → ¬ Holds number
 IsLeast Holds (Some number) = Holds number × ((other : ℕ) → Holds other → number ≤ other)

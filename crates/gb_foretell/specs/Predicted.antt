@@ -1,4 +1,4 @@
--- What is predicted of a task, by whole contents; and that a build keeps it.
+-- The prediction for a task, by whole contents; and that a build keeps it.
 use Rattle.std.specs.Prelude.{ℕ, ◌≡◌, ◌⊎◌, Bool, true, false, not, List, [], ◌∷◌, Option, None, Some, ⊤}
 use Rattle.std.specs.List.{AllByRecursion, AllZip}
 use Rattle.gb_core.specs.Lists.{first_of}
@@ -30,7 +30,7 @@ use Rattle.gb_foretell.specs.declared.coming.Coming.{Coming}
 use Rattle.gb_foretell.specs.declared.coming.Coming.TheVariants as comings
 use Rattle.gb_foretell.specs.declared.coming.Foretold.{Foretold}
 
--- The task runs: incrementally, and the reasons are just the changes that its actions get; or in full.
+-- The task runs: incrementally, and the reasons are exactly the changes that its actions get; or in full.
 abbrev pub RunsThisWay : Kinds → Options → Task → World → Bool → List Reason → Type 0
 RunsThisWay kinds options task world true reasons =
     (¬ IsCurrent options task world) × (since : IsIncremental kinds options task world)
@@ -75,15 +75,15 @@ Fits (comings.Runs by_changes reasons) outcome = HasRun outcome
 abbrev pub MayFail : Rules → Task → Outcome → Type 0
 MayFail rules task outcome = (moment : Moment) × (new : Standing) × IsOfMachine rules moment task outcome new
 
--- A task ended as it was predicted, and if its actions ended, they printed what they print in the world that
--- the prediction was made in: the lines for the same changes.
+-- A task ended as predicted, and if its actions ended, they printed what they print in the world of the
+-- prediction: the lines for the same changes.
 pub record IsKept (rules : Rules) (now : World) (task : Task) (coming : Coming)
     (report : TaskReport) : Type 0 where
   pub ends : Fits coming report.outcome ⊎ MayFail rules task report.outcome
   pub prints : report.outcome ≡ outcomes.Executed
       → Prints rules.kinds rules.options task now outcomes.Executed report.lines
 
--- so each task that has no mark and starts, up to the first task that fails
+-- the same for each task that has no mark and starts, up to the first task that fails
 abbrev pub AreKept : Rules → World → List Planned → List Foretold → List TaskReport → Type 0
 AreKept rules now (planned ∷ plan) (one ∷ told) (report ∷ reports) =
     (one.after ≡ None → is_started report.outcome ≡ true
@@ -91,7 +91,7 @@ AreKept rules now (planned ∷ plan) (one ∷ told) (report ∷ reports) =
     × (is_failed report.outcome ≡ false → AreKept rules now plan told reports)
 AreKept rules now plan told reports = ⊤
 
--- A build of a sound plan keeps what was predicted of its tasks in the world that it starts in.
+-- A build of a sound plan keeps the predictions for its tasks in the world that it starts in.
 abbrev pub PredictionsAreKept : Rules → Type 0
 PredictionsAreKept rules =
     (seen : List Bytes) (old new : Standing) (told : List Foretold) (reports : List TaskReport)
@@ -104,7 +104,7 @@ PredictionsAreKept rules =
 
 -- ---- By the records of a folder
 
--- the machine did not fail while it was predicted
+-- the machine did not fail during the prediction
 abbrev pub IsOfFolder : Coming → Type 0
 IsOfFolder (comings.CannotRead fault) = is_of_machine fault ≡ false
 IsOfFolder other = ⊤
@@ -113,8 +113,8 @@ IsOfFolder other = ⊤
 abbrev pub world_of : Contents → Memory → World
 world_of folder memory = record { folder = outside folder; memory = memory }
 
--- What is predicted on a folder by the records that are read there, a build of the same plan keeps, if they
--- are the records of a true memory and no two of the contents share a digest.
+-- A build of the same plan keeps the predictions on a folder by the records that are read there, if they are
+-- the records of a true memory and no two of the contents share a digest.
 abbrev pub FolderPredictionsAreKept : Rules → Type 0
 FolderPredictionsAreKept rules =
     (folder : Contents) (memory : Memory) (records : List (Option Record)) (before after : ℕ)

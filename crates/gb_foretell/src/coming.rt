@@ -1,4 +1,4 @@
-//! What is predicted of a task.
+//! The prediction for a task.
 ghost use Rattle.std.specs.Prelude.{◌≡◌, option_copied};
 ghost use Rattle.gb_foretell.specs.Marks.{changes_files, culprit, is_unread, may_change, reads_files};
 
@@ -13,22 +13,23 @@ pub enum Coming {
     Skips,
     /// It runs nothing.
     HasNoActions,
-    /// All file properties that skip the task when empty are empty. `true`: there are files at its outputs,
-    /// and its execution removes them.
+    /// All file properties that skip the task when empty are empty. `true`: there are files at its
+    /// outputs, and its execution removes them.
     HasNoSource(bool),
-    /// Its execution would fail with this before it runs: something hinders reading its inputs or listing its
-    /// outputs; or the machine failed here.
+    /// Its execution would fail with this before it runs: its inputs cannot be read or its outputs
+    /// cannot be listed; or the machine failed here.
     CannotRead(Fault),
     /// Its inputs and outputs are as its record says.
     UpToDate,
-    /// It runs in full, as its outputs are such as no run leaves: a file is too large, or there are too many.
+    /// It runs in full, because its outputs are such as no run leaves: a file is too large, or
+    /// there are too many.
     HasGrown,
     /// It runs for these reasons: incrementally if `true`, else in full.
     Runs(bool, Vec<Reason>),
 }
 
 impl Coming {
-    /// Whether it is found by the files that the task reads.
+    /// Whether the prediction depends on the files that the task reads.
     pub(crate) fn reads_files(&self) -> bool
         ensures { result ≡ reads_files self.now }
     {
@@ -61,10 +62,10 @@ pub struct Foretold {
     pub path: TaskPath,
     /// Its outcome, if it were executed now.
     pub coming: Coming,
-    /// The first task before it in the plan whose output it reads and that may change its outputs: once that
-    /// was executed, the outcome may be another.
+    /// The first task before it in the plan whose output it reads and that may change its outputs.
+    /// After that task is executed, the outcome may be different.
     pub after: Option<TaskPath>,
-    /// The task that it needs, by needs of needs too, and that cannot be read: it will not start.
+    /// The task that it needs, directly or indirectly, and that cannot be read: it will not start.
     pub needs: Option<TaskPath>,
 }
 

@@ -1,4 +1,4 @@
-//! What is predicted of a task by what was decided of it.
+//! The prediction for a task from the decision on it.
 ghost use Rattle.std.specs.Prelude.{◌≡◌, ◌≢◌, ◌⊎◌, IfOk, option_copied};
 ghost use Rattle.gb_foretell.specs.Explained.{IsCompared, IsExplained, why_without};
 ghost use Rattle.gb_foretell.specs.Foretold.{IsReasoned, RunsFor};
@@ -22,7 +22,7 @@ use gb_report::fault::Fault;
 use gb_turn::turn::goes_by_changes;
 use std::alloc::{AllocError, Global};
 
-/// The prediction for a task of which this was decided; that memory is out, where it is.
+/// The prediction for a task with this decision; or that memory is out, if it is.
 pub(crate) fn explained<A: Actions>(
     alloc: Global,
     task: &TaskDeclaration,
@@ -70,14 +70,14 @@ fn by_basis<A: Actions>(
     }
 }
 
-/// That it runs in full for this one reason, whatever it has.
+/// The prediction that it runs in full for this one reason, whatever it has.
 fn runs_for(alloc: Global, reason: Reason) -> Result<Coming, AllocError>
     ensures { IfOk result (RunsFor reason) }
 {
     Ok(Coming::Runs(false, vec![in alloc; reason]?))
 }
 
-/// The reason why a task runs that has no record.
+/// The reason why a task without a record runs.
 fn reason_without(task: &TaskDeclaration) -> Reason
     ensures { result ≡ why_without task.now }
 {
@@ -109,7 +109,7 @@ fn compared<A: Actions>(
     }
 }
 
-/// That the task runs, and why.
+/// The prediction that the task runs, and why.
 fn due<A: Actions>(
     alloc: Global,
     task: &TaskDeclaration,

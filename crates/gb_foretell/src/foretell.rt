@@ -29,8 +29,8 @@ use gb_plan::task::TaskDeclaration;
 use gb_report::report::Options;
 use std::alloc::{AllocError, Global};
 
-/// The outcome of each task of a plan, if it were executed on the folder as it is, in the order of the
-/// plan. `records` has what was read of their records, in that order. Nothing is changed.
+/// The outcome of each task of a plan, if it were executed on the folder as it is, in the order of
+/// the plan. `records` has what was read of their records, in that order. Nothing is changed.
 #[tactic(auto, using(crate::proofs::Lost::none_lost))]
 pub fn foretell<A: Actions, F: Folder>(
     alloc: Global,
@@ -46,7 +46,7 @@ pub fn foretell<A: Actions, F: Folder>(
     ensures asks { Asks F.failures F.may_leave F.asked no_change folder.old folder.new }
     ensures same { IsTrue F.tells → F.contents folder.new ≡ F.contents folder.old }
     ensures paths { IfOk result (λ told. map (λ one. one.path) told.items ≡ order plan.now) }
-    // Over any folder there is a reason where a task runs for reasons.
+    // Over any folder there is a reason if a task runs for reasons.
     ensures reasoned { IfOk result (λ told. AllByRecursion (λ one. IsReasoned one.coming) told.items) }
     ensures marked { IfOk result (λ told. AreMarked plan.now told.items) }
     ensures foretold { IsTrue F.tells → (kinds : Kinds) → Agrees A.meanings table.now kinds

@@ -14,13 +14,13 @@ pub trait Build {
     ghost rules: { Rules };
 }
 
-/// A task that is predicted without a mark ends in a build as it was predicted, up to the first task that
+/// A task that is predicted without a mark ends in a build as predicted, up to the first task that
 /// fails.
 pub fn predictions_are_kept<B: Build>()
     ensures { PredictionsAreKept B.rules }
 {}
 
-/// The same of predictions by the records of a folder.
+/// The same for predictions by the records of a folder.
 pub fn folder_predictions_are_kept<B: Build>()
     ensures { FolderPredictionsAreKept B.rules }
 {

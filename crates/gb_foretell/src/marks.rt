@@ -56,7 +56,7 @@ pub(crate) fn mark(
     }
 }
 
-/// The number of the first task that may change an output which one of the properties reads.
+/// The number of the first task that may change an output that one of the properties reads.
 fn first_read(
     alloc: Global,
     row: &[TaskPlace],
@@ -130,8 +130,8 @@ fn lesser(one: Option<usize>, other: Option<usize>) -> Option<usize>
     }
 }
 
-/// The task that cannot be read and keeps this one from starting, by needs of needs too. `lost` has the
-/// numbers of the earlier tasks that do not start.
+/// The task that cannot be read and keeps this one from starting, by direct or indirect needs.
+/// `lost` has the numbers of the earlier tasks that do not start.
 pub(crate) fn lack(
     task: &TaskDeclaration,
     told: &[Foretold],

@@ -37,7 +37,7 @@ pub(crate) fn coming_of<A: Actions, F: Folder>(
     requires in_order { HasNamesInOrder task.now }
     ensures asks { Asks F.failures F.may_leave F.asked no_change folder.old folder.new }
     ensures same { IsTrue F.tells → F.contents folder.new ≡ F.contents folder.old }
-    // Over any folder there is a reason where it runs for reasons.
+    // Over any folder there is a reason if it runs for reasons.
     ensures reasoned { IsReasoned result }
     ensures foretold { IsTrue F.tells → (kinds : Kinds) → Agrees A.meanings table.now kinds
         → IsForetold kinds options task.now (F.contents folder.old) (option_copied old.entry)
@@ -74,7 +74,7 @@ fn sourceless<F: Folder>(
     Ok(Coming::HasNoSource(!places.as_slice().is_empty()))
 }
 
-/// The prediction for a task that was to be read.
+/// The prediction for a task, from the result of reading it.
 fn told(found: Result<Coming, Fault>) -> Coming
     ensures { result ≡ told_of found }
 {

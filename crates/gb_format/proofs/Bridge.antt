@@ -1,4 +1,4 @@
--- What is written is the layout of the pieces.
+-- The written text is the layout of the pieces.
 use Rattle.std.proofs.Common.{◌≡◌, ℕ, true, false, List, [], ◌∷◌, ◌++◌, refl, sym, ap, ◌∙◌, append_assoc}
 use Rattle.std.specs.Prelude.{◌==◌}
 use Rattle.std.proofs.lemmas.Bool.Decides.{nat_tests}
@@ -99,7 +99,7 @@ set_first (x ∷ xs) g =
     let q = tidy x.1 in
     ap (λ (l : List ℕ). written q ++ l) (set_from (state_after (written q) (texts (shows xs))) q xs (tidy_fits x.1 g.0) g.1)
 
--- what is written of the pieces is their layout
+-- the text written from the pieces is their layout
 pub layout_is : (text : List ℕ) (ps : List Piece) → IsCut text ps [] → typeset (shown_from Beside ps) ≡ layout rules ps
 layout_is text ps c =
     let xs = (items ps).0 in

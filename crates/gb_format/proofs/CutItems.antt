@@ -33,7 +33,7 @@ front_is rest (p ∷ ps) c h = record { piece = p; after = c.0; whole = c.1; sta
 abbrev next_of : Option Apart → Apart → List ℕ → List Piece → Shown
 next_of o a t ps = shown_next o a t (λ b. shown_from b ps)
 
--- the front, and what follows it
+-- the front, and the text after it
 record One (apart : Apart) (front rest after : List ℕ) (ps : List Piece) : Type 0 where
   qs : List Piece
   cut : IsCut after qs []

@@ -21,7 +21,7 @@ use Rattle.gb_format.proofs.Trims.{name_first, name_bytes}
 abbrev no_newline : ℕ → Bool
 no_newline b = not (is_newline b)
 
--- ---- what is written of a piece
+-- ---- the text of a piece
 
 newline_blank : (b : ℕ) → is_blank b ≡ false → (b == 10) ≡ false
 newline_blank b h = grind (arith, nat_tests)
@@ -29,7 +29,7 @@ newline_blank b h = grind (arith, nat_tests)
 not_true : (b : ℕ) → no_newline b ≡ true → (b == 10) ≡ false
 not_true b h = grind (arith, nat_tests)
 
--- a byte that is no blank ends the run
+-- a byte that is not a blank ends the run
 solid_first : (k b : ℕ) (rest : List ℕ) → is_blank b ≡ false → few_newlines k (b ∷ rest) ≡ few_newlines 0 rest
 solid_first k b rest h = rw (h, newline_blank b h) refl
 
@@ -112,7 +112,7 @@ piece_line k (Single (Mark Colon)) rest h = refl
 piece_line k (Single (Mark Equals)) rest h = refl
 piece_line k (Single Wrong) rest h = absurd h
 
--- ---- what is written between two
+-- ---- the white space that is written between two
 
 indent_line : (k n : ℕ) (rest : List ℕ) → few_newlines k (indent n ++ rest) ≡ few_newlines k rest
 indent_line k zero rest = refl

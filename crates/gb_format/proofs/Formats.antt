@@ -39,13 +39,13 @@ is_formatted text out w h =
       empty_lines = ap (few_newlines 0) same ∙ few_lines (rules (seen (items ps).0)) (items ps).0 (fit_items text ps w.cut);
     }
 
--- what spells something spells it formatted
+-- if a text parses as a value, the formatted text parses as it, too
 pub formatted_spells : {A : Type 0} (Is : A → Type 0) (spelled : A → List Leveled) (text out : List ℕ) → IsWhole text → out ≡ formatted text → length out ≤ 1048576 → IsUtf8 out → (told : A) → IsSpelled Is spelled text told → IsSpelled Is spelled out told
 formatted_spells Is spelled text out w h short utf8 told s =
     let same : out ≡ layout rules w.pieces = h ∙ formatted_is text w.pieces w.cut in
     subst (λ (l : List ℕ). IsSpelled Is spelled l told) (sym same)
     (spelled_same Is spelled rules steady text w.pieces told w.cut s (subst (λ (l : List ℕ). length l ≤ 1048576) same short) (subst IsUtf8 same utf8))
 
--- what is read is cut to its end
+-- a text that is read consists of pieces up to its end
 pub read_whole : {A : Type 0} (Is : A → Type 0) (spelled : A → List Leveled) → ((a : A) → Real (spelled a)) → (text : List ℕ) (told : A) → IsSpelled Is spelled text told → IsWhole text
 read_whole Is spelled real text told s = let w = whole Is spelled real text told s in record { pieces = w.0; cut = w.1 }

@@ -1,4 +1,4 @@
--- What is shown of a text is what its items show.
+-- The shown comments and tokens of a text are those of its items.
 use Rattle.std.proofs.Common.{◌≡◌, ℕ, zero, suc, ◌+◌, true, false, cond, List, [], ◌∷◌, map, Option, None, Some, refl, sym, ap, ◌∙◌, arith, inl, inr}
 use Rattle.std.specs.Prelude.{◌==◌}
 use Rattle.std.proofs.lemmas.Bool.Decides.{nat_tests}
@@ -15,7 +15,7 @@ use Rattle.gb_format.proofs.Stand.{IsFit}
 use Rattle.gb_format.proofs.Trims.{name_first, tidy_written}
 use Rattle.gb_format.proofs.Twice.{from}
 
--- what items show
+-- the items as they are written
 abbrev pub shows : List Item → Shown
 shows xs = map (λ x. (apart x.0, written (tidy x.1))) xs
 

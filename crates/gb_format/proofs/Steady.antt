@@ -43,7 +43,7 @@ rules_seen xs = ap rules_of (same xs)
 
 -- ---- one step
 
--- whatever is done to rules but spaces and lines
+-- the function keeps spaces and new lines after an opening brace
 record Keeps (k : Kind) (m : Rule → Rule) : Type 0 where
   space : k ≡ kinds.OpenBrace → m Space ≡ Space
   line : k ≡ kinds.OpenBrace → (n : ℕ) → m (Line n) ≡ Line n

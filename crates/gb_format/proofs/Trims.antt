@@ -20,7 +20,7 @@ before_some : (x b : ℕ) (xs : List ℕ) → before_end x (xs ++ b ∷ []) ≡ 
 before_some x b [] = refl
 before_some x b (y ∷ xs) = refl
 
--- the last one is none
+-- the last one is not a blank
 pub not_off : (xs : List ℕ) (b : ℕ) → is_blank b ≡ false → trimmed (xs ++ b ∷ []) ≡ xs ++ b ∷ []
 not_off [] b h = rw h refl
 not_off (x ∷ xs) b h = ap (before_end x) (not_off xs b h) ∙ before_some x b xs
@@ -50,7 +50,7 @@ none_less xs n some within h same =
     let whole : take n xs ≡ take k xs ++ get_or xs k 0 ∷ [] = ap (λ i. take i xs) (sym size) ∙ more in
     whole ∙ sym (not_off (take k xs) (get_or xs k 0) h) ∙ ap trimmed (sym whole) ∙ same
 
--- ---- what is written of a piece that is tidy
+-- ---- the text of a tidy piece
 
 comment_end : (l : List ℕ) → before_end 47 (before_end 47 l) ≡ 47 ∷ 47 ∷ l
 comment_end [] = refl

@@ -15,7 +15,7 @@ use Rattle.gb_format.specs.Shown.{shown_in, typeset}
 abbrev pub formatted : List ℕ → List ℕ
 formatted text = typeset (shown_in text)
 
--- After so many newlines with nothing but blanks between them no more than two come in a row: so at most one
+-- After `seen` newlines with only blanks between them, at most two newlines come in a row, so at most one
 -- line in a row is empty.
 abbrev pub few_newlines : ℕ → List ℕ → Bool
 few_newlines seen [] = true
@@ -23,28 +23,28 @@ few_newlines seen (b ∷ bs) =
     if b == 10 then (if seen == 2 then false else few_newlines (seen + 1) bs)
     else (if is_blank b then few_newlines seen bs else few_newlines 0 bs)
 
--- The formatted text, and what it has in common with the text.
+-- The formatted text, and what it has in common with the original text.
 pub record IsFormatted (text out : List ℕ) : Type 0 where
   pub is : out ≡ formatted text
   -- these are the pieces of both
   pub cut : IsCut text (pieces_of text) []
   pub out_cut : IsCut out (pieces_of out) []
-  -- Both have the same comments and tokens in one order, comments without the blanks at their ends. So each
-  -- comment is between the same two tokens.
+  -- Both have the same comments and tokens in the same order, without the blanks at the ends of comments. So
+  -- each comment is between the same two tokens.
   pub same : kept (pieces_of out) ≡ map tidy (kept (pieces_of text))
   -- formatted once more it is the same
   pub again : formatted out ≡ out
   pub empty_lines : IsTrue (few_newlines 0 out)
 
--- the two are one script
+-- both texts are the same script
 abbrev pub AreSameScript : List ℕ → List ℕ → Type 0
 AreSameScript text out = (script : List Statement) × Spells text script × Spells out script
 
--- the two are the same settings
+-- both texts are the same settings
 abbrev pub AreSameSettings : List ℕ → List ℕ → Type 0
 AreSameSettings text out =
     (settings : List (List (List ℕ))) × SpellsSettings text settings × SpellsSettings out settings
 
--- the fault by which a text that can be read is not formatted
+-- the fault of a text that can be read but not formatted
 abbrev pub IsLayoutFault : List ℕ → ScriptFault → Type 0
 IsLayoutFault text fault = (fault ≡ OutOfMemory) ⊎ ((fault ≡ TooLong) × (1048576 < length (formatted text)))

@@ -1,4 +1,4 @@
--- What a comment or a token is, by its first byte.
+-- The kind of a comment or a token, which its first byte decides.
 use Rattle.std.specs.Prelude.{ℕ, Bool, true, false, ◌||◌, ◌==◌, List, [], ◌∷◌, if◌then◌else◌}
 use Rattle.gb_core.specs.Name.{is_name_byte}
 use Rattle.gb_format.specs.declared.kind.Kind.{Kind}

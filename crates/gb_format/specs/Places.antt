@@ -1,4 +1,4 @@
--- Which word begins a statement or a clause: a name may be any word, so what precedes it decides.
+-- Which word begins a statement or a clause. A name may be any word, so the text before decides.
 use Rattle.std.specs.Prelude.{ℕ, ◌+◌, ◌-◌, Bool, true, false, not, ◌&&◌, ◌||◌, ◌==◌, nat_lt, codes}
 use Rattle.std.specs.Prelude.{List}
 use Rattle.std.specs.Prelude.{if◌then◌else◌}
@@ -45,7 +45,7 @@ abbrev pub begins_as : Kind → Place → List ℕ → Bool
 begins_as kinds.Word p w = begins_after p.awaits p w
 begins_as k p w = false
 
--- this begins a statement or a clause
+-- this token begins a statement or a clause
 abbrev pub begins : Place → List ℕ → Bool
 begins p t = begins_as (kind_of t) p t
 

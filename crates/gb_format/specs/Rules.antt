@@ -1,11 +1,11 @@
 -- A layout: the rule before each comment or token.
 --
--- A statement or clause that fits on a line stays on it. In one that does not, each element after a comma
--- begins a line, and in an element that does not fit on a line so does each step of its chain. A bracket that
--- does not fit in the rest of its line is broken: each element has a line, and so does the bracket that
--- closes. In the outermost bracket that is broken, so does each step of an element that does not fit on a
--- line. A block whose first clause follows its brace on the same line stays on that line where it fits. A
--- line has 100 columns, which are counted in bytes.
+-- A statement or clause that fits on a line stays on it. In one that does not fit, each element after a comma
+-- begins a line. In an element that does not fit on a line, each step of its chain begins a line, too. A
+-- bracket that does not fit in the rest of its line is broken: each element begins a line, and so does the
+-- bracket that closes. In the outermost broken bracket, each step of an element that does not fit on a line
+-- begins a line, too. A block whose first clause follows its brace on the same line stays on that line if it
+-- fits. A line has 100 columns, which are counted in bytes.
 use Rattle.std.specs.Prelude.{ℕ, ◌+◌, ◌*◌, ◌-◌, Bool, true, false, not, ◌&&◌, ◌==◌, nat_lt, List}
 use Rattle.std.specs.Prelude.{length, if◌then◌else◌}
 use Rattle.gb_format.specs.declared.kind.Kind.{Kind}
@@ -28,7 +28,7 @@ use Rattle.gb_format.specs.Fits.{fits, fits_from}
 abbrev pub room_at : ℕ → ℕ
 room_at indent = 100 - 4 * indent
 
--- how many are left after this at the start of a line
+-- how many are left after this text at the start of a line
 abbrev pub room_after : ℕ → List ℕ → ℕ
 room_after indent t = room_at indent - length t
 
@@ -38,7 +38,7 @@ room_after indent t = room_at indent - length t
 abbrev pub is_broken : State → Bool
 is_broken s = nat_lt 0 s.broken && (s.place.brackets == s.broken)
 
--- an element in the outermost broken bracket that does not fit on a line
+-- in an element of the outermost broken bracket that does not fit on a line
 abbrev pub is_stepped : State → Bool
 is_stepped s = s.is_inner_chain && (s.broken == 1)
 
@@ -50,13 +50,13 @@ turn_after kinds.Comma = turns.Inside
 turn_after kinds.Comment = turns.Inside
 turn_after before = turns.Flat
 
--- the turn in a broken bracket
+-- the line break in a broken bracket
 abbrev pub turn_in : State → Kind → Kind → Turn
 turn_in s before kinds.Close = turns.Closing
 turn_in s before kinds.Dot = if is_stepped s then turns.InnerStep else turn_after before
 turn_in s before k = turn_after before
 
--- the turn outside of brackets
+-- the line break outside of brackets
 abbrev pub turn_out : State → Kind → Kind → Turn
 turn_out s kinds.Comment k = turns.Resumed
 turn_out s kinds.Comma kinds.Dot =
@@ -207,7 +207,7 @@ step_as kinds.Comment s before a t ts = record { rule = Behind (comment_indent s
 step_as kinds.CloseBrace s before a t ts = record { rule = closing_rule s before; state = closed s t }
 step_as k s before a t ts = if begins s.place t then begin s before a t ts else inner s before t ts
 
--- The rule of a comment or a token that is separated so from the one before, and the state after it.
+-- The rule of a comment or a token, given how it is separated from the one before, and the state after it.
 unfoldable pub step : State → Kind → Apart → List ℕ → List (List ℕ) → Advance
 step s before a t ts = step_as (kind_of t) s before a t ts
 

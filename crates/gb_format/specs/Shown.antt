@@ -1,4 +1,4 @@
--- The comments and tokens of a text as they are written, and the text that is written of them.
+-- The comments and tokens of a text as they are written, and the text that is written from them.
 use Rattle.std.specs.Prelude.{◌≡◌, ℕ, ◌==◌, List, [], ◌∷◌, ◌++◌, map, Option, None, Some, if◌then◌else◌}
 use Rattle.gb_script.specs.Lexing.{is_blank, Piece, written, Stands, IsCut}
 use Rattle.gb_format.specs.declared.fits.Item.{Item}
@@ -14,19 +14,19 @@ use Rattle.gb_format.specs.Layout.{trimmed, gap_of}
 use Rattle.gb_format.specs.Pieces.{pieces_of}
 use Rattle.gb_format.specs.Rules.{step, first_state}
 
--- each comment and token: how it is separated from the one before, and what is written
+-- each comment and token: how it is separated from the one before, and its text
 abbrev pub Shown : Type 0
 Shown = List (Apart × List ℕ)
 
 -- ---- of a text
 
--- one newline more
+-- the separation with one more newline
 abbrev pub further : Apart → Apart
 further Beside = Below
 further Below = Away
 further Away = Away
 
--- what separates what comes next, after this blank; nothing where it is no blank
+-- how the next item is separated, after this blank; nothing if it is not a blank
 abbrev pub gap_after : Apart → List ℕ → Option Apart
 gap_after a [] = None
 gap_after a (b ∷ bs) =
@@ -36,7 +36,7 @@ abbrev pub shown_next : Option Apart → Apart → List ℕ → (Apart → Shown
 shown_next None a t more = (a, trimmed t) ∷ more Beside
 shown_next (Some b) a t more = more b
 
--- those of these pieces, after white space that separates so
+-- the comments and tokens of these pieces, after white space that separates so
 abbrev pub shown_from : Apart → List Piece → Shown
 shown_from a [] = []
 shown_from a (p ∷ ps) = shown_next (gap_after a (written p)) a (written p) (λ b. shown_from b ps)
@@ -44,11 +44,11 @@ shown_from a (p ∷ ps) = shown_next (gap_after a (written p)) a (written p) (λ
 abbrev pub shown_in : List ℕ → Shown
 shown_in text = shown_from Beside (pieces_of text)
 
--- those that were found
+-- the comments and tokens of these items
 abbrev pub shown : List Item → Shown
 shown items = map (λ i. (i.apart, i.text.now)) items
 
--- the text ends so
+-- the text ends with this rest
 abbrev pub EndsWith : List ℕ → List ℕ → Type 0
 EndsWith text rest = (front : List ℕ) × (text ≡ front ++ rest)
 
@@ -59,17 +59,17 @@ pub record HasFront (text : List ℕ) : Type 0 where
   pub whole : text ≡ written piece ++ after
   pub stands : Stands piece after
 
--- the text is cut to its end
+-- the text consists of pieces up to its end
 pub record IsWhole (text : List ℕ) : Type 0 where
   pub pieces : List Piece
   pub cut : IsCut text pieces []
 
--- ---- written again
+-- ---- written back
 
 abbrev pub texts : Shown → List (List ℕ)
 texts xs = map (λ x. x.1) xs
 
--- the rule between two: after a comment there is a new line, and between two words a space
+-- the rule between two: after a comment a new line, and between two words a space
 abbrev pub mended : Kind → Rule → Kind → Rule
 mended kinds.Comment Close k = Part 0
 mended kinds.Comment Space k = Part 0

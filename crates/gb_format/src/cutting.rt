@@ -1,4 +1,4 @@
-//! A text to its comments and tokens.
+//! Cuts a text into its comments and tokens.
 ghost use Rattle.std.specs.Prelude.{◌≡◌, ℕ, ◌-◌, ◌<◌, ◌++◌, IfOk, List, length, take, map};
 ghost use Rattle.std.specs.Str.{IsCharBoundary};
 ghost use Rattle.gb_script.specs.Lexing.{is_blank, Piece, written, Stands};
@@ -56,7 +56,7 @@ fn cut_first(alloc: Global, text: &str) -> Result<(&str, &str), AllocError>
     Ok(split_before(text, rest))
 }
 
-/// One newline more.
+/// The separation with one more newline.
 fn further(apart: Apart) -> Apart
     ensures { result ≡ further apart }
 {
@@ -66,7 +66,7 @@ fn further(apart: Apart) -> Apart
     }
 }
 
-/// What separates what comes next, after this blank; nothing where it is no blank.
+/// How the next item is separated, after this blank; nothing if it is not a blank.
 fn gap_after(apart: Apart, front: &str) -> Option<Apart>
     ensures { result ≡ gap_after apart front.now }
 {
@@ -77,7 +77,7 @@ fn gap_after(apart: Apart, front: &str) -> Option<Apart>
     }
 }
 
-/// The comments and tokens of a text that is cut to its end.
+/// The comments and tokens of a text that consists of pieces up to its end.
 pub fn cut(alloc: Global, text: &str) -> Result<Vec<Item<'_>>, AllocError>
     requires { IsWhole text.now }
     ensures { IfOk result (λ items. shown items.items ≡ shown_in text.now) }

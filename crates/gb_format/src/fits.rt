@@ -1,4 +1,4 @@
-//! Whether what follows fits in the rest of a line.
+//! Whether the next part of a text fits in the rest of a line.
 ghost use Rattle.std.specs.Prelude.{◌≡◌};
 ghost use Rattle.gb_format.specs.Fits.{width, is_end, ends_before, ends_after, is_comment, is_inner_end};
 ghost use Rattle.gb_format.specs.Fits.{fits};
@@ -13,26 +13,27 @@ use crate::rule::Apart;
 pub struct Item<'t> {
     /// How it is separated from the one before.
     pub apart: Apart,
-    /// What is written, without blanks at the end.
+    /// Its text, without blanks at the end.
     pub text: &'t str,
 }
 
-/// How far what has to fit goes.
+/// The part of the text that has to fit.
 #[derive(Clone, Copy)]
 pub enum Reach {
     /// To the end of a clause, or to the brace after the head of a statement.
     Clause,
-    /// To the next comma of a clause too.
+    /// As `Clause`, or to the next comma of the clause.
     Element,
-    /// To the next comma between brackets of which no more than this many are open, or to what closes them.
+    /// To the next comma between brackets with at most this many open, or to the bracket that
+    /// closes them.
     Inner(usize),
-    /// To the bracket after which no more than this many are open.
+    /// To the bracket after which at most this many are open.
     Bracket(usize),
     /// To the brace that closes.
     Block,
 }
 
-/// How many columns it takes on the line of the one before.
+/// How many columns it takes on the line of the one before, including a space before it.
 fn width(before: Kind, text: &str) -> usize
     ensures { result ≡ width before text.now }
 {
@@ -54,7 +55,7 @@ fn is_end(place: Place, text: &str) -> bool
     }
 }
 
-/// Whether an element of a bracket ends before this, where no more than this many are open.
+/// Whether an element of a bracket ends before this, with at most this many brackets open.
 fn is_inner_end(count: usize, place: Place, kind: Kind) -> bool
     ensures { result ≡ is_inner_end count place kind }
 {
@@ -64,7 +65,7 @@ fn is_inner_end(count: usize, place: Place, kind: Kind) -> bool
     }
 }
 
-/// Whether what has to fit ends before this.
+/// Whether the part that has to fit ends before this.
 fn ends_before(reach: Reach, place: Place, text: &str) -> bool
     ensures { result ≡ ends_before reach place text.now }
 {
@@ -75,7 +76,7 @@ fn ends_before(reach: Reach, place: Place, text: &str) -> bool
     }
 }
 
-/// Whether what has to fit ends after this, with this place after it.
+/// Whether the part that has to fit ends after this, where `place` is the place after it.
 fn ends_after(reach: Reach, place: Place, kind: Kind) -> bool
     ensures { result ≡ ends_after reach place kind }
 {
@@ -96,7 +97,7 @@ fn is_comment(kind: Kind) -> bool
     matches!(kind, Kind::Comment)
 }
 
-/// Whether what comes next fits in so many columns, as far as it has to.
+/// Whether the part of these items that has to fit fits in `room` columns.
 pub fn fits(reach: Reach, place: Place, before: Kind, room: usize, items: &[Item]) -> bool
     ensures { result ≡ fits reach place before room (texts_of items.now) }
 {
@@ -122,7 +123,7 @@ pub fn fits(reach: Reach, place: Place, before: Kind, room: usize, items: &[Item
     true
 }
 
-/// Whether what begins with this fits in so many columns, as far as it has to.
+/// The same for a part that begins with this text and continues with `rest`.
 pub fn fits_from(reach: Reach, place: Place, room: usize, text: &str, rest: &[Item]) -> bool
     ensures { result ≡ fits_from reach place room text.now (texts_of rest.now) }
 {

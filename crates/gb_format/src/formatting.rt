@@ -12,7 +12,7 @@ use gb_script::fault::ScriptFault;
 use gb_script::{MAX_SCRIPT, read_script, read_settings};
 use std::alloc::Global;
 
-/// The text, if it is not too long.
+/// The text, if it is not longer than 1 MiB.
 fn within_limit(text: String) -> Result<String, ScriptFault>
     ensures found { IfOk result (λ out. (out ≡ text) × (length (string_bytes out) ≤ 1048576)) }
     ensures fault { IfErr result (λ fault. (fault ≡ ScriptFault.TooLong)
@@ -26,7 +26,7 @@ fn within_limit(text: String) -> Result<String, ScriptFault>
     }
 }
 
-/// The formatted text of a text that is cut to its end.
+/// The formatted text of a text that consists of pieces up to its end.
 fn formatted(alloc: Global, text: &str) -> Result<String, ScriptFault>
     requires { IsWhole text.now }
     ensures found { IfOk result (λ out. (string_bytes out ≡ formatted text.now)
@@ -39,7 +39,7 @@ fn formatted(alloc: Global, text: &str) -> Result<String, ScriptFault>
     within_limit(out?)
 }
 
-/// The formatted text of bytes that are UTF-8 and cut to their end.
+/// The formatted text of bytes that are UTF-8 and consist of pieces up to their end.
 fn formatted_bytes(alloc: Global, bytes: &[u8]) -> Result<String, ScriptFault>
     requires utf8 { IsUtf8 bytes.now }
     requires whole { IsWhole bytes.now }
@@ -53,8 +53,8 @@ fn formatted_bytes(alloc: Global, bytes: &[u8]) -> Result<String, ScriptFault>
     }
 }
 
-/// The formatted text of the script that the bytes are. The faults are those of `read_script`, in the same
-/// order, and then that the formatted text has more than 1 MiB (21). Memory may run out on the way (3).
+/// Formats the script that the bytes encode. The faults are those of `read_script`, in the same
+/// order, and then a formatted text of more than 1 MiB (21). It may also run out of memory (3).
 pub fn format_script(alloc: Global, bytes: &[u8]) -> Result<String, ScriptFault>
     // Only the white space between comments and tokens changes.
     ensures found { IfOk result (λ out. IsFormatted bytes.now (string_bytes out)) }
@@ -67,8 +67,8 @@ pub fn format_script(alloc: Global, bytes: &[u8]) -> Result<String, ScriptFault>
     formatted_bytes(alloc, bytes)
 }
 
-/// The formatted text of the settings that the bytes are. The faults are those of `read_settings`, in the
-/// same order, and then that the formatted text has more than 1 MiB (21). Memory may run out on the way (3).
+/// Formats the settings that the bytes encode. The faults are those of `read_settings`, in the same
+/// order, and then a formatted text of more than 1 MiB (21). It may also run out of memory (3).
 pub fn format_settings(alloc: Global, bytes: &[u8]) -> Result<String, ScriptFault>
     // Only the white space between comments and tokens changes.
     ensures found { IfOk result (λ out. IsFormatted bytes.now (string_bytes out)) }

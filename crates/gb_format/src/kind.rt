@@ -1,11 +1,11 @@
-//! What a comment or a token is, by its first byte.
+//! The kind of a comment or a token, which its first byte decides.
 ghost use Rattle.std.specs.Prelude.{◌≡◌};
 ghost use Rattle.gb_format.specs.Kinds.{kind_of, kind_of_sign, is_tight_after, is_tight_before, is_open};
 ghost use Rattle.gb_format.specs.Kinds.{is_tight};
 
 use gb_core::name::is_name_byte;
 
-/// What a comment or a token is.
+/// The kind of a comment or a token.
 #[derive(Clone, Copy)]
 pub enum Kind {
     /// A comment.
@@ -48,7 +48,7 @@ fn kind_of_sign(first: u8) -> Kind
     }
 }
 
-/// What is written so.
+/// The kind of the comment or token with this text.
 pub fn kind_of(text: &str) -> Kind
     ensures { result ≡ kind_of text.now }
 {

@@ -1,4 +1,4 @@
-//! Formatting scripts and settings: only the white space between comments and tokens changes.
+//! Formats scripts and settings: only the white space between comments and tokens changes.
 #![tactic(auto)]
 
 mod cutting;

@@ -1,4 +1,4 @@
-//! Which word begins a statement or a clause: a name may be any word, so what precedes it decides.
+//! Which word begins a statement or a clause. A name may be any word, so the text before decides.
 ghost use Rattle.std.specs.Prelude.{◌≡◌};
 ghost use Rattle.gb_format.specs.Places.{goes_on, begins, clause_of, after_more, after_word, after, deeper};
 ghost use Rattle.gb_format.specs.Places.{shallower};
@@ -6,14 +6,14 @@ ghost use Rattle.gb_format.specs.Places.{depth, at_start};
 
 use crate::kind::{Kind, kind_of};
 
-/// What a statement or a clause waits for.
+/// What comes next in a statement or a clause.
 #[derive(Clone, Copy)]
 pub enum Awaits {
     /// A statement, a clause or the brace after them.
     Start,
     /// A name, a value, a text or a call.
     Value,
-    /// More of it, or the next one.
+    /// More of it, or the next statement or clause.
     More,
 }
 
@@ -33,7 +33,7 @@ pub enum Clause {
 /// A place between two tokens.
 #[derive(Clone, Copy)]
 pub struct Place {
-    /// What is awaited.
+    /// What comes next.
     pub awaits: Awaits,
     /// Which clause it is in.
     pub clause: Clause,
@@ -55,14 +55,14 @@ pub fn at_start() -> Place
     }
 }
 
-/// One more, up to 64.
+/// One bracket more, up to 64.
 pub fn deeper(count: usize) -> usize
     ensures { result ≡ deeper count }
 {
     if count < 64 { count + 1 } else { 64 }
 }
 
-/// One less, down to 0.
+/// One bracket less, down to 0.
 pub fn shallower(count: usize) -> usize
     ensures { result ≡ shallower count }
 {
@@ -90,7 +90,7 @@ fn goes_on(clause: Clause, word: &str) -> bool
     }
 }
 
-/// Whether this begins a statement or a clause.
+/// Whether this word begins a statement or a clause.
 pub fn begins(place: Place, text: &str) -> bool
     ensures { result ≡ begins place text.now }
 {

@@ -1,21 +1,21 @@
-//! The space between two pieces.
+//! The rules for the white space between two pieces.
 ghost use Rattle.std.specs.Prelude.{◌≡◌, ◌++◌, OnOk, string_bytes};
 ghost use Rattle.gb_format.specs.Layout.{gap_of, indent};
 
 use std::alloc::AllocError;
 
-/// The space that two pieces had.
+/// How two pieces are separated in the text that is read.
 #[derive(Clone, Copy)]
 pub enum Apart {
     /// On one line.
     Beside,
-    /// On two.
+    /// On two consecutive lines.
     Below,
     /// With an empty line between them.
     Away,
 }
 
-/// The space that two pieces get.
+/// The white space that the formatted text has between two pieces.
 #[derive(Clone, Copy)]
 pub enum Rule {
     /// Nothing between.
@@ -24,9 +24,9 @@ pub enum Rule {
     Space,
     /// A new line, this deep.
     Line(usize),
-    /// A new line, and an empty one before it where there were some.
+    /// A new line, and an empty one before it if the text had an empty line there.
     Part(usize),
-    /// On the line of the piece before it, where it was there, and else as `Part`.
+    /// On the line of the piece before it, if it was there, and else as `Part`.
     Behind(usize),
 }
 
@@ -58,7 +58,7 @@ fn push_part(out: &mut String, depth: usize, apart: Apart) -> Result<(), AllocEr
     push_line(out, depth)
 }
 
-/// Writes the space between two pieces by this rule, from the space they had.
+/// Writes the white space between two pieces by this rule, given how they were separated.
 pub fn push_gap(out: &mut String, rule: Rule, apart: Apart) -> Result<(), AllocError>
     ensures { OnOk result (string_bytes out.new ≡ string_bytes out.old ++ gap_of rule apart) }
 {

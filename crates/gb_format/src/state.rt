@@ -1,4 +1,4 @@
-//! Which rule each comment or token is set by.
+//! The rule for the white space before each comment or token, and the state from which it follows.
 ghost use Rattle.std.specs.Prelude.{◌≡◌, true};
 ghost use Rattle.gb_format.specs.Fits.{texts_of};
 ghost use Rattle.gb_format.specs.Rules.{room_at, room_after, is_broken, turn_in, turn_out, turn_of};
@@ -18,7 +18,7 @@ use crate::rule::{Apart, Rule};
 pub struct State {
     /// The place.
     pub place: Place,
-    /// How many of the open brackets are broken; these are the outer ones.
+    /// How many of the open brackets are broken, counted from the outermost.
     pub broken: usize,
     /// The indent of the line.
     pub indent: usize,
@@ -38,10 +38,10 @@ pub struct State {
     pub is_inner_chain: bool,
 }
 
-/// Why a line breaks before a token within a clause, or that it does not.
+/// Why a line breaks before a token within a clause, or that it does not break.
 #[derive(Clone, Copy)]
 pub enum Turn {
-    /// It does not.
+    /// It does not break.
     Flat,
     /// An element of a broken bracket begins.
     Inside,
@@ -77,14 +77,14 @@ fn is_broken(state: State) -> bool
     state.broken > 0 && state.place.brackets == state.broken
 }
 
-/// Whether an element in the outermost broken bracket does not fit on a line.
+/// Whether the state is in an element of the outermost broken bracket that does not fit on a line.
 fn is_stepped(state: State) -> bool
     ensures { result ≡ is_stepped state }
 {
     state.is_inner_chain && state.broken == 1
 }
 
-/// The turn in a broken bracket, but for steps and the bracket that closes.
+/// The line break in a broken bracket, except before steps and the bracket that closes.
 fn turn_after(before: Kind) -> Turn
     ensures { result ≡ turn_after before }
 {
@@ -94,7 +94,7 @@ fn turn_after(before: Kind) -> Turn
     }
 }
 
-/// The turn in a broken bracket.
+/// The line break in a broken bracket.
 fn turn_in(state: State, before: Kind, kind: Kind) -> Turn
     ensures { result ≡ turn_in state before kind }
 {
@@ -105,7 +105,7 @@ fn turn_in(state: State, before: Kind, kind: Kind) -> Turn
     }
 }
 
-/// The turn outside of brackets.
+/// The line break outside of brackets.
 fn turn_out(state: State, before: Kind, kind: Kind) -> Turn
     ensures { result ≡ turn_out state before kind }
 {
@@ -153,7 +153,7 @@ fn turn_rule(state: State, turn: Turn, tight: bool) -> Rule
     }
 }
 
-/// The state in the line with which a clause goes on.
+/// The state in the line with which a clause continues.
 fn resumed(state: State, is_cut: bool, text: &str, rest: &[Item]) -> State
     ensures { result ≡ resumed state is_cut text.now (texts_of rest.now) }
 {
@@ -254,7 +254,7 @@ fn breaks(state: State, place: Place, kind: Kind, rest: &[Item]) -> bool
         )
 }
 
-/// The indent of the elements of the outermost broken bracket, where one more is broken.
+/// The indent of the elements of the outermost broken bracket, if one more bracket is broken.
 fn inner_indent(state: State) -> usize
     ensures { result ≡ inner_indent state }
 {
@@ -283,7 +283,7 @@ fn opened(state: State, text: &str, rest: &[Item]) -> State
     }
 }
 
-/// Whether what begins here goes on in the line of the one before.
+/// Whether the statement or clause that begins here continues the line of the one before.
 fn joins(state: State, before: Kind, apart: Apart, text: &str, rest: &[Item]) -> bool
     ensures { result ≡ joins state before apart text.now (texts_of rest.now) }
 {
@@ -365,7 +365,7 @@ fn closed(state: State, text: &str) -> State
     }
 }
 
-/// A rule, and the state after what is set by it.
+/// A rule, and the state after the token that it applies to.
 #[derive(Clone, Copy)]
 pub struct Advance {
     /// The rule.
@@ -399,7 +399,7 @@ fn begin(state: State, before: Kind, apart: Apart, text: &str, rest: &[Item]) ->
     }
 }
 
-/// The step over a comment or a token, which is separated so from the one before.
+/// The step over a comment or a token, where `apart` is how it is separated from the one before.
 #[tactic(auto, unfolding(crate::specs::Rules::step))]
 pub fn step(state: State, before: Kind, apart: Apart, text: &str, rest: &[Item]) -> Advance
     ensures { result ≡ step state before apart text.now (texts_of rest.now) }

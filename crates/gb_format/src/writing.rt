@@ -1,4 +1,4 @@
-//! Writing comments and tokens again.
+//! Writes comments and tokens back as text.
 ghost use Rattle.std.specs.Prelude.{◌≡◌, ◌++◌, IfOk, OnOk, string_bytes};
 ghost use Rattle.gb_format.specs.Layout.{gap_of};
 ghost use Rattle.gb_format.specs.Kinds.{kind_of};
@@ -10,7 +10,7 @@ use crate::rule::{Apart, Rule, push_gap};
 use crate::state::{State, first_state, step};
 use std::alloc::{AllocError, Global};
 
-/// The rule between two: after a comment there is a new line, and between two words a space.
+/// The rule between two: after a comment a new line, and between two words a space.
 fn mended(before: Kind, rule: Rule, kind: Kind) -> Rule
     ensures { result ≡ mended before rule kind }
 {

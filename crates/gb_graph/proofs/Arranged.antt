@@ -176,7 +176,7 @@ module _ (n : ℕ) (f : ℕ → Planned) (table : List (List ℕ)) (done others 
   others_known : (u : ℕ) → In u others → (u < n) × (¬ Contains done u)
   others_known u i = are_others.within u (of_in u others i)
 
-  -- of those behind the next one, it precedes the ready ones
+  -- among those after the next one, it precedes the ready ones
   later : (front : List ℕ) (t : ℕ) (back : List ℕ) → done ≡ front ++ t ∷ back → IsNext table front t → (k : ℕ) → In k (back ++ others)
       → (precedes (f t) (f k) || not (is_ready plan (map path front) (f k).task)) ≡ true
   later front t back e next k i =
@@ -297,7 +297,7 @@ then_equal Greater p e = absurd (let f : Greater ≡ Equal = e in cc)
 precedes_by : (a b : Planned) → ranks_before a b ≡ true → precedes a b ≡ true
 precedes_by a b h = grind (arith, nat_tests)
 
--- tasks of different paths precede each other as they are sorted
+-- tasks of different paths precede each other in sorted order
 pub precedes_sorted : (a b : Planned) → ranks_before b a ≡ false → (a.task.path ≡ b.task.path → ⊥) → precedes a b ≡ true
 precedes_sorted a b h differs =
     precedes_by a b (ap is_lt (rank_total.antisymm a b)

@@ -1,4 +1,4 @@
--- Bits of rows of words, and what an order says at an index.
+-- Bits of rows of words, and the entry of an order at an index.
 use Rattle.std.proofs.Common.{◌≡◌, ◌<◌, ◌≤◌, ◌≢◌, ◌+◌, ◌*◌, ◌/◌, ◌%◌, ◌^◌, ℕ, List, [], ◌∷◌, ◌++◌, length, get_or, take, ap, sym, subst, ◌∙◌, ◌⊎◌, inl, inr, Contains, arith, max, w64, refl}
 use Rattle.std.specs.Int.{bit_at}
 use Rattle.std.specs.Int.Bits.{bit_or, or_zero_r}
@@ -44,7 +44,7 @@ marked_other row t i lt n =
       | inr d ↦ ap (λ x. bit_at x (i % 64)) (get_or-set_other row (t / 64) (i / 64) v 0 d)
     ]
 
--- ---- What an order says
+-- ---- The entries of an order
 
 pub order_known : {after : List (List ℕ)} {order : List ℕ} → InOrder after order → (t : ℕ) → Contains order t → t < length after
 order_known begins t h = absurd (omega (arith, h.1))
@@ -80,7 +80,7 @@ front {after} {t} {p} (step {between} h d) = let f = front h in elim f.2 [
   | inr g ↦ (f.0, f.1, inr (step g d))
 ]
 
--- ---- A row takes in one more task of its list
+-- ---- A row includes one more task of its list
 
 one_of : (x y : ℕ) → max x y ≡ 1 → (x ≡ 1) ⊎ (y ≡ 1)
 one_of x y h = elim (cases_eq x 1) [ inl e ↦ inl e | inr n ↦ inr (omega arith) ]

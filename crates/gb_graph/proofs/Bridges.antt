@@ -1,4 +1,4 @@
--- From places of tasks by number to the meetings of a plan.
+-- From places of tasks by number to the conflicts of a plan.
 use Rattle.std.specs.Prelude.{ℕ, zero, suc, ◌≡◌, ◌⊎◌, ◌<◌, ◌+◌, Bool, true, false, ◌||◌, List, [], ◌∷◌, ◌++◌, map, length, get_or, refl, Contains}
 use Rattle.std.specs.List.{list_any}
 use Rattle.std.proofs.Common.{sym, ap, subst, ◌∙◌, inl, inr, arith}
@@ -14,9 +14,9 @@ use Rattle.gb_graph.proofs.Numbers.{in_of, of_in, in_front, in_back, in_either}
 use Rattle.gb_graph.specs.declared.places.TaskPlace.{TaskPlace}
 use Rattle.gb_graph.specs.Places.{with_places, places_from}
 
--- ---- What stands at an index
+-- ---- The element at an index
 
--- it stands in the list at this index
+-- it is the element of the list at this index
 abbrev pub At : {X : Type 0} → List X → ℕ → X → Type 0
 At [] i x = ⊥
 At (y ∷ ys) zero x = y ≡ x
@@ -66,7 +66,7 @@ others_around : {X : Type 0} (z : X) (xs front back : List X) (i : ℕ) → ((j 
 others_around z xs front back i f zero y at apart = inl (sym at)
 others_around z xs front back i f (suc j) y at apart = inr (f j y at (λ e. apart (ap suc e)))
 
--- the list around an index, in which each other index stands
+-- the list around an index, where each element at another index is included
 pub parted : {X : Type 0} (xs : List X) (i : ℕ) (x : X) → At xs i x
     → (front : List X) × (back : List X) × (xs ≡ front ++ x ∷ back) × ((j : ℕ) (y : X) → At xs j y → (i ≡ j → ⊥) → In y (front ++ back))
 parted [] i x h = absurd h
@@ -79,7 +79,7 @@ at_middle : {X : Type 0} (front back : List X) (x : X) → (i : ℕ) × At (fron
 at_middle [] back x = (0, refl)
 at_middle (z ∷ front) back x = let at = at_middle front back x in (suc at.0, at.1)
 
--- what stands around an element stands at other indices
+-- an element around another one is at another index
 pub around : {X : Type 0} (front back : List X) (x y : X) → In y (front ++ back)
     → (i : ℕ) × (j : ℕ) × At (front ++ x ∷ back) i x × At (front ++ x ∷ back) j y × (i ≡ j → ⊥)
 around [] back x y h = let at = in_at back y h in (0, suc at.0, refl, at.1, λ e. (let f : 0 ≡ suc at.0 = e in omega (arith, f)))
@@ -109,7 +109,7 @@ some_in {X} p (y ∷ ys) h =
 
 -- ---- Places of tasks by number
 
--- each of a row stands there at its own number
+-- each of a row is there at its own number
 pub of_placed : (row : List TaskPlace) (pairs : List (ℕ × Place)) (at : TaskPlace) → In at (with_places row pairs)
     → In at row ⊎ ((i : ℕ) × At pairs i (at.task, at.place) × (at.number ≡ length row + i))
 of_placed row [] at h = inl h

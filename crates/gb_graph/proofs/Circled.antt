@@ -165,9 +165,9 @@ module _ (tasks : List Planned) (ranked : AreRanked tasks) (table : List (List �
   paths_are [] low = refl
   paths_are (k ∷ circle) low = (λ i. path_is k (low k (0, omega arith, refl)) i ∷ paths_are circle (λ j c. low j (of_in j (k ∷ circle) (inr (in_of circle j c)))) i)
 
--- ---- What the code asks for
+-- ---- The requirements of the code
 
--- some of these does not stand in the order, or all do
+-- one of these is not in the order, or all are
 some_lacks : (numbers order : List ℕ) → ((k : ℕ) × Contains numbers k × (¬ Contains order k)) ⊎ ((k : ℕ) → Contains numbers k → Contains order k)
 some_lacks [] order = inr (λ k c. absurd (omega (arith, c.1)))
 some_lacks (x ∷ xs) order = elim (among x order) [
@@ -223,7 +223,7 @@ not_empty_map : {X : Type 0} (f : ℕ → X) (xs : List ℕ) (k : ℕ) → Conta
 not_empty_map f [] k c = absurd (omega (arith, c.1))
 not_empty_map f (x ∷ xs) k c = refl
 
--- what was asked is refused with the circle
+-- the request is refused with the circle
 pub cycle_refused : (request : Request) (tasks sorted : List Planned) (table : List (List ℕ)) (done others : List ℕ) (circle : List Path) → AreScheduled request tasks → AreSame tasks sorted
     → AreRanked sorted → AreRanks sorted table done others → (some : (k : ℕ) × Contains others k)
     → ((d : Planned) → IsCircle (map (λ k. get_or sorted k d) (done ++ others)) (order (stuck (map (λ k. get_or sorted k d) (done ++ others)) [] (map (λ k. get_or sorted k d) (done ++ others)))) circle)

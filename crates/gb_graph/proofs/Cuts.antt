@@ -1,4 +1,4 @@
--- Where the places that overlap a text stand among sorted ones, and where a text is cut into its folders.
+-- The positions of the places that overlap a text in a sorted row, and the cuts of a text into its folders.
 use Rattle.std.proofs.Common.{◌≡◌, ◌<◌, ◌≤◌, ◌+◌, ◌↔◌, ◌⊎◌, ℕ, zero, suc, Bool, true, false, not, ◌&&◌, ◌||◌, nat_eq, nat_lt, List, [], ◌∷◌, ◌++◌, length, get_or, take, refl, ap, sym, subst, ◌∙◌, arith, inl, inr, Less, Equal, Greater, Ordering, Contains}
 use Rattle.std.specs.Prelude.{bytes_eq}
 use Rattle.std.specs.Ordering.{nat_cmp, is_lt, is_eq, is_le, ordering_then}
@@ -45,7 +45,8 @@ below_test a b = grind (arith, nat_tests)
 none_below : (c : ℕ) → is_lt (nat_cmp c 0) ≡ false
 none_below c = grind (arith, nat_tests)
 
--- a text that is no longer than another stands before that with one more byte, unless it stands behind it
+-- a text that is no longer than another sorts before the other followed by one more byte, unless it sorts
+-- after it
 pub short_before : (place text : List ℕ) (sign : ℕ) → length place ≤ length text → is_lt (slice_cmp nat_cmp place (text ++ sign ∷ [])) ≡ is_le (slice_cmp nat_cmp place text)
 short_before [] [] sign le = refl
 short_before [] (b ∷ text) sign le = refl
@@ -57,7 +58,7 @@ short_before (a ∷ place) (b ∷ text) sign le = joined (nat_cmp a b) (slice_cm
     joined Equal u v h = h
     joined Greater u v h = refl
 
--- of a longer one the front decides, and then the byte behind it
+-- for a longer text the prefix decides, and then the byte after it
 pub long_before : (place text : List ℕ) (sign : ℕ) → length text < length place
     → is_lt (slice_cmp nat_cmp place (text ++ sign ∷ [])) ≡ is_lt (ordering_then (slice_cmp nat_cmp (take (length text) place) text) (nat_cmp (get_or place (length text) 0) sign))
 long_before [] text sign lt = absurd (omega (arith, lt))
@@ -69,7 +70,7 @@ long_before (a ∷ place) (b ∷ text) sign lt = joined (nat_cmp a b) (slice_cmp
     joined Equal u v w h = h
     joined Greater u v w h = refl
 
--- a text stands alone between itself and itself with a byte 0 behind it
+-- a text is the only one between itself and itself followed by a byte 0
 pub between_is_text : (text place : List ℕ) → is_between text (text ++ 0 ∷ []) place ≡ bytes_eq place text
 between_is_text [] [] = refl
 between_is_text [] (c ∷ cs) = based (nat_cmp c 0) (slice_cmp nat_cmp cs []) (not_less cs) ∙ none_below c
@@ -77,7 +78,7 @@ between_is_text (a ∷ text) [] = refl
 between_is_text (a ∷ text) (c ∷ cs) =
     stepped (nat_cmp c a) (nat_eq c a) (slice_cmp nat_cmp cs text) (slice_cmp nat_cmp cs (text ++ 0 ∷ [])) (bytes_eq cs text) (same_test_back a c) (between_is_text text cs)
 
--- between `folder/` and `folder0` stands what lies beneath the folder
+-- the texts between `folder/` and `folder0` are those under the folder
 pub between_is_beneath : (folder place : List ℕ) → is_between (folder ++ 47 ∷ []) (folder ++ 48 ∷ []) place ≡ is_beneath place folder
 between_is_beneath [] [] = refl
 between_is_beneath [] (c ∷ cs) =
@@ -253,7 +254,7 @@ cut_passed row text n initial old other told k =
       λ h. (told k).1 (elim h [ inl c ↦ inl c | inr at ↦ inr (at.0, same.0 at.1) ]),
     )
 
--- at the end all folders are
+-- at the end all folders are found
 pub cuts_all : (row : List TaskPlace) (text : List ℕ) (n : ℕ) (initial old : List ℕ) → n ≡ length text → ((k : ℕ) → Contains old k ↔ (Contains initial k ⊎ ((k < length row) × IsCut text n (place_at row k))))
     → FindsToo row (λ p. is_beneath text p) initial old
 cuts_all row text n initial old is told k = (

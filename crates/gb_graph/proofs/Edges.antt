@@ -15,7 +15,7 @@ use Rattle.gb_plan.proofs.Same.{In}
 use Rattle.gb_graph.specs.Ranked.{Numbers, TellNumbers, TellEdges, comes_after, edges_at, edges_from, number_at, numbers_in}
 use Rattle.gb_graph.proofs.Numbers.{in_of, of_in, in_front, in_back, in_either, of_map, into_map, either_of, or_first, or_second, or_third}
 
--- ---- Paths that stand once
+-- ---- Paths that occur once
 
 pub has_at : (paths : List Path) (i : ℕ) → i < length paths → has_path paths (get_or paths i []) ≡ true
 has_at [] i lt = absurd (omega (arith, lt))
@@ -75,7 +75,7 @@ numbers_next old new paths i key once lt is next told q k = (to, back)
           next q ∙ (ap (λ b. cond b (Some i) (old q)) (differs low at.1) ∙ (told q k).1 (low, at.1))
     ]
 
--- ---- What a map gives of a list
+-- ---- The results of a map over a list
 
 pub of_kept : (g : Path → Option ℕ) (paths : List Path) (k : ℕ) → In k (filter_map g paths) → (p : Path) × (has_path paths p ≡ true) × (g p ≡ Some k)
 of_kept g [] k i = absurd i

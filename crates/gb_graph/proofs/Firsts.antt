@@ -1,4 +1,4 @@
--- From numbers to paths: the first word that reaches a scheduled task.
+-- From numbers to paths: the first argument that reaches a scheduled task.
 use Rattle.std.specs.Prelude.{ℕ, zero, suc, ◌≡◌, ◌⊎◌, ◌<◌, ◌≤◌, Bool, true, false, ◌||◌, List, [], ◌∷◌, ◌++◌, map, length, get_or, take, refl, Contains, Some, Ok}
 use Rattle.std.specs.List.{flat_map}
 use Rattle.std.proofs.Common.{sym, ap, subst, ◌∙◌, inl, inr, arith}
@@ -39,7 +39,7 @@ widen : (starts more : List Path) (steps : Path → List Path) (shut : Path → 
 widen starts more steps shut within path (start h o) = start (within path h) o
 widen starts more steps shut within path (step {from = from} r h o) = step (widen starts more steps shut within from r) h o
 
--- what all words select, one of them selects
+-- what all arguments select, one of them selects
 one_word : (f : Text → List Path) (words : List Text) (p : Path) → has_path (flat_map f words) p ≡ true → (i : ℕ) × (i < length words) × (has_path (f (get_or words i [])) p ≡ true)
 one_word f [] p h = not_true h
 one_word f (w ∷ words) p h = split_or (has_path (f w) p) (has_path (flat_map f words) p) (sym (has_append (f w) (flat_map f words) p) ∙ h)
@@ -169,7 +169,7 @@ module _ (tasks : List TaskDeclaration) (m : Numbers) (numbers : TellNumbers (pa
     selects : (i : ℕ) → i < length request.words → (p : Path) → has_path (selected_by request.registry (get_or request.words i [])) p ≡ true → has_path (selected request) p ≡ true
     selects i lt p h = some_word (selected_by request.registry) request.words i p lt h
 
-    -- the word of an index reaches a task where its start reaches the number
+    -- the argument of an index reaches a task where its start reaches the number
     to_word : (i k : ℕ) → i < length request.words → Reaches (brought_rows m tasks) (row (map (numbers_in m) lists) i) k → WordReaches request i (path k)
     to_word i k lt r = (
       get_or request.words i [],
@@ -182,7 +182,7 @@ module _ (tasks : List TaskDeclaration) (m : Numbers) (numbers : TellNumbers (pa
         by true r = widen [] (selected_by request.registry (get_or request.words i [])) (brings request.registry) (leaves_out request) (λ p h. not_true h) (path k) (to_path [] k r).1
         by false r = (to_path (selected_by request.registry (get_or request.words i [])) k r).1
 
-    -- where a word reaches a task, the start where the word first stands reaches the number
+    -- where an argument reaches a task, the start of the argument's first occurrence reaches the number
     from_word : (i k : ℕ) → k < length tasks → WordReaches request i (path k) → (j : ℕ) × (j < length request.words) × (j ≤ i) × Reaches (brought_rows m tasks) (row (map (numbers_in m) lists) j) k
     from_word i k lk (word, is, r) =
         let first = first_index request.words i (slice_get_within request.words i word is) in
@@ -213,7 +213,7 @@ module _ (tasks : List TaskDeclaration) (m : Numbers) (numbers : TellNumbers (pa
           none_before = λ i low r. let at = from_word i k lt r in is.none_before at.0 (omega (arith, low, at.2)) at.3;
         }
 
--- ---- Tasks with their words
+-- ---- Tasks with their arguments
 
 pub push_at : {X : Type 0} (xs : List X) (x : X) (k : ℕ) (d : X) → k < length (xs ++ x ∷ [])
     → ((k < length xs) × (get_or (xs ++ x ∷ []) k d ≡ get_or xs k d)) ⊎ ((k ≡ length xs) × (get_or (xs ++ x ∷ []) k d ≡ x))

@@ -1,4 +1,4 @@
--- What tables say of the meetings of a plan, and that a plan in which no tasks meet is sound.
+-- What the tables imply for the conflicts of a plan, and that a plan without conflicts is sound.
 use Rattle.std.specs.Prelude.{ℕ, suc, ◌≡◌, ◌<◌, true, false, ◌&&◌, List, [], ◌∷◌, ◌++◌, map, length, bytes_eq, refl, Contains, Option}
 use Rattle.std.specs.List.{list_any, AllByRecursion}
 use Rattle.std.proofs.Common.{sym, ap, ◌∙◌, inl, inr, arith}
@@ -105,7 +105,7 @@ module _ (plan : Plan) (once : no_repeats (order plan) ≡ true) (tables : Table
   in_tasks (y ∷ zs) z (inl e) = inl (ap task_of e)
   in_tasks (y ∷ zs) z (inr i) = inr (in_tasks zs z i)
 
-  -- a root at which one of the tasks reads the other
+  -- a root at which one of the tasks reads the output of the other
   read_of : (z w : Planned) → In z plan → In w plan → reads_output_of z.task w.task ≡ true → (root : Place) × IsRead plan z.task w.task root
   read_of z w i j h =
       let some = some_in (λ root. list_any (overlaps root) (output_places w.task)) (roots_of z.task) h in (

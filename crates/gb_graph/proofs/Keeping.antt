@@ -1,4 +1,4 @@
--- The tables stay true of the order, step by step.
+-- The tables stay correct for the order, step by step.
 use Rattle.std.proofs.Common.{◌≡◌, ◌<◌, ◌≤◌, ◌≢◌, ℕ, zero, suc, Bool, true, false, List, [], ◌∷◌, ◌++◌, length, get_or, ap, sym, subst, ◌∙◌, ◌⊎◌, inl, inr, Contains, refl, arith, cond, nat_lt, ◌==◌, Less, Equal, Greater, Option, None, Some, IsSome}
 use Rattle.std.proofs.lemmas.List.{get_or-set_same, get_or-set_other}
 use Rattle.std.proofs.Math.ListN.{set, length-set}
@@ -58,7 +58,7 @@ row_emptied w t p u lt h = elim (cases_eq p t) [
   | inr n ↦ (n, subst (λ xs. Contains xs u) (get_or-set_other w t p [] [] n) h)
 ]
 
--- ---- A loose task is settled
+-- ---- A loose task is placed where it belongs
 
 module _ (after : List (List ℕ)) (stands : List Bool) (w w' : List (List ℕ)) (r r' : ℕ → Bool) (order : List ℕ) (loose loose' : ℕ → Type 0) (t : ℕ)
     (k : Keeps after stands w r order loose) (is : loose t) (split : (u : ℕ) → loose u → (u ≡ t) ⊎ loose' u) (less : (u : ℕ) → loose' u → loose u) where
@@ -206,7 +206,7 @@ row_more [] (suc k) h = refl
 row_more (x ∷ ws) zero h = h 0
 row_more (x ∷ ws) (suc k) h = row_more ws k (λ j. h (suc j))
 
--- ---- How many do not stand yet
+-- ---- How many are not placed yet
 
 pub fewer : (stands : List Bool) (t : ℕ) → t < length stands → stands_in stands t ≡ false → missing (set stands t true) < missing stands
 fewer [] t lt h = absurd (omega (arith, lt))
@@ -235,7 +235,7 @@ pub was_there : (b c d : Bool) → d ≡ cond b false c → d ≡ true → c ≡
 was_there true c d e h = not_both h e
 was_there false c d e h = sym e ∙ h
 
--- ---- Loose tasks, said in other words
+-- ---- Loose tasks, in other words
 
 pub loosen : (after : List (List ℕ)) (stands : List Bool) (w : List (List ℕ)) (r : ℕ → Bool) (order : List ℕ) (loose loose' : ℕ → Type 0)
     → Keeps after stands w r order loose → ((u : ℕ) → loose u → loose' u) → ((u : ℕ) → loose' u → loose u) → Keeps after stands w r order loose'

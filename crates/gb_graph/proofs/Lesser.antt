@@ -1,4 +1,4 @@
--- The least of meetings of two kinds is the lesser of the least of each; which tasks and places make the least.
+-- The least conflict of two kinds is the lesser of the least of each; which tasks and places make the least.
 use Rattle.std.specs.Prelude.{ℕ, ◌≡◌, ◌⊎◌, ◌<◌, ◌+◌, true, false, cond, List, [], length, get_or, take, Option, Some, None, MatchOption, Contains, refl}
 use Rattle.std.proofs.Common.{ap, sym, subst, ◌∙◌, inl, inr, arith, Less, Equal, Greater}
 use Rattle.std.proofs.lemmas.Bool.{cases_Bool, false≢true}
@@ -84,7 +84,7 @@ none_in k c = omega (arith, c.1)
 texts_apart : (t : List ℕ) → is_lt (byte_order t t) ≡ false
 texts_apart t = ap is_lt (equal_of (byte_order t t) (nat_list_cmp_total.antisymm t t))
 
--- one more task comes before those so far, of which there may be none
+-- one more task comes before those so far, if there are any
 pub task_lesser : (tasks : List Planned) (numbers : List ℕ) (i k : ℕ) → i < length numbers → k ≡ get_or numbers i k → (least : Option ℕ)
     → MatchOption least (take i numbers ≡ []) (IsLeastTask tasks (take i numbers)) → MatchOption least (true ≡ true) (λ l. true ≡ is_lt (byte_order (path_at tasks k) (path_at tasks l)))
     → IsLeastTask tasks (take (i + 1) numbers) k
@@ -116,7 +116,7 @@ task_passed tasks numbers i k lt is (Some least) told first = record {
   ];
 }
 
--- ---- The meetings of one place
+-- ---- The conflicts of one place
 
 apart_by : (o u v : Ordering) → o ≡ Equal → v ≡ Equal → is_lt u ≡ false → is_lt (ordering_then o (ordering_then u v)) ≡ false
 apart_by o Less v e f h = absurd (false≢true (sym h))
@@ -126,7 +126,7 @@ apart_by o Greater v e f h = ap (λ w. is_lt (ordering_then w Greater)) e
 same_text : (a b : List ℕ) → a ≡ b → byte_order a b ≡ Equal
 same_text a b e = ap (λ t. byte_order t b) e ∙ equal_of (byte_order b b) (nat_list_cmp_total.antisymm b b)
 
--- the least of the tasks that are met at a place makes the least meeting
+-- the least of the tasks that conflict at a place makes the least conflict
 pub least_there : (tasks : List Planned) (places : List TaskPlace) (at : TaskPlace) (others : List ℕ) (met : Met) → met.task ≡ at.task → place_at places met.place ≡ at.place
     → IsLeastTask tasks others met.other → IsLeast (IsMetAt tasks at others) (found_by tasks places (Some met))
 least_there tasks places at others met is_task is_place h = record {
@@ -138,7 +138,7 @@ least_there tasks places at others met is_task is_place h = record {
       (ap (λ p. is_lt (byte_order p (path_at tasks met.other))) there.is_other ∙ h.least there.other there.other_in);
 }
 
--- the meetings of a place whose task comes after the least so far
+-- the conflicts of a place whose task comes after the least so far
 pub passed_by : (search : Search) (chains : List (List ℕ)) (tasks : List Planned) (outputs places : List TaskPlace) (i : ℕ) (at : TaskPlace) → i < length places → at ≡ get_or places i at
     → (found : Found) → is_gt (byte_order (path_at tasks at.task) found.task) ≡ true
     → IsLeast (IsMet search chains tasks outputs (take i places)) (Some found) → IsLeast (IsMet search chains tasks outputs (take (i + 1) places)) (Some found)
@@ -165,7 +165,7 @@ pub task_within : (tasks : List Planned) (places : List TaskPlace) (o : Option M
 task_within tasks places None h = tt
 task_within tasks places (Some met) h = h.task
 
--- what is met at a place, if anything is
+-- the conflict at a place, if there is one
 abbrev pub IsNear : List Planned → List ℕ → ℕ → ℕ → Option Met → Type 0
 IsNear tasks others task index o = MatchOption o (others ≡ []) (λ met. (met.task ≡ task) × (met.place ≡ index) × IsLeastTask tasks others met.other)
 

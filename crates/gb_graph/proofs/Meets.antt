@@ -1,4 +1,4 @@
--- What a place meets, index by index, and the meetings of places, one place after another.
+-- The conflicts of a place, index by index, and the conflicts of places, one place after another.
 use Rattle.std.specs.Prelude.{ℕ, ◌≡◌, ◌⊎◌, ◌<◌, ◌+◌, ◌↔◌, true, false, List, ◌∷◌, [], ◌++◌, length, get_or, take, refl, Contains}
 use Rattle.std.proofs.Common.{sym, ap, subst, ◌∙◌, inl, inr}
 use Rattle.std.proofs.lemmas.List.{get_or_default}
@@ -85,9 +85,9 @@ module _ (search : Search) (chains : List (List ℕ)) (outputs : List TaskPlace)
         }),
   )
 
--- ---- Meetings of one place after another
+-- ---- Conflicts of one place after another
 
--- the task of one more place meets these tasks
+-- the task of one more place conflicts with these tasks
 pub meets_more : (search : Search) (chains : List (List ℕ)) (tasks : List Planned) (outputs places : List TaskPlace) (i : ℕ) (at : TaskPlace) → i < length places → at ≡ get_or places i at
     → (others : List ℕ) → ((task : ℕ) → Contains others task ↔ IsMetTask search chains outputs at task) → (meeting : Meeting)
     → IsMet search chains tasks outputs (take (i + 1) places) meeting ↔ (IsMet search chains tasks outputs (take i places) meeting ⊎ IsMetAt tasks at others meeting)

@@ -1,4 +1,4 @@
--- What words newly select is what they select.
+-- What arguments newly select is what they select.
 use Rattle.std.specs.Prelude.{ℕ, zero, suc, ◌≡◌, ◌<◌, ◌≤◌, ◌+◌, Bool, true, false, cond, ◌||◌, List, [], ◌∷◌, ◌++◌, length, get_or, take, bytes_eq, refl, Result, Ok, Err, OnOk}
 use Rattle.std.specs.List.{flat_map}
 use Rattle.std.specs.Ordering.{eq_by_cmp}
@@ -56,7 +56,7 @@ module _ (registry : Registry) where
   abbrev of_word : Text → List Path
   of_word word = selected_by registry word
 
-  -- words add to a queue what they newly select
+  -- arguments add to a queue what they newly select
   pub added_newly : (shut : Path → Bool) (before words : List Text) (queue : List Path)
       → ((w : Text) → has_path before w ≡ true → (p : Path) → has_path (of_word w) p ≡ true → (shut p || has_path queue p) ≡ true)
       → added shut queue (joined_paths (newly_selected registry before words)) ≡ added shut queue (flat_map (selected_by registry) words)
@@ -80,7 +80,7 @@ module _ (registry : Registry) where
   pub added_none : (shut : Path → Bool) (words : List Text) → added shut [] (joined_paths (newly_selected registry [] words)) ≡ added shut [] (flat_map (selected_by registry) words)
   added_none shut words = added_newly shut [] words [] (λ w h p g. not_true h)
 
-  -- what is added where nothing is shut has all that there is
+  -- where nothing is shut, all paths are added
   regroup : (a b c : Bool) → ((a || b) || c) ≡ (a || (b || c))
   regroup true b c = refl
   regroup false b c = refl
@@ -103,7 +103,7 @@ module _ (registry : Registry) where
       sym (has_added [] (joined_paths (newly_selected registry [] words)) p)
       ∙ (ap (λ q. has_path q p) (added_none (λ _. false) words) ∙ has_added [] (flat_map (selected_by registry) words) p)
 
-  -- ---- Word by word
+  -- ---- Argument by argument
 
   pub newly_length : (before words : List Text) → length (newly_selected registry before words) ≡ length words
   newly_length before [] = refl
@@ -121,7 +121,7 @@ module _ (registry : Registry) where
       → get_or (newly_selected registry [] words) i [] ≡ selected_once registry (has_path (take i words) (get_or words i [])) (get_or words i [])
   newly_at words i lt = newly_from [] words i lt
 
-  -- one word more
+  -- one argument more
   pub newly_push : (before words : List Text) (word : Text) → newly_selected registry before (words ++ word ∷ []) ≡ newly_selected registry before words ++ selected_once registry (has_path (before ++ words) word) word ∷ []
   newly_push before [] word = ap (λ b. selected_once registry (has_path b word) word ∷ []) (sym (append-nil before))
   newly_push before (first ∷ words) word =
@@ -129,7 +129,7 @@ module _ (registry : Registry) where
       (newly_push (before ++ first ∷ []) words word
       ∙ ap (λ b. newly_selected registry (before ++ first ∷ []) words ++ selected_once registry (has_path b word) word ∷ []) (append_assoc before (first ∷ []) words))
 
--- the first index of the word that stands at an index
+-- the first index of the argument at an index
 pub record First (words : List Text) (i : ℕ) : Type 0 where
   pub index : ℕ
   pub within : index < length words
@@ -174,7 +174,7 @@ also_known old new key word same next text =
 pub take_next : (words : List Text) (i : ℕ) (word : Text) → i < length words → word ≡ get_or words i word → take (i + 1) words ≡ take i words ++ word ∷ []
 take_next words i word lt is = (take_at_read words i word lt).1 ∙ ap (λ v. take i words ++ v ∷ []) (sym is)
 
--- a word that stood before has nothing that the words before it do not have
+-- a repeated argument has nothing that the arguments before it do not have
 pub none_again : {Y : Type 0} (f : Text → List Y) (words : List Text) (word : Text) → flat_map f words ≡ [] → (has_path words word ≡ false → f word ≡ []) → f word ≡ []
 none_again f words word none fresh = elim (has_path words word) as (λ b. has_path words word ≡ b → f word ≡ []) [
   | true ↦ λ e. among words none e

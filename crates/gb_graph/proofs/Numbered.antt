@@ -1,4 +1,4 @@
--- What is met by number is what meets in a plan.
+-- The conflicts by number are the conflicts of a plan.
 use Rattle.std.specs.Prelude.{ℕ, ◌≡◌, ◌<◌, ◌+◌, ◌↔◌, ◌==◌, true, not, ◌&&◌, List, [], ◌∷◌, ◌++◌, map, length, get_or, bytes_eq, refl, Contains}
 use Rattle.std.specs.Cmp.Lexicographic.{bytes_decides}
 use Rattle.std.proofs.Common.{sym, ap, subst, ◌∙◌, inl, inr, arith}

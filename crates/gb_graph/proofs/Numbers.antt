@@ -1,4 +1,4 @@
--- Numbers in lists, and the lists that they stand for.
+-- Numbers in lists, and the lists that they represent.
 use Rattle.std.specs.Prelude.{ℕ, zero, suc, ◌≡◌, ◌⊎◌, ◌<◌, Bool, true, false, ◌&&◌, ◌||◌, List, [], ◌∷◌, ◌++◌, map, length, get_or, take, drop, bytes_eq, refl, Contains}
 use Rattle.std.specs.List.{list_all}
 use Rattle.std.specs.Cmp.Lexicographic.{bytes_decides}
@@ -73,7 +73,7 @@ among k (j ∷ js) = elim (cases_eq k j) [
   ]
 ]
 
--- ---- Lists of what numbers stand for
+-- ---- Lists of what numbers represent
 
 pub of_map : {X : Type 0} (f : ℕ → X) (ks : List ℕ) (y : X) → In y (map f ks) → (k : ℕ) × In k ks × (y ≡ f k)
 of_map f [] y i = absurd i
@@ -106,7 +106,7 @@ of_mapped path (j ∷ js) p h =
       | false ↦ λ _ h. let at = of_mapped path js p h in (at.0, inr at.1, at.2)
     ] refl h
 
--- ---- Numbers that stand once
+-- ---- Numbers that occur once
 
 pub apart_parts : (xs ys : List ℕ) → AreApart (xs ++ ys) → (k : ℕ) → In k xs → In k ys → ⊥
 apart_parts [] ys apart k i j = i
@@ -166,7 +166,7 @@ pub regrouped : {X : Type 0} (xs : List X) (x : X) (ys zs : List X) → (xs ++ x
 regrouped [] x ys zs = refl
 regrouped (w ∷ xs) x ys zs = ap (λ v. w ∷ v) (regrouped xs x ys zs)
 
--- what stands at an index does not stand before it
+-- the element at an index does not occur before it
 pub apart_take : (xs : List ℕ) (i d : ℕ) → AreApart xs → i < length xs → ¬ Contains (take i xs) (get_or xs i d)
 apart_take [] i d apart lt c = omega (arith, lt)
 apart_take (x ∷ xs) zero d apart lt c = omega (arith, c.1)

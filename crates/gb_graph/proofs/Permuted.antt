@@ -1,4 +1,4 @@
--- No path stands twice, in whatever order tasks stand.
+-- No path occurs twice, whatever the order of the tasks.
 use Rattle.std.specs.Prelude.{ℕ, ◌≡◌, ◌≤◌, ◌+◌, Bool, true, false, not, cond, ◌||◌, List, [], ◌∷◌, bytes_eq, refl}
 use Rattle.std.specs.List.{sum_by}
 use Rattle.std.specs.List.Sorted.{IsPermutation}
@@ -15,7 +15,7 @@ use Rattle.gb_graph.proofs.Numbers.{both}
 abbrev one_if : Bool → ℕ
 one_if b = cond b 1 0
 
--- how often the path stands
+-- how often the path occurs
 abbrev times : Path → List Planned → ℕ
 times p zs = sum_by (λ (z : Planned). one_if (bytes_eq p z.task.path)) zs
 

@@ -1,4 +1,5 @@
--- In a plan of which all tasks get ready, what a task comes after has a lesser number, and chains by number are chains by path.
+-- In a plan whose tasks all get ready, the tasks that a task comes after have lesser numbers, and chains by
+-- number are chains by path.
 use Rattle.std.specs.Prelude.{ℕ, zero, suc, ◌≡◌, ◌⊎◌, ◌<◌, ◌↔◌, true, List, [], ◌∷◌, ◌++◌, length, get_or, bytes_eq, refl, Contains}
 use Rattle.std.specs.Cmp.Lexicographic.{bytes_decides}
 use Rattle.std.proofs.Common.{sym, ap, subst, ◌∙◌, inl, inr, arith}
@@ -24,13 +25,13 @@ use Rattle.gb_graph.proofs.Arranged.{after_is, after_so, after_known, path_once}
 use Rattle.gb_graph.proofs.Circled.{to_after, from_after}
 use Rattle.gb_graph.proofs.Numbers.{in_of}
 
--- what stands before an index
+-- the elements before an index
 abbrev pub before_at : List Planned → ℕ → List Path → List Path
 before_at [] i standing = standing
 before_at (z ∷ zs) zero standing = standing
 before_at (z ∷ zs) (suc i) standing = before_at zs i (standing ++ z.task.path ∷ [])
 
--- each is ready when those before it stand
+-- each is ready when those before it are placed
 ready_at : (plan : Plan) (standing : List Path) (zs : List Planned) (i : ℕ) (d : Planned) → stuck plan standing zs ≡ [] → i < length zs
     → is_ready plan (before_at zs i standing) (get_or zs i d).task ≡ true
 ready_at plan standing [] i d none lt = absurd (omega (arith, lt))
@@ -62,7 +63,7 @@ module _ (plan : Plan) (once : no_repeats (order plan) ≡ true) where
   one_path i j li lj e = one_number (order plan) once i j (omega (arith, li, same_length)) (omega (arith, lj, same_length)) e
 
   module _ (table : List (List ℕ)) (told : TellAfter plan table) where
-    -- what a task comes after stands before it, where all get ready
+    -- the tasks that a task comes after are before it, where all get ready
     pub lower : stuck plan [] plan ≡ [] → (t b : ℕ) → Contains (row table t) b → b < t
     lower none t b c =
         let known = told.known t b c in

@@ -1,4 +1,4 @@
--- How the queue grows, and what it has come to at its end.
+-- How the queue grows, and its final contents.
 use Rattle.std.specs.Prelude.{ℕ, ◌≡◌, ◌<◌, ◌≤◌, ◌+◌, ◌↔◌, Bool, true, false, not, cond, ◌||◌, List, [], ◌∷◌, ◌++◌, length, get_or, bytes_eq, refl, Some, Ok, Err}
 use Rattle.std.specs.List.{list_any, filter, AllByRecursion, IsDistinct}
 use Rattle.std.specs.Cmp.{IsEquivalence}
@@ -128,7 +128,7 @@ module _ (shut : Path → Bool) where
       ap (λ b. cond b (x ∷ filter p xs) (filter p xs)) (h x (left_or (bytes_eq x x) (has_path xs x) (itself x)))
       ∙ ap (λ ys. cond (q x) (x ∷ ys) ys) (filter_same p q xs (λ y g. h y (or_right (bytes_eq y x) (has_path xs y) g)))
 
-  -- of paths that stand once, those that are open and new go behind the others
+  -- of paths that occur once, those that are open and new are appended
   pub added_is : (queue xs : List Path) → no_repeats xs ≡ true → added shut queue xs ≡ queue ++ filter (λ p. not (has_path queue p)) (filter is_open xs)
   added_is queue [] once = sym (append-nil queue)
   added_is queue (x ∷ xs) once =
@@ -299,7 +299,7 @@ module _ (registry : Registry) (sound : IsRegistry registry) where
         let none = none_waits come.waiting come.whole le in
         (come.whole ∙ (ap (λ w. paths_in found ++ w) none ∙ append-nil (paths_in found)), λ request asked. subst (Queued request (paths_in found)) none (come.queued request asked))
 
--- ---- What the queue has come to
+-- ---- The final contents of the queue
 
 into_distinct : (xs : List Path) (p : Path) → has_path xs p ≡ true → has_path (distinct xs) p ≡ true
 into_distinct [] p h = not_true h
@@ -355,7 +355,7 @@ all_go shut set paths h = all_of_members (λ path. shut path || has_path set pat
   | false ↦ λ o. h p i o
 ] refl)
 
--- at its end it has just the scheduled tasks
+-- at its end it has exactly the scheduled tasks
 pub queue_scheduled : (request : Request) (done : List Path) → Queued request done [] → (p : Path) → (has_path done p ≡ true) ↔ IsScheduled request p
 queue_scheduled request done queued p = (
   done_scheduled request done [] queued p,
@@ -383,12 +383,12 @@ known_as old queue key path same told p =
     ap (λ b. cond b true (old p)) (is_eq-slice_cmp key p) ∙ (cond_or (bytes_eq key p) (old p)
     ∙ ((λ i. told p i || (turned key p ∙ ap (bytes_eq p) same) i) ∙ sym (has_push queue path p)))
 
--- a path that is new is put behind the others
+-- a path that is new is appended
 pub known_new : (old new shut : Path → Bool) (queue : List Path) (key path : Path) → key ≡ path → ((p : Path) → old p ≡ has_path queue p)
     → ((p : Path) → new p ≡ now_known old key p) → (p : Path) → new p ≡ has_path (queue ++ path ∷ []) p
 known_new old new shut queue key path same told next p = next p ∙ known_as old queue key path same told p
 
--- one that is known changes nothing
+-- a path that is known changes nothing
 pub known_still : (old new : Path → Bool) (queue : List Path) (key path : Path) → key ≡ path → ((p : Path) → old p ≡ has_path queue p)
     → ((p : Path) → new p ≡ now_known old key p) → old key ≡ true → (p : Path) → new p ≡ has_path queue p
 known_still old new queue key path same told next known p =
@@ -406,7 +406,7 @@ queue_known shut queue path e = ap (λ b. cond b queue (queue ++ path ∷ [])) (
 pub queue_new : (shut : Path → Bool) (queue : List Path) (path : Path) → shut path ≡ false → has_path queue path ≡ false → next_queue shut queue path ≡ queue ++ path ∷ []
 queue_new shut queue path e h = (λ i. cond (e i || h i) queue (queue ++ path ∷ []))
 
--- how the rest of a loop goes on
+-- the rest of a loop continues
 pub queue_goes : (shut : Path → Bool) (queue later rest whole : List Path) (path : Path) (all : List Path) → whole ≡ path ∷ rest → added shut queue whole ≡ all → next_queue shut queue path ≡ later
     → added shut later rest ≡ all
 queue_goes shut queue later rest whole path all is told next = ap (λ q. added shut q rest) (sym next) ∙ (ap (added shut queue) (sym is) ∙ told)

@@ -1,4 +1,4 @@
--- Ways from number to number, and the circle that they come to.
+-- Trails from number to number, and the circle that they lead into.
 use Rattle.std.specs.Prelude.{ℕ, zero, suc, ◌≡◌, ◌⊎◌, ◌<◌, ◌+◌, Bool, true, false, List, [], ◌∷◌, ◌++◌, length, get_or, take, refl, Contains, ◌↔◌, Option, Some, None, unwrap_or, MatchOption}
 use Rattle.std.specs.Ordering.{is_lt}
 use Rattle.std.specs.declared.cmp.Ordering.{Ordering}
@@ -82,7 +82,7 @@ module _ (tasks : List Planned) (marks : List Bool) (numbers : List ℕ) (i t : 
     ];
   }
 
--- ---- Ways
+-- ---- Trails
 
 module _ (steps : ℕ → ℕ → Type 0) where
   pub leads_push : (a b c : ℕ) (xs : List ℕ) → LeadsTo steps a xs b → steps b c → LeadsTo steps a (xs ++ b ∷ []) c
@@ -103,7 +103,7 @@ module _ (steps : ℕ → ℕ → Type 0) where
       let more = leads_cut next c passed way front b rest (same_tail a f passed (front ++ b ∷ rest) e) in
       (subst (λ v. LeadsTo steps a (v ∷ front) b) head (goes first more.0), more.1)
 
--- ---- Numbers that stand once
+-- ---- Numbers that occur once
 
 apart_left : (xs ys : List ℕ) → AreApart (xs ++ ys) → AreApart xs
 apart_left [] ys apart = tt
@@ -178,7 +178,7 @@ module _ (tasks : List Planned) (marks : List Bool) (numbers : List ℕ) (i t : 
   so_far_shut None none shut = none_more tasks marks numbers i t lt is none shut
   so_far_shut (Some m) least shut = old_least tasks marks numbers i t lt is m least (λ h. not_both h shut)
 
--- ---- One step of a way
+-- ---- One step of a trail
 
 pub met_grows : (met : List Bool) (trail : List ℕ) (at : ℕ) → at < length met → ((k : ℕ) → (stands_in met k ≡ true) ↔ Contains trail k)
     → (k : ℕ) → (stands_in (set met at true) k ≡ true) ↔ Contains (trail ++ at ∷ []) k

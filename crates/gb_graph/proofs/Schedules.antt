@@ -1,4 +1,4 @@
--- The tasks of a queue at its end, with their words, are the scheduled ones.
+-- The tasks of a queue at its end, with their arguments, are the scheduled ones.
 use Rattle.std.specs.Prelude.{ℕ, ◌≡◌, ◌<◌, Bool, true, false, not, cond, ◌==◌, List, [], ◌∷◌, map, length, get_or, bytes_eq, refl, Result, Ok, Err, IfErr}
 use Rattle.std.specs.List.{flat_map, filter, list_any, AllByRecursion}
 use Rattle.std.proofs.Common.{sym, ap, subst, ◌∙◌, arith}
@@ -19,7 +19,7 @@ use Rattle.gb_graph.specs.Words.{AreDone, AreScheduled, AreWorded, AsksFor, aske
 use Rattle.gb_graph.proofs.Newly.{added_none, has_newly}
 use Rattle.gb_graph.proofs.Queues.{added_distinct, queue_scheduled, has_append, split_or}
 
--- ---- What is asked for
+-- ---- The request
 
 selects_registered : (registry : Registry) (word : Text) (p : Path) → has_path (selected_by registry word) p ≡ true → has_path (paths_of registry) p ≡ true
 selects_registered registry word p h =
@@ -46,7 +46,7 @@ asks_for registry requested excluded lists others is are = record {
   leaves = λ p. ap (λ ls. has_path (joined_paths ls) p) are ∙ has_newly registry excluded p;
 }
 
--- a queue that takes in all of these paths begins with what is selected
+-- a queue that includes all of these paths begins with what is selected
 pub is_asked : (request : Request) (registry : Registry) (lists others : List (List Path)) → AsksFor request registry lists others → (shut : Path → Bool) → ((p : Path) → shut p ≡ has_path (joined_paths others) p)
     → (empty queue : List Path) → empty ≡ [] → queue ≡ added shut empty (joined_paths lists) → IsAsked request registry queue shut
 is_asked request registry lists others asks shut told empty queue none is = record {
@@ -71,7 +71,7 @@ are_done request registry found lists of declared queued selects =
       selects = selects;
     }
 
--- ---- With their words
+-- ---- With their arguments
 
 module _ (request : Request) (found : List TaskDeclaration) (lists : List (List Path)) (done : AreDone request found lists) (words : List ℕ)
     (first : (k : ℕ) → k < length found → IsFirstWord request (get_or (paths_in found) k []) (get_or words k 0))

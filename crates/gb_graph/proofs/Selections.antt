@@ -1,4 +1,4 @@
--- What words select, and what is asked for.
+-- What arguments select, and the request.
 use Rattle.std.specs.Prelude.{ℕ, ◌≡◌, ◌<◌, ◌+◌, ◌==◌, suc, Bool, true, false, cond, ◌||◌, List, [], ◌∷◌, ◌++◌, map, length, get_or, take, drop, bytes_eq, refl, Option, Some, None, Result, Ok, Err, IfErr}
 use Rattle.std.specs.List.{flat_map}
 use Rattle.std.specs.Ordering.{eq_by_cmp}
@@ -19,7 +19,7 @@ use Rattle.gb_plan.specs.Refusal.{request_of, word_faults}
 use Rattle.gb_plan.proofs.Tests.{not_false, turned}
 use Rattle.gb_graph.specs.Words.{asked}
 
--- ---- Errors that are handed on
+-- ---- Errors that are returned
 
 pub err_so : {X E : Type 0} (P : E → Type 0) (r : Result X E) (y z : E) → r ≡ Err y → y ≡ z → P z → IfErr r P
 err_so {X} {E} P r y z is same holds = subst (λ (v : Result X E). IfErr v P) (sym is) (subst P (sym same) holds)
@@ -33,7 +33,7 @@ first_front (y ∷ xs) ys x e = e
 pub first_back : {X : Type 0} (xs ys : List X) (x : X) → xs ≡ [] → first_of ys ≡ Some x → first_of (xs ++ ys) ≡ Some x
 first_back xs ys x none e = ap (λ v. first_of (v ++ ys)) none ∙ e
 
--- of a list, the first faults behind a front without faults
+-- of a list, the first faults after a prefix without faults
 pub first_at : {X Y : Type 0} (f : X → List Y) (xs : List X) (i : ℕ) (x : X) (y : Y) → i < length xs → x ≡ get_or xs i x → flat_map f (take i xs) ≡ [] → first_of (f x) ≡ Some y
     → first_of (flat_map f xs) ≡ Some y
 first_at f xs i x y lt is none e =
@@ -51,7 +51,7 @@ flat_more f xs i x lt is =
 pub map_more : {X Y : Type 0} (f : X → Y) (xs : List X) (i : ℕ) (x : X) → i < length xs → x ≡ get_or xs i x → map f (take (i + 1) xs) ≡ map f (take i xs) ++ f x ∷ []
 map_more f xs i x lt is = ap (map f) ((take_at_read xs i x lt).1 ∙ ap (λ v. take i xs ++ v ∷ []) (sym is)) ∙ map-append f (take i xs) (x ∷ [])
 
--- ---- What is asked for
+-- ---- The request
 
 decided : Registry → List Text → List Text → Bool → Option Fault → Result Request Fault
 decided registry requested excluded true found = Err faults.NoTasks

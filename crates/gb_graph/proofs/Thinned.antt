@@ -1,4 +1,4 @@
--- What is thinned: it stands for the whole, and whatever meets in the one meets in the other.
+-- The thinned row represents the whole row: both have the same conflicts.
 use Rattle.std.specs.Prelude.{ℕ, zero, suc, ◌≡◌, ◌⊎◌, ◌<◌, ◌≤◌, true, not, ◌==◌, ◌&&◌, List, [], ◌∷◌, ◌++◌, length, refl, Contains, IsTrue}
 use Rattle.std.proofs.Common.{sym, ap, subst, ◌∙◌, inl, inr, arith, append-nil}
 use Rattle.std.proofs.lemmas.List.{append_assoc}
@@ -20,7 +20,7 @@ use Rattle.gb_graph.proofs.Numbered.{differ_so}
 
 -- ---- A row that is thinned, one place after another
 
--- it stands there, or twice under other numbers
+-- it is in the thinned row, or twice under other numbers
 abbrev pub Stands : List TaskPlace → TaskPlace → Type 0
 Stands thinned at = Contains thinned at ⊎ StandsTwice thinned at
 
@@ -39,7 +39,7 @@ pub stands_more : (thinned : List TaskPlace) (next at : TaskPlace) → Stands th
 stands_more thinned next at (inl c) = inl (Contains-append_left thinned (next ∷ []) at c)
 stands_more thinned next at (inr t) = inr (twice_more thinned next at t)
 
--- what came is what comes next, or comes later
+-- what was left is what comes next, or comes later
 pub next_of : (next : TaskPlace) (rest whole : List TaskPlace) (at : TaskPlace) → whole ≡ next ∷ rest → Contains whole at → (at ≡ next) ⊎ Contains rest at
 next_of next rest whole at is c = elim (in_of (next ∷ rest) at (subst (λ xs. Contains xs at) is c)) [ inl e ↦ inl e | inr i ↦ inr (of_in at rest i) ]
 
@@ -49,7 +49,7 @@ next_in next rest whole is = subst (λ xs. Contains xs next) (sym is) (of_in nex
 pub later_in : (next : TaskPlace) (rest whole : List TaskPlace) (at : TaskPlace) → whole ≡ next ∷ rest → Contains rest at → Contains whole at
 later_in next rest whole at is c = subst (λ xs. Contains xs at) (sym is) (of_in at (next ∷ rest) (inr (in_of rest at c)))
 
--- where an index of a row without one of its places stands in the row
+-- the index in the row of an index of the row without one of its places
 record Skipped (whole without : List TaskPlace) (i : ℕ) : Type 0 where
   index : ℕ
   low : index < length whole
@@ -75,7 +75,7 @@ rising_without xs x ys rising text i j le lt before = elim (cases_order i j) [
   | inr (inr more) ↦ absurd (omega (arith, le, more))
 ]
 
--- how the rest of a row goes on: the row, what it is thinned to, and what comes
+-- the state of the rest of a row: the row, its thinned form, and what comes
 pub record IsSoFar (whole thinned rest : List TaskPlace) : Type 0 where
   pub within : (at : TaskPlace) → Contains thinned at → Contains whole at
   pub rest_in : (at : TaskPlace) → Contains rest at → Contains whole at
@@ -120,7 +120,7 @@ thinned_same whole moved thinned same t = record {
   stands = λ at c. t.stands at ((same at).1 c);
 }
 
--- ---- What meets
+-- ---- Conflicts
 
 -- one of the thinned row, which is the same place of the same task
 record Kept (thinned : List TaskPlace) (at : TaskPlace) : Type 0 where

@@ -1,4 +1,4 @@
--- Numbers in turn are in order, where each task comes after tasks of lesser numbers alone.
+-- Numbers in sequence are in order, where each task comes only after tasks of lesser numbers.
 use Rattle.std.specs.Prelude.{ℕ, ◌<◌, ◌+◌, ◌↔◌, List, [], ◌∷◌, ◌++◌, length, Contains}
 use Rattle.std.proofs.Common.{sym, subst, inl, inr, arith}
 use Rattle.std.proofs.lemmas.Bool.{cases_eq, cases_order}

@@ -1,4 +1,4 @@
--- What a plan is refused with, and what is answered to what was asked.
+-- The refusal of a plan, and the outcome of a request.
 use Rattle.std.specs.Prelude.{◌≡◌, ◌⊎◌, List, Option, None, Some, Ok, Err}
 use Rattle.gb_plan.specs.Graph.{Plan, Registry, Request, IsPlan, IsSound}
 use Rattle.gb_plan.specs.Task.{Text}
@@ -11,7 +11,7 @@ use Rattle.gb_graph.specs.declared.met.Search.TheVariants.{Overlaps, OwnInputs, 
 use Rattle.gb_graph.specs.declared.refusal.Refusal.{Refusal}
 use Rattle.gb_graph.specs.Meetings.{meeting_of}
 
--- The least meeting of the first kind of which there is any: overlaps, then own inputs, then undeclared ones.
+-- The least conflict of the first kind that has any: overlaps, then own inputs, then undeclared ones.
 abbrev pub IsFirst : Plan → Search → Meeting → Type 0
 IsFirst plan Overlaps meeting = IsLeastMeeting (IsOverlap plan) meeting
 IsFirst plan OwnInputs meeting =
@@ -20,7 +20,7 @@ IsFirst plan Undeclared meeting =
     ((other : Meeting) → ¬ IsOverlap plan other) × ((other : Meeting) → ¬ IsOwnInput plan other)
     × IsLeastMeeting (IsUndeclared plan) meeting
 
--- the plan is sound, or the first of its meetings is this one
+-- the plan is sound, or the first of its conflicts is this one
 abbrev pub IsJudged : Plan → Option Refusal → Type 0
 IsJudged plan None = IsSound plan
 IsJudged plan (Some refusal) = IsFirst plan refusal.search (meeting_of refusal.found)

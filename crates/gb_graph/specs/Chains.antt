@@ -1,9 +1,9 @@
--- What comes before a task by a chain, as rows of bits.
+-- The tasks that a task comes after by a chain, as rows of bits.
 use Rattle.std.specs.Prelude.{ℕ, ◌/◌, ◌%◌, List, Contains, slice_index}
 use Rattle.std.specs.Int.{bit_at}
 use Rattle.gb_graph.specs.Order.{row}
 
--- the second task stands before the first by a chain of `after`
+-- the first task comes after the second by a chain of `after`
 pub data IsAfter (after : List (List ℕ)) (task : ℕ) : ℕ → Type 0 where
   start : {before : ℕ} → Contains (row after task) before → IsAfter after task before
   step : {between : ℕ} {before : ℕ} → IsAfter after task between → Contains (row after between) before

@@ -13,7 +13,7 @@ use Rattle.gb_graph.specs.Ranked.{AreApart}
 abbrev pub path_at : List Planned → ℕ → Path
 path_at tasks number = slice_index_or (order tasks) number []
 
--- it is one of these that are marked, and of those none comes before it by path
+-- it is one of the marked numbers among these, and none of them comes before it by path
 pub record IsLeastNumber (tasks : List Planned) (numbers : List ℕ) (marks : List Bool)
     (number : ℕ) : Type 0 where
   pub is_in : Contains numbers number
@@ -21,17 +21,17 @@ pub record IsLeastNumber (tasks : List Planned) (numbers : List ℕ) (marks : Li
   pub least : (other : ℕ) → Contains numbers other → stands_in marks other ≡ true
       → is_lt (byte_order (path_at tasks other) (path_at tasks number)) ≡ false
 
--- the second is the least of the marked ones that the first comes after
+-- the second is the least marked number that the first comes after
 abbrev pub IsNextNumber : List Planned → List (List ℕ) → List Bool → ℕ → ℕ → Type 0
 IsNextNumber tasks after marks number next = IsLeastNumber tasks (row after number) marks next
 
--- by steps from one number to another, through these: the one, and all between the two
+-- steps lead from one number to another through these: the first, and all between the two
 pub data LeadsTo (steps : ℕ → ℕ → Type 0) : ℕ → List ℕ → ℕ → Type 0 where
   is_there : {number : ℕ} → LeadsTo steps number [] number
   goes : {from : ℕ} {next : ℕ} {passed : List ℕ} {to : ℕ} → steps from next
       → LeadsTo steps next passed to → LeadsTo steps from (from ∷ passed) to
 
--- a way from the start that comes back to a number of its own
+-- a trail from the start that returns to one of its own numbers
 pub record IsTrail (tasks : List Planned) (after : List (List ℕ)) (marks : List Bool) (start : ℕ)
     (trail : List ℕ) (back : ℕ) : Type 0 where
   pub leads : LeadsTo (IsNextNumber tasks after marks) start trail back
@@ -39,7 +39,8 @@ pub record IsTrail (tasks : List Planned) (after : List (List ℕ)) (marks : Lis
   pub comes_back : Contains trail back
   pub marked : (number : ℕ) → Contains trail number → stands_in marks number ≡ true
 
--- The circle into which the way from the least of these leads, from its own least number on.
+-- The circle that the trail from the least of these leads into, starting with the least number of the
+-- circle.
 pub record IsRound (tasks : List Planned) (after : List (List ℕ)) (marks : List Bool)
     (numbers circle : List ℕ) : Type 0 where
   pub start : ℕ

@@ -1,4 +1,4 @@
--- Which tasks meet at which places, and the least of their meetings.
+-- Which tasks conflict at which places, and the least of their conflicts.
 use Rattle.std.specs.Prelude.{ℕ, ◌≡◌, ◌<◌, ◌↔◌, Bool, true, false, not, ◌&&◌, ◌==◌, List, [], Contains}
 use Rattle.std.specs.Prelude.{Option, None, Some, if◌then◌else◌, slice_index_or, length}
 use Rattle.std.specs.Ordering.{is_lt}
@@ -26,7 +26,7 @@ TellChains tasks chains = (task before : ℕ) (d : Planned) → task < length ta
     ↔ IsAfter tasks (slice_index_or tasks task d).task (path_at tasks before)
 
 -- The two count: an output and another one; a root and an output of its own task; a root and an output of
--- another task that its own does not come after.
+-- another task that the root's task does not come after.
 abbrev pub counts : Search → List (List ℕ) → TaskPlace → TaskPlace → Bool
 counts Overlaps chains at output = not (at.number == output.number)
 counts OwnInputs chains at output = at.task == output.task
@@ -42,7 +42,7 @@ module _ (search : Search) (chains : List (List ℕ)) where
     pub counted : counts search chains at output ≡ true
     pub overlapped : overlaps at.place output.place ≡ true
 
-  -- the task of one of the places meets the task of an output there
+  -- the task of one of the places conflicts with the task of an output there
   pub record IsMet (tasks : Plan) (outputs places : List TaskPlace) (meeting : Meeting) : Type 0 where
     pub at : TaskPlace
     pub at_in : Contains places at
@@ -52,7 +52,7 @@ module _ (search : Search) (chains : List (List ℕ)) where
     pub is_other : meeting.other ≡ path_at tasks other
     pub is_place : meeting.place ≡ at.place
 
--- a task at a place of its own with one of these tasks
+-- a task at a place of its own conflicts with one of these tasks
 pub record IsMetAt (tasks : Plan) (at : TaskPlace) (others : List ℕ) (meeting : Meeting) : Type 0 where
   pub other : ℕ
   pub other_in : Contains others other
@@ -60,11 +60,11 @@ pub record IsMetAt (tasks : Plan) (at : TaskPlace) (others : List ℕ) (meeting 
   pub is_other : meeting.other ≡ path_at tasks other
   pub is_place : meeting.place ≡ at.place
 
--- the meeting that was found
+-- the conflict that was found
 abbrev pub meeting_of : Found → Meeting
 meeting_of found = record { task = found.task; other = found.other; place = found.place }
 
--- the meeting of these numbers
+-- the conflict of these numbers
 abbrev pub meeting_by : Plan → List TaskPlace → Met → Meeting
 meeting_by tasks places met = record {
   task = path_at tasks met.task;
@@ -72,7 +72,7 @@ meeting_by tasks places met = record {
   place = place_at places met.place;
 }
 
--- what was found, by number and as it is told
+-- the result by number, and as it is reported
 abbrev pub found_by : Plan → List TaskPlace → Option Met → Option Found
 found_by tasks places None = None
 found_by tasks places (Some met) = Some (record {
@@ -87,38 +87,38 @@ pub record IsWithin (tasks : Plan) (places : List TaskPlace) (met : Met) : Type 
   pub other : met.other < length tasks
   pub place : met.place < length places
 
--- one of these tasks, before which none of them comes by path
+-- one of these tasks such that none of them comes before it by path
 pub record IsLeastTask (tasks : Plan) (numbers : List ℕ) (number : ℕ) : Type 0 where
   pub is_in : Contains numbers number
   pub least : (other : ℕ) → Contains numbers other
       → is_lt (byte_order (path_at tasks other) (path_at tasks number)) ≡ false
 
--- of two the one that comes before, where there are two
+-- the lesser of two, where there are two
 abbrev pub lesser : Option Found → Option Found → Option Found
 lesser None other = other
 lesser (Some found) None = Some found
 lesser (Some found) (Some other) =
     if is_before (meeting_of other) (meeting_of found) then Some other else Some found
 
--- the least of these meetings, if there is any
+-- the least of these conflicts, if there is any
 abbrev pub IsLeast : (Meeting → Type 0) → Option Found → Type 0
 IsLeast Meets None = (meeting : Meeting) → ¬ Meets meeting
 IsLeast Meets (Some found) = IsLeastMeeting Meets (meeting_of found)
 
--- the meetings of a plan that are looked for
+-- the conflicts of a plan that are searched for
 abbrev pub Meets : Plan → Search → Meeting → Type 0
 Meets plan Overlaps meeting = IsOverlap plan meeting
 Meets plan OwnInputs meeting = IsOwnInput plan meeting
 Meets plan Undeclared meeting = IsUndeclared plan meeting
 
--- the chains of these tasks, their outputs in order, and their roots, none of them too often
+-- the chains of these tasks, their outputs in order, and their roots, thinned
 pub record AreTables (tasks : List Planned) (tables : Tables) : Type 0 where
   pub chains : TellChains tasks (rows tables.chains.items)
   pub rising : IsRising tables.outputs.items
   pub outputs : IsThinned (with_places [] (places_from output_places 0 tasks)) tables.outputs.items
   pub roots : IsThinned (with_places [] (places_from roots_of 0 tasks)) tables.roots.items
 
--- the places that are held against the outputs: outputs too, or else roots
+-- the places that are compared with the outputs: outputs too, or else roots
 abbrev pub places_for : Tables → Search → List TaskPlace
 places_for tables Overlaps = tables.outputs.items
 places_for tables OwnInputs = tables.roots.items

@@ -1,8 +1,8 @@
--- The order of tasks 0, 1, .., which stand by their keys: the least task has the least number.
+-- The order of tasks 0, 1, .., which are numbered by their keys: the least task has the least number.
 use Rattle.std.specs.Prelude.{ℕ, ◌<◌, ◌≤◌, List, [], ◌∷◌, ◌++◌, map, length, Contains, Vec, slice_index_or}
 use Rattle.std.specs.Global.{Global}
 
--- rows of numbers, without where they lie
+-- rows of numbers, without their memory
 abbrev pub rows : List (Vec ℕ Global) → List (List ℕ)
 rows vecs = map (λ v. v.items) vecs
 
@@ -10,11 +10,11 @@ rows vecs = map (λ v. v.items) vecs
 abbrev pub row : List (List ℕ) → ℕ → List ℕ
 row after task = slice_index_or after task []
 
--- all that a task comes after stands
+-- all tasks that a task comes after are placed
 abbrev pub IsReady : List (List ℕ) → List ℕ → ℕ → Type 0
 IsReady after standing task = (before : ℕ) → Contains (row after task) before → Contains standing before
 
--- the least of the ready tasks that do not stand yet
+-- the least of the ready tasks that are not placed yet
 pub record IsNext (after : List (List ℕ)) (standing : List ℕ) (task : ℕ) : Type 0 where
   pub known : task < length after
   pub waits : ¬ Contains standing task
@@ -22,13 +22,13 @@ pub record IsNext (after : List (List ℕ)) (standing : List ℕ) (task : ℕ) :
   pub least : (other : ℕ) → other < length after → ¬ Contains standing other → IsReady after standing other
       → task ≤ other
 
--- each is the next one when those before it stand
+-- each is the next one when those before it are placed
 pub data InOrder (after : List (List ℕ)) : List ℕ → Type 0 where
   begins : InOrder after []
   goes_on : {standing : List ℕ} {task : ℕ} → InOrder after standing → IsNext after standing task
       → InOrder after (standing ++ task ∷ [])
 
--- in order, as far as any task is ready
+-- in order, until no task is ready
 pub record IsOrder (after : List (List ℕ)) (order : List ℕ) : Type 0 where
   pub in_order : InOrder after order
   pub whole : (task : ℕ) → task < length after → ¬ Contains order task → ¬ IsReady after order task

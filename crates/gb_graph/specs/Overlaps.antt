@@ -1,4 +1,4 @@
--- Which places of a row overlap a place.
+-- The places of a row that overlap a place.
 use Rattle.std.specs.Prelude.{ℕ, ◌<◌, ◌↔◌, ◌⊎◌, Bool, not, ◌&&◌, List, [], ◌∷◌, ◌++◌, Option, None, Some}
 use Rattle.std.specs.Prelude.{length, Contains, IsTrue}
 use Rattle.gb_folder.specs.Files.{Place}
@@ -14,7 +14,7 @@ FindsToo row test old new = (index : ℕ) → Contains new index
 abbrev pub is_between : List ℕ → List ℕ → Place → Bool
 is_between from to place = not (is_before place from) && is_before place to
 
--- the text, and this byte behind it, if there is one
+-- the text, followed by this byte if there is one
 abbrev pub with_sign : List ℕ → Option ℕ → List ℕ
 with_sign text None = text
 with_sign text (Some sign) = text ++ sign ∷ []

@@ -9,13 +9,13 @@ use Rattle.gb_plan.specs.declared.plan.Planned.{Planned}
 use Rattle.gb_plan.specs.declared.task.TaskDeclaration.{TaskDeclaration}
 use Rattle.gb_graph.specs.declared.places.TaskPlace.{TaskPlace}
 
--- the row, and behind it these places, each with the number of its task
+-- the row, followed by these places, each with the number of its task
 abbrev pub with_places : List TaskPlace → List (ℕ × Place) → List TaskPlace
 with_places row [] = row
 with_places row (at ∷ more) =
     with_places (row ++ record { task = at.0; number = length row; place = at.1 } ∷ []) more
 
--- what these tasks have, the first of which has this number
+-- what these tasks have, where the first task has this number
 abbrev pub places_from : (TaskDeclaration → List Place) → ℕ → List Planned → List (ℕ × Place)
 places_from places first [] = []
 places_from places first (planned ∷ tasks) =
@@ -37,7 +37,7 @@ by_place a b = ordering_then (byte_order a.place b.place) (nat_cmp a.task b.task
 abbrev pub by_task : TaskPlace → TaskPlace → Ordering
 by_task a b = ordering_then (nat_cmp a.task b.task) (byte_order a.place b.place)
 
--- those before a text come first, whichever text
+-- the places before a text come first, for every text
 abbrev pub IsRising : List TaskPlace → Type 0
 IsRising row = (text : List ℕ) (i j : ℕ) → i ≤ j → j < length row
     → IsTrue (is_before (place_at row j) text) → IsTrue (is_before (place_at row i) text)
@@ -60,7 +60,7 @@ pub record StandsTwice (row : List TaskPlace) (at : TaskPlace) : Type 0 where
   pub other_same : IsSame other at
   pub two : one.number ≢ other.number
 
--- each of the row stands in the thinned one too, or it stands there twice under other numbers
+-- each of the row is also in the thinned one, or occurs there twice under other numbers
 pub record IsThinned (row thinned : List TaskPlace) : Type 0 where
   pub within : (at : TaskPlace) → Contains thinned at → Contains row at
   pub stands : (at : TaskPlace) → Contains row at → Contains thinned at ⊎ StandsTwice thinned at

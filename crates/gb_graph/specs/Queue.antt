@@ -1,4 +1,4 @@
--- The queue of tasks: how it grows, and what it asks for.
+-- The queue of tasks: how it grows, and what it requests.
 use Rattle.std.specs.Prelude.{◌≡◌, Bool, ◌||◌, List, [], ◌∷◌, ◌++◌, map, if◌then◌else◌}
 use Rattle.std.specs.List.{AllByRecursion}
 use Rattle.gb_tree.specs.Property.{distinct}
@@ -7,13 +7,13 @@ use Rattle.gb_plan.specs.Task.{Path, has_path}
 use Rattle.gb_plan.specs.Graph.{Registry, Request, IsRegistered, leaves_out, selected}
 use Rattle.gb_plan.specs.Refusal.{Queued, open_of}
 
--- those of the paths that are not shut and do not stand in the queue, behind it
+-- appends to the queue the paths that are not shut and not in the queue
 abbrev pub added : (Path → Bool) → List Path → List Path → List Path
 added shut queue [] = queue
 added shut queue (path ∷ paths) =
     added shut (if shut path || has_path queue path then queue else queue ++ path ∷ []) paths
 
--- what is asked of this registry, where the queue begins with these, and these paths are shut
+-- the request for this registry whose queue begins with these, where these paths are shut
 pub record IsAsked (request : Request) (registry : Registry) (begin : List Path)
     (shut : Path → Bool) : Type 0 where
   pub of : request.registry ≡ registry
@@ -23,7 +23,7 @@ pub record IsAsked (request : Request) (registry : Registry) (begin : List Path)
 abbrev pub paths_in : List TaskDeclaration → List Path
 paths_in tasks = map (λ task. task.path) tasks
 
--- The queue has come so far: these are declared, and the others wait.
+-- The queue so far: these tasks are declared, and the others wait.
 pub record HasCome (registry : Registry) (begin : List Path) (shut : Path → Bool) (queue : List Path)
     (found : List TaskDeclaration) : Type 0 where
   pub waiting : List Path

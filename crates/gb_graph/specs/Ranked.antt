@@ -11,7 +11,7 @@ use Rattle.gb_plan.specs.Task.{Path, has_path}
 use Rattle.gb_plan.specs.Graph.{order, precedes, no_repeats, stands_in_order}
 use Rattle.gb_graph.specs.Order.{row, IsOrder}
 
--- each stands once, and precedes those behind it
+-- each occurs once, and precedes those after it
 pub record AreRanked (tasks : List Planned) : Type 0 where
   pub once : no_repeats (order tasks) ≡ true
   pub ranked : (i j : ℕ) (d : Planned) → i < j → j < length tasks
@@ -33,7 +33,7 @@ pub record TellAfter (tasks : List Planned) (after : List (List ℕ)) : Type 0 w
       ↔ ((task < length tasks) × (before < length tasks)
       × IsTrue (comes_after (slice_index_or tasks task d) (slice_index_or tasks before d)))
 
--- no number stands twice
+-- no number occurs twice
 abbrev pub AreApart : List ℕ → Type 0
 AreApart [] = Unit {0}
 AreApart (number ∷ numbers) = (¬ Contains numbers number) × AreApart numbers
@@ -49,7 +49,7 @@ pub record AreSame (tasks plan : List Planned) : Type 0 where
   pub within : (planned : Planned) → Contains plan planned → Contains tasks planned
   pub back : (planned : Planned) → Contains tasks planned → Contains plan planned
 
--- the same tasks, each once and in order as far as there is one
+-- the same tasks, each once, and in order until no task is ready
 pub record IsArranged (tasks plan : List Planned) : Type 0 where
   pub same : AreSame tasks plan
   pub once : no_repeats (order plan) ≡ true
@@ -74,24 +74,24 @@ abbrev pub TellNumbers : List Path → Numbers → Type 0
 TellNumbers paths numbers = (path : Path) (number : ℕ) → (number_at numbers path ≡ Some number)
     ↔ ((number < length paths) × (slice_index_or paths number [] ≡ path))
 
--- the numbers of those of the paths that have one
+-- the numbers of the paths that have one
 abbrev pub numbers_in : Numbers → List Path → List ℕ
 numbers_in numbers paths = filter_map (number_at numbers) paths
 
--- the number of a task, with that of one that it comes after, as far as the task's own declaration tells
+-- pairs of a task and a task that it comes after, by number, where the task's own declaration gives them
 abbrev pub edges_at : Numbers → ℕ → Planned → List (ℕ × ℕ)
 edges_at numbers task planned =
     map (λ before. (task, before)) (numbers_in numbers planned.task.needs)
     ++ map (λ before. (task, before)) (numbers_in numbers planned.task.must_run_after)
     ++ map (λ later. (later, task)) (numbers_in numbers planned.task.finalizers)
 
--- the same of all these tasks, the first of which has this number
+-- the same for all these tasks, where the first has this number
 abbrev pub edges_from : Numbers → ℕ → List Planned → List (ℕ × ℕ)
 edges_from numbers first [] = []
 edges_from numbers first (planned ∷ tasks) =
     edges_at numbers first planned ++ edges_from numbers (first + 1) tasks
 
--- the edges have each task by its number with those that it comes after
+-- the edges pair each task by number with the tasks that it comes after
 pub record TellEdges (tasks : List Planned) (edges : List (ℕ × ℕ)) : Type 0 where
   pub known : (task before : ℕ) → Contains edges (task, before)
       → (task < length tasks) × (before < length tasks)
@@ -104,7 +104,7 @@ pub record HoldEdges (count : ℕ) (edges : List (ℕ × ℕ)) (after : List (Li
   pub each : length after ≡ count
   pub told : (task before : ℕ) → Contains (row after task) before ↔ Contains edges (task, before)
 
--- what each task comes after, the numbers of those that stand in order, and the others
+-- what each task comes after, the numbers of the tasks that are in order, and the others
 pub record AreRanks (tasks : List Planned) (after : List (List ℕ)) (order others : List ℕ) : Type 0 where
   pub told : TellAfter tasks after
   pub is_order : IsOrder after order

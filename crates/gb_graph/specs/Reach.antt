@@ -9,7 +9,7 @@ pub data Reaches (table : List (List ℕ)) (starts : List ℕ) : ℕ → Type 0 
   step : {from : ℕ} {task : ℕ} → Reaches table starts from → Contains (row table from) task
       → Reaches table starts task
 
--- the first of the starts from which the task is reached, has this index
+-- the first start from which the task is reached has this index
 pub record IsFirstStart (table starts : List (List ℕ)) (task index : ℕ) : Type 0 where
   pub within : index < length starts
   pub reaches : Reaches table (row starts index) task
@@ -23,7 +23,8 @@ IsClosed table stands =
     (from task : ℕ) → stands_in stands from ≡ true → Contains (row table from) task
     → stands_in stands task ≡ true
 
--- These tasks are marked too; those that were not yet get the word, and stand among the fresh ones.
+-- These tasks are marked too; those that were not marked before get the word, and are added to the fresh
+-- ones.
 pub record IsMarked (stands stands' : List Bool) (words words' fresh fresh' tasks : List ℕ)
     (word : ℕ) : Type 0 where
   pub stays : (k : ℕ) → stands_in stands k ≡ true → stands_in stands' k ≡ true
@@ -36,7 +37,7 @@ pub record IsMarked (stands stands' : List Bool) (words words' fresh fresh' task
   pub made : (k : ℕ) → Contains fresh' k → Contains fresh k ⊎ Contains tasks k
   pub count : missing stands' + length fresh' ≡ missing stands + length fresh
 
--- all that is reached from the starts is marked too, where it was not with the word
+-- everything reached from the starts is marked too, with the word where it was not marked before
 pub record IsSpread (table : List (List ℕ)) (starts : List ℕ) (word : ℕ) (stands stands' : List Bool)
     (words words' : List ℕ) : Type 0 where
   pub stays : (k : ℕ) → stands_in stands k ≡ true → stands_in stands' k ≡ true
@@ -48,7 +49,7 @@ pub record IsSpread (table : List (List ℕ)) (starts : List ℕ) (word : ℕ) (
       → slice_index words' k ≡ word
   pub closed : IsClosed table stands'
 
--- how far it has come: what leads to tasks that are not marked stands among the fresh ones
+-- the state so far: what leads to tasks that are not marked is among the fresh ones
 pub record Spreads (table : List (List ℕ)) (starts : List ℕ) (word : ℕ) (stands stands' : List Bool)
     (words words' fresh : List ℕ) : Type 0 where
   pub stays : (k : ℕ) → stands_in stands k ≡ true → stands_in stands' k ≡ true

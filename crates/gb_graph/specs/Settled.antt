@@ -6,8 +6,8 @@ use Rattle.gb_graph.specs.Order.{row}
 abbrev pub stands_in : List Bool → ℕ → Bool
 stands_in stands task = slice_index_or stands task false
 
--- A task is put where it belongs: among the ready ones where all that it comes after stands, else to
--- one that does not stand.
+-- A task is added where it belongs: to the ready ones if all tasks that it comes after are placed, otherwise
+-- to the waiting list of a task that is not placed.
 pub record IsPutReady (after : List (List ℕ)) (stands : List Bool) (waiting waiting' : List (List ℕ))
     (ready ready' : ℕ → Bool) (task : ℕ) : Type 0 where
   pub all_stand : (before : ℕ) → Contains (row after task) before → stands_in stands before ≡ true
@@ -30,7 +30,7 @@ IsSettled after stands waiting waiting' ready ready' task =
     IsPutReady after stands waiting waiting' ready ready' task
     ⊎ IsPutWaiting after stands waiting waiting' ready ready' task
 
--- The tables are true of an order so far. Loose tasks are neither ready nor waiting yet.
+-- The tables are correct for the order so far. Loose tasks are neither ready nor waiting yet.
 pub record Keeps (after : List (List ℕ)) (stands : List Bool) (waiting : List (List ℕ)) (ready : ℕ → Bool)
     (order : List ℕ) (loose : ℕ → Type 0) : Type 0 where
   pub marks : length stands ≡ length after
@@ -52,7 +52,7 @@ pub record Keeps (after : List (List ℕ)) (stands : List Bool) (waiting : List 
       ⊎ ((before : ℕ) × Contains (row after task) before × (stands_in stands before ≡ false)
       × Contains (row waiting before) task)
 
--- u stands in the list at i or later
+-- u is in the list at i or later
 abbrev pub ContainsFrom : ℕ → List ℕ → ℕ → Type 0
 ContainsFrom i xs u = (k : ℕ) × (i ≤ k) × (k < length xs) × (slice_index_or xs k u ≡ u)
 

@@ -1,4 +1,4 @@
--- What words ask for, and what the tasks of a queue are called by number.
+-- What arguments request, and the tasks of a queue by number.
 use Rattle.std.specs.Prelude.{ℕ, ◌≡◌, ◌<◌, Bool, true, List, [], ◌∷◌, ◌++◌, if◌then◌else◌, map}
 use Rattle.std.specs.Prelude.{length, slice_index, slice_index_or}
 use Rattle.std.specs.List.{flat_map, AllByRecursion}
@@ -10,7 +10,7 @@ use Rattle.gb_plan.specs.Graph.{is_scheduled_in, IsFirstWord, IsRegistered, IsSc
 use Rattle.gb_graph.specs.Queue.{added, paths_in}
 use Rattle.gb_graph.specs.Ranked.{Numbers, numbers_in}
 
--- what is asked for by these words, without those that others select
+-- the request of these arguments, without the tasks that others select
 abbrev pub asked : Registry → List Text → List Text → Request
 asked registry requested excluded = record {
   registry = registry;
@@ -18,26 +18,26 @@ asked registry requested excluded = record {
   excluded = flat_map (selected_by registry) excluded;
 }
 
--- what a word selects, or nothing where it is known
+-- what an argument selects, or nothing where it is known
 abbrev pub selected_once : Registry → Bool → Text → List Path
 selected_once registry known word = if known then [] else selected_by registry word
 
--- what each word selects that stands neither among those before nor among these before it
+-- what each argument selects, if it is neither among the arguments before nor earlier in this list
 abbrev pub newly_selected : Registry → List Text → List Text → List (List Path)
 newly_selected registry before [] = []
 newly_selected registry before (word ∷ words) =
     selected_once registry (has_path before word) word ∷ newly_selected registry (before ++ word ∷ []) words
 
--- all of the lists, one behind another
+-- the concatenation of the lists
 abbrev pub joined_paths : List (List Path) → List Path
 joined_paths lists = flat_map (λ paths. paths) lists
 
--- for each task the numbers of what it needs and of what finalizes it
+-- for each task the numbers of the tasks that it needs and of its finalizers
 abbrev pub brought_rows : Numbers → List TaskDeclaration → List (List ℕ)
 brought_rows numbers tasks =
     map (λ task. numbers_in numbers task.needs ++ numbers_in numbers task.finalizers) tasks
 
--- the tasks with their words, and whether they are among the selected ones
+-- the tasks with their arguments, and whether they are among the selected ones
 pub record AreWorded (tasks : List TaskDeclaration) (words : List ℕ) (these : Path → Bool)
     (planned : List Planned) : Type 0 where
   pub same : map (λ (p : Planned). p.task) planned ≡ tasks
@@ -46,8 +46,8 @@ pub record AreWorded (tasks : List TaskDeclaration) (words : List ℕ) (these : 
   pub selection :
       AllByRecursion (λ (p : Planned). p.is_selected ≡ these p.task.path) planned
 
--- The request asks this registry for what these lists have, without what those have. What stands in them more
--- than once goes into no queue again.
+-- The request asks this registry for the tasks of these lists, without those of the other lists. A repeated
+-- task is not queued again.
 pub record AsksFor (request : Request) (registry : Registry)
     (requested excluded : List (List Path)) : Type 0 where
   pub of : request.registry ≡ registry
@@ -55,8 +55,8 @@ pub record AsksFor (request : Request) (registry : Registry)
       → added shut [] (joined_paths requested) ≡ added shut [] (selected request)
   pub leaves : (path : Path) → has_path (joined_paths excluded) path ≡ has_path request.excluded path
 
--- These are the declarations of the scheduled tasks, and the lists what the words of
--- the request newly select.
+-- These are the declarations of the scheduled tasks, and the lists are what the arguments of the request
+-- newly select.
 pub record AreDone (request : Request) (tasks : List TaskDeclaration)
     (lists : List (List Path)) : Type 0 where
   pub declared : AllByRecursion (IsRegistered request.registry) tasks
@@ -64,7 +64,7 @@ pub record AreDone (request : Request) (tasks : List TaskDeclaration)
   pub back : (path : Path) → IsScheduled request path → has_path (paths_in tasks) path ≡ true
   pub selects : lists ≡ newly_selected request.registry [] request.words
 
--- The scheduled tasks of what was asked, in any order.
+-- The scheduled tasks of the request, in any order.
 pub record AreScheduled (request : Request) (planned : List Planned) : Type 0 where
   pub scheduled : (path : Path) → is_scheduled_in planned path ≡ true → IsScheduled request path
   pub back : (path : Path) → IsScheduled request path → is_scheduled_in planned path ≡ true

@@ -1,4 +1,4 @@
-//! Tasks put in the order in which they run.
+//! Sorts the tasks of a plan into the order in which they run.
 ghost use Rattle.std.specs.Prelude.{◌≡◌, [], true, IfOk};
 ghost use Rattle.gb_plan.specs.Graph.{order, no_repeats, stuck};
 ghost use Rattle.gb_graph.specs.Order.{rows};
@@ -10,14 +10,14 @@ use gb_plan::plan::Planned;
 use std::alloc::{AllocError, Global};
 use std::cmp::Ordering;
 
-/// What tasks come after, and their order, all by their numbers.
+/// What the tasks come after, and their order, all by number.
 #[derive(Drop)]
 pub struct Ranks {
-    /// For each task those that it comes after.
+    /// For each task the tasks that it comes after.
     pub after: Vec<Vec<usize>>,
     /// The tasks that get ready, in order.
     pub order: Vec<usize>,
-    /// Those that never get ready.
+    /// The tasks that never get ready.
     pub others: Vec<usize>,
 }
 

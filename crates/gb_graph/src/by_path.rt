@@ -7,7 +7,7 @@ use indexmap::IndexMap;
 use std::alloc::{AllocError, Global};
 use std::marker::Model;
 
-/// Numbers by paths, which are borrowed.
+/// Numbers by borrowed paths.
 #[derive(Drop)]
 pub struct Numbers<'a> {
     entries: IndexMap<&'a str, usize>,
@@ -22,7 +22,7 @@ impl<'a> Model for Numbers<'a> {
 }
 
 impl<'a> Numbers<'a> {
-    /// No number yet.
+    /// No numbers yet.
     pub fn new(alloc: Global) -> Numbers<'a>
         ensures { result ≡ [] }
     {

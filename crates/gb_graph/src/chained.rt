@@ -1,4 +1,4 @@
-//! The chains of a plan whose tasks stand in order.
+//! The chains of a plan whose tasks are already in order.
 ghost use Rattle.std.specs.Prelude.{◌≡◌, ◌<◌, ℕ, [], length, true, Contains, IfOk};
 ghost use Rattle.gb_plan.specs.Graph.{order, no_repeats, stuck};
 ghost use Rattle.gb_graph.specs.Order.{rows, row, InOrder};
@@ -9,7 +9,7 @@ use crate::ranked::after_of;
 use gb_plan::plan::Planned;
 use std::alloc::{AllocError, Global};
 
-/// The numbers of tasks that come after tasks of lesser numbers alone: so they stand in order.
+/// The numbers of tasks that come only after tasks of lesser numbers; these numbers are in order.
 fn in_turn(alloc: Global, after: &[Vec<usize>]) -> Result<Vec<usize>, AllocError>
     requires { (task before : ℕ) → Contains (row (rows after.now) task) before → before < task }
     ensures order { IfOk result (λ numbers. InOrder (rows after.now) numbers.items) }
@@ -23,7 +23,7 @@ fn in_turn(alloc: Global, after: &[Vec<usize>]) -> Result<Vec<usize>, AllocError
     Ok(numbers)
 }
 
-/// For each task of a plan, those that it comes after by a chain.
+/// For each task of a plan the tasks that it comes after by a chain.
 pub fn chains_in(alloc: Global, tasks: &[Planned]) -> Result<Vec<Vec<u64>>, AllocError>
     requires once { no_repeats (order tasks.now) ≡ true }
     requires ready { stuck tasks.now [] tasks.now ≡ [] }

@@ -6,7 +6,7 @@ ghost use Rattle.gb_graph.specs.Chains.{IsAfter, bit_in};
 
 use std::alloc::{AllocError, Global};
 
-/// A row with no bit in it. It has room for all tasks, unless it is that of a task that comes after none.
+/// A row with no bit set. It has room for all tasks, except where the task comes after no task.
 fn row_for(alloc: Global, words: usize, before: &[usize]) -> Result<Vec<u64>, AllocError>
     ensures most { IfOk result (λ row. vec_len row ≤ words) }
     ensures wide { IfOk result (λ row. (task : ℕ) → Contains before.now task → vec_len row ≡ words) }

@@ -11,7 +11,7 @@ use gb_core::tasks::TaskList;
 use gb_plan::plan::Planned;
 use std::alloc::{AllocError, Global};
 
-/// The least by path of those of the numbers that are marked.
+/// Of the numbers that are marked, the one with the least path.
 fn least_of(tasks: &[Planned], numbers: &[usize], marks: &[bool]) -> Option<usize>
     requires known { (number : ℕ) → Contains numbers.now number → number < length tasks.now }
     requires each { length marks.now ≡ length tasks.now }
@@ -28,7 +28,7 @@ fn least_of(tasks: &[Planned], numbers: &[usize], marks: &[bool]) -> Option<usiz
     least
 }
 
-/// The task, or the other one, if there is another whose path comes before or is the same.
+/// The task, or the other one, if there is another one whose path comes before or is the same.
 fn lesser(tasks: &[Planned], number: usize, other: Option<usize>) -> usize
     requires known { number < length tasks.now }
     requires other { MatchOption other (Unit {0}) (λ other. other < length tasks.now) }
@@ -50,8 +50,8 @@ fn lesser(tasks: &[Planned], number: usize, other: Option<usize>) -> usize
     }
 }
 
-/// The way from a task, each time to the least marked one that the last one comes after, up to where
-/// it comes back to itself.
+/// The trail from a task, each time to the least marked task that the last one comes after, until
+/// it returns to one of its own tasks.
 fn trail_of(
     alloc: Global,
     tasks: &[Planned],
@@ -84,7 +84,7 @@ fn trail_of(
     Ok((trail, at))
 }
 
-/// Cuts the numbers in two, before this one.
+/// Splits the numbers in two before this one.
 fn cut(
     alloc: Global,
     numbers: &[usize],
@@ -102,7 +102,7 @@ fn cut(
     unreachable!()
 }
 
-/// The circle of marked tasks, from its least one on.
+/// The circle of marked tasks, starting with its least one.
 pub(crate) fn round_of(
     alloc: Global,
     tasks: &[Planned],

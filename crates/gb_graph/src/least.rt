@@ -1,4 +1,5 @@
-//! The least of the meetings of tasks. They are compared by number, and what is found is copied once.
+//! The least conflict between tasks. Conflicts are compared by number, and only the result is
+//! copied.
 ghost use Rattle.std.specs.Prelude.{◌≡◌, ◌<◌, ℕ, [], true, false, length, Contains, MatchOption, IfOk};
 ghost use Rattle.std.specs.Ordering.{is_gt, is_lt};
 ghost use Rattle.gb_core.specs.Lists.{byte_order};
@@ -18,14 +19,14 @@ use gb_plan::plan::Planned;
 use std::alloc::{AllocError, Global};
 use std::cmp::Ordering;
 
-/// A place at which a task meets another.
+/// A place at which a task conflicts with another.
 #[derive(Drop)]
 pub struct Found {
-    /// The task that is told first.
+    /// The task that is reported first.
     pub task: TaskPath,
-    /// The task that it meets, which may be the same.
+    /// The task with which it conflicts, which may be the same.
     pub other: TaskPath,
-    /// Where they meet: the place that is told.
+    /// The place that is reported.
     pub place: Place,
 }
 
@@ -34,9 +35,9 @@ pub struct Found {
 pub struct Met {
     /// The number of the first task in its plan.
     pub task: usize,
-    /// The number of the task that it meets.
+    /// The number of the task with which it conflicts.
     pub other: usize,
-    /// The index of the place in the row that was looked through.
+    /// The index of the place in the row that was searched.
     pub place: usize,
 }
 
@@ -95,7 +96,7 @@ fn lesser(
     }
 }
 
-/// Whether the path of a task comes before that of the least so far.
+/// Whether the path of a task comes before the path of the least task so far.
 fn is_lesser(tasks: &[Planned], number: usize, least: Option<usize>) -> bool
     requires number { number < length tasks.now }
     requires least { MatchOption least (Unit {0}) (λ least. least < length tasks.now) }
@@ -122,7 +123,7 @@ fn least_task(tasks: &[Planned], numbers: &[usize]) -> Option<usize>
     least
 }
 
-/// The least meeting of a task at a place with these.
+/// The least conflict of a task at a place with these tasks.
 fn least_at(tasks: &[Planned], task: usize, place: usize, others: &[usize]) -> Option<Met>
     requires { (other : ℕ) → Contains others.now other → other < length tasks.now }
     ensures { MatchOption result (others.now ≡ []) (λ met. (met.task ≡ task) × (met.place ≡ place)
@@ -131,7 +132,7 @@ fn least_at(tasks: &[Planned], task: usize, place: usize, others: &[usize]) -> O
     least_task(tasks, others).map(|other| Met { task, other, place })
 }
 
-/// Whether all that a task meets comes after what was found.
+/// Whether every conflict of a task comes after the conflict that was found.
 fn is_later(tasks: &[Planned], task: usize, found: Option<Met>) -> bool
     requires task { task < length tasks.now }
     requires found { MatchOption found (Unit {0}) (λ met. met.task < length tasks.now) }
@@ -162,8 +163,8 @@ fn copied(
     }
 }
 
-/// The least meeting of the tasks of these places with those of outputs. It goes over the pairs that overlap
-/// and no others, and passes over the places of tasks that come after one that meets another.
+/// The least conflict of the tasks of these places with the tasks of outputs. It visits only the
+/// pairs that overlap, and skips the places of tasks that come after a task with a conflict.
 pub fn least_met(
     alloc: Global,
     search: Search,

@@ -1,9 +1,10 @@
-//! The plan of what is asked for: the scheduled tasks in order, or the one reason why there is none.
+//! Makes the plan of a build: the scheduled tasks in order, or the one reason why there is none.
 //!
-//! [`plan::plan`] is what builds ask for. Below it tasks are numbers: the rank of a task's key among the keys
-//! of all. [`order`] chooses and orders them; [`chains`] says of two tasks of a plan whether one waits for
-//! the other, a row of bits for each task. With those the plan is held against the other rules: of two tasks
-//! at one place one has to wait, and [`refusal`] tells the first fault of all that there are.
+//! Builds call [`plan::plan`]. The modules below it work on task numbers: the rank of a task's key
+//! among all keys. [`order`] chooses and orders the tasks; [`chains`] computes for two tasks of a
+//! plan whether one waits for the other, as a row of bits for each task. With the chains the other
+//! rules are checked: of two tasks at one place one has to wait, and [`refusal`] reports the first
+//! of all faults.
 #![tactic(auto)]
 
 mod arrange;

@@ -1,4 +1,4 @@
-//! Which tasks have outputs that a place meets.
+//! The tasks with outputs that conflict with a place.
 ghost use Rattle.std.specs.Prelude.{◌≡◌, ◌↔◌, ℕ, Contains, IfOk, IsTrue};
 ghost use Rattle.gb_graph.specs.Order.{row, rows};
 ghost use Rattle.gb_graph.specs.Chains.{bit_in};
@@ -9,18 +9,18 @@ use crate::overlaps::overlapped;
 use crate::places::TaskPlace;
 use std::alloc::{AllocError, Global};
 
-/// What is looked for.
+/// The kind of conflict that is searched for.
 #[derive(Clone, Copy)]
 pub enum Search {
     /// Outputs that overlap one another.
     Overlaps,
     /// Outputs that their own task reads.
     OwnInputs,
-    /// Outputs that a task reads and does not come after.
+    /// Outputs that a task reads although it does not come after their task.
     Undeclared,
 }
 
-/// Whether the second task stands before the first by a chain.
+/// Whether the first task comes after the second by a chain.
 fn is_chained(chains: &[Vec<u64>], task: usize, before: usize) -> bool
     ensures { IsTrue result ↔ (bit_in (row (rows chains.now) task) before ≡ 1) }
 {
@@ -33,7 +33,7 @@ fn is_chained(chains: &[Vec<u64>], task: usize, before: usize) -> bool
     }
 }
 
-/// Whether a place and an output that overlap are what is looked for.
+/// Whether a place and an output that overlap are a conflict of the kind that is searched for.
 fn counts(search: Search, chains: &[Vec<u64>], at: &TaskPlace, output: &TaskPlace) -> bool
     ensures { result ≡ counts search (rows chains.now) at.now output.now }
 {
@@ -46,7 +46,7 @@ fn counts(search: Search, chains: &[Vec<u64>], at: &TaskPlace, output: &TaskPlac
     }
 }
 
-/// The tasks with outputs that a place meets.
+/// The tasks with outputs that conflict with a place.
 pub fn met_at(
     alloc: Global,
     search: Search,

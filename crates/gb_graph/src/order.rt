@@ -1,4 +1,5 @@
-//! The order of tasks that are numbered by rank: each is the least whose predecessors stand.
+//! The order of tasks that are numbered by rank: each is the least task whose predecessors are
+//! already placed.
 ghost use Rattle.std.specs.Prelude.{◌≡◌, ◌<◌, ℕ, length, Contains, MatchOption, slice_index_or, false, true};
 ghost use Rattle.std.specs.Prelude.{OnOk, IfOk, vec_len};
 ghost use Rattle.std.specs.BTreeSet.{contains};
@@ -10,7 +11,7 @@ use std::alloc::{AllocError, Global};
 use std::collections::BTreeSet;
 use std::mem;
 
-/// The first task of a row that does not stand yet.
+/// The first task of a row that is not placed yet.
 fn first_open(row: &[usize], stands: &[bool]) -> Option<usize>
     requires known { (before : ℕ) → Contains row.now before → before < length stands.now }
     ensures cases { MatchOption result
@@ -25,7 +26,7 @@ fn first_open(row: &[usize], stands: &[bool]) -> Option<usize>
     None
 }
 
-/// A task of a row that does not stand yet, looked for from where the last one was found.
+/// A task of a row that is not placed yet. The search starts where the last one was found.
 fn open_from(row: &[usize], stands: &[bool], cursor: &mut usize) -> Option<usize>
     requires known { (before : ℕ) → Contains row.now before → before < length stands.now }
     ensures cases { MatchOption result
@@ -41,7 +42,7 @@ fn open_from(row: &[usize], stands: &[bool], cursor: &mut usize) -> Option<usize
     first_open(row, stands)
 }
 
-/// Puts a task among the ready ones, or behind one that it waits for.
+/// Adds a task to the ready ones, or to the waiting list of a task for which it waits.
 fn settle(
     after: &[Vec<usize>],
     stands: &[bool],
@@ -68,7 +69,8 @@ fn settle(
     Ok(())
 }
 
-/// The order of tasks that come after the tasks of their rows: each is the least whose row stands already.
+/// The order of tasks that come after the tasks of their rows: each is the least task whose row is
+/// already placed.
 pub fn order_of(alloc: Global, after: &[Vec<usize>]) -> Result<Vec<usize>, AllocError>
     requires tasks { AreTasks (rows after.now) }
     ensures order { IfOk result (λ order. IsOrder (rows after.now) order.items) }

@@ -1,4 +1,5 @@
-//! Which places of a sorted row overlap a place: those beneath it, those at it, and those at its own folders.
+//! Which places of a sorted row overlap a place: the places under it, the equal places, and its
+//! parent folders.
 ghost use Rattle.std.specs.Prelude.{◌≡◌, ◌<◌, ◌≤◌, ◌↔◌, ◌∷◌, ◌++◌, [], ℕ, true, false, bytes_eq, length};
 ghost use Rattle.std.specs.Prelude.{Contains, IfOk, IsTrue, OnOk};
 ghost use Rattle.gb_core.specs.Place.{is_beneath, overlaps};
@@ -10,7 +11,7 @@ use gb_core::place::Place;
 use std::alloc::{AllocError, Global};
 use std::cmp::Ordering;
 
-/// Whether a place stands before a text with one more byte behind it.
+/// Whether a place sorts before a text followed by one more byte.
 fn is_before_sign(place: &[u8], text: &[u8], sign: u8) -> bool
     ensures { result ≡ is_before place.now (text.now ++ sign ∷ []) }
 {
@@ -24,7 +25,7 @@ fn is_before_sign(place: &[u8], text: &[u8], sign: u8) -> bool
     }
 }
 
-/// Whether a place stands before a text, or before that with one more byte behind it.
+/// Whether a place sorts before a text, or before the text followed by one more byte.
 fn is_before(at: &TaskPlace, text: &[u8], sign: Option<u8>) -> bool
     ensures { result ≡ is_before at.now.place (with_sign text.now sign) }
 {
@@ -35,7 +36,7 @@ fn is_before(at: &TaskPlace, text: &[u8], sign: Option<u8>) -> bool
     }
 }
 
-/// How many places stand before a text.
+/// How many places sort before a text.
 fn first_from(row: &[TaskPlace], text: &[u8], sign: Option<u8>) -> usize
     requires { IsRising row.now }
     ensures within { result ≤ length row.now }
@@ -56,7 +57,8 @@ fn first_from(row: &[TaskPlace], text: &[u8], sign: Option<u8>) -> usize
     low
 }
 
-/// Where the places from one on stop standing before a text. It goes along those that do, as all are found.
+/// The index of the first place, from a given one on, that does not sort before a text. The search
+/// is linear, as all places before it are results.
 fn end_from(row: &[TaskPlace], first: usize, text: &[u8], sign: u8) -> usize
     requires rising { IsRising row.now }
     requires within { first ≤ length row.now }
@@ -75,7 +77,7 @@ fn end_from(row: &[TaskPlace], first: usize, text: &[u8], sign: u8) -> usize
     row.len()
 }
 
-/// Finds the places from a text on up to one with a byte behind it.
+/// Finds the places from a text on up to the text followed by a byte.
 fn find_between(
     found: &mut Vec<usize>,
     row: &[TaskPlace],
@@ -95,7 +97,8 @@ fn find_between(
     Ok(())
 }
 
-/// Finds the places that are this text: they stand from it on, and before the text with a byte 0 behind it.
+/// Finds the places equal to this text: they sort from it on, and before the text followed by a
+/// byte 0.
 fn find_at(found: &mut Vec<usize>, row: &[TaskPlace], text: &[u8]) -> Result<(), AllocError>
     requires { IsRising row.now }
     ensures { OnOk result (FindsToo row.now (λ place. bytes_eq place text.now)
@@ -104,7 +107,7 @@ fn find_at(found: &mut Vec<usize>, row: &[TaskPlace], text: &[u8]) -> Result<(),
     find_between(found, row, text, None, 0)
 }
 
-/// Finds the places beneath a folder: they stand from `folder/` on, and before `folder0`.
+/// Finds the places under a folder: they sort from `folder/` on, and before `folder0`.
 fn find_beneath(found: &mut Vec<usize>, row: &[TaskPlace], folder: &[u8]) -> Result<(), AllocError>
     requires { IsRising row.now }
     ensures { OnOk result (FindsToo row.now (λ place. is_beneath place folder.now)
@@ -113,7 +116,7 @@ fn find_beneath(found: &mut Vec<usize>, row: &[TaskPlace], folder: &[u8]) -> Res
     find_between(found, row, folder, Some(b'/'), b'/' + 1)
 }
 
-/// Finds the places that are folders of a text.
+/// Finds the places that are parent folders of a text.
 fn find_above(found: &mut Vec<usize>, row: &[TaskPlace], text: &[u8]) -> Result<(), AllocError>
     requires { IsRising row.now }
     ensures { OnOk result (FindsToo row.now (λ place. is_beneath text.now place)

@@ -12,12 +12,12 @@ use gb_plan::task::{FileProperty, Output};
 use std::alloc::{AllocError, Global};
 use std::cmp::Ordering;
 
-/// A place of a task: one of its outputs, or a root of what it reads.
+/// A place of a task: one of its outputs, or a root of its input files.
 #[derive(Drop)]
 pub struct TaskPlace {
     /// The number of the task in its plan.
     pub task: usize,
-    /// The place's own number, counted over all tasks.
+    /// The number of the place itself, counted over all tasks.
     pub number: usize,
     /// The place itself, as its task declares it.
     pub place: Place,
@@ -98,7 +98,7 @@ fn by_place(a: &TaskPlace, b: &TaskPlace) -> Ordering
     a.place.cmp(&b.place).then(a.task.cmp(&b.task))
 }
 
-/// Sorts places by their bytes, and equal ones by their tasks.
+/// Sorts places by their bytes, and equal places by their tasks.
 pub fn sort_by_place(row: &mut Vec<TaskPlace>)
     ensures rising { IsRising row.new.items }
     ensures same { AreSamePlaces row.old.items row.new.items }
@@ -112,7 +112,7 @@ fn by_task(a: &TaskPlace, b: &TaskPlace) -> Ordering
     a.task.cmp(&b.task).then(a.place.cmp(&b.place))
 }
 
-/// Sorts places by their tasks, and those of a task by their bytes.
+/// Sorts places by their tasks, and the places of one task by their bytes.
 pub fn sort_by_task(row: &mut Vec<TaskPlace>)
     ensures { AreSamePlaces row.old.items row.new.items }
 {
@@ -125,7 +125,8 @@ fn is_same(a: &TaskPlace, b: &TaskPlace) -> bool
     a.task == b.task && a.place == b.place
 }
 
-/// Whether the last two of a row are the same place of the same task as this one, under two numbers.
+/// Whether the last two entries of a row are the same place of the same task as this one, under two
+/// numbers.
 fn ends_in_two(row: &[TaskPlace], at: &TaskPlace) -> bool
     ensures { OnTrue result (StandsTwice row.now at.now) }
 {
@@ -135,8 +136,8 @@ fn ends_in_two(row: &[TaskPlace], at: &TaskPlace) -> bool
     }
 }
 
-/// A row in which the same place of the same task stands at most twice, if it stood in a row. Whatever
-/// meets in the one row meets in the other, and one task may name a place ten thousand times.
+/// A row in which the same place of the same task occurs at most twice, if its occurrences were
+/// adjacent. Both rows have the same conflicts, and one task may name a place ten thousand times.
 pub fn thinned(alloc: Global, row: Vec<TaskPlace>) -> Result<Vec<TaskPlace>, AllocError>
     ensures thinned { IfOk result (λ thinned. IsThinned row.items thinned.items) }
     ensures rising { IfOk result (λ thinned. IsRising row.items → IsRising thinned.items) }

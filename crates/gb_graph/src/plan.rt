@@ -1,4 +1,4 @@
-//! The plan of what is asked for.
+//! The plan of a request.
 ghost use Rattle.std.specs.Prelude.{◌≡◌, IfOk, IfErr};
 ghost use Rattle.gb_graph.specs.Answer.{IsPlanOf, IsRefusalOf};
 
@@ -10,9 +10,10 @@ use gb_plan::plan::Plan;
 use gb_report::fault::Fault;
 use std::alloc::Global;
 
-/// The plan of what is asked for, or the one reason why there is none: that of the words, of the first task
-/// at fault, of a circle (60), of outputs that overlap (61), of an output that its own task reads (63), or of
-/// one that a task reads and does not come after (62), each the least of its kind.
+/// The plan of a request, or the one reason why there is none: the fault of the arguments, of the
+/// first task at fault, of a circle (60), of outputs that overlap (61), of an output that its own
+/// task reads (63), or of an output that a task reads although it does not come after its task
+/// (62), each the least of its kind.
 pub fn plan<T: Tasks>(
     alloc: Global,
     tasks: &mut T,

@@ -1,4 +1,4 @@
-//! The tasks of what is asked for, in the order in which they run.
+//! The tasks of a request, in the order in which they run.
 ghost use Rattle.std.specs.Prelude.{◌≡◌, ◌⊎◌, ◌<◌, ◌↔◌, [], ◌++◌, ℕ, List, map, length, true, Ok, Err};
 ghost use Rattle.std.specs.Prelude.{Contains, IfOk, IfErr, slice_index_or};
 ghost use Rattle.gb_report.specs.declared.fault.Fault.TheVariants.{OutOfMemory};
@@ -32,7 +32,7 @@ fn marks_of(alloc: Global, count: usize, numbers: &[usize]) -> Result<Vec<bool>,
     Ok(marks)
 }
 
-/// The circle of tasks that never get ready, of which there are some.
+/// The circle of the tasks that never get ready. There is at least one such task.
 fn circle_of(alloc: Global, tasks: &[Planned], ranks: &Ranks) -> Result<TaskList, AllocError>
     requires ranked { AreRanked tasks.now }
     requires ranks { AreRanks tasks.now
@@ -54,8 +54,9 @@ fn circle_of(alloc: Global, tasks: &[Planned], ranks: &Ranks) -> Result<TaskList
     paths_of(alloc, tasks, round.as_slice())
 }
 
-/// The scheduled tasks of what is asked for, in the order in which they run. Refused with the first
-/// fault of the words or along the queue, or with the circle of the tasks that never get ready (60).
+/// The scheduled tasks of a request, in the order in which they run.
+/// Refused with the first fault of the arguments or along the queue, or with the circle of the
+/// tasks that never get ready (60).
 pub fn ordered<T: Tasks>(
     alloc: Global,
     tasks: &mut T,

@@ -1,4 +1,4 @@
-//! The queue of tasks that are declared, one after another.
+//! The queue of tasks that are declared one by one.
 ghost use Rattle.std.specs.Prelude.{◌≡◌, ◌<◌, ◌⊎◌, ◌++◌, [], true, Some, Ok, Err, IfOk, IfErr, OnOk};
 ghost use Rattle.std.specs.Prelude.{IsTrue, length, slice_index_or};
 ghost use Rattle.std.specs.List.{AllByRecursion};
@@ -19,7 +19,7 @@ use gb_report::fault::Fault;
 use std::alloc::{AllocError, Global};
 use std::collections::BTreeSet;
 
-/// Puts those of the paths that are neither left out nor known behind the others.
+/// Appends the paths that are neither left out nor known.
 pub(crate) fn enqueue(
     queue: &mut Vec<TaskPath>,
     known: &mut BTreeSet<TaskPath>,
@@ -40,7 +40,7 @@ pub(crate) fn enqueue(
     Ok(())
 }
 
-/// What a task needs, and what finalizes it.
+/// The tasks that a task needs, and its finalizers.
 fn brought_by(alloc: Global, task: &TaskDeclaration) -> Result<TaskPaths, AllocError>
     ensures { IfOk result (λ paths. paths ≡ with_tasks [] (task.now.needs ++ task.now.finalizers)) }
 {
@@ -50,7 +50,7 @@ fn brought_by(alloc: Global, task: &TaskDeclaration) -> Result<TaskPaths, AllocE
     Ok(paths)
 }
 
-/// Declares the task at an index of the queue, which takes in what it brings.
+/// Declares the task at an index of the queue, and adds to the queue the tasks that it brings.
 fn declare<T: Tasks>(
     alloc: Global,
     tasks: &mut T,
@@ -79,7 +79,7 @@ fn declare<T: Tasks>(
     Ok(task)
 }
 
-/// Declares the tasks of a queue and all that they bring, or tells the first fault.
+/// Declares the tasks of a queue and all tasks that they bring, or returns the first fault.
 pub(crate) fn declare_all<T: Tasks>(
     alloc: Global,
     tasks: &mut T,

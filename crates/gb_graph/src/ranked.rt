@@ -1,4 +1,5 @@
-//! Tasks that are numbered by rank: what each comes after, and the tasks of given numbers.
+//! Tasks that are numbered by rank: the tasks that each comes after, and the tasks of given
+//! numbers.
 ghost use Rattle.std.specs.Prelude.{◌≡◌, ◌<◌, ◌++◌, ℕ, map, length, true, Some, Contains};
 ghost use Rattle.std.specs.Prelude.{IfOk, OnOk, slice_index_or};
 ghost use Rattle.gb_plan.specs.declared.plan.Planned.{Planned};
@@ -24,7 +25,7 @@ pub fn numbers_of<'a>(alloc: Global, tasks: &'a [Planned]) -> Result<Numbers<'a>
     Ok(numbers)
 }
 
-/// Adds the task with each of the paths that have a number.
+/// Adds a pair of the task and each path that has a number.
 fn add_befores(
     edges: &mut Vec<(usize, usize)>,
     numbers: &Numbers<'_>,
@@ -42,7 +43,7 @@ fn add_befores(
     Ok(())
 }
 
-/// Adds each of the paths that have a number with the task.
+/// Adds a pair of each path that has a number and the task.
 fn add_laters(
     edges: &mut Vec<(usize, usize)>,
     numbers: &Numbers<'_>,
@@ -73,7 +74,7 @@ fn add_edges(
     add_laters(edges, numbers, task, &planned.task.finalizers)
 }
 
-/// Each task by its number with each of those that it comes after.
+/// Each task by number, paired with each task that it comes after.
 fn edges_of(alloc: Global, tasks: &[Planned]) -> Result<Vec<(usize, usize)>, AllocError>
     requires { no_repeats (order tasks.now) ≡ true }
     ensures { IfOk result (λ edges. TellEdges tasks.now edges.items) }
@@ -86,7 +87,7 @@ fn edges_of(alloc: Global, tasks: &[Planned]) -> Result<Vec<(usize, usize)>, All
     Ok(edges)
 }
 
-/// The second numbers of the pairs, in rows by the first.
+/// The second numbers of the pairs, in rows by the first number.
 fn rows_of(
     alloc: Global,
     count: usize,
@@ -105,7 +106,7 @@ fn rows_of(
     Ok(after)
 }
 
-/// For each of the tasks the numbers of those that it comes after.
+/// For each task the numbers of the tasks that it comes after.
 pub(crate) fn after_of(alloc: Global, tasks: &[Planned]) -> Result<Vec<Vec<usize>>, AllocError>
     requires { no_repeats (order tasks.now) ≡ true }
     ensures { IfOk result (λ after. TellAfter tasks.now (rows after.items)) }

@@ -5,7 +5,7 @@ ghost use Rattle.gb_graph.specs.Reach.{IsClosed, IsFirstStart, IsMarked, IsSprea
 
 use std::alloc::{AllocError, Global};
 
-/// Marks those of the tasks that are not marked yet.
+/// Marks the tasks that are not marked yet.
 fn mark_all(
     stands: &mut [bool],
     words: &mut [usize],
@@ -28,7 +28,7 @@ fn mark_all(
     Ok(())
 }
 
-/// Marks all that is reached from the starts.
+/// Marks everything that is reached from the starts.
 fn spread(
     alloc: Global,
     table: &[Vec<usize>],
@@ -53,7 +53,7 @@ fn spread(
     Ok(())
 }
 
-/// For each number that is reached, the index of the first of the starts that reach it.
+/// For each number that is reached, the index of the first start that reaches it.
 pub fn first_starts(
     alloc: Global,
     table: &[Vec<usize>],

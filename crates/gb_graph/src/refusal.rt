@@ -1,4 +1,4 @@
-//! Why a plan is refused whose tasks all get ready.
+//! Why a plan is refused although all its tasks get ready.
 ghost use Rattle.std.specs.Prelude.{◌≡◌, [], true, IfOk};
 ghost use Rattle.gb_plan.specs.Graph.{Plan, order, no_repeats, stuck};
 ghost use Rattle.gb_plan.specs.Refusal.{IsScheduleFault};
@@ -12,17 +12,18 @@ use gb_plan::plan::Planned;
 use gb_report::fault::Fault;
 use std::alloc::{AllocError, Global};
 
-/// What was looked for, and the least meeting that was found.
+/// The kind of the search, and the least conflict that it found.
 #[derive(Drop)]
 pub struct Refusal {
-    /// Which of the three ways to meet it is.
+    /// Which of the three kinds of conflict it is.
     pub search: Search,
-    /// The tasks and the place that are told.
+    /// The tasks and the place that are reported.
     pub found: Found,
 }
 
-/// Why the plan is refused, if it is: outputs that overlap are told before outputs that their own task
-/// reads, and those before outputs that a task reads and does not come after.
+/// Why the plan is refused, if it is. Outputs that overlap are reported before outputs that their
+/// own task reads, and these before outputs that a task reads although it does not come after their
+/// task.
 pub fn refusal_of(alloc: Global, tasks: &[Planned]) -> Result<Option<Refusal>, AllocError>
     requires once { no_repeats (order tasks.now) ≡ true }
     requires ready { stuck tasks.now [] tasks.now ≡ [] }
@@ -44,7 +45,7 @@ pub fn refusal_of(alloc: Global, tasks: &[Planned]) -> Result<Option<Refusal>, A
     }
 }
 
-/// The fault that tells why: 61, 63 or 62.
+/// The fault that reports the reason: 61, 63 or 62.
 pub fn told(refusal: Refusal) -> Fault
     ensures { (plan : Plan) → stuck plan [] plan ≡ []
         → IsFirst plan refusal.search (meeting_of refusal.found) → IsScheduleFault plan result }

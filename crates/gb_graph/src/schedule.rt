@@ -1,4 +1,4 @@
-//! The scheduled tasks of what is asked for.
+//! The scheduled tasks of a request.
 ghost use Rattle.std.specs.Prelude.{◌≡◌, ◌⊎◌, [], true, Ok, Err, IfOk, IfErr, OnOk};
 ghost use Rattle.std.specs.List.{AllByRecursion};
 ghost use Rattle.gb_report.specs.declared.fault.Fault.TheVariants.{OutOfMemory};
@@ -51,7 +51,7 @@ fn declared_of<T: Tasks>(
     declare_all(alloc, tasks, &mut queue, &mut known, &excluded)
 }
 
-/// The tasks with the first words that reach them.
+/// The tasks, each with the first argument that reaches it.
 fn planned_of(
     alloc: Global,
     found: Vec<TaskDeclaration>,
@@ -66,9 +66,10 @@ fn planned_of(
     worded(alloc, found, words.as_slice(), &selected)
 }
 
-/// The tasks that are scheduled, in any order. Refused with the first fault of the words (64, 1, 50,
-/// 52; the requested ones first), or with that of the first task at fault, as they are declared: the
-/// selected ones by word and path, then what each newly brings by path.
+/// The tasks that are scheduled, in any order.
+/// Refused with the first fault of the arguments (64, 1, 50, 52; the requested ones first), or with
+/// the fault of the first task at fault, in the order of declaration: the selected tasks by word
+/// and path, then the tasks that each newly brings by path.
 pub fn scheduled<T: Tasks>(
     alloc: Global,
     tasks: &mut T,

@@ -1,4 +1,4 @@
-//! What the words of a request select, and the queue that begins with it.
+//! What the arguments of a request select, and the queue that begins with it.
 ghost use Rattle.std.specs.Prelude.{◌≡◌, ◌⊎◌, ◌||◌, [], true, false, Some, Ok, Err, IfOk};
 ghost use Rattle.std.specs.Prelude.{IfErr, OnOk, bytes_eq};
 ghost use Rattle.std.specs.List.{flat_map};
@@ -20,14 +20,14 @@ use gb_report::fault::Fault;
 use std::alloc::{AllocError, Global};
 use std::collections::BTreeSet;
 
-/// What words select, word by word. A word that stood before has nothing.
+/// What arguments select, argument by argument. A repeated argument has nothing.
 #[derive(Drop)]
 pub(crate) struct Selection {
     pub(crate) requested: Vec<TaskPaths>,
     pub(crate) excluded: Vec<TaskPaths>,
 }
 
-/// What a word selects that did not stand before; one that did selects nothing more.
+/// What an argument selects, if it did not occur before; a repeated one selects nothing more.
 fn select_once<T: Tasks>(
     alloc: Global,
     tasks: &T,
@@ -64,7 +64,7 @@ fn select_all<T: Tasks>(alloc: Global, tasks: &T, words: &[Text]) -> Result<Vec<
     Ok(found)
 }
 
-/// What is asked for, or the first fault of the words.
+/// The selection of a request, or the first fault of its arguments.
 pub(crate) fn select<T: Tasks>(
     alloc: Global,
     tasks: &T,
@@ -124,7 +124,7 @@ pub(crate) fn set_of(alloc: Global, lists: &[TaskPaths]) -> Result<BTreeSet<Task
     Ok(set)
 }
 
-/// Puts all of these paths in a queue, those that are left out aside.
+/// Appends all of these paths to a queue, except those that are left out.
 pub(crate) fn enqueue_all(
     queue: &mut Vec<TaskPath>,
     known: &mut BTreeSet<TaskPath>,

@@ -1,4 +1,4 @@
-//! What is looked up to judge a plan.
+//! The tables that are used to check a plan.
 ghost use Rattle.std.specs.Prelude.{◌≡◌, [], true, IfOk};
 ghost use Rattle.gb_plan.specs.Graph.{order, no_repeats, stuck};
 ghost use Rattle.gb_graph.specs.Meetings.{AreTables, IsLeast, Meets, places_for};
@@ -10,18 +10,18 @@ use crate::places::{TaskPlace, outputs_of, roots_of, sort_by_place, sort_by_task
 use gb_plan::plan::Planned;
 use std::alloc::{AllocError, Global};
 
-/// What tasks of a plan come after by chains, and their places.
+/// The tasks that tasks of a plan come after by chains, and their places.
 #[derive(Drop)]
 pub struct Tables {
-    /// For each task those before it, as a row of bits.
+    /// For each task the tasks that it comes after, as a row of bits.
     pub chains: Vec<Vec<u64>>,
     /// The outputs of all tasks, sorted by place and thinned.
     pub outputs: Vec<TaskPlace>,
-    /// The roots of what all tasks read, thinned.
+    /// The roots of the input files of all tasks, thinned.
     pub roots: Vec<TaskPlace>,
 }
 
-/// The tables of these tasks, made once for all that is looked for.
+/// The tables of these tasks, made once for all searches.
 pub fn tables_of(alloc: Global, tasks: &[Planned]) -> Result<Tables, AllocError>
     requires once { no_repeats (order tasks.now) ≡ true }
     requires ready { stuck tasks.now [] tasks.now ≡ [] }
@@ -39,7 +39,7 @@ pub fn tables_of(alloc: Global, tasks: &[Planned]) -> Result<Tables, AllocError>
     })
 }
 
-/// The places that are held against the outputs.
+/// The places that are compared with the outputs.
 fn places_for(tables: &Tables, search: Search) -> &[TaskPlace]
     ensures { result.now ≡ places_for tables.now search }
 {
@@ -50,7 +50,7 @@ fn places_for(tables: &Tables, search: Search) -> &[TaskPlace]
     }
 }
 
-/// The least of the meetings that are looked for.
+/// The least conflict of the kind that is searched for.
 pub fn least_of(
     alloc: Global,
     search: Search,

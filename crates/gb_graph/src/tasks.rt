@@ -1,4 +1,4 @@
-//! Tasks that are registered, and declared when they are asked for.
+//! Tasks that are registered, and declared on demand.
 ghost use Rattle.std.specs.Prelude.{◌≡◌, ◌⊎◌, [], Some, Ok, Err, IfOk, IfErr, OnOk, IsTrue};
 ghost use Rattle.gb_core.specs.Lists.{first_of};
 ghost use Rattle.gb_report.specs.declared.fault.Fault.TheVariants.{OutOfMemory};
@@ -13,20 +13,20 @@ use gb_plan::task::TaskDeclaration;
 use gb_report::fault::Fault;
 use std::alloc::Global;
 
-/// The tasks that scripts register. What they declare is found when it is asked for.
+/// The tasks that scripts register. Their declarations are computed on demand.
 pub trait Tasks {
-    /// What is registered.
+    /// The registry.
     ghost registry: { Self → Registry };
 
-    /// Each task that is declared, is declared in order.
+    /// Each declared task is declared in order.
     ghost sound: { (tasks : Self) → IsRegistry (registry tasks) };
 
-    /// The words that count where none is given.
+    /// The arguments that apply where none is given.
     fn default_tasks(&self) -> &[Text]
         ensures { result.now ≡ (registry self.now).default_tasks };
 
-    /// The tasks that a word selects. Refused where it is no path, its project does not exist, or it
-    /// selects no task.
+    /// The tasks that an argument selects. Refused where it is no path, its project does not exist,
+    /// or it selects no task.
     fn select(&self, alloc: Global, word: &Text) -> Result<TaskPaths, Fault>
         ensures selected { IfOk result (λ paths. paths ≡ selected_by (registry self.now) word.now) }
         ensures good { OnOk result (word_faults (registry self.now) word.now ≡ []) }

@@ -1,4 +1,4 @@
-//! Scheduled tasks, each with the first word that reaches it.
+//! Scheduled tasks, each with the first argument that reaches it.
 ghost use Rattle.std.specs.Prelude.{◌≡◌, ◌<◌, ◌≤◌, ◌++◌, ℕ, [], map, length, true, IfOk};
 ghost use Rattle.std.specs.Prelude.{OnOk, slice_index, slice_index_or};
 ghost use Rattle.std.specs.BTreeSet.{contains};
@@ -29,7 +29,7 @@ fn numbers_of<'a>(alloc: Global, tasks: &'a [TaskDeclaration]) -> Result<Numbers
     Ok(numbers)
 }
 
-/// Adds the numbers of those of the paths that have one.
+/// Adds the numbers of the paths that have one.
 fn add_numbers(
     row: &mut Vec<usize>,
     numbers: &Numbers<'_>,
@@ -45,7 +45,7 @@ fn add_numbers(
     Ok(())
 }
 
-/// For each task the numbers of what it needs and of what finalizes it.
+/// For each task the numbers of the tasks that it needs and of its finalizers.
 fn brought_of(
     alloc: Global,
     numbers: &Numbers<'_>,
@@ -63,7 +63,7 @@ fn brought_of(
     Ok(table)
 }
 
-/// For each of the lists the numbers of its paths.
+/// For each list the numbers of its paths.
 fn starts_of(
     alloc: Global,
     numbers: &Numbers<'_>,
@@ -80,7 +80,7 @@ fn starts_of(
     Ok(starts)
 }
 
-/// For each scheduled task the index of the first word that reaches it.
+/// For each scheduled task the index of the first argument that reaches it.
 pub(crate) fn first_words(
     alloc: Global,
     tasks: &[TaskDeclaration],
@@ -98,7 +98,7 @@ pub(crate) fn first_words(
     first_starts(alloc, table.as_slice(), starts.as_slice())
 }
 
-/// The tasks with their words; those of the set are the selected ones.
+/// The tasks with their arguments; the tasks in the set are the selected ones.
 pub(crate) fn worded(
     alloc: Global,
     tasks: Vec<TaskDeclaration>,

@@ -1,4 +1,4 @@
-//! The program in the current folder, over any kinds of actions and functions of values.
+//! The program in the current directory, over any kinds of actions and functions of values.
 ghost use Rattle.std.specs.Prelude.{◌≤◌, IfOk};
 
 use crate::lock::locks_for;
@@ -26,10 +26,11 @@ pub type Functions<T> = TransformTable<
     <T as Transforms>::Test,
 >;
 
-/// Builds the current folder with these kinds and functions, as the words of the command ask for, while no
-/// other build of it goes on, and prints the answer. The status is 0 where the build was successful, 2 where
-/// the words ask for no build that is known, and else 1: also where there is no table, as two kinds have one
-/// name (41) or memory ran out (3), and where nothing can be printed.
+/// Builds the current directory with these kinds and functions, as the arguments of the command
+/// request, while no other build of it runs, and prints the output. The exit status is 0 where the
+/// build was successful, 2 where the arguments request no known build, and else 1: also where there
+/// is no table, as two kinds have one name (41) or memory ran out (3), and where nothing can be
+/// printed.
 pub fn build_here<A: Actions, T: Transforms, R: Files<File = File> + Env + Print + AllocGlobal>(
     rt: &R,
     actions: Result<ActionTable<A::Stored>, TableFault>,
@@ -50,7 +51,7 @@ pub fn build_here<A: Actions, T: Transforms, R: Files<File = File> + Env + Print
     answered.unwrap_or(UNPRINTED)
 }
 
-/// Builds it with these tables, while no other build of it goes on.
+/// Builds it with these tables, while no other build of it runs.
 fn built<A: Actions, T: Transforms, R: Files<File = File> + Env + Print + AllocGlobal>(
     rt: &R,
     tables: Tables<A, T>,

@@ -1,13 +1,15 @@
-//! Builds of the current folder, for programs with any kinds of actions.
+//! Builds of the current directory, for programs with any kinds of actions.
 //!
-//! A program makes its tables and hands them to [`here::build_here`]: that reads the words of the command,
-//! builds the folder on the disk as they ask, prints the answer and answers the status. `gb` is such a
-//! program with the built-in kinds alone, and prints no more than this crate does.
+//! A program makes its tables and passes them to [`here::build_here`]. That reads the arguments of
+//! the command, builds the folder on the disk as they request, prints the output and returns the
+//! exit status. `gb` is such a program with only the built-in kinds, and prints no more than this
+//! crate does.
 //!
-//! One build at a time works in a folder. A build holds the system's locks on the folder itself and on the
-//! folders of its projects, in the order of projects, from before it reads a script until its answer is
-//! printed. It waits where another build holds one. No file is made for a lock, and the system releases it
-//! with the process. A dry run, refused words and refused tables take none.
+//! One build at a time works in a folder. A build holds the system's locks on the folder itself and
+//! on the folders of its projects, in the order of projects, from before it reads a script until
+//! its output is printed. It waits where another build holds one. No file is made for a lock, and
+//! the system releases it with the process. A dry run, refused arguments and refused tables take
+//! none.
 #![tactic(auto)]
 
 pub mod here;

@@ -17,8 +17,8 @@ use std::alloc::{AllocError, Global};
 use std::fs::File;
 use std::rt::{Env, Files};
 
-/// The locks on the current folder and on the folders of its projects, if the words of the command ask to
-/// build it.
+/// The locks on the current directory and on the folders of its projects, if the arguments of the
+/// command request to build it.
 pub(crate) fn locks_for<R: Files<File = File> + Env + AllocGlobal>(
     rt: &R,
 ) -> Result<Vec<File>, AllocError> {
@@ -33,8 +33,9 @@ pub(crate) fn locks_for<R: Files<File = File> + Env + AllocGlobal>(
     }
 }
 
-/// The locks that a build takes: on the current folder, and on the folders of its projects. It waits for each
-/// that another process holds. The system releases them when the files are dropped, or with the process.
+/// The locks that a build takes: on the current directory, and on the folders of its projects. It
+/// waits for each that another process holds. The system releases them when the files are dropped,
+/// or with the process.
 pub fn locks<R: Files<File = File> + AllocGlobal>(rt: &R) -> Result<Vec<File>, AllocError> {
     let mut held = Vec::new(rt.alloc());
     if let Some(root) = locked(rt, ".") {
@@ -44,7 +45,8 @@ pub fn locks<R: Files<File = File> + AllocGlobal>(rt: &R) -> Result<Vec<File>, A
     Ok(held)
 }
 
-/// Whether a folder is to be locked, where its words are asked for a build so: what is refused locks none.
+/// Whether to lock a folder, by whether its arguments request a build: refused arguments lock
+/// nothing.
 fn wants_lock(asked: Result<bool, Fault>) -> Result<bool, AllocError> {
     match asked {
         Ok(is_build) => Ok(is_build),
@@ -56,7 +58,7 @@ fn wants_lock(asked: Result<bool, Fault>) -> Result<bool, AllocError> {
     }
 }
 
-/// Nothing is to be locked, but that out of memory is told as such.
+/// Nothing is to be locked; but running out of memory is reported as such.
 fn refused(fault: &Fault) -> Result<bool, AllocError> {
     if fault.number() == Fault::OutOfMemory.number() {
         Err(AllocError)
@@ -65,7 +67,7 @@ fn refused(fault: &Fault) -> Result<bool, AllocError> {
     }
 }
 
-/// Whether words ask for a build that is not dry, or why they ask for none.
+/// Whether arguments request a build that is not dry, or why they request none.
 pub fn is_build(alloc: Global, words: Vec<String>) -> Result<bool, Fault>
     ensures asked { IfOk result (λ is_build.
         is_build ≡ not (flag_in (codes "dry-run") (rows_in (map string_bytes words.items)))) }
@@ -75,9 +77,10 @@ pub fn is_build(alloc: Global, words: Vec<String>) -> Result<bool, Fault>
     Ok(!asked.options.dry_run)
 }
 
-/// Locks the folder of each project but the root, in the order of projects: parents first. So a build in the
-/// folder of a project and a build in the folder above it exclude each other. Whoever waits holds locks of
-/// folders above or before that one alone, so no two builds wait for each other.
+/// Locks the folder of each project but the root, in the order of projects: parents first. So a
+/// build in the folder of a project and a build in the folder above it exclude each other. A
+/// process that waits holds only locks of folders above or before the one that it waits for, so no
+/// two builds wait for each other.
 fn lock_projects<R: Files<File = File> + AllocGlobal>(
     rt: &R,
     held: &mut Vec<File>,
@@ -93,7 +96,8 @@ fn lock_projects<R: Files<File = File> + AllocGlobal>(
     Ok(())
 }
 
-/// The projects that `settings.gb` includes, with their folders. The build reports why there are none.
+/// The projects that `settings.gb` includes, with their folders. The build reports why there are
+/// none.
 fn projects_here<R: Files + AllocGlobal>(rt: &R) -> Option<Vec<(ProjectPath, Option<Place>)>> {
     let alloc = rt.alloc();
     let place = Place::read(alloc, "settings.gb").ok()?;
@@ -112,7 +116,8 @@ fn lock_at<R: Files<File = File>>(rt: &R, folder: Option<&Place>) -> Option<File
     locked(rt, path)
 }
 
-/// A folder, locked. Where the system gives no lock, as some shared disks do not, it is built all the same.
+/// Locks a folder. Where the system gives no lock, as some shared disks do not, the folder is built
+/// all the same.
 fn locked<R: Files<File = File>>(rt: &R, path: &str) -> Option<File> {
     let folder = File::open(rt, path).ok()?;
     folder.lock().ok()?;

@@ -1,4 +1,4 @@
-//! What is told where there is no table of actions.
+//! The output where there is no table of actions.
 ghost use Rattle.std.specs.Prelude.{◌≡◌, IsTrue};
 ghost use Rattle.std.specs.Io.KnownBytes.{Appends};
 ghost use Rattle.gb_here.specs.Refused.{refused_text};
@@ -7,7 +7,7 @@ use gb_action::table::TableFault;
 use gb_command::run::UNPRINTED;
 use std::io::Write;
 
-/// Prints why there is no table, and answers the status of what is refused.
+/// Prints why there is no table, and returns the exit status of a refusal.
 pub(crate) fn tell_refused<W: Write>(writer: &mut W, fault: TableFault) -> u8
     ensures { result ≡ UNPRINTED }
 {
@@ -15,7 +15,7 @@ pub(crate) fn tell_refused<W: Write>(writer: &mut W, fault: TableFault) -> u8
     UNPRINTED
 }
 
-/// Prints why there is no table, and tells whether all of it was taken.
+/// Prints why there is no table, and returns whether all of it was written.
 pub fn print_refused<W: Write>(writer: &mut W, fault: TableFault) -> bool
     ensures { IsTrue result
         → Appends (W.contents writer.old) (W.contents writer.new) (refused_text fault) }
@@ -23,7 +23,7 @@ pub fn print_refused<W: Write>(writer: &mut W, fault: TableFault) -> bool
     writer.write_all(refused_text(fault)).is_ok() && writer.flush().is_ok()
 }
 
-/// What is printed: the fault under the number that users know, and that the build failed.
+/// The output: the fault under the number that users know, and that the build failed.
 fn refused_text(fault: TableFault) -> &'static [u8]
     ensures { result.now ≡ refused_text fault }
 {

@@ -1,10 +1,11 @@
-//! The words of the command.
+//! The arguments of the command.
 use gb_report::fault::Fault;
 use std::env;
 use std::io::ErrorKind;
 use std::rt::Env;
 
-/// The words of the command, without the program's name. One that is no text is no word that is known.
+/// The arguments of the command, without the program's name. One that is no text is no known
+/// argument.
 pub fn command_words<R: Env + AllocGlobal>(rt: &R) -> Result<Vec<String>, Fault> {
     let words = match env::args(rt) {
         Ok(words) => words,

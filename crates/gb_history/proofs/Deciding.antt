@@ -13,7 +13,7 @@ pub all_zip_one_more : {X : Type 0} (R : X → X → Type 0) (xs ys : List X) (i
 all_zip_one_more R xs ys i x y low high at to all here =
     rw (take_more xs i x low, take_more ys i y high, ← at, ← to) (AllZip-push R (take i xs) (take i ys) x y all here)
 
--- one more pair of elements is told
+-- one more pair of elements is mapped
 pub told_one_more : {X Y : Type 0} (f : X × X → List Y) (xs ys : List X) (i : ℕ) (x y : X) → i < length xs → length xs ≡ length ys
     → x ≡ get_or xs i x → y ≡ get_or ys i y → (out more : List Y) → out ≡ flat_map f (take i (zip xs ys)) → more ≡ out ++ f (x, y)
     → more ≡ flat_map f (take (i + 1) (zip xs ys))

@@ -1,4 +1,4 @@
--- A text is that of one history at most, and of one record.
+-- A text is that of at most one history, and of one record.
 use Rattle.std.proofs.Common.{◌≡◌, ℕ, ◌-◌, false, List, [], ◌∷◌, length, take, map, codes, Some, Ok, IsUtf8, refl, sym, ap, ap₂, ◌∙◌, subst, arith, true≢false}
 use Rattle.std.specs.Prelude.{bytes_eq}
 use Rattle.std.specs.List.{AllByRecursion}
@@ -31,7 +31,7 @@ same₄ f p q r s = cc
 abbrev action_with : List ℕ → ℕ → List Value → Action
 action_with kind version args = record { kind = kind; version = version; args = args }
 
--- lists of equal images, where the image tells the element
+-- lists of equal images, where the image determines the element
 map_back : {X : Type 0} (f : X → Data) (P : X → Type 0) → ((x y : X) → P x → P y → f x ≡ f y → x ≡ y) → (xs ys : List X) → AllByRecursion P xs → AllByRecursion P ys
     → items_of (map f xs) ≡ items_of (map f ys) → xs ≡ ys
 map_back {X = X} f P back xs ys p q e = by xs ys p q (items_of_inj (map f xs) (map f ys) e)
@@ -184,7 +184,7 @@ text_back : (ea eb : Edition) (a b : List (List ℕ × Record)) → history_text
 unfolding history_text_in
 text_back ea eb a b e = sym (take-sealed (compact_text (history_json ea a))) ∙ ap (λ t. take (length t - 66) t) e ∙ take-sealed (compact_text (history_json eb b))
 
--- it can be said, in this edition
+-- a text can encode it, in this edition
 abbrev IsSaidIn : Edition → List ℕ × Record → Type 0
 IsSaidIn edition one = IsSaid one × RecordFits edition one
 

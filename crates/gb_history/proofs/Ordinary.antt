@@ -17,7 +17,7 @@ use Rattle.serde_json.specs.Written.{outline, items_outline, members_outline, co
 use Rattle.serde_json.proofs.Numbers.{number_of-decimal}
 use Rattle.serde_json.proofs.Texts.{print-outline}
 
--- the members put in one after another
+-- the members inserted one after another
 abbrev pub put_all : Members → Members → Members
 put_all no_members found = found
 put_all (member k d ms) found = put_all ms (put k d found)
@@ -28,7 +28,7 @@ IsWord (unsigned n) = n < 4294967296
 IsWord (negative z) = Unit {0} → ⊥
 IsWord (float x) = Unit {0} → ⊥
 
--- texts are UTF-8, numbers have 32 bits, and members stand in the order of their keys
+-- texts are UTF-8, numbers have 32 bits, and members are in the order of their keys
 abbrev mutual
   pub IsOrdinary : Data → Type 0
   IsOrdinary null = ⊤

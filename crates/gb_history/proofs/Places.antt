@@ -1,4 +1,4 @@
--- Paths of tasks have neither slashes nor dots, so their records' places stay apart.
+-- Paths of tasks have neither slashes nor dots, so their records' places are disjoint.
 use Rattle.std.proofs.Common.{◌≡◌, ◌≢◌, ◌<◌, zero, suc, IsUtf8, ℕ, Bool, true, false, ◌&&◌, cond, eqb, nat_eq, IsTrue, List, [], ◌∷◌, ◌++◌, refl, ap, sym, ◌∙◌, arith, codes}
 use Rattle.std.specs.Prelude.{◌==◌, if◌then◌else◌}
 use Rattle.std.specs.List.{AllByRecursion, list_all, slice_split, onto_first, starts_with}
@@ -96,7 +96,7 @@ no_dot b p e = by (eqb b 58) refl e
     by true x k = omega (arith, k)
     by false x k = p.1 k
 
--- what stands before the first dot is one thing
+-- what is before the first dot is one thing
 before_dot : (one other x y : List ℕ) → AllByRecursion IsPlain one → AllByRecursion IsPlain other
     → slashed one ++ 46 ∷ x ≡ slashed other ++ 46 ∷ y → (slashed one ≡ slashed other) × (x ≡ y)
 before_dot [] [] x y p q e = let rest : x ≡ y = cc in (refl, rest)

@@ -1,4 +1,4 @@
--- The JSON of records is ordinary, so its text is UTF-8 and reads back; and where its seal stands.
+-- The JSON of records is ordinary, so its text is UTF-8 and reads back; and where its seal is.
 use Rattle.std.proofs.Common.{◌≡◌, ℕ, suc, ◌+◌, ◌-◌, ◌<◌, ◌≤◌, List, [], ◌∷◌, ◌++◌, length, take, map, Some, true, nat_lt, zero, ltb-true, IsUtf8, refl, arith, length-append}
 use Rattle.std.specs.List.{AllByRecursion}
 use Rattle.std.specs.Str.{IsAscii}
@@ -185,7 +185,7 @@ pub read-history : (edition : Edition) (records : List (List ℕ × Record)) →
 read-history edition records said =
     read-compact_text (history_json edition records) (ordinary_history edition records said) (depth_history edition records)
 
--- what a history holds can be said
+-- a text can encode what a history holds
 pub are_said : (records : List (List ℕ × Record)) → AllByRecursion IsHeld records → AllByRecursion IsSaid records
 are_said records each = all_weaker IsHeld IsSaid (λ one h. h.1) records each
 

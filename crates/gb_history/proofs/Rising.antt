@@ -1,4 +1,4 @@
--- Keys that rise from one to the next stand strictly in order; and what is put behind them.
+-- Keys ascending from one to the next are strictly in order; and appending to them.
 use Rattle.std.proofs.Common.{◌≡◌, ℕ, zero, suc, List, [], ◌∷◌, ◌++◌, map, take, Bool, true, ◌&&◌, Ordering, Less, Equal, Greater, refl, ap, ◌∙◌}
 use Rattle.std.specs.Ordering.{is_lt, ordering_reverse, match_ordering}
 use Rattle.std.specs.BTreeMap.{insert_entry}
@@ -56,7 +56,7 @@ names_of_outputs (output ∷ outputs) = ap (λ names. output.prints.0 ∷ names)
 pub outputs-is_sorted : (outputs : List OutputRecord) → ascends (map (λ output. output.prints.0) outputs) ≡ is_sorted byte_order (prints_in outputs)
 outputs-is_sorted outputs = ap ascends (names_of_outputs outputs) ∙ ascends-is_sorted (prints_in outputs)
 
--- ---- entries by rising keys
+-- ---- entries by ascending keys
 
 below_keys : {V : Type 0} (x : List ℕ) (es : List (List ℕ × V)) → AllByRecursion (λ y. byte_order x y ≡ Less) (keys_of es) → below_all byte_order x es ≡ true
 below_keys x [] h = refl
@@ -86,7 +86,7 @@ last_above : {V : Type 0} (y : List ℕ) (front : List (List ℕ × V)) (last : 
 last_above y [] last h = less _ (and_parts (is_lt (byte_order y last.0)) true h).0
 last_above y (e ∷ front) last h = last_above y front last (and_parts (is_lt (byte_order y e.0)) (below_all byte_order y (front ++ last ∷ [])) h).1
 
--- an entry above all others is put behind them
+-- an entry above all others is appended
 pub insert_behind : {V : Type 0} (front : List (List ℕ × V)) (last : List ℕ × V) → is_sorted byte_order (front ++ last ∷ []) ≡ true
     → insert_entry byte_order front last.0 last.1 ≡ front ++ last ∷ []
 insert_behind [] last h = refl

@@ -1,4 +1,4 @@
--- Keys that strictly rise, told by neighbours.
+-- Strictly ascending keys, stated for neighbours.
 use Rattle.std.specs.Prelude.{◌&&◌, ℕ, List, [], ◌∷◌, Bool, true}
 use Rattle.std.specs.Ordering.{is_lt}
 use Rattle.gb_core.specs.Lists.{byte_order}

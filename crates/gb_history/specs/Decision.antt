@@ -1,4 +1,4 @@
--- What is decided from the record of a task and from what it has now, by digests.
+-- The decision on a task from its record and its present state, by digests.
 use Rattle.std.specs.Prelude.{◌≡◌, ℕ, Bool, false, List, [], ◌∷◌, if◌then◌else◌, bytes_eq, Option, Some, None}
 use Rattle.std.specs.List.{list_any, flat_map, zip, AllZip}
 use Rattle.gb_folder.specs.Files.{is_empty}
@@ -8,7 +8,7 @@ use Rattle.gb_history.specs.declared.decide.Present.{Present}
 use Rattle.gb_history.specs.declared.decide.Decision.{Decision}
 use Rattle.gb_history.specs.declared.decide.Decision.TheVariants as decisions
 
--- The run has outputs and is what the task has now; the task is not stale, and no rerun is asked.
+-- The run has outputs and is what the task has now; the task is not stale, and no rerun is requested.
 pub record IsUpToDate (run : Record) (present : Present) : Type 0 where
   pub no_rerun : present.rerun ≡ false
   pub not_stale : present.is_stale ≡ false
@@ -23,7 +23,7 @@ is_incremental names name = list_any (bytes_eq name) names
 abbrev pub IsAlike : List (List ℕ) → Prints → Prints → Type 0
 IsAlike incremental old new = (old.0 ≡ new.0) × (is_incremental incremental old.0 ≡ false → old.1 ≡ new.1)
 
--- The run differs from what the task has now in incremental properties alone.
+-- The run differs from what the task has now only in incremental properties.
 pub record IsSince (run : Record) (present : Present) : Type 0 where
   pub no_rerun : present.rerun ≡ false
   pub not_stale : present.is_stale ≡ false
@@ -48,7 +48,7 @@ DecidesFrom run present (decisions.Incremental changes) =
     (¬ IsUpToDate run present) × IsSince run present × (changes ≡ changes_since run present)
 DecidesFrom run present decisions.Full = (¬ IsUpToDate run present) × (¬ IsSince run present)
 
--- up to date, or else by changes, or else full; full where there is no record
+-- up to date, or else incremental, or else full; full where there is no record
 abbrev pub Decides : Option Record → Present → Decision → Type 0
 Decides None present decision = decision ≡ decisions.Full
 Decides (Some run) present decision = DecidesFrom run present decision

@@ -12,7 +12,7 @@ use Rattle.gb_core.specs.declared.value.Value.TheVariants as values
 use Rattle.gb_plan.specs.declared.task.Action.{Action}
 use Rattle.gb_history.specs.declared.record.OutputRecord.{OutputRecord}
 
--- the digests of the files of a property or an output by their paths, beside its name
+-- the digests of the files of a property or an output by their paths, with its name
 abbrev pub Prints : Type 0
 Prints = List ℕ × List (List ℕ × List ℕ)
 
@@ -28,13 +28,13 @@ pub record Record : Type 0 where
   pub inputs : List Prints
   pub outputs : List OutputRecord
 
--- the names of values, properties and outputs strictly rise
+-- the names of values, properties and outputs are strictly ascending
 pub record AreInOrder (run : Record) : Type 0 where
   pub values : IsTrue (is_sorted byte_order run.values)
   pub inputs : IsTrue (is_sorted byte_order run.inputs)
   pub outputs : IsTrue (is_sorted byte_order (prints_in run.outputs))
 
--- ---- What the types of records hold, as far as a text can say it
+-- ---- What the types of records hold, where a text can encode it
 
 abbrev pub IsName : List ℕ → Type 0
 IsName name = IsTrue (is_name name) × IsUtf8 name
@@ -74,15 +74,15 @@ pub record IsWellFormed (run : Record) : Type 0 where
   pub outputs : AllByRecursion IsOutput run.outputs
   pub in_order : AreInOrder run
 
--- a path and a record, as far as a text can say them
+-- a path and a record that a text can encode
 abbrev pub IsSaid : List ℕ × Record → Type 0
 IsSaid one = IsUtf8 one.0 × IsWellFormed one.1
 
--- what a history may hold of a task
+-- what a history may hold for a task
 abbrev pub IsHeld : List ℕ × Record → Type 0
 IsHeld one = IsTrue (is_task_path one.0) × IsSaid one
 
--- what a history holds: records of tasks, by strictly rising paths
+-- what a history holds: records of tasks, by strictly ascending paths
 pub record AreHeld (records : List (List ℕ × Record)) : Type 0 where
   pub each : AllByRecursion IsHeld records
   pub in_order : IsTrue (is_sorted byte_order records)

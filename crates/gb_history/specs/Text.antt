@@ -38,7 +38,7 @@ versioned_object arguments kind version = object
     (member (codes "kind") (string kind)
     (member (codes "version") (number (unsigned version)) no_members)))
 
--- the first edition knows no versions
+-- the first edition has no versions
 abbrev pub action_json : Edition → Action → Data
 action_json editions.First action =
     plain_object (array (items_of (map value_json action.args))) action.kind
@@ -81,7 +81,7 @@ run_json edition path run =
     path
     (array (items_of (map input_json run.values)))
 
--- the number by which an edition is told
+-- the number that denotes an edition
 abbrev pub edition_number : Edition → ℕ
 edition_number editions.First = 1
 edition_number editions.Second = 2
@@ -117,7 +117,7 @@ history_text = history_text_in editions.Second
 abbrev pub record_text : List ℕ → Record → List ℕ
 record_text = text_in editions.Second
 
--- the edition can tell the version
+-- the edition can express the version
 abbrev pub FitsEdition : Edition → Action → Type 0
 FitsEdition editions.First action = action.version ≡ 1
 FitsEdition editions.Second action = ⊤
@@ -125,14 +125,14 @@ FitsEdition editions.Second action = ⊤
 abbrev pub IsActionIn : Edition → Action → Type 0
 IsActionIn edition action = IsAction action × FitsEdition edition action
 
--- the edition can tell all versions of the record
+-- the edition can express all versions of the record
 abbrev pub RecordFits : Edition → List ℕ × Record → Type 0
 RecordFits edition one = AllByRecursion (FitsEdition edition) one.1.actions
 
 abbrev pub IsHeldIn : Edition → List ℕ × Record → Type 0
 IsHeldIn edition one = IsHeld one × RecordFits edition one
 
--- The text is that of the record in an edition that can tell its versions.
+-- The text is that of the record in an edition that can express its versions.
 pub record IsTextOf (path : List ℕ) (run : Record) (text : List ℕ) : Type 0 where
   pub edition : Edition
   pub fits : AllByRecursion (FitsEdition edition) run.actions
@@ -143,7 +143,7 @@ TextsSayOneRecord =
     (path : List ℕ) (one other : Record) (text : List ℕ) → IsUtf8 path → IsWellFormed one
     → IsWellFormed other → IsTextOf path one text → IsTextOf path other text → one ≡ other
 
--- The text is that of the records in an edition that can tell their versions.
+-- The text is that of the records in an edition that can express their versions.
 pub record IsHistoryText (records : List (List ℕ × Record)) (text : List ℕ) : Type 0 where
   pub edition : Edition
   pub fits : AllByRecursion (RecordFits edition) records

@@ -1,4 +1,4 @@
-//! What is to be done with a task, by its record and by what it has now.
+//! What to do with a task, by its record and its present state.
 ghost use Rattle.std.specs.Prelude.{◌≡◌, ◌↔◌, ◌++◌, length, IsTrue, IfOk, OnOk};
 ghost use Rattle.std.specs.List.{AllZip, flat_map, zip};
 ghost use Rattle.std.specs.Option.{option_copied};
@@ -13,31 +13,31 @@ use gb_tree::changes::compare;
 use gb_tree::prints::Prints;
 use std::alloc::{AllocError, Global};
 
-/// What a task has before it acts.
+/// What a task has before it runs.
 #[derive(Drop)]
 pub struct Present {
     /// The record that it would have if nothing had to be done.
     pub now: Record,
     /// The names of the incremental file properties.
     pub incremental: Vec<Name>,
-    /// Every task is to run, whatever its record says.
+    /// Every task is to run, also where its record says that it is up to date.
     pub rerun: bool,
     /// A test of `upToDateWhen` is false.
     pub is_stale: bool,
 }
 
-/// What is to be done with a task.
+/// What to do with a task.
 #[derive(Drop)]
 pub enum Decision {
-    /// Nothing: all is as it was left.
+    /// Nothing: all is as its last run left it.
     UpToDate,
-    /// To go on from what was left, by the changes of the incremental properties.
+    /// To run incrementally from the last outputs, by the changes of the incremental properties.
     Incremental(ChangeLists),
-    /// To do all anew.
+    /// To run in full, from scratch.
     Full,
 }
 
-/// What is to be done with a task that has this record.
+/// What to do with a task that has this record.
 pub fn decide(
     alloc: Global,
     old: Option<&Record>,
@@ -73,7 +73,7 @@ fn is_up_to_date(run: &Record, present: &Present) -> bool
         && run.is_same(&present.now)
 }
 
-/// Whether the run differs from what the task has now in incremental properties alone.
+/// Whether the run differs from what the task has now only in incremental properties.
 fn is_since(run: &Record, present: &Present) -> bool
     ensures { IsTrue result ↔ IsSince run.now present.entry.now }
 {
@@ -95,7 +95,7 @@ fn is_incremental(names: &[Name], name: &Name) -> bool
     names.iter().any(|other| other == name)
 }
 
-/// Whether the properties have the same names in the same order, and the same files but where they are
+/// Whether the properties have the same names in the same order, and the same files unless they are
 /// incremental.
 fn are_alike(incremental: &[Name], old: &[Prints], new: &[Prints]) -> bool
     ensures { IsTrue result ↔ AllZip (IsAlike incremental.now) old.now new.now }
@@ -118,7 +118,7 @@ fn is_alike(incremental: &[Name], old: &Prints, new: &Prints) -> bool
         && (is_incremental(incremental, old.name()) || are_same(old.as_slice(), new.as_slice()))
 }
 
-/// The changes of the incremental properties, of which there are as many as before.
+/// The changes of the incremental properties. There are as many properties as before.
 fn changes_since(
     alloc: Global,
     incremental: &[Name],
@@ -135,7 +135,7 @@ fn changes_since(
     Ok(lists)
 }
 
-/// Tells the changes of a property, where it is incremental.
+/// Appends the changes of a property, where it is incremental.
 fn tell(
     lists: &mut ChangeLists,
     alloc: Global,

@@ -1,7 +1,7 @@
-//! Records from the tokens of their JSON, in the form that is written today, without a tree of it.
+//! Reads records from the tokens of their JSON, in the form that is written today, without a tree.
 //!
-//! `None` says that the text is in no such form, or that there was no memory. No clause says what is read: it
-//! counts only where it is printed again as the text that was read.
+//! `None` means that the text is in no such form, or that there was no memory. No clause says what
+//! is read: a record counts only where it is printed again as the text that was read.
 use crate::order::digests_rise;
 use crate::reading::in_order;
 use crate::record::{OutputRecord, Record};
@@ -276,7 +276,7 @@ fn take_outputs(alloc: Global, reader: &mut Reader<'_>) -> Option<Vec<OutputReco
     None
 }
 
-/// Puts the next pair of a name and a value behind the others.
+/// Appends the next pair of a name and a value to the others.
 fn put_value(alloc: Global, reader: &mut Reader<'_>, values: &mut NamedValues) -> Option<()> {
     take_begin_array(reader)?;
     let name = take_name(alloc, reader)?;
@@ -296,7 +296,7 @@ fn take_values(alloc: Global, reader: &mut Reader<'_>) -> Option<NamedValues> {
     None
 }
 
-/// What a task's object says; what follows its values is not looked at.
+/// What a task's object says; what follows its values is not read.
 fn take_run(alloc: Global, reader: &mut Reader<'_>) -> Option<Record> {
     take_begin_object(reader)?;
     pass_key(reader, "actions")?;

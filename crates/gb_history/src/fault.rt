@@ -12,13 +12,13 @@ pub enum RecordFault {
     /// No memory for what is read; 3.
     #[error("out of memory")]
     OutOfMemory,
-    /// It is the text of no record of the task.
+    /// The text is no record of the task.
     #[error("no record")]
     NotARecord,
 }
 
 impl RecordFault {
-    /// The number of the fault; 80 is never told to users.
+    /// The number of the fault; 80 is never reported to users.
     pub fn number(self) -> u16
         ensures { result ≡ record_fault_number self }
     {

@@ -55,7 +55,7 @@ impl History {
         self.records.get(task)
     }
 
-    /// Puts a run's record in, over an earlier one of the same task.
+    /// Stores a run's record, in place of an earlier one of the same task.
     pub fn put(&mut self, task: TaskPath, run: Record) -> Result<(), AllocError>
         ensures put { OnOk result (self.new ≡ insert_entry byte_order self.old task run) }
         ensures err { OnErr result (self.new ≡ self.old) }
@@ -88,9 +88,9 @@ impl History {
         sealed_json(writer)
     }
 
-    /// The history that has this text, in either edition; any other text is 80.
+    /// The history with this text, in either edition; any other text gives 80.
     pub fn read(alloc: Global, bytes: &[u8]) -> Result<History, RecordFault>
-        // What is read has the text.
+        // The history that is read has the text.
         ensures exact { IfOk result (λ history. IsHistoryText history bytes.now) }
         ensures held { IfOk result AreHeld }
         // The text of a history is read as that history.
@@ -109,7 +109,7 @@ impl History {
         Ok(found)
     }
 
-    /// A history that went through its text is the same history.
+    /// Writes a history as its text and reads it back; the result is the same history.
     pub fn through_text(&self, alloc: Global) -> Result<History, RecordFault>
         ensures { MatchResult result (λ got. got ≡ self.now) (λ e. e ≡ OutOfMemory) }
     {
@@ -118,7 +118,7 @@ impl History {
     }
 }
 
-/// The edition and the history that a JSON text says.
+/// The edition and the history that a JSON text encodes.
 fn parsed(alloc: Global, json: &[u8]) -> Result<(Edition, History), RecordFault>
     ensures read { (edition : Written) (records : List (List ℕ × Recorded)) → AreHeld records
         → AllByRecursion (RecordFits edition) records → json.now ≡ compact_text (history_json edition records)

@@ -1,7 +1,7 @@
-//! The record of a task: a small one, sealed by its digest.
+//! The record of a task: a small file, sealed by its digest.
 //!
-//! A record is written as compact JSON, and read only where its text, printed again, is the text that was
-//! read: a damaged, foreign or half-written text is no record.
+//! A record is written as compact JSON. It is read only where its text, printed again, is the text
+//! that was read: a damaged, foreign or half-written text is no record.
 #![tactic(auto)]
 
 pub mod decide;

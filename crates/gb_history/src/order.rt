@@ -1,4 +1,4 @@
-//! Whether names and paths stand in order, each once.
+//! Whether names and paths are in order, each once.
 ghost use Rattle.std.specs.Prelude.{◌≡◌, map};
 ghost use Rattle.std.specs.FinMap.Entries.{is_sorted};
 ghost use Rattle.gb_core.specs.Lists.{byte_order};
@@ -11,7 +11,7 @@ use gb_core::place::RelPath;
 use gb_core::value::Value;
 use gb_tree::prints::Prints;
 
-/// What stands in a list by a key.
+/// An element of a list, with its key.
 trait Keyed {
     ghost use Rattle.std.specs.Prelude.{List, ℕ};
 
@@ -70,28 +70,28 @@ impl Keyed for OutputRecord {
     }
 }
 
-/// Whether the paths strictly rise.
+/// Whether the paths are strictly ascending.
 pub fn digests_rise(digests: &[(RelPath, [u8; 32])]) -> bool
     ensures { result ≡ is_sorted byte_order digests.now }
 {
     ascends(digests)
 }
 
-/// Whether the names of the values strictly rise.
+/// Whether the names of the values are strictly ascending.
 pub fn values_rise(values: &[(Name, Value)]) -> bool
     ensures { result ≡ is_sorted byte_order values.now }
 {
     ascends(values)
 }
 
-/// Whether the names of the properties strictly rise.
+/// Whether the names of the properties are strictly ascending.
 pub fn inputs_rise(inputs: &[Prints]) -> bool
     ensures { result ≡ is_sorted byte_order inputs.now }
 {
     ascends(inputs)
 }
 
-/// Whether the names of the outputs strictly rise.
+/// Whether the names of the outputs are strictly ascending.
 pub fn outputs_rise(outputs: &[OutputRecord]) -> bool
     ensures { result ≡ is_sorted byte_order (prints_in outputs.now) }
 {

@@ -1,4 +1,4 @@
-//! Where the record of a task stands.
+//! Where the record of a task is stored.
 ghost use Rattle.std.specs.Prelude.{◌≡◌, ◌++◌, map, false, IfOk, IsErrOf, IsTrue, OnOk};
 ghost use Rattle.gb_core.specs.Path.{is_task_path};
 ghost use Rattle.gb_core.specs.Place.{is_place};
@@ -8,7 +8,7 @@ use gb_core::path::TaskPath;
 use gb_core::place::{Place, PlaceFault};
 use std::alloc::{AllocError, Global};
 
-/// Puts the bytes of a path behind a text, each colon as a slash.
+/// Appends the bytes of a path to a text, each colon as a slash.
 fn push_slashed(text: &mut Vec<u8>, path: &[u8]) -> Result<(), AllocError>
     ensures { OnOk result (text.new.items ≡ text.old.items ++ slashed path.now) }
 {
@@ -48,7 +48,7 @@ pub fn places_are_apart()
     ensures { PlacesAreApart }
 {}
 
-/// No record's place lies beneath another's.
+/// No record's place lies under another's.
 pub fn no_place_beneath()
     ensures { NoPlaceBeneath }
 {}

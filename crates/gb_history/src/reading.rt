@@ -1,4 +1,4 @@
-//! Records from JSON.
+//! Reads records from JSON.
 ghost use Rattle.std.specs.Prelude.{codes, ◌≡◌, ◌<◌, ◌∷◌, [], List, ℕ, Ok, Some, map, length, IsTrue};
 ghost use Rattle.std.specs.Prelude.{IfOk, MatchResult, IsSomeAnd};
 ghost use Rattle.std.specs.List.{AllByRecursion};
@@ -44,7 +44,7 @@ use serde_json::Value as Json;
 use serde_json::error::Category;
 use std::alloc::Global;
 
-/// The JSON value that these bytes are; any others are 80.
+/// The JSON value of these bytes; other bytes give 80.
 pub fn json_from(alloc: Global, bytes: &[u8]) -> Result<Json, RecordFault>
     ensures { (d : Data) → IsUtf8 bytes.now → read bytes.now ≡ Some d
         → MatchResult result (λ json. view json ≡ d) (λ e. e ≡ OutOfMemory) }
@@ -200,7 +200,7 @@ fn input_from(alloc: Global, json: &Json) -> Result<(Name, Value), RecordFault>
     Ok((name, value_from(alloc, value)?))
 }
 
-/// The input values of a record, each a pair of name and value; anything else is 80.
+/// The input values of a record, each a pair of name and value; anything else gives 80.
 pub fn inputs_from(alloc: Global, items: &[Json]) -> Result<NamedValues, RecordFault>
     ensures { (vs : List (List ℕ × Argument)) → AllByRecursion IsInput vs
         → map view items.now ≡ map input_json vs
@@ -273,7 +273,7 @@ fn action_from(alloc: Global, edition: Edition, json: &Json) -> Result<Action, R
     })
 }
 
-/// The actions of a record in this edition; anything else is 80.
+/// The actions of a record in this edition; anything else gives 80.
 pub fn actions_from(
     alloc: Global,
     edition: Edition,
@@ -334,7 +334,7 @@ fn prints_from(alloc: Global, json: &Json) -> Result<Prints, RecordFault>
     Ok(Prints::new(name, digests))
 }
 
-/// The digests of file properties, paths of each rising; anything else is 80.
+/// The digests of file properties, each with ascending paths; anything else gives 80.
 pub fn properties_from(alloc: Global, items: &[Json]) -> Result<Vec<Prints>, RecordFault>
     ensures { (ps : List Printed) → AllByRecursion ArePrints ps → map view items.now ≡ map prints_json ps
         → MatchResult result (λ got. got.items ≡ ps) (λ e. e ≡ OutOfMemory) }
@@ -373,7 +373,7 @@ fn output_from(alloc: Global, json: &Json) -> Result<OutputRecord, RecordFault>
     })
 }
 
-/// The outputs of a record, each with its digests; anything else is 80.
+/// The outputs of a record, each with its digests; anything else gives 80.
 pub fn outputs_from(alloc: Global, items: &[Json]) -> Result<Vec<OutputRecord>, RecordFault>
     ensures { (os : List Output) → AllByRecursion IsOutput os → map view items.now ≡ map output_json os
         → MatchResult result (λ got. got.items ≡ os) (λ e. e ≡ OutOfMemory) }
@@ -410,7 +410,7 @@ fn lists_at(json: &Json) -> Option<Lists<'_>>
     })
 }
 
-/// The record of these parts, if the names of each list strictly rise.
+/// The record of these parts, if the names of each list are strictly ascending.
 pub fn in_order(
     actions: Vec<Action>,
     values: NamedValues,
@@ -430,7 +430,7 @@ pub fn in_order(
     Ok(Record::new(actions, values, inputs, outputs))
 }
 
-/// The record that a JSON value says.
+/// The record that a JSON value encodes.
 fn run_from(alloc: Global, edition: Edition, json: &Json) -> Result<Record, RecordFault>
     ensures read { (path : List ℕ) (run : Recorded) → IsWellFormed run
         → AllByRecursion (FitsEdition edition) run.actions
@@ -460,7 +460,7 @@ fn only_of(json: &Json) -> Option<&Json>
     Some(&list[0])
 }
 
-/// The edition that a JSON value says it is written in.
+/// The edition that a JSON value declares.
 pub fn edition_from(json: &Json) -> Option<Edition>
     ensures { (edition : Written) (records : List (List ℕ × Recorded))
         → view json.now ≡ history_json edition records
@@ -512,7 +512,7 @@ fn one_from(alloc: Global, edition: Edition, json: &Json) -> Result<(TaskPath, R
     Ok((path, run_from(alloc, edition, json)?))
 }
 
-/// The records in a list, by the paths of their tasks: of a path that stands twice the last.
+/// The records in a list, by the paths of their tasks; for a path that occurs twice, the last one.
 fn records_from(alloc: Global, edition: Edition, items: &[Json]) -> Result<History, RecordFault>
     ensures read { (records : List (List ℕ × Recorded)) → AllByRecursion (IsHeldIn edition) records
         → IsTrue (is_sorted byte_order records) → map view items.now ≡ map (held_json edition) records

@@ -12,7 +12,7 @@ use gb_tree::prints::Prints;
 use std::alloc::{AllocError, Global};
 use std::marker::Model;
 
-/// In which form a record is written.
+/// The form in which a record is written.
 #[derive(Clone, Copy, Debug, PartialEq, Eq)]
 pub enum Edition {
     /// Actions without versions: each has version 1.
@@ -24,7 +24,7 @@ pub enum Edition {
 /// An output as a run left it, with the digests of its files.
 #[derive(Drop)]
 pub struct OutputRecord {
-    /// One file, or all files beneath the place.
+    /// One file, or all files under the place.
     pub form: Form,
     /// Where the run made it.
     pub place: Place,
@@ -32,7 +32,8 @@ pub struct OutputRecord {
     pub prints: Prints,
 }
 
-/// The record of a run that ended well; the names of values, properties and outputs strictly rise.
+/// The record of a run that ended well; the names of values, properties and outputs are strictly
+/// ascending.
 #[derive(Drop)]
 pub struct Record {
     actions: Vec<Action>,
@@ -63,8 +64,8 @@ impl Model for Record {
 }
 
 impl Record {
-    /// The record of these actions, input values, file properties and outputs, the
-    /// last three by rising names.
+    /// The record of these actions, input values, file properties and outputs. The last three have
+    /// ascending names.
     pub fn new(
         actions: Vec<Action>,
         values: NamedValues,
@@ -98,28 +99,28 @@ impl Record {
         self.actions.as_slice()
     }
 
-    /// The input values that they saw, by rising names.
+    /// The input values that they read, by ascending names.
     pub fn values(&self) -> &NamedValues
         ensures { result.now ≡ self.now.values }
     {
         &self.values
     }
 
-    /// The digests of the files that they read, a row for each file property by rising names.
+    /// The digests of the files that they read, a row for each file property by ascending names.
     pub fn inputs(&self) -> &[Prints]
         ensures { result.now ≡ self.now.inputs }
     {
         self.inputs.as_slice()
     }
 
-    /// What the run left of each output, by rising names.
+    /// What the run left of each output, by ascending names.
     pub fn outputs(&self) -> &[OutputRecord]
         ensures { result.now ≡ self.now.outputs }
     {
         self.outputs.as_slice()
     }
 
-    /// The digests of its inputs and of its outputs; the rest goes.
+    /// The digests of its inputs and of its outputs; the rest is dropped.
     pub fn into_prints(self, alloc: Global) -> Result<(Vec<Prints>, Vec<Prints>), AllocError>
         ensures inputs { IfOk result (λ prints. prints.0.items ≡ self.inputs) }
         ensures outputs { IfOk result (λ prints. prints.1.items ≡ prints_in self.outputs) }

@@ -1,4 +1,4 @@
-//! The text of a record, and the record that has a text; and what this shares with a whole history.
+//! The text of a record, the record with a text, and what these share with a whole history.
 ghost use Rattle.std.specs.Prelude.{◌≡◌, [], List, ℕ, IfOk, OnOk, IsTrue, IsSomeAnd, IfSome};
 ghost use Rattle.std.specs.Prelude.{OnSome, MatchResult, ◌↔◌};
 ghost use Rattle.std.specs.List.{AllByRecursion};
@@ -23,7 +23,7 @@ use serde_json::Value as Json;
 use sha2::{Digest, Sha256};
 use std::alloc::{AllocError, Global};
 
-/// How long the text of a record mostly is at most.
+/// An upper bound for the length of most records' texts.
 const USUAL_LENGTH: usize = 1024;
 
 /// A JSON text, a line feed, its digest in hex, a line feed.
@@ -90,7 +90,7 @@ pub(crate) fn before_seal(bytes: &[u8]) -> Option<&[u8]>
     Some(&bytes[..bytes.len() - 66])
 }
 
-/// A JSON text, and the edition that it says it is written in.
+/// A JSON text, and the edition that it declares.
 pub(crate) fn json_in(alloc: Global, json: &[u8]) -> Result<(Edition, Json), RecordFault>
     ensures { (edition : Written) (records : List (List ℕ × Recorded)) → AllByRecursion IsSaid records
         → json.now ≡ compact_text (history_json edition records)
@@ -104,7 +104,7 @@ pub(crate) fn json_in(alloc: Global, json: &[u8]) -> Result<(Edition, Json), Rec
     Ok((edition, json))
 }
 
-/// The edition and the record that a JSON text says.
+/// The edition and the record that a JSON text encodes.
 fn parsed(alloc: Global, json: &[u8]) -> Result<(Edition, Record), RecordFault>
     ensures read { (edition : Written) (path : List ℕ) (run : Recorded) → IsUtf8 path → IsWellFormed run
         → AllByRecursion (FitsEdition edition) run.actions
@@ -151,9 +151,9 @@ fn read_by_tree(alloc: Global, path: &TaskPath, bytes: &[u8]) -> Result<Record, 
     Ok(found)
 }
 
-/// The record of a task that has this text, in either edition; any other text is 80.
+/// The record of a task with this text, in either edition; any other text gives 80.
 pub fn read_record(alloc: Global, path: &TaskPath, bytes: &[u8]) -> Result<Record, RecordFault>
-    // What is read has the text.
+    // The record that is read has the text.
     ensures exact { IfOk result (λ run. IsTextOf path.now run bytes.now) }
     ensures utf8 { OnOk result (IsUtf8 path.now) }
     ensures held { IfOk result IsWellFormed }
@@ -167,7 +167,7 @@ pub fn read_record(alloc: Global, path: &TaskPath, bytes: &[u8]) -> Result<Recor
     }
 }
 
-/// A record that went through its text is the same record.
+/// Writes a record as its text and reads it back; the result is the same record.
 pub fn through_text(alloc: Global, path: &TaskPath, run: &Record) -> Result<Record, RecordFault>
     ensures { MatchResult result (λ got. got ≡ run.now) (λ e. e ≡ OutOfMemory) }
 {
@@ -175,12 +175,12 @@ pub fn through_text(alloc: Global, path: &TaskPath, run: &Record) -> Result<Reco
     read_record(alloc, path, text.as_slice())
 }
 
-/// A text is that of one record of a task at most.
+/// A text is that of at most one record of a task.
 pub fn texts_say_one_record()
     ensures { TextsSayOneRecord }
 {}
 
-/// A text is that of one history at most.
+/// A text is that of at most one history.
 pub fn texts_say_one_history()
     ensures { TextsSayOneHistory }
 {}

@@ -1,4 +1,4 @@
-//! Records as JSON, written a token at a time.
+//! Writes records as JSON, a token at a time.
 ghost use Rattle.std.specs.Prelude.{◌≡◌, [], ◌∷◌, ◌++◌, codes, map, IsTrue, OnOk};
 ghost use Rattle.std.specs.List.{AllByRecursion};
 ghost use Rattle.std.specs.Str.{IsUtf8};
@@ -351,7 +351,7 @@ fn write_run(
     writer.end_object()
 }
 
-/// The number by which an edition is told.
+/// The number that denotes an edition.
 fn edition_number(edition: Edition) -> u64
     ensures { result ≡ edition_number edition }
 {

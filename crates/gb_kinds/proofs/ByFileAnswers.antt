@@ -1,4 +1,4 @@
--- The answers of the kinds that work file by file.
+-- The results of the kinds that work file by file.
 use Rattle.std.proofs.Common.{◌≡◌, ℕ, Bool, true, false, true≢false, ◌&&◌, if◌then◌else◌, List, [], ◌∷◌, map, Result, Ok, Option, Some, None, unwrap_or, refl, sym, ap, subst, ◌∙◌, bytes_eq, IsTrue}
 use Rattle.std.proofs.lemmas.List.Folds.{list_all-append}
 use Rattle.std.specs.List.{flat_map, list_any, list_all}
@@ -46,7 +46,7 @@ tree_ordered (tree ∷ trees) name h =
       | false ↦ tree_ordered trees name (and_second (is_sorted byte_order tree.1) _ h)
     ]
 
--- whether or not `src` has a list, its changes are told
+-- whether or not `src` has a list, its changes are known
 pub source_told : (old : Trees) (request : Request) → TellsChangesFrom old request → source_changes request.changes.lists ≡ changes_between (tree_at old source) (tree_at request.files source)
 source_told old request tells = by (find byte_order source request.changes.lists) refl
   where

@@ -1,4 +1,5 @@
--- Where the old index is that of old files, and the changes are told from those, what is found is the index of the files now.
+-- If the old index is that of old files, and the changes are the difference from those, the result is the
+-- index of the current files.
 use Rattle.std.proofs.Common.{arith, ◌≡◌, ◌≢◌, ℕ, ◌-◌, Bool, true, false, true≢false, ◌&&◌, ◌||◌, not, T, if◌then◌else◌, List, [], ◌∷◌, length, map, take, Ok, Option, Some, None, unwrap_or, refl, sym, ap, subst, ◌∙◌, inl, inr, bytes_eq, IsTrue, length-append}
 use Rattle.std.proofs.Math.Seq.{take-append_seam}
 use Rattle.std.proofs.lemmas.List.Folds.{list_any-append}
@@ -38,11 +39,11 @@ use Rattle.gb_kinds.proofs.RemadeLaw.{stood_at}
 use Rattle.gb_kinds.proofs.WordFiles.{both, entry_of, index-entry, index-sorted}
 use Rattle.gb_kinds.proofs.Writing.{written_at-by_file}
 
--- something became of the path
+-- the path has a change
 abbrev is_changed : List Change → List ℕ → Bool
 is_changed changes path = list_any (λ (c : Change). bytes_eq (path_of c) path) changes
 
--- ---- Paths that were met
+-- ---- Paths that were visited
 
 module _ (q : List ℕ) where
   path_found : (files : Tree) → list_all (λ (f : List ℕ × List ℕ). is_rel_path f.0) files ≡ true → (bytes : List ℕ) → file_at files q ≡ Some bytes → is_rel_path q ≡ true
@@ -119,11 +120,11 @@ module _ (was now : Tree) (path : List ℕ) where
           same true equal e = ap Some ((bytes_decides x y).0 equal)
           same false equal e = absurd (true≢false (sym here ∙ e))
 
-  -- one that is gone has a change
+  -- a path whose file is gone has a change
   gone : (bytes : List ℕ) → file_at was path ≡ Some bytes → file_at now path ≡ None → is_changed (changes_between was now) path ≡ true
   gone bytes old new = changed_here ∙ ap (λ o. is_changed (change_at path o (file_at now path)) path) old ∙ ap (λ o. is_changed (change_at path (Some bytes) o) path) new ∙ here
 
--- ---- What changes tell of a path
+-- ---- The line of a path among the changes
 
 module _ (p : List ℕ) where
   line_of_change : (changes : List Change) → is_of_change changes (path_line p) ≡ is_changed changes p
@@ -146,7 +147,7 @@ module _ (p : List ℕ) where
       by true e = ap (λ q. test q || (is_changed changes p && test p)) ((bytes_decides (path_of change) p).0 e) ∙ more (test p) (is_changed changes p)
       by false e = refl
 
-  -- where it is so of no change, it is not so of a changed path
+  -- if no change satisfies the test, a changed path does not satisfy it
   of_none : (test : List ℕ → Bool) (changes : List Change) → is_changed changes p ≡ true → list_any (λ (c : Change). test (path_of c)) changes ≡ false → test p ≡ false
   of_none test [] is none = absurd (true≢false (sym is))
   of_none test (change ∷ changes) is none = by (bytes_eq (path_of change) p) refl is (of_none test changes)
@@ -165,9 +166,9 @@ one_passes line test (other ∷ lines) there passes = by (bytes_eq line other) r
     by true e some later = ap (λ b. b || list_any test lines) (ap test (sym ((bytes_decides line other).0 e)) ∙ passes)
     by false e some later = ap (λ b. test other || b) (later some passes) ∙ either (test other)
 
--- ---- Lines that tell no path
+-- ---- Lines of no path
 
--- a line that tells a path is known by its bytes but the last
+-- the line of a path is determined by its bytes except the last
 abbrev front : List ℕ → List ℕ
 front line = take (length line - 1) line
 
@@ -207,7 +208,7 @@ module _ (standing index was now : Tree) (changes : List Change) (looked_at : Li
   told_then : (word : List ℕ) → told_at standing word ≡ map (λ (f : List ℕ × List ℕ). path_line f.0) (filter (holds word) was)
   told_then word = ap (λ o. lines_of (unwrap_or o [])) (stood word) ∙ ap lines_of (told_so_far (holds word) was) ∙ lines_cut (holds word) was old_lines
 
-  -- what a tree tells of a path
+  -- whether a tree has the line of a path for a word
   at_line : (word p : List ℕ) (files : Tree) → IsTrue (is_sorted byte_order files) → list_any (λ (f : List ℕ × List ℕ). bytes_eq (path_line f.0) (path_line p) && holds word f) files ≡ holds_in (file_at files p) word
   at_line word p files sorted =
       same_any (λ (f : List ℕ × List ℕ). bytes_eq (path_line f.0) (path_line p) && holds word f) (λ (f : List ℕ × List ℕ). bytes_eq f.0 p && holds word f) (λ f. ap (λ b. b && holds word f) (same_line f.0 p)) files
@@ -221,7 +222,7 @@ module _ (standing index was now : Tree) (changes : List Change) (looked_at : Li
   unchanged : (p : List ℕ) → is_changed changes p ≡ false → file_at was p ≡ file_at now p
   unchanged p e = stays was now p (ap (λ cs. is_changed cs p) (sym told) ∙ e)
 
-  -- a line is carried where a file tells it now
+  -- a line is carried exactly if a current file has it
   members : (word line : List ℕ) → is_carried standing changes now word line ≡ list_any (bytes_eq line) (map (λ (f : List ℕ × List ℕ). path_line f.0) (filter (holds word) now))
   members word line =
       ap (λ b. (b && not (is_of_change changes line)) || news line) (ap (list_any (bytes_eq line)) (told_then word) ∙ tells (holds word) line was)
@@ -253,7 +254,7 @@ module _ (standing index was now : Tree) (changes : List Change) (looked_at : Li
           ∙ none_of line e path_of (λ (c : Change). holds_in (file_at now (path_of c)) word) changes
           ∙ sym (none_of line e (λ (f : List ℕ × List ℕ). f.0) (holds word) now)
 
-  -- a word that is looked at has its file
+  -- a word that is examined has its file
   pub looked_entry : (word : List ℕ) → is_looked_at standing changes now word ≡ true → file_at index word ≡ entry_of word now
   looked_entry word at =
       let entry = is.entries word at in
@@ -261,7 +262,7 @@ module _ (standing index was now : Tree) (changes : List Change) (looked_at : Li
       ∙ ap file_of_lines (same_lines entry.lines (map (λ (f : List ℕ × List ℕ). path_line f.0) (filter (holds word) now)) entry.in_order (lines_rise (holds word) now is.paths (subst T (sym is.in_order) tt)) (λ line. entry.exactly line ∙ members word line))
       ∙ sym (lines_are (holds word) now)
 
-  -- at any other word what stands is right
+  -- at any other word the existing file is right
   module _ (word : List ℕ) (at : is_looked_at standing changes now word ≡ false) where
     held_before : (p : List ℕ) → is_changed changes p ≡ true → holds_in (file_at was p) word ≡ false
     held_before p changed = by (holds_in (file_at was p) word) refl
@@ -294,7 +295,7 @@ module _ (standing index was now : Tree) (changes : List Change) (looked_at : Li
         ∙ ap (λ (files : Tree). file_of_lines (map (λ (f : List ℕ × List ℕ). path_line f.0) files)) same_files
         ∙ sym (lines_are (holds word) now)
 
--- ---- A request that follows on
+-- ---- A request that is based on a previous execution
 
 abbrev index_makes : Making
 index_makes arguments values trees = Ok (as_made (index_of (tree_at trees source)))

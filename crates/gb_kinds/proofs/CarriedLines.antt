@@ -1,4 +1,4 @@
--- The lines of an index, and the paths that they tell.
+-- The lines of an index, and their paths.
 use Rattle.std.proofs.Common.{arith, ◌≡◌, ◌≢◌, ◌==◌, ℕ, suc, Bool, true, false, true≢false, cond, not, ◌&&◌, ◌||◌, T, if◌then◌else◌, List, [], ◌∷◌, ◌++◌, length, map, take, drop, nat_le, Option, Some, None, refl, sym, ap, subst, ◌∙◌, bytes_eq, length-append}
 use Rattle.std.proofs.Math.Seq.{take-append_seam, drop-append_seam}
 use Rattle.std.proofs.lemmas.Bool.{leb-true, ne_eqb}
@@ -26,7 +26,7 @@ second_is false b e = absurd (true≢false (sym e))
 
 -- ---- The one file of a path
 
--- there are bytes, and it is so of them
+-- there are bytes, and they satisfy the test
 abbrev pub on : (List ℕ → Bool) → Option (List ℕ) → Bool
 on test None = false
 on test (Some bytes) = test bytes

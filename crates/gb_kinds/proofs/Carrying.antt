@@ -1,4 +1,4 @@
--- What is gathered of changed files, and the files that are made of it.
+-- The data collected from changed files, and the files that are made from it.
 use Rattle.std.proofs.Common.{◌≡◌, ◌≢◌, ℕ, Bool, true, false, cond, ◌&&◌, ◌||◌, not, if◌then◌else◌, List, [], ◌∷◌, ◌++◌, ◌+◌, ◌<◌, length, take, get_or, Option, Some, None, refl, sym, ap, subst, ◌∙◌, bytes_eq, IsTrue}
 use Rattle.std.proofs.lemmas.List.{append_cancel_right, map-append, take_more}
 use Rattle.std.proofs.lemmas.List.Folds.{list_all-append, list_any-append}
@@ -35,7 +35,7 @@ same_line path other = by (bytes_eq path other) refl
         apart true is = sym ((bytes_decides path other).1 (append_cancel_right path other (10 ∷ []) ((bytes_decides (path_line path) (path_line other)).0 is))) ∙ e
         apart false is = refl
 
--- a key that a set takes in
+-- a key that is added to a set
 pub or_more : (key other : List ℕ) (before : Bool) → cond (eq_by_cmp byte_order key other) true before ≡ (before || bytes_eq key other)
 or_more key other before = ap (λ b. cond b true before) (is_eq-slice_cmp key other) ∙ by (bytes_eq key other) before
   where
@@ -45,7 +45,7 @@ or_more key other before = ap (λ b. cond b true before) (is_eq-slice_cmp key ot
     by false true = refl
     by false false = refl
 
--- one that goes from what is left into the set
+-- a key that moves from the rest into the set
 pub turn : (a b c : Bool) → ((a || b) || c) ≡ (a || (b || c))
 turn true b c = refl
 turn false b c = refl
@@ -59,7 +59,7 @@ word_taken word key rest before =
     ∙ turn before (bytes_eq key word) (list_any (eq_by_cmp byte_order word) rest)
     ∙ ap (λ b. before || (b || list_any (eq_by_cmp byte_order word) rest)) (nat_list_eq_equiv.symm key word ∙ sym (is_eq-slice_cmp word key))
 
--- a line that is not gone is taken in
+-- a line that is not gone is added
 pub kept_taken : (gone : List ℕ → Bool) (line key : List ℕ) (rest : List (List ℕ)) (before : Bool) → gone key ≡ false
     → ((before || bytes_eq key line) || (list_any (bytes_eq line) rest && not (gone line))) ≡ (before || (list_any (bytes_eq line) (key ∷ rest) && not (gone line)))
 kept_taken gone line key rest before here =
@@ -80,7 +80,7 @@ has_line lines line = by lines.keys
     by [] = refl
     by (key ∷ keys) = ap (λ b. b || list_any (bytes_eq line) keys) (sym (is_eq-slice_cmp line key)) ∙ ap (λ b. eq_by_cmp byte_order line key || b) (by keys)
 
--- lines make a file where there are any
+-- lines make a file if there are any
 pub filled : (lines : List (List ℕ)) → (lines ≢ []) → file_of_lines lines ≡ Some (concat lines)
 filled [] h = absurd (h refl)
 filled (line ∷ lines) h = refl
@@ -110,7 +110,7 @@ module _ (files : Tree) (changes : List Change) (i : ℕ) (change : Change) (wit
       ∙ ap (lines_where (λ (f : List ℕ × List ℕ). holds_in (file_at files f.0) word)) (map-append (λ (c : Change). (path_of c, [])) (take i changes) (change ∷ []))
       ∙ lines_where_more (λ (f : List ℕ × List ℕ). holds_in (file_at files f.0) word) (as_files (take i changes)) (path_of change, [])
 
--- one more file of an index in which words are looked for
+-- one more file of an index in which words are searched
 pub told_more : (test : List ℕ × List ℕ → Bool) (files : Tree) (i : ℕ) (file : List ℕ × List ℕ) → i < length files → file ≡ get_or files i file
     → list_any test (take (i + 1) files) ≡ (list_any test (take i files) || test file)
 told_more test files i file within is =
@@ -120,7 +120,7 @@ told_more test files i file within is =
 
 -- ---- One more word
 
--- a word that is looked at has its file, of those that it had none before
+-- a word that is examined has its file, among those that had none before
 module _ (Is : List ℕ → Option (List ℕ) → Type 0) (has : List ℕ → Bool) (word : List ℕ) (rest : List (List ℕ)) (distinct : IsStrictlySortedBy byte_order (word ∷ rest)) (before after : Tree) (lines : List (List ℕ))
     (adds : (q : List ℕ) → file_at after q ≡ (if bytes_eq word q then option_or (file_of_lines lines) (file_at before q) else file_at before q))
     (is : Is word (file_of_lines lines))
@@ -170,7 +170,7 @@ module _ (Is : List ℕ → Option (List ℕ) → Type 0) (has : List ℕ → Bo
           (subst (Is word) (sym (adds word ∙ ap (λ b. if b then option_or (file_of_lines lines) (file_at before word) else file_at before word) ((bytes_decides word word).1 refl) ∙ ap (option_or (file_of_lines lines)) (left word here) ∙ or_none (file_of_lines lines))) is)
       by false same = subst (Is q) (sym (apart q same)) (entries q e (in_rest q false gone same))
 
--- ---- Files that were met
+-- ---- Files that were visited
 
 pub files_more : (files : Tree) (i : ℕ) (file : List ℕ × List ℕ) → i < length files → file ≡ get_or files i file
     → IsTrue (list_all (λ (f : List ℕ × List ℕ). is_rel_path f.0) (take i files)) → IsTrue (is_rel_path file.0) → IsTrue (list_all (λ (f : List ℕ × List ℕ). is_rel_path f.0) (take (i + 1) files))

@@ -1,4 +1,4 @@
--- Replies to changes of kinds that work file by file take what was made to what is to be made.
+-- Replies to changes of kinds that work file by file turn the old output into the new output.
 use Rattle.std.proofs.Common.{◌≡◌, ◌≢◌, ℕ, Bool, true, false, true≢false, ◌&&◌, ◌||◌, if◌then◌else◌, List, [], ◌∷◌, ◌++◌, Option, Some, None, is_some, refl, sym, ap, ◌∙◌, bytes_eq, IsTrue}
 use Rattle.std.proofs.lemmas.Grind.{flat_map-append}
 use Rattle.std.proofs.lemmas.List.Folds.{list_any-append}
@@ -72,7 +72,7 @@ module _ (output path : List ℕ) where
   alone : (files : List Written) → written_at (files ++ []) output path ≡ written_at files output path
   alone files = written_at-append files [] output path
 
--- ---- What a list of changes has written and removed at a path
+-- ---- The writes and removals of a list of changes at a path
 
 module _ (edit : List ℕ → List ℕ) (outputs : List OutputFiles) (old new : Tree) (output path : List ℕ) where
   abbrev wrote : List Change → Option (List ℕ)
@@ -128,10 +128,10 @@ module _ (edit : List ℕ → List ℕ) (outputs : List OutputFiles) (old new : 
   pub removed-at_path : removed (changes_between old new) ≡ removed (change_at path (file_at old path) (file_at new path))
   removed-at_path = at_path false (λ x y. y || x) or_false (λ v. refl) or_itself removed refl removed-append old new path removed-elsewhere
 
--- ---- One path, by what was there and what is there
+-- ---- One path, by the old and the new file at it
 
 module _ (edit : List ℕ → List ℕ) (path output : List ℕ) where
-  -- what is written where what was made stands
+  -- the writes if the old output exists
   abbrev changed : Option (List ℕ) → Option (List ℕ) → List Written
   changed None None = []
   changed None (Some y) = file_of path (edit y) ∷ []

@@ -29,7 +29,7 @@ same_lines left right l r same =
     let two : BTreeSet (List ℕ) = record { keys = right } in
     btree_set_from_contains nat_list_cmp_total one two l r (λ line. sym (has_line one line) ∙ same line ∙ has_line two line) tied_same
 
--- ---- The lines of paths rise as the paths do
+-- ---- The lines of paths ascend as the paths do
 
 abbrev not_less : Ordering → Bool
 not_less Less = false
@@ -132,7 +132,7 @@ module _ (chosen : List ℕ × List ℕ → Bool) where
       by true later = ap Some (joined_lines (file ∷ filter chosen files))
       by false later = later
 
--- ---- The files that hold a word
+-- ---- The files that contain a word
 
 abbrev pub kept : List ℕ → Option (List ℕ) → Option (List ℕ)
 kept word None = None

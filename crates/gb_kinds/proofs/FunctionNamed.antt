@@ -25,7 +25,7 @@ module _ {M F Z S : Type 0} (mapped : M → ℕ) (chosen : F → ℕ) (zipped : 
       let other : entry.0 ≢ name = λ is. true≢false (sym ((bytes_decides entry.0 name).1 is) ∙ both.0) in
       find-other name entry table other ∙ absent name table both.1
 
-  -- so nothing but want of memory keeps a function from being added under it
+  -- so only lack of memory keeps a function from being added under it
   pub only_memory : {X : Type 0} (read name : List ℕ) (table : Table M F Z S) (answer : Result X TableFault) → list_any (λ e. bytes_eq e.0 name) (numbers table mapped chosen zipped tested) ≡ false → read ≡ name
       → (IsErrOf answer DuplicateTransform → IsSome (find byte_order read table)) → IfErr answer (λ fault. fault ≡ OutOfMemory)
   only_memory read name table (Ok x) other is duplicate = tt

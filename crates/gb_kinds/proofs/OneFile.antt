@@ -1,4 +1,4 @@
--- The answers of the kinds that write one file.
+-- The results of the kinds that write one file.
 use Rattle.std.proofs.Common.{◌≡◌, ℕ, Bool, true, false, ◌&&◌, List, [], ◌∷◌, Ok, Some, refl, ap, IsTrue}
 use Rattle.gb_core.specs.Place.{is_place, is_rel_path}
 use Rattle.gb_core.specs.declared.value.Value.{Value}

@@ -1,4 +1,4 @@
--- The answers of kinds that know all the files that they make.
+-- The results of kinds that compute all the files that they make.
 use Rattle.std.proofs.Common.{◌≡◌, ℕ, Bool, true, false, ◌&&◌, ◌||◌, if◌then◌else◌, List, [], ◌∷◌, map, Ok, Option, Some, None, is_some, not, refl, sym, ap, subst, ◌∙◌, ◌⊎◌, inl, inr, bytes_eq, IsTrue, T}
 use Rattle.std.proofs.lemmas.List.Folds.{list_all-append}
 use Rattle.std.specs.List.{filter, list_any}
@@ -54,9 +54,9 @@ module _ (outputs : List OutputFiles) (declared : list_any (λ (output : OutputF
       by true later = both outputs declared _ _ declared later
       by false later = later
 
--- ---- What is made at some paths
+-- ---- The files made at some paths
 
--- the path was looked at, and what is made there is what is to be made, or it was not, and what stands there is
+-- the path was examined, and the file made there is the right one, or it was not, and the existing file is
 abbrev pub IsRightAt : List OutputFiles → Tree → List (List ℕ) → Tree → List ℕ → Type 0
 IsRightAt outputs made looked_at now path =
     ((list_any (bytes_eq path) looked_at ≡ true) × (file_at made path ≡ file_at now path))

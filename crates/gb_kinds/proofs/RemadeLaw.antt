@@ -1,4 +1,4 @@
--- Replies of kinds that know all the files that they make take what stands to those.
+-- Replies of kinds that compute all the files that they make turn the existing files into those.
 use Rattle.std.proofs.Common.{◌≡◌, ◌≢◌, ℕ, Bool, true, false, true≢false, not, ◌&&◌, ◌||◌, T, if◌then◌else◌, List, [], ◌∷◌, map, Option, Some, None, is_some, unwrap_or, refl, sym, ap, subst, ◌∙◌, bytes_eq}
 use Rattle.std.specs.List.{filter, list_any}
 use Rattle.std.specs.Option.{option_or, option_and_then}
@@ -15,7 +15,7 @@ use Rattle.gb_kinds.specs.Remade.{outdated, renewed, standing}
 use Rattle.gb_kinds.proofs.FileLaw.{and_false, and_true, itself, some_none, some_same}
 use Rattle.gb_kinds.proofs.Writing.{below, first, or_none, second, written_at-append}
 
--- what is written where this stands and that is made
+-- the write for an existing file and a file to be made
 abbrev pub new_at : Option (List ℕ) → Option (List ℕ) → Option (List ℕ)
 new_at stood None = None
 new_at stood (Some bytes) = if holds stood bytes then None else Some bytes
@@ -46,7 +46,7 @@ module _ (outputs : List OutputFiles) (output path : List ℕ) where
       by true = nowhere (bytes_eq target output)
       by false = ap (λ b. if b then Some bytes else None) (and_true (bytes_eq target output) (bytes_eq path path) (itself path))
 
-  -- what is written at the path
+  -- the write at the path
   pub wrote : (made : Tree) → T (is_sorted byte_order made) → written_at (renewed outputs made) output path ≡ (if bytes_eq target output then new_at (stands_at outputs target path) (file_at made path) else None)
   wrote [] h = nowhere (bytes_eq target output)
   wrote (file ∷ made) h =
@@ -77,7 +77,7 @@ module _ (outputs : List OutputFiles) (output path : List ℕ) where
 
   -- the path is removed
   module _ (made : Tree) where
-    -- a file stands at it, and none is made
+    -- a file exists at it, and none is made
     abbrev stale : List ℕ → Bool
     stale p = is_some (stands_at outputs target p) && not (is_some (file_at made p))
 
@@ -118,7 +118,7 @@ module _ (outputs : List OutputFiles) (output path : List ℕ) where
             ∙ ap (λ b. b || (bytes_eq target output && (list_any (λ q. bytes_eq q path) paths && stale path))) (not_here (stale p) (bytes_eq target output))
             ∙ ap (λ b. bytes_eq target output && ((b || list_any (λ q. bytes_eq q path) paths) && stale path)) (sym e)
 
--- ---- One path, by what stands and what is made there
+-- ---- One path, by the existing file and the file made there
 
 module _ (t : Bool) (stood there made : Option (List ℕ)) (same : t ≡ true → there ≡ stood) (alone : t ≡ false → there ≡ None) where
   abbrev wrote_at : Bool → Option (List ℕ)

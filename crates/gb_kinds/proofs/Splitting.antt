@@ -1,4 +1,4 @@
--- The pieces of a text as they come, one after another.
+-- The pieces of a text in their order, one after another.
 use Rattle.std.proofs.Common.{◌≡◌, ℕ, ◌+◌, ◌-◌, ◌<◌, ◌≤◌, List, [], ◌∷◌, ◌++◌, length, take, drop, refl, sym, ap, subst, ◌∙◌, arith, true, false, Bool, Option, None, Some}
 use Rattle.std.proofs.Common.{drop-drop, length-drop, length-append, take_at}
 use Rattle.std.specs.Bool.{MatchBool}
@@ -9,7 +9,7 @@ use Rattle.bstr.proofs.lemmas.MatchListLemmas.{split_at-next, split_at-end}
 use Rattle.memchr.specs.Find.{OccursAt, matches, match_len}
 use Rattle.memchr.proofs.lemmas.MatchLemmas.{OccursAt-split, OccursAt-from_part, matches-none, matches-first}
 
--- the pieces of a text from a place on, if more are to come
+-- the pieces of a text from a place on, if there are more
 abbrev pub pieces_from : List ℕ → List ℕ → ℕ → List (List ℕ)
 pieces_from text separator at = split_at text (length separator) at (matches text separator at)
 
@@ -28,7 +28,7 @@ module _ (text separator : List ℕ) (some : 0 < length separator) where
       let fits : at + i + length separator ≤ length text = omega (arith, some, ap length here, length-drop (at + i) text, length-append separator (drop j (drop at text))) in
       OccursAt-from_part text separator (at + i) fits (ap (take (length separator)) here ∙ take_at separator _ (length separator) refl)
 
-  -- the piece that comes is the first of those that are left
+  -- the next piece is the first of those that are left
   next_from : (at : ℕ) → at ≤ length text → (piece : List ℕ) (more : Bool) (rest : List ℕ) (found : Option (ℕ × ℕ)) → FindsText separator (drop at text) found
       → MatchOption found ((piece ≡ drop at text) × (more ≡ false)) (λ q. 0 < q.1 → (piece ≡ take q.0 (drop at text)) × (more ≡ true) × (rest ≡ drop q.1 (drop at text)))
       → (later : List (List ℕ)) × IsLeft text separator more rest later × (pieces_from text separator at ≡ piece ∷ later)

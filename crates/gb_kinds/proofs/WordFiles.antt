@@ -1,4 +1,4 @@
--- The files that tell for each word where it stands.
+-- The files that list for each word the files with it.
 use Rattle.std.proofs.Common.{◌≡◌, ◌≢◌, ℕ, Bool, true, false, true≢false, cond, ◌||◌, if◌then◌else◌, List, [], ◌∷◌, ◌++◌, map, Option, Some, None, is_some, unwrap_or, refl, sym, ap, subst, ◌∙◌, bytes_eq, IsTrue, T, ◌&&◌, ◌<◌, ◌+◌, length, take, get_or}
 use Rattle.std.proofs.lemmas.List.{take_more}
 use Rattle.std.proofs.lemmas.List.Folds.{list_any-append}
@@ -24,11 +24,11 @@ use Rattle.gb_kinds.specs.Words.{Index, holds_word, index_files, index_of, lines
 use Rattle.gb_kinds.specs.Carried.{lines_where}
 use Rattle.gb_kinds.proofs.LinesWhere.{lines_where_more}
 
--- a file holds the word
+-- a file contains the word
 abbrev pub is_in : List ℕ → Tree → Bool
 is_in word files = list_any (λ file. holds_word word file.1) files
 
--- what is told of a word
+-- the entry of a word
 abbrev pub entry_of : List ℕ → Tree → Option (List ℕ)
 entry_of word files = lines_where (λ file. holds_word word file.1) files
 
@@ -55,7 +55,7 @@ found q (e ∷ es) =
 pub file_in : (q : List ℕ) (index : Index) → file_at (index_files index) q ≡ option_map items (get byte_order index q)
 file_in q index = found q index.entries
 
--- a file that is put
+-- a file that is inserted
 module _ (word : List ℕ) (before after : Index) (key : List ℕ) (lines : Vec ℕ Global) (is : key ≡ word)
     (puts : (q : List ℕ) → get byte_order after q ≡ cond (is_at (byte_order key) q) (Some lines) (get byte_order before q)) where
   pub file_put : (other : List ℕ) → file_at (index_files after) other ≡ (if bytes_eq word other then Some lines.items else file_at (index_files before) other)
@@ -89,7 +89,7 @@ ordered (e ∷ es) h = both _ _ (below es h.0) (ordered es h.1)
     below [] g = refl
     below (f ∷ fs) g = both _ _ (ap is_lt g.0) (below fs g.1)
 
--- a value that is taken out and put back longer
+-- a value that is removed and inserted again with a line appended
 module _ (word path : List ℕ) (before taken after : Index) (key : List ℕ) (lines : Vec ℕ Global) (is : key ≡ word)
     (takes : (q : List ℕ) → get byte_order taken q ≡ cond (is_at (byte_order word) q) None (get byte_order before q))
     (puts : (q : List ℕ) → get byte_order after q ≡ cond (is_at (byte_order key) q) (Some lines) (get byte_order taken q))

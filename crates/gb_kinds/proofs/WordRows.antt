@@ -13,7 +13,7 @@ two_files = refl
 pub once_a_file : index_of ((codes "a", codes "x X x") ∷ []) ≡ (codes "x", codes "a\n") ∷ []
 once_a_file = refl
 
--- bytes that are no letters part words, whatever they are
+-- any bytes that are not letters separate words
 pub parted : words_of (255 ∷ codes "It's" ++ 195 ∷ 169 ∷ codes "t4U") ≡ codes "it" ∷ codes "s" ∷ codes "t" ∷ codes "u" ∷ []
 parted = refl
 
@@ -23,7 +23,7 @@ longest = refl
 pub too_long : words_of (replicate 65 88) ≡ []
 too_long = refl
 
--- ---- By changes: the old index has the word w at both files and v at a, and b was modified
+-- ---- For changes: the old index has the word w at both files and v at a, and b was modified
 
 abbrev old_index : Tree
 old_index = (codes "v", codes "a\n") ∷ (codes "w", codes "a\nb\n") ∷ []
@@ -46,12 +46,12 @@ pub comes : is_carried old_index changed files (codes "x") (codes "b\n") ≡ tru
 unfolding line_len lines_from
 comes = refl
 
--- words that b holds or held are looked at,
+-- words that b contains or contained are examined,
 pub are_looked_at : (is_looked_at old_index changed files (codes "w") && is_looked_at old_index changed files (codes "x")) ≡ true
 unfolding line_len lines_from
 are_looked_at = refl
 
--- and no others; the bytes of a file that did not change are not asked
+-- and no others; the bytes of a file that did not change are not needed
 pub are_not : (is_looked_at old_index changed files (codes "v") || is_looked_at old_index changed files (codes "any")) ≡ false
 unfolding line_len lines_from
 are_not = refl

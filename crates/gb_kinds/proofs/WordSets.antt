@@ -14,7 +14,7 @@ pub or_false : (b : Bool) → (b || false) ≡ b
 or_false true = refl
 or_false false = refl
 
--- a word that is put into a set
+-- a word that is inserted into a set
 pub with_word : (q word run : List ℕ) (before : Bool) → word ≡ run → is_word run ≡ true → cond (eq_by_cmp byte_order word q) true before ≡ (before || (is_word run && bytes_eq q run))
 with_word q word run before is counts =
     ap (λ w. cond (eq_by_cmp byte_order w q) true before) is

@@ -52,7 +52,7 @@ below path (file ∷ files) h =
     ap (λ b. cond b (Some file.1) (file_at files path)) (not_equal (byte_order path file.0) (first _ _ h)) ∙ below path files (second (is_lt (byte_order path file.0)) _ h)
 
 module _ (edit : List ℕ → List ℕ) (output path : List ℕ) where
-  -- what is made of each file stands at its path, in the output that kinds write
+  -- the result for each file is at its path, in the output that kinds write
   pub written_at-by_file : (files : Tree) → IsTrue (is_sorted byte_order files) → written_at (by_file edit files) output path ≡ (if bytes_eq target output then option_map edit (file_at files path) else None)
   written_at-by_file files ordered = go files (subst T (sym (true_is _ ordered)) tt)
     where

@@ -1,4 +1,4 @@
--- What the kinds of actions make and print, by their numbers.
+-- The files that the kinds of actions make and the lines that they print, by their numbers.
 use Rattle.std.specs.Prelude.{ℕ, ◌==◌, true, List, [], ◌∷◌, ◌++◌, map, if◌then◌else◌, Option, None, Some}
 use Rattle.std.specs.Prelude.{false, Result, Ok, Err, codes}
 use Rattle.std.specs.Borrow.{Bor}
@@ -39,7 +39,7 @@ pub data Kind : Type 0 where
   WordIndex : Kind
   NoKind : Kind
 
--- the kind of a number
+-- the kind with a number
 abbrev pub kind_of : ℕ → Kind
 kind_of number =
     if number == PRINT_LINE then PrintLine
@@ -64,13 +64,13 @@ abbrev pub second_text : List Value → List ℕ
 second_text (value ∷ others) = first_text others
 second_text [] = []
 
--- ---- Shapes
+-- ---- Signatures
 
 -- a kind that reads no files
 abbrev pub of_texts : List Parameter → Option Form → Shape
 of_texts args out = record { args = args; src = false; out = out; incremental = false }
 
--- a kind that follows the changes of files
+-- an incremental kind
 abbrev pub of_files : List Parameter → Shape
 of_files args = record { args = args; src = true; out = Some Dir; incremental = true }
 
@@ -87,12 +87,12 @@ kind_shape AddFile = of_texts (Required args.Rel ∷ Required args.Text ∷ []) 
 kind_shape WordIndex = of_files []
 kind_shape NoKind = of_texts [] None
 
--- ---- What is made and printed
+-- ---- Files made and lines printed
 
--- `writeText` makes the output itself, which holds the text; `fail` fails with it; `copyFiles`,
--- `replaceTokens`, `keepLines` and `sums` make a file of each file; `concat` makes one file of all, in the
--- order of their paths; `addFile` makes the file at its path beneath the output; `wordIndex` makes for each
--- word the file that tells where it stands
+-- `writeText` makes the output itself, which contains the text; `fail` fails with it; `copyFiles`,
+-- `replaceTokens`, `keepLines` and `sums` make a file from each file; `concat` makes one file from all, in
+-- the order of their paths; `addFile` makes the file at its path under the output; `wordIndex` makes for each
+-- word the file that lists the files with the word
 abbrev pub kind_makes : Kind → Making
 kind_makes PrintLine arguments values trees = Ok []
 kind_makes WriteText arguments values trees = Ok (file_of [] (first_text arguments) ∷ [])
@@ -108,7 +108,7 @@ kind_makes AddFile arguments values trees = Ok (file_of (first_text arguments) (
 kind_makes WordIndex arguments values trees = Ok (as_made (index_of (tree_at trees source)))
 kind_makes NoKind arguments values trees = Err []
 
--- a kind that follows changes prints a line for each
+-- an incremental kind prints a line for each change
 abbrev pub prints_changes : Printing
 prints_changes arguments values trees changes = map change_line (source_changes changes)
 
@@ -143,7 +143,7 @@ abbrev pub text_names : List (List ℕ × ℕ × ℕ)
 text_names =
     (codes "printLine", PRINT_LINE, 1) ∷ (codes "writeText", WRITE_TEXT, 1) ∷ (codes "fail", FAIL, 1) ∷ []
 
--- those that follow the changes of files,
+-- the incremental ones,
 abbrev pub file_names : List (List ℕ × ℕ × ℕ)
 file_names =
     (codes "copyFiles", COPY_FILES, 1) ∷ (codes "replaceTokens", REPLACE_TOKENS, 1)
@@ -157,7 +157,7 @@ one_file_names = (codes "concat", CONCAT, 1) ∷ (codes "addFile", ADD_FILE, 1) 
 abbrev pub builtin_names : List (List ℕ × ℕ × ℕ)
 builtin_names = text_names ++ file_names ++ one_file_names
 
--- a closure that may be called under `pre`, and then answers by `post`, stands for the kind
+-- a closure that may be called under `pre`, and whose result then satisfies `post`, implements the kind
 pub record StandsFor (number : ℕ) (pre : Global → Bor Request → Type 0)
     (post : Global → Bor Request → Result Reply ActionFault → Type 0) : Type 0 where
   pub callable : (alloc : Global) (request : Bor Request) → IsAsked (builtin_shape number) request.now

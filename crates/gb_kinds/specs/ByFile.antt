@@ -23,7 +23,7 @@ use Rattle.gb_kinds.specs.declared.edit.FileEdit.TheVariants.{Copy, ReplaceToken
 abbrev pub file_of : List ℕ → List ℕ → Written
 file_of path bytes = record { output = target; path = path; bytes = bytes }
 
--- each file, at the same path, with what is made of its bytes
+-- each file, at the same path, with its bytes edited
 abbrev pub by_file : (List ℕ → List ℕ) → Tree → List Written
 by_file edit files = map (λ file. file_of file.0 (edit file.1)) files
 
@@ -35,7 +35,7 @@ all_bytes files = flat_map (λ file. file.1) files
 abbrev pub one_file : List ℕ → List ℕ → Reply
 one_file path bytes = record { removes = []; writes = file_of path bytes ∷ []; lines = [] }
 
--- what is made of a file's bytes
+-- the result of the edit on a file's bytes
 abbrev pub edited : FileEdit → List ℕ → List ℕ
 edited Copy bytes = bytes
 edited (ReplaceToken key value) bytes = with_value key.now value.now bytes
@@ -44,7 +44,7 @@ edited Sum bytes = sum_line bytes
 
 -- ---- Changes
 
--- the changes of the files that kinds read; none where they are not incremental
+-- the changes of the files that kinds read; none if the files are not incremental
 abbrev pub source_changes : List Changes → List Change
 source_changes lists = unwrap_or (find byte_order source lists) []
 
@@ -59,16 +59,16 @@ abbrev pub holds : Option (List ℕ) → List ℕ → Bool
 holds None bytes = false
 holds (Some standing) bytes = bytes_eq standing bytes
 
--- a file to write, unless it stands so already
+-- a file to write, unless the output already has it
 abbrev pub where_new : List ℕ → Option (List ℕ) → List ℕ → List Written
 where_new path standing bytes = if holds standing bytes then [] else file_of path bytes ∷ []
 
--- what to write at a path, by what stands there and the file that there is now
+-- the file to write at a path, given the existing file and the current file of the source
 abbrev pub rewritten : (List ℕ → List ℕ) → List ℕ → Option (List ℕ) → Option (List ℕ) → List Written
 rewritten edit path standing None = []
 rewritten edit path standing (Some bytes) = where_new path standing (edit bytes)
 
--- what a change has written
+-- the writes for a change
 abbrev pub writes_for : (List ℕ → List ℕ) → List OutputFiles → Tree → Change → List Written
 writes_for edit outputs files (Added path) =
     rewritten edit path (stands_at outputs target path) (file_at files path)
@@ -76,14 +76,14 @@ writes_for edit outputs files (Modified path) =
     rewritten edit path (stands_at outputs target path) (file_at files path)
 writes_for edit outputs files (Removed path) = []
 
--- what a change has removed
+-- the removals for a change
 abbrev pub removes_for : Change → List OutputPath
 removes_for (Added path) = []
 removes_for (Modified path) = []
 removes_for (Removed path) = record { output = target; path = path } ∷ []
 
--- The reply of a kind that works file by file: all files, or those that changed and do not stand so already.
--- It prints a line for each change.
+-- The reply of a kind that works file by file: all files, or those that changed and that the output does not
+-- have already. It prints a line for each change.
 pub record IsByFile (edit : List ℕ → List ℕ) (request : Request) (reply : Reply) : Type 0 where
   pub keeps : request.changes.incremental ≡ false → reply.removes ≡ []
   pub in_full : request.changes.incremental ≡ false

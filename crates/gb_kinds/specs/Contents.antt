@@ -1,4 +1,4 @@
--- What the kinds that work file by file make of the bytes of one file.
+-- How the kinds that work file by file edit the bytes of one file.
 use Rattle.std.specs.Prelude.{ℕ, Bool, List, [], ◌∷◌, ◌++◌, length, is_some}
 use Rattle.std.specs.List.{concat, filter}
 use Rattle.memchr.specs.Find.{first_of, matches}
@@ -13,7 +13,7 @@ line_feed = 10
 abbrev pub sum_line : List ℕ → List ℕ
 sum_line bytes = encode_lower (sha256 bytes) ++ line_feed ∷ []
 
--- the text stands somewhere in the line
+-- the text occurs somewhere in the line
 abbrev pub occurs : List ℕ → List ℕ → Bool
 occurs text line = is_some (first_of (matches line text 0))
 
@@ -25,7 +25,7 @@ kept_lines text bytes = concat (filter (occurs text) (lines_of bytes))
 abbrev pub token : List ℕ → List ℕ
 token key = 64 ∷ key ++ 64 ∷ []
 
--- The bytes with the value in place of each token of the key. Tokens are found from the left, none over
--- another, and none is looked for in a value that was put in.
+-- The bytes with the value in place of each token of the key. Tokens are found from the left and do not
+-- overlap, and an inserted value is not searched for tokens.
 abbrev pub with_value : List ℕ → List ℕ → List ℕ → List ℕ
 with_value key value bytes = replaced_at bytes (length (token key)) value 0 (matches bytes (token key) 0)

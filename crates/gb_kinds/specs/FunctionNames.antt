@@ -10,7 +10,7 @@ use Rattle.gb_kinds.specs.declared.functions.TheConstants.{OUTPUT, CONCAT, IS_TR
 abbrev pub Numbers : Type 0
 Numbers = Table ℕ ℕ ℕ ℕ
 
--- a stored function as its number, where these give the numbers of each use
+-- a stored function as its number, given the numbers of each use
 abbrev pub number_of : {M F Z S : Type 0} → (M → ℕ) → (F → ℕ) → (Z → ℕ) → (S → ℕ) → Transform M F Z S
     → Transform ℕ ℕ ℕ ℕ
 number_of mapped chosen zipped tested (Map function) = Map (mapped function)
@@ -27,7 +27,7 @@ abbrev pub text_functions : Numbers
 text_functions =
     (codes "upper", Map UPPER) ∷ (codes "append", Map APPEND) ∷ (codes "nonEmpty", Map NON_EMPTY) ∷ []
 
--- those that take or give a list or a place,
+-- those that take or return a list or a place,
 abbrev pub part_functions : Numbers
 part_functions = (codes "split", Map SPLIT) ∷ (codes "join", Map JOIN) ∷ (codes "child", Map CHILD) ∷ []
 

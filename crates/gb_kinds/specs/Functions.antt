@@ -1,4 +1,4 @@
--- What the functions of values give: of properties and providers, by their numbers.
+-- The results of the functions of values, for properties and providers, by their numbers.
 use Rattle.std.specs.Prelude.{ℕ, ◌==◌, Bool, List, [], ◌∷◌, ◌++◌, length, map, codes, bytes_eq, if◌then◌else◌}
 use Rattle.std.specs.Prelude.{Option, None, Some, Result, Ok, Err}
 use Rattle.std.specs.Borrow.{Bor}
@@ -19,7 +19,7 @@ use Rattle.gb_provider.specs.declared.fault.TransformFault.{TransformFault}
 use Rattle.gb_kinds.specs.declared.functions.TheConstants.{UPPER, APPEND, SPLIT, JOIN, CHILD, NON_EMPTY}
 use Rattle.gb_kinds.specs.declared.functions.TheConstants.{OUTPUT, CONCAT, IS_TRUE, EQUALS}
 
--- ---- What a function takes: the sort of its value comes before the count of its arguments
+-- ---- What a function takes: the sort of its value is checked before the number of its arguments
 
 module _ {A : Type 0} where
   abbrev pub of_text : Value → (List ℕ → Result A Refusal) → Result A Refusal
@@ -51,7 +51,7 @@ module _ {A : Type 0} where
   of_task (values.Place place) meant = Err WrongValue
   of_task (values.Task task) meant = meant task
 
-  -- a flag, or a text, which is true where it is `true`
+  -- a flag, or a text, which is true if it is `true`
   abbrev pub of_truth : Value → (Bool → Result A Refusal) → Result A Refusal
   of_truth (values.Text text) meant = meant (bytes_eq text (codes "true"))
   of_truth (values.Flag flag) meant = meant flag
@@ -79,12 +79,12 @@ Mapped = Result (Option Value) Refusal
 abbrev pub text_of : List ℕ → Option Value
 text_of text = Some (values.Text text)
 
--- a text, or nothing where it is empty
+-- a text, or nothing if it is empty
 abbrev pub if_any : List ℕ → Option Value
 if_any [] = None
 if_any (c ∷ text) = Some (values.Text (c ∷ text))
 
--- the pieces between the occurrences of a separator, which are found from the left, none over another
+-- the pieces between the occurrences of a separator, which are found from the left and do not overlap
 abbrev pub pieces : List ℕ → List ℕ → List (List ℕ)
 pieces separator text = split_at text (length separator) 0 (matches text separator 0)
 
@@ -97,7 +97,7 @@ split_by text (c ∷ separator) = Ok (Some (values.List (pieces (c ∷ separator
 abbrev pub join_texts : List ℕ → List (List ℕ) → List ℕ
 join_texts separator texts = join_by (λ text. text) separator texts
 
--- a text as a place, if it is one
+-- a text as a place, if it is a place
 abbrev pub if_place : List ℕ → Mapped
 if_place text = if is_place text then Ok (Some (values.Place text)) else Err BadArguments
 
@@ -139,7 +139,7 @@ equals value arguments = of_text value (λ text. with_one arguments (λ other. O
 
 -- ---- By number
 
--- what takes no value
+-- a function that refuses every value
 abbrev pub nothing : {A : Type 0} → Value → Arguments → Result A Refusal
 nothing value arguments = Err WrongValue
 
@@ -177,7 +177,7 @@ test_arity number = if number == IS_TRUE then 0 else 1
 
 -- ---- Closures
 
--- a closure that may be called with any value, and then answers by `post`, keeps the meaning
+-- a closure that may be called with any value, and whose result then satisfies `post`, keeps the meaning
 pub record Keeps {A : Type 0} (means : Value → Arguments → Result A Refusal)
     (pre : Global → Bor Value → Bor Arguments → Type 0)
     (post : Global → Bor Value → Bor Arguments → Result A TransformFault → Type 0) : Type 0 where
@@ -186,7 +186,7 @@ pub record Keeps {A : Type 0} (means : Value → Arguments → Result A Refusal)
       (answer : Result A TransformFault) → post alloc value arguments answer
       → IsReply answer (means value.now arguments.now)
 
--- the same of two values
+-- the same for two values
 pub record KeepsOfTwo (means : Value → Value → Arguments → Result Value Refusal)
     (pre : Global → Bor Value → Bor Value → Bor Arguments → Type 0)
     (post : Global → Bor Value → Bor Value → Bor Arguments → Result Value TransformFault → Type 0)

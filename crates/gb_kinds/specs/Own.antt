@@ -1,4 +1,4 @@
--- Each built-in kind writes files of its own output alone.
+-- Each built-in kind writes only files of its own output.
 use Rattle.std.specs.Prelude.{ℕ, ◌≡◌, Bool, true, false, ◌&&◌, List, [], ◌∷◌, Result, Ok, bytes_eq, is_some}
 use Rattle.std.specs.List.{list_all}
 use Rattle.std.specs.Result.{result_unwrap_or}
@@ -15,7 +15,7 @@ use Rattle.gb_kinds.specs.ByFile.{by_file}
 use Rattle.gb_kinds.specs.Contents.{sum_line, kept_lines, with_value}
 use Rattle.gb_kinds.specs.Words.{index_of}
 
--- each file is one of the output that kinds write, where there is one
+-- each file is one of the output that kinds write, if there is an output
 abbrev pub are_own : Bool → List Written → Bool
 are_own has_output written = list_all (λ (file : Written). bytes_eq file.output target && has_output) written
 

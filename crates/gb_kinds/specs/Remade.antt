@@ -1,4 +1,4 @@
--- Kinds that know all the files that they make: what they reply to changes is found by what stands.
+-- Kinds that compute all the files that they make: their reply to changes depends on the existing files.
 use Rattle.std.specs.Prelude.{◌≡◌, ℕ, not, ◌&&◌, true, false, List, [], map, unwrap_or, is_some}
 use Rattle.std.specs.List.{filter, flat_map}
 use Rattle.gb_action.specs.Files.{Tree, file_at}
@@ -15,23 +15,23 @@ use Rattle.gb_kinds.specs.ByFile.{by_file, change_line, source_changes, where_ne
 abbrev pub as_made : Tree → List Written
 as_made made = by_file (λ bytes. bytes) made
 
--- the files that stand in the output that kinds write
+-- the existing files of the output that kinds write
 abbrev pub standing : List OutputFiles → Tree
 standing outputs = unwrap_or (files_of outputs target) []
 
--- those of the paths at which a file stands and none is made
+-- the paths among these at which a file exists and none is made
 abbrev pub outdated : List OutputFiles → Tree → List (List ℕ) → List OutputPath
 outdated outputs made paths =
     map (λ path. record { output = target; path = path })
     (filter (λ path. is_some (stands_at outputs target path) && not (is_some (file_at made path))) paths)
 
--- the files that do not stand so already
+-- the files that the output does not have already
 abbrev pub renewed : List OutputFiles → Tree → List Written
 renewed outputs made = flat_map (λ file. where_new file.0 (stands_at outputs target file.0) file.1) made
 
--- The reply of a kind that makes these files: all of them, or, where it looked at some paths alone, those
--- of them that do not stand so, and it removes what stands at one of the paths and is made no more. It
--- prints a line for each change.
+-- The reply of a kind that makes these files: all of them, or, if it examined only some paths, those that
+-- the output does not have already, and it removes the existing files at one of the paths that are no longer
+-- made. It prints a line for each change.
 pub record IsRemade (made : Tree) (looked_at : List (List ℕ)) (request : Request)
     (reply : Reply) : Type 0 where
   pub keeps : request.changes.incremental ≡ false → reply.removes ≡ []

@@ -1,4 +1,4 @@
--- An answer is the one that is meant in one way at most, so a ghost field may say that it is.
+-- A result agrees with its meaning in at most one way, so a ghost field may state that it does.
 use Rattle.std.specs.Prelude.{Bool, Result, Ok, Err, Option}
 use Rattle.std.specs.Coded.{Coded-set, coded_bool, coded_option, coded_result}
 use Rattle.gb_core.specs.contracts.value.Value as value

@@ -1,4 +1,4 @@
--- The words of files, and the files that tell for each word where it stands.
+-- The words of files, and the files that list for each word the files with it.
 use Rattle.std.specs.Prelude.{ℕ, ◌==◌, Bool, ◌&&◌, nat_le, List, [], ◌∷◌, ◌++◌, length, map, if◌then◌else◌}
 use Rattle.std.specs.Prelude.{bytes_eq, Option, Some, unwrap_or}
 use Rattle.std.specs.Char.{is_ascii_alphabetic, to_ascii_lowercase}
@@ -22,7 +22,7 @@ is_word run = nat_le 1 (length run) && nat_le (length run) 64
 abbrev pub words_of : List ℕ → List (List ℕ)
 words_of bytes = filter is_word (slice_split (λ byte. byte == 32) (map letter_or_space bytes))
 
--- the bytes hold the word
+-- the bytes contain the word
 abbrev pub holds_word : List ℕ → List ℕ → Bool
 holds_word word bytes = list_any (bytes_eq word) (words_of bytes)
 
@@ -30,16 +30,16 @@ holds_word word bytes = list_any (bytes_eq word) (words_of bytes)
 abbrev pub path_line : List ℕ → List ℕ
 path_line path = path ++ line_feed ∷ []
 
--- the paths of the files that hold the word, each on a line
+-- the paths of the files that contain the word, each on a line
 abbrev pub lines_for : List ℕ → Tree → List ℕ
 lines_for word files = flat_map (λ file. path_line file.0) (filter (λ file. holds_word word file.1) files)
 
--- a file for each word of the files, at the word, which tells the files that hold it
+-- a file for each word of the files, at the word, which lists the files that contain it
 abbrev pub index_of : Tree → Tree
 index_of files =
     in_order (map (λ word. (word, lines_for word files)) (flat_map (λ file. words_of file.1) files))
 
--- ---- As it is built
+-- ---- As it is computed
 
 abbrev pub Index : Type 0
 Index = BTreeMap (List ℕ) (Vec ℕ Global)
@@ -47,6 +47,6 @@ Index = BTreeMap (List ℕ) (Vec ℕ Global)
 abbrev pub index_files : Index → Tree
 index_files index = map (λ entry. (entry.0, entry.1.items)) index.entries
 
--- what stands at a word, behind which a path is told where the word is in its file
+-- the lines at a word, with the path appended if the word is in its file
 abbrev pub with_path : List ℕ → Bool → Option (List ℕ) → Option (List ℕ)
 with_path path is_in lines = if is_in then Some (unwrap_or lines [] ++ path_line path) else lines

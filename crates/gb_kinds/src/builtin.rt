@@ -1,4 +1,4 @@
-//! The built-in kinds as a naming type, and their stored closures.
+//! The built-in kinds as an implementation of `Actions`, and their stored closures.
 ghost use Rattle.std.specs.Prelude.{◌≡◌, ◌≤◌};
 ghost use Rattle.gb_action.specs.Props.{Answers-prop};
 ghost use Rattle.gb_action.specs.Replies.{Answers};
@@ -14,19 +14,19 @@ use std::alloc::Global;
 /// The closure of an action.
 pub type Run = Box<dyn Fn(Global, &Request) -> Result<Reply, ActionFault>>;
 
-/// A closure, beside the number, the version and the shape of the kind whose meaning it keeps.
+/// A closure, with the number, the version and the signature of the kind whose meaning it keeps.
 #[derive(Drop)]
 pub struct StoredAction {
     /// The number of the kind, which names its meaning.
     pub kind: u16,
-    /// It rises where the kind comes to make something else.
+    /// It increases when the kind changes what it makes.
     pub version: u32,
-    /// What a call of the kind has to be like.
+    /// The requirements on a call of the kind.
     pub shape: Shape,
     run: Run,
     /// A version is at least 1.
     pub ghost positive: { 1 ≤ version },
-    /// The shape is that of the kind.
+    /// The signature is that of the kind.
     pub ghost shaped: { shape ≡ builtin_shape kind },
     ghost callable: { (alloc : _) (request : _) → IsAsked (builtin_shape kind) request.now
         → Run.pre run alloc request },

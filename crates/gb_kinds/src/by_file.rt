@@ -1,4 +1,4 @@
-//! Kinds that work file by file: all files, or the changed ones.
+//! The replies of kinds that work file by file, on all files or on the changed ones.
 ghost use Rattle.std.specs.Prelude.{◌≡◌, ◌++◌, IfOk, OnOk, IsTrue};
 ghost use Rattle.std.specs.List.{flat_map};
 ghost use Rattle.std.specs.Option.{option_copied};
@@ -19,7 +19,7 @@ use gb_core::bytes::Bytes;
 use gb_core::place::RelPath;
 use std::alloc::{AllocError, Global};
 
-/// The reply of a kind that makes a file of each file.
+/// The reply of a kind that makes a file from each file.
 pub fn reply_by_file<E: FileMaker>(
     alloc: Global,
     request: &Request,
@@ -62,7 +62,7 @@ fn all_writes<E: FileMaker>(
     Ok(writes)
 }
 
-/// What is removed and was not put back.
+/// The files that were removed and do not exist again.
 fn removals(alloc: Global, changes: &[Change]) -> Result<Removals, AllocError>
     ensures { IfOk result (λ removes. removes ≡ flat_map removes_for changes.now) }
 {
@@ -78,7 +78,7 @@ fn removals(alloc: Global, changes: &[Change]) -> Result<Removals, AllocError>
     Ok(removes)
 }
 
-/// What is made of the changed files, where it does not stand so already.
+/// The results for the changed files, except those that the output already has.
 fn changed_writes<E: FileMaker>(
     alloc: Global,
     request: &Request,
@@ -104,7 +104,7 @@ fn changed_writes<E: FileMaker>(
     Ok(writes)
 }
 
-/// Writes what is made of the file, if there is one, unless that stands already.
+/// Writes the result for the file, if there is one, unless the output already has it.
 fn rewrite<E: FileMaker>(
     alloc: Global,
     writes: &mut Writes,
@@ -125,7 +125,7 @@ fn rewrite<E: FileMaker>(
     Ok(())
 }
 
-/// Whether these bytes stand.
+/// Whether the existing file has these bytes.
 pub fn holds(standing: Option<&Bytes>, bytes: &[u8]) -> bool
     ensures { result ≡ holds (option_copied standing.entry) bytes.now }
 {

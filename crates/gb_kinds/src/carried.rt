@@ -1,4 +1,4 @@
-//! The index of words from the old index, the changes, and the files that changed.
+//! Builds the index of words from the old index, the changes, and the files that changed.
 ghost use Rattle.std.specs.Prelude.{◌≡◌, ◌||◌, ◌&&◌, [], true, false, not, bytes_eq, if◌then◌else◌};
 ghost use Rattle.std.specs.Prelude.{unwrap_or, IfOk, OnOk, IsTrue};
 ghost use Rattle.std.specs.BTreeSet.{contains};
@@ -36,20 +36,20 @@ use std::collections::{BTreeMap, BTreeSet};
 /// Lines in byte order, each once.
 type Lines = BTreeSet<Line>;
 
-/// What is known of changed files.
+/// The data of changed files.
 #[derive(Drop)]
 struct Changed {
-    /// The lines that tell their paths.
+    /// The lines of their paths.
     lines: Lines,
-    /// The words that they hold now.
+    /// The words that they contain now.
     words: Words,
-    /// For each of these words the files that hold it.
+    /// For each of these words the files that contain it.
     index: Index,
 }
 
-/// The index at the words that changed files hold or held. Of the files that did not change no
-/// bytes are read. Takes n log n steps in the bytes of the old index and of the changed files, and
-/// one for each path.
+/// The index for the words that changed files contain or contained. It reads no bytes of the files
+/// that did not change. Takes n log n steps in the bytes of the old index and of the changed files,
+/// and one for each path.
 pub fn carried_index(alloc: Global, request: &Request) -> Result<Remade, AllocError>
     ensures { IfOk result (λ remade.
         IsCarried (standing_in request.now.outputs) (source_changes request.now.changes.lists)
@@ -70,7 +70,8 @@ pub fn carried_index(alloc: Global, request: &Request) -> Result<Remade, AllocEr
     Ok(Remade { looked_at, made })
 }
 
-/// Walks the paths, for the proof alone: that a path holds no line feed is known of one that is met.
+/// Walks the paths, only for the proof: a path must be visited for it to be known that it contains
+/// no line feed.
 fn meet_paths(files: &[(RelPath, Bytes)])
     ensures { IsTrue (list_all (λ file. is_rel_path file.0) files.now) }
 {
@@ -119,7 +120,7 @@ fn path_of(change: &Change) -> &RelPath
     }
 }
 
-/// Adds a path, with the file that there is now.
+/// Adds a path, with the current file at it.
 fn add_change(
     alloc: Global,
     changed: &mut Changed,
@@ -169,7 +170,7 @@ fn words_in(alloc: Global, contents: Option<&Bytes>) -> Result<Words, AllocError
     }
 }
 
-/// Adds the words at which an index tells one of the lines.
+/// Adds the words for which an index contains one of the lines.
 fn add_told(
     alloc: Global,
     words: &mut Words,
@@ -207,7 +208,7 @@ fn add_where_told(
     Ok(())
 }
 
-/// Whether one of the lines is told.
+/// Whether one of the lines is among these bytes.
 fn tells_one(alloc: Global, told: &[u8], lines: &Lines) -> Result<bool, AllocError>
     ensures { IfOk result (λ tells. tells ≡ list_any (contains byte_order lines.now) (lines_of told.now)) }
 {
@@ -219,7 +220,7 @@ fn tells_one(alloc: Global, told: &[u8], lines: &Lines) -> Result<bool, AllocErr
     Ok(false)
 }
 
-/// The files at the words: what stood without the lines that are gone, and what is new.
+/// The files at the words: the existing lines without those that are gone, and the new ones.
 fn index_at(
     alloc: Global,
     request: &Request,
@@ -245,7 +246,7 @@ fn index_at(
     Ok(index)
 }
 
-/// What stood at a word.
+/// The existing bytes at a word.
 fn stood_at<'a>(request: &'a Request, output: &Name, word: &RelPath) -> &'a [u8]
     ensures { result.now ≡ unwrap_or (stands_at request.now.outputs output.now word.now) [] }
 {
@@ -255,7 +256,7 @@ fn stood_at<'a>(request: &'a Request, output: &Name, word: &RelPath) -> &'a [u8]
     }
 }
 
-/// What an index tells at a word.
+/// The bytes of an index at a word.
 fn told_at<'a>(index: &'a Index, word: &RelPath) -> &'a [u8]
     ensures { result.now ≡ unwrap_or (file_at (index_files index.now) word.now) [] }
 {
@@ -265,7 +266,7 @@ fn told_at<'a>(index: &'a Index, word: &RelPath) -> &'a [u8]
     }
 }
 
-/// The lines that stood without those that are gone, and the new ones.
+/// The existing lines without those that are gone, and the new ones.
 fn carried_lines(alloc: Global, stood: &[u8], gone: &Lines, new: &[u8]) -> Result<Lines, AllocError>
     ensures { IfOk result (λ lines. (line : _)
         → contains byte_order lines line ≡ is_line_of stood.now (contains byte_order gone.now) new.now line) }
@@ -278,7 +279,7 @@ fn carried_lines(alloc: Global, stood: &[u8], gone: &Lines, new: &[u8]) -> Resul
     Ok(lines)
 }
 
-/// Adds the lines but those that are gone.
+/// Adds the lines except those that are gone.
 fn add_others(
     alloc: Global,
     lines: &mut Lines,

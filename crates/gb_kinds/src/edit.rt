@@ -1,4 +1,4 @@
-//! What becomes of the bytes of one file.
+//! Edits of the bytes of one file.
 ghost use Rattle.std.specs.Prelude.{◌≡◌, ◌++◌, ◌∷◌, [], IfOk};
 ghost use Rattle.std.specs.List.{concat, filter};
 ghost use Rattle.gb_kinds.specs.Contents.{sum_line, occurs, kept_lines, token, with_value};
@@ -8,27 +8,27 @@ use gb_core::bytes::Bytes;
 use sha2::{Digest, Sha256};
 use std::alloc::{AllocError, Global};
 
-/// What a kind that works file by file makes of a file's bytes.
+/// The edit that a kind that works file by file applies to a file's bytes.
 #[derive(Clone, Copy)]
 pub(crate) enum FileEdit<'a> {
     /// The same bytes.
     Copy,
     /// The bytes with a value in place of each `@key@`.
     ReplaceToken { key: &'a str, value: &'a str },
-    /// The lines that hold a text.
+    /// The lines that contain a text.
     KeepLines(&'a str),
     /// The SHA-256 of the bytes in hex, and a line feed.
     Sum,
 }
 
-/// What makes a file's bytes of a file's bytes.
+/// A function from a file's bytes to a file's bytes.
 pub trait FileMaker {
     ghost use Rattle.std.specs.Prelude.{ℕ, List};
 
-    /// What is made of them.
+    /// Its result on these bytes.
     ghost edited: { Self → List ℕ → List ℕ };
 
-    /// Makes it.
+    /// Computes it.
     fn apply(&self, alloc: Global, bytes: &[u8]) -> Result<Bytes, AllocError>
         ensures { IfOk result (λ made. made ≡ edited self.now bytes.now) };
 }

@@ -46,7 +46,7 @@ pub fn replace_tokens(alloc: Global, request: &Request) -> Result<Reply, ActionF
     Ok(reply_by_file(alloc, request, &edit)?)
 }
 
-/// Makes each file with its lines that hold a text.
+/// Makes each file with its lines that contain a text.
 pub fn keep_lines(alloc: Global, request: &Request) -> Result<Reply, ActionFault>
     requires { IsAsked (builtin_shape KEEP_LINES) request.now }
     ensures { Answers (builtin_makes KEEP_LINES) (builtin_prints KEEP_LINES) request.now result }
@@ -55,7 +55,7 @@ pub fn keep_lines(alloc: Global, request: &Request) -> Result<Reply, ActionFault
     Ok(reply_by_file(alloc, request, &edit)?)
 }
 
-/// Makes for each file one that holds its SHA-256 in hex, and a line feed.
+/// Makes for each file one that contains its SHA-256 in hex, and a line feed.
 pub fn sums(alloc: Global, request: &Request) -> Result<Reply, ActionFault>
     requires { IsAsked (builtin_shape SUMS) request.now }
     ensures { Answers (builtin_makes SUMS) (builtin_prints SUMS) request.now result }
@@ -63,8 +63,8 @@ pub fn sums(alloc: Global, request: &Request) -> Result<Reply, ActionFault>
     Ok(reply_by_file(alloc, request, &FileEdit::Sum)?)
 }
 
-/// Makes for each word of the files one that holds the paths of those with the word, each ended by
-/// a line feed. Asked for changes it reads the bytes of the old index and of the changed files alone.
+/// Makes for each word of the files one that contains the paths of those with the word, each ended
+/// by a line feed. Given changes it reads only the bytes of the old index and of the changed files.
 pub fn word_index(alloc: Global, request: &Request) -> Result<Reply, ActionFault>
     requires { IsAsked (builtin_shape WORD_INDEX) request.now }
     ensures { Answers (builtin_makes WORD_INDEX) (builtin_prints WORD_INDEX) request.now result }
@@ -97,7 +97,7 @@ pub fn concat(alloc: Global, request: &Request) -> Result<Reply, ActionFault>
     Ok(one_file(alloc, own_path(alloc)?, bytes)?)
 }
 
-/// Makes the file at a path beneath the output, which holds a text.
+/// Makes the file at a path under the output, which contains a text.
 pub fn add_file(alloc: Global, request: &Request) -> Result<Reply, ActionFault>
     requires { IsAsked (builtin_shape ADD_FILE) request.now }
     ensures { Answers (builtin_makes ADD_FILE) (builtin_prints ADD_FILE) request.now result }

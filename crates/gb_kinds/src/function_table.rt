@@ -1,7 +1,7 @@
 //! All functions of values by name.
 //!
-//! The table is filled in steps, so that each holds few boxes: each way out of a function lets go all boxes
-//! that it holds.
+//! The table is filled in steps, so that each step holds few boxes: every exit of a function drops
+//! all boxes that it holds.
 ghost use Rattle.std.specs.Prelude.{◌≡◌, ◌++◌, ◌∷◌, [], false, bytes_eq, IfErr, IfOk, OnOk};
 ghost use Rattle.std.specs.List.{list_any};
 ghost use Rattle.gb_provider.specs.declared.table.Transform.TheVariants as uses;
@@ -108,7 +108,7 @@ fn add_text_functions(
     Ok(())
 }
 
-/// Adds those that take or give a list or a place, behind those that map a text.
+/// Adds those that take or return a list or a place, after those that map a text.
 fn add_part_functions(
     alloc: Global,
     table: &mut FunctionTable,
@@ -131,7 +131,7 @@ fn add_part_functions(
     Ok(())
 }
 
-/// Adds those of `flatMap` and `zip`, behind all others but the tests.
+/// Adds those of `flatMap` and `zip`, after all others but the tests.
 fn add_other_functions(
     alloc: Global,
     table: &mut FunctionTable,
@@ -151,7 +151,7 @@ fn add_other_functions(
     Ok(())
 }
 
-/// Adds the tests, behind all others.
+/// Adds the tests, after all others.
 fn add_tests(
     alloc: Global,
     table: &mut FunctionTable,

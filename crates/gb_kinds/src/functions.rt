@@ -1,7 +1,7 @@
-//! The functions of values: what properties and providers are made of.
+//! The functions of values, which properties and providers are made of.
 //!
-//! Each refuses a value of another sort as a wrong value, and after that another count of arguments
-//! than its own as bad arguments.
+//! Each refuses a value of another sort as a wrong value, and after that another number of
+//! arguments than its own as bad arguments.
 ghost use Rattle.std.specs.Prelude.{◌≡◌, ◌<◌, length, string_bytes, IfOk};
 ghost use Rattle.gb_provider.specs.Meanings.{IsReply};
 ghost use Rattle.gb_kinds.specs.Functions.{
@@ -57,7 +57,7 @@ pub const IS_TRUE: u16 = 0;
 /// The number of the test `equals`.
 pub const EQUALS: u16 = 1;
 
-/// The text with its ASCII letters raised.
+/// The text with its ASCII letters in upper case.
 pub fn upper(
     alloc: Global,
     value: &Value,
@@ -160,7 +160,7 @@ fn join_texts(alloc: Global, texts: &[Text], separator: &str) -> Result<String, 
     Ok(joined)
 }
 
-/// The place of the argument beneath the place; bad arguments where that is no place.
+/// The place of the argument under the place; bad arguments if that is no place.
 pub fn child(
     alloc: Global,
     value: &Value,
@@ -179,7 +179,7 @@ pub fn child(
     }
 }
 
-/// The text, or nothing where it is empty.
+/// The text, or nothing if it is empty.
 pub fn non_empty(
     _alloc: Global,
     value: &Value,
@@ -199,7 +199,8 @@ pub fn non_empty(
     }
 }
 
-/// The output of that name of a task, or of the task whose path a text is. It is not looked up.
+/// The output with that name of a task, or of the task with the path in a text. It is not looked
+/// up.
 pub fn output(
     alloc: Global,
     value: &Value,

@@ -1,4 +1,4 @@
-//! For each word the paths of the files that hold it.
+//! The word index: for each word the paths of the files that contain it.
 ghost use Rattle.std.specs.Prelude.{◌≡◌, bytes_eq, IfOk, OnOk, IsTrue};
 ghost use Rattle.std.specs.BTreeSet.{contains};
 ghost use Rattle.std.specs.FinMap.Entries.{is_sorted};
@@ -15,7 +15,7 @@ use std::collections::BTreeMap;
 /// For each word the paths of files, each followed by a line feed.
 pub type Index = BTreeMap<RelPath, Vec<u8>>;
 
-/// The words of the files. Takes n log n steps in the bytes of the files.
+/// The index of the files. Takes n log n steps in the bytes of the files.
 pub fn index_of(alloc: Global, files: &[(RelPath, Bytes)]) -> Result<Index, AllocError>
     ensures { IfOk result (λ index. index_files index ≡ index_of files.now) }
 {
@@ -47,7 +47,7 @@ pub fn add_path(
     Ok(())
 }
 
-/// Adds the path behind the others of a word.
+/// Appends the path to the paths of a word.
 fn add_line(
     alloc: Global,
     index: &mut Index,

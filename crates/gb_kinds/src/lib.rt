@@ -1,10 +1,10 @@
-//! The kinds of actions that every build has, and the closures that stand for them.
+//! The kinds of actions that every build has, and the closures that implement them.
 //!
-//! `Builtin` says what each number of a kind means. For each kind there is one plain function,
-//! whose contract is that meaning, and its shape. A program boxes the functions and adds them to a
-//! `table`: no function here can make the boxes, since what is known of a boxed closure would then
-//! hang on that function's body.
-//! The functions of values, of which properties and providers are made, have the same form.
+//! `Builtin` defines the meaning of each number of a kind. For each kind there is one plain
+//! function, whose contract is that meaning, and its signature. A program boxes the functions and
+//! adds them to a `table`. No function here can make the boxes, since the facts known about a boxed
+//! closure would then depend on that function's body.
+//! The functions of values, which properties and providers are made of, have the same form.
 #![tactic(auto)]
 
 pub mod arguments;

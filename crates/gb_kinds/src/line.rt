@@ -23,7 +23,7 @@ impl Model for Line {
 }
 
 impl Line {
-    /// The line that tells a path.
+    /// The line of a path.
     pub fn of_path(alloc: Global, path: &RelPath) -> Result<Line, AllocError>
         ensures line { IfOk result (λ line. line ≡ path_line path.now) }
         ensures path { IfOk result (λ _. IsTrue (is_rel_path path.now)) }

@@ -28,7 +28,7 @@ pub fn own_path(alloc: Global) -> Result<RelPath, AllocError>
     RelPath::read(alloc, "").map_err(|_| AllocError)
 }
 
-/// The path of a text that is known to be one.
+/// The path of a text that is known to be a path.
 pub fn rel_path(alloc: Global, text: &str) -> Result<RelPath, AllocError>
     requires { IsTrue (is_rel_path text.now) }
     ensures { IfOk result (λ path. path ≡ text.now) }

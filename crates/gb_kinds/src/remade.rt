@@ -1,4 +1,4 @@
-//! The replies of kinds that know all the files that they make.
+//! The replies of kinds that compute all the files that they make.
 ghost use Rattle.std.specs.Prelude.{◌≡◌, [], is_some, unwrap_or, IfOk, IsTrue};
 ghost use Rattle.std.specs.FinMap.Entries.{is_sorted};
 ghost use Rattle.gb_core.specs.Lists.{byte_order};
@@ -19,10 +19,10 @@ use gb_core::name::Name;
 use gb_core::place::RelPath;
 use std::alloc::{AllocError, Global};
 
-/// What a kind makes.
+/// The files that a kind makes.
 #[derive(Drop)]
 pub struct Remade {
-    /// Where changes are told, the paths that were looked at: at all others what stands is right.
+    /// For changes, the paths that were examined: at all other paths the existing files are right.
     pub looked_at: Words,
     /// The files at these paths, or all files.
     pub made: Index,
@@ -65,7 +65,7 @@ fn as_made(alloc: Global, made: Index) -> Result<Writes, AllocError>
     Ok(writes)
 }
 
-/// What does not stand so already.
+/// The files that the output does not have already.
 fn renewed(alloc: Global, request: &Request, made: Index) -> Result<Writes, AllocError>
     ensures { IfOk result (λ writes. writes ≡ renewed request.now.outputs (index_files made)) }
 {
@@ -84,7 +84,7 @@ fn renewed(alloc: Global, request: &Request, made: Index) -> Result<Writes, Allo
     Ok(writes)
 }
 
-/// What stands at one of the paths and is made no more.
+/// The existing files at one of the paths that are no longer made.
 fn outdated(
     alloc: Global,
     request: &Request,

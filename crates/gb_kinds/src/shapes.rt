@@ -1,4 +1,4 @@
-//! The shapes of the kinds.
+//! The signatures of the kinds.
 ghost use Rattle.std.specs.Prelude.{◌≡◌, [], ◌∷◌, IfOk};
 ghost use Rattle.gb_action.specs.declared.shape.Parameter.TheVariants.{Required};
 ghost use Rattle.gb_kinds.specs.Builtin.{builtin_shape, of_files, of_texts};
@@ -100,7 +100,7 @@ pub fn concat_shape(alloc: Global) -> Result<Shape, AllocError>
     })
 }
 
-/// `addFile(PATH, TEXT)` writes beneath the folder `out`.
+/// `addFile(PATH, TEXT)` writes under the folder `out`.
 pub fn add_file_shape(alloc: Global) -> Result<Shape, AllocError>
     ensures { IfOk result (λ shape. shape ≡ builtin_shape ADD_FILE) }
 {
@@ -114,7 +114,7 @@ pub fn word_index_shape(alloc: Global) -> Result<Shape, AllocError>
     Ok(of_files(ArgList::new(alloc)))
 }
 
-/// The shape of a kind that takes one argument and reads no files.
+/// The signature of a kind that takes one argument and reads no files.
 fn one_argument(alloc: Global, arg: Arg, out: Option<Form>) -> Result<Shape, AllocError>
     ensures { IfOk result (λ shape. shape ≡ of_texts (Required arg ∷ []) out) }
 {
@@ -132,7 +132,7 @@ fn two_arguments(alloc: Global, first: Arg, second: Arg) -> Result<ArgList, Allo
     Ok(args)
 }
 
-/// The shape of a kind that reads no files.
+/// The signature of a kind that reads no files.
 pub(crate) fn of_texts(args: ArgList, out: Option<Form>) -> Shape
     ensures { result ≡ of_texts args out }
 {
@@ -144,7 +144,7 @@ pub(crate) fn of_texts(args: ArgList, out: Option<Form>) -> Shape
     }
 }
 
-/// The shape of a kind that follows the changes of files.
+/// The signature of an incremental kind.
 pub fn of_files(args: ArgList) -> Shape
     ensures { result ≡ of_files args }
 {

@@ -1,4 +1,4 @@
-//! What a request holds of the files that kinds read, and the lines that are printed of their changes.
+//! The files and changes that a request holds for kinds, and the lines printed for the changes.
 ghost use Rattle.std.specs.Prelude.{◌≡◌, ◌++◌, [], map, unwrap_or, IfOk, IsTrue};
 ghost use Rattle.std.specs.Option.{option_copied};
 ghost use Rattle.std.specs.FinMap.Entries.{find, is_sorted};

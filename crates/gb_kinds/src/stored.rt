@@ -1,4 +1,4 @@
-//! The functions of values as stored closures, beside the built-in kinds of actions.
+//! The functions of values as stored closures, stored next to the built-in kinds of actions.
 ghost use Rattle.std.specs.Prelude.{◌≡◌};
 ghost use Rattle.gb_provider.specs.Meanings.{IsReply};
 ghost use Rattle.gb_kinds.specs.Functions.{
@@ -36,12 +36,12 @@ pub type ZipRun = Box<dyn Fn(Global, &Value, &Value, &[Text]) -> Result<Value, T
 pub type TestRun = Box<dyn Fn(Global, &Value, &[Text]) -> Result<bool, TransformFault>>;
 
 /// Names the closures of all uses. Each stored type has it as its first field, since the meanings
-/// in `Transforms` are of all four types, and a method can speak of no closure's type but those that
+/// in `Transforms` are about all four types, and a method can mention only the closure types that
 /// its parameters name, in one order.
 type Runs = PhantomData<(MapRun, FlatRun, ZipRun, TestRun)>;
 
-/// A closure, beside the number of the function of `map` whose meaning it keeps and the count of
-/// its arguments.
+/// A closure, with the number of the `map` function whose meaning it keeps and the number of its
+/// arguments.
 #[derive(Drop)]
 pub struct StoredMap {
     /// The number of the function, which names its meaning.
@@ -50,7 +50,7 @@ pub struct StoredMap {
     pub arity: u8,
     runs: Runs,
     run: MapRun,
-    /// The count is that of the function.
+    /// The number of arguments is that of the function.
     pub ghost counted: { arity ≡ map_arity kind },
     ghost callable: { (alloc : _) (value : _) (arguments : _) → MapRun.pre run alloc value arguments },
     ghost keeps: { (alloc : _) (value : _) (arguments : _) (answer : _)
@@ -74,8 +74,8 @@ impl StoredMap {
     }
 }
 
-/// A closure, beside the number of the function of `flatMap` whose meaning it keeps and the count
-/// of its arguments.
+/// A closure, with the number of the `flatMap` function whose meaning it keeps and the number of
+/// its arguments.
 #[derive(Drop)]
 pub struct StoredFlat {
     /// The number of the function, which names its meaning.
@@ -84,7 +84,7 @@ pub struct StoredFlat {
     pub arity: u8,
     runs: Runs,
     run: FlatRun,
-    /// The count is that of the function.
+    /// The number of arguments is that of the function.
     pub ghost counted: { arity ≡ flat_map_arity kind },
     ghost callable: { (alloc : _) (value : _) (arguments : _) → FlatRun.pre run alloc value arguments },
     ghost keeps: { (alloc : _) (value : _) (arguments : _) (answer : _)
@@ -108,8 +108,8 @@ impl StoredFlat {
     }
 }
 
-/// A closure, beside the number of the function of `zip` whose meaning it keeps and the count of
-/// its arguments.
+/// A closure, with the number of the `zip` function whose meaning it keeps and the number of its
+/// arguments.
 #[derive(Drop)]
 pub struct StoredZip {
     /// The number of the function, which names its meaning.
@@ -118,7 +118,7 @@ pub struct StoredZip {
     pub arity: u8,
     runs: Runs,
     run: ZipRun,
-    /// The count is that of the function.
+    /// The number of arguments is that of the function.
     pub ghost counted: { arity ≡ zip_arity kind },
     ghost callable: { (alloc : _) (left : _) (right : _) (arguments : _)
         → ZipRun.pre run alloc left right arguments },
@@ -143,7 +143,7 @@ impl StoredZip {
     }
 }
 
-/// A closure, beside the number of the test whose meaning it keeps and the count of its arguments.
+/// A closure, with the number of the test whose meaning it keeps and the number of its arguments.
 #[derive(Drop)]
 pub struct StoredTest {
     /// The number of the test, which names its meaning.
@@ -152,7 +152,7 @@ pub struct StoredTest {
     pub arity: u8,
     runs: Runs,
     run: TestRun,
-    /// The count is that of the test.
+    /// The number of arguments is that of the test.
     pub ghost counted: { arity ≡ test_arity kind },
     ghost callable: { (alloc : _) (value : _) (arguments : _) → TestRun.pre run alloc value arguments },
     ghost keeps: { (alloc : _) (value : _) (arguments : _) (answer : _)

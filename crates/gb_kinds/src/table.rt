@@ -1,7 +1,7 @@
 //! All built-in actions by name.
 //!
-//! The table is filled in three steps, so that each holds few boxes: each way out of a function lets go all
-//! boxes that it holds.
+//! The table is filled in three steps, so that each step holds few boxes: every exit of a function
+//! drops all boxes that it holds.
 ghost use Rattle.std.specs.Prelude.{◌≡◌, ◌++◌, ◌∷◌, [], ℕ, List, false, bytes_eq, IfErr, IfOk, OnOk, map};
 ghost use Rattle.std.specs.List.{list_any};
 ghost use Rattle.gb_action.specs.declared.table.TableFault.TheVariants.{OutOfMemory};
@@ -97,7 +97,7 @@ fn add_text_kinds(
     Ok(())
 }
 
-/// Adds the kinds that follow the changes of files, behind those that read no files.
+/// Adds the incremental kinds, after those that read no files.
 fn add_file_kinds(
     alloc: Global,
     table: &mut ActionTable<StoredAction>,
@@ -153,7 +153,7 @@ fn add_file_kinds(
     Ok(())
 }
 
-/// Adds the other kinds that write one file, behind all others.
+/// Adds the other kinds that write one file, after all others.
 fn add_one_file_kinds(
     alloc: Global,
     table: &mut ActionTable<StoredAction>,
@@ -180,7 +180,7 @@ fn add_one_file_kinds(
     Ok(())
 }
 
-/// Adds a kind of this shape under a name that no other has.
+/// Adds a kind with this signature under a name that no other has.
 fn add(
     alloc: Global,
     table: &mut ActionTable<StoredAction>,

@@ -27,7 +27,7 @@ pub fn print_line(alloc: Global, request: &Request) -> Result<Reply, ActionFault
     })
 }
 
-/// Makes one file, the output itself, which holds the text.
+/// Makes one file, the output itself, which contains the text.
 pub fn write_text(alloc: Global, request: &Request) -> Result<Reply, ActionFault>
     requires { IsAsked (builtin_shape WRITE_TEXT) request.now }
     ensures { Answers (builtin_makes WRITE_TEXT) (builtin_prints WRITE_TEXT) request.now result }

@@ -1,4 +1,4 @@
--- What a task's label goes by, as it was answered on a part of the way and on all of it.
+-- What a task's outcome is based on, as it was answered on a part of the way and on all of it.
 use Rattle.std.proofs.Common.{◌≡◌, ℕ, List, Option, Some, refl, sym, subst}
 use Rattle.gb_folder.specs.Calls.{Asks, Call, no_change}
 use Rattle.gb_folder.specs.Files.{Tearing}
@@ -15,7 +15,7 @@ use Rattle.gb_label.specs.Reading.{AreOutputs, Read, prints_read, records_with}
 use Rattle.gb_label.specs.Answered.{WasDecided}
 use Rattle.gb_label.specs.Deciding.{IsPresentOf}
 
--- where all is to be done anew nothing is to be answered
+-- for a full rebuild nothing has to be answered
 pub full_decided : {F : Type 0} (failures : F → ℕ) (may_leave : F → Tearing) (asked : F → Call → F → Type 0) (old new : F) (options : Options) (task : Task)
     (last : Option Record) (inputs : List Read) (decision : Decision) (outputs : List Read)
     → decision ≡ decisions.Full → WasDecided failures may_leave asked old new options task last inputs decision outputs

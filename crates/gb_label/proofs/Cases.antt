@@ -1,4 +1,4 @@
--- The case of a task, by what hinders it and by its source.
+-- The case of a task, by the faults of reading it and by its source.
 use Rattle.std.specs.Prelude.{ℕ, ◌≡◌, ◌≤◌, ◌++◌, not, Bool, true, false, List, [], ◌∷◌, Option, None, Some, if◌then◌else◌}
 use Rattle.std.proofs.Common.{refl, sym, ap, ◌∙◌, inl, inr}
 use Rattle.gb_core.specs.Lists.{first_of}
@@ -40,26 +40,26 @@ hindered task folder fault runs acts first =
       first,
     )
 
--- a task whose inputs can be read is hindered by what hinders listing its outputs
+-- a task whose inputs can be read has only the faults of listing its outputs
 pub hindered_at_outputs : (task : Task) (folder : Contents) (before after : ℕ) (fault : Fault) → task.runs ≡ true → is_empty task.actions ≡ false
     → input_faults task folder ≡ [] → CannotRead before after (listing_faults task folder) fault → IsHindered task folder before after fault
 hindered_at_outputs task folder before after fault runs acts inputs (inl machine) = inl machine
 hindered_at_outputs task folder before after fault runs acts inputs (inr first) =
     inr (hindered task folder fault runs acts (ap (λ faults. first_of (faults ++ listing_faults task folder)) inputs ∙ first))
 
--- what hinders it after other calls, which changed nothing, hinders it
+-- a fault after other calls, which changed nothing, is a fault before them
 pub cannot_before : (task : Task) (old now : Contents) (first second third : ℕ) (fault : Fault) → now ≡ old → first ≤ second → second ≤ third
     → CannotRead second third (listing_faults task now) fault → CannotRead first third (listing_faults task old) fault
 cannot_before task old now first second third fault same le more (inl machine) = inl (machine_before first second third fault le more machine)
 cannot_before task old now first second third fault same le more (inr odd) =
     inr (ap (λ folder. first_of (listing_faults task folder)) (sym same) ∙ odd)
 
--- the first of the front is the first of all
+-- the first of a prefix is the first of all
 pub first_in_front : {X : Type 0} (xs ys : List X) (x : X) → first_of xs ≡ Some x → first_of (xs ++ ys) ≡ Some x
 first_in_front [] ys x is = none_some is
 first_in_front (z ∷ xs) ys x is = is
 
--- where nothing hinders it, its source decides
+-- if it has no fault, its source decides
 pub by_source : (task : Task) (folder : Contents) (dry : Bool) → task.runs ≡ true → is_empty task.actions ≡ false → input_faults task folder ≡ []
     → listing_faults task folder ≡ [] → has_no_source task folder.files ≡ dry → early_case task folder ≡ cased true false [] dry
 by_source task folder dry runs acts inputs outputs source =
@@ -68,7 +68,7 @@ by_source task folder dry runs acts inputs outputs source =
     ∙ ap (λ faults. cased true false faults (has_no_source task folder.files)) outputs
     ∙ ap (cased true false []) source
 
--- a task of no case has nothing odd at its outputs
+-- a task of no case has no unsupported entry at its outputs
 pub listed_if_none : (task : Task) (folder : Contents) → early_case task folder ≡ None → listing_faults task folder ≡ []
 listed_if_none task folder none =
     none_after (input_faults task folder) (listing_faults task folder)

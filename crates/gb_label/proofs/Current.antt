@@ -1,4 +1,4 @@
--- A task is decided up to date only where it may be told so.
+-- A task is decided up to date only if it may be reported so.
 use Rattle.std.specs.Prelude.{◌≡◌, List, [], ◌∷◌, map}
 use Rattle.std.proofs.Common.{refl, sym, ap, ◌∙◌}
 use Rattle.gb_folder.specs.Files.{is_empty}
@@ -13,7 +13,7 @@ use Rattle.gb_plan.specs.declared.task.TaskDeclaration.{TaskDeclaration as Task}
 use Rattle.gb_report.specs.declared.report.Options.{Options}
 use Rattle.gb_label.specs.Deciding.{IsPresentOf, MayDecide}
 
--- as many records as outputs: where there is a record there is an output
+-- as many records as outputs: if there is a record there is an output
 as_empty : (records : List OutputRecord) (outputs : List Output)
     → map (λ found. found.0) (prints_in records) ≡ map (λ output. output.name) outputs → is_empty records ≡ is_empty outputs
 as_empty [] [] same = refl

@@ -1,4 +1,4 @@
--- Why the outputs of a task cannot be read: something odd stands at them, or they have grown.
+-- Why the outputs of a task cannot be read: they have an unsupported entry, or they have grown.
 use Rattle.std.specs.Prelude.{ℕ, ◌≡◌, ◌⊎◌, ◌++◌, ◌||◌, Bool, true, false, List, [], ◌∷◌, map, if◌then◌else◌, Some, Result, Ok, Err, IfOk, IfErr}
 use Rattle.std.specs.List.{AllByRecursion, filter, flat_map, list_any}
 use Rattle.std.proofs.Common.{refl, sym, ap, subst, ◌∙◌, inl, inr, cond}
@@ -41,7 +41,7 @@ many name entries = by _
     by true = (inr (name, refl), tt)
     by false = tt
 
--- what hinders reading an output at which nothing odd stands
+-- the faults of reading an output without an unsupported entry
 one : (folder : Contents) (output : Output) → is_odd_under folder output.place ≡ false → AllByRecursion IsGrown (print_faults folder output)
 one folder output none =
     told (output_faults output.name output.place folder)
@@ -54,7 +54,7 @@ one folder output none =
     listing true = tt
     listing false = all_append Grown (odd_roots folder (output.place ∷ [])) _ (subst (AllByRecursion Grown) (sym odd) tt) (many output.name _)
 
--- the first output has nothing odd, nor have the others
+-- the first output has no unsupported entry, nor have the others
 pub odd_parts : (folder : Contents) (output : Output) (outputs : List Output)
     → map told_of_tree (odd_roots folder (map (λ (o : Output). o.place) (output ∷ outputs))) ≡ []
     → (is_odd_under folder output.place ≡ false) × (map told_of_tree (odd_roots folder (map (λ (o : Output). o.place) outputs)) ≡ [])
@@ -85,7 +85,7 @@ split [] gs fault grown first = inr first
 split (f ∷ fs) gs fault grown first = inl (subst IsGrown (some_same first) grown.0)
 
 module _ (folder : Contents) (output : Output) (outputs : List Output) where
-  -- what hinders listing outputs, by whether something odd stands at the first
+  -- the faults of listing outputs, by whether the first has an unsupported entry
   odd_if : (b : Bool) → is_odd_under folder output.place ≡ b
       → odd_told folder (output ∷ outputs) ≡ cond b (faults.BadFileName output.place ∷ odd_told folder outputs) (odd_told folder outputs)
   odd_if b is = ap (λ c. map told_of_tree (map trees.BadFileName (cond c (output.place ∷ others) others))) is ∙ by_test b
@@ -98,7 +98,7 @@ module _ (folder : Contents) (output : Output) (outputs : List Output) where
       by_test true = refl
       by_test false = refl
 
-  -- something odd at an output that is not the tool's own hinders reading it first
+  -- an unsupported entry at an output that is not the tool's own is the first fault of reading it
   first_if : (rest : List Fault) → is_own output.place ≡ false → is_odd_under folder output.place ≡ true
       → first_of (print_faults folder output ++ rest) ≡ Some (faults.BadFileName output.place)
   first_if rest own odd =
@@ -119,7 +119,7 @@ apart : (a b : Bool) → (a || b) ≡ false → (a ≡ false) × (b ≡ false)
 apart true b e = not_false e
 apart false b e = (refl, e)
 
--- what hinders reading outputs is that they have grown, or the first thing that hinders listing them
+-- the fault of reading outputs is that they have grown, or the first fault of listing them
 first_told : (folder : Contents) (outputs : List Output) (fault : Fault) → Foreign outputs → first_of (flat_map (print_faults folder) outputs) ≡ Some fault
     → IsGrown fault ⊎ (first_of (odd_told folder outputs) ≡ Some fault)
 first_told folder [] fault own first = none_some first
@@ -150,7 +150,7 @@ none_told folder (output ∷ outputs) own none =
         none_some (ap first_of (sym none) ∙ first_if folder output outputs (flat_map (print_faults folder) outputs) (apart (is_own output.place) _ own).0 odd)
     by next false fine = odd_if folder output outputs false fine ∙ next
 
--- Why outputs are not read: they have grown, or what hinders listing them.
+-- Why outputs are not read: they have grown, or the fault of listing them.
 abbrev pub CannotPrint : Task → Contents → ℕ → ℕ → Fault → Type 0
 CannotPrint task folder before after fault =
     (IsGrown fault × (is_empty (flat_map (print_faults folder) task.outputs) ≡ false))
@@ -168,7 +168,7 @@ cannot_print task folder before after fault own (inr first) = elim (first_told f
   | inr odd ↦ inr (inr odd)
 ]
 
--- where they were listed before, they have grown
+-- if they were listed before, they have grown
 pub cannot_print_listed : (task : Task) (folder : Contents) (before after : ℕ) (fault : Fault) → listing_faults task folder ≡ []
     → CannotRead before after (flat_map (print_faults folder) task.outputs) fault → CannotPrint task folder before after fault
 cannot_print_listed task folder before after fault none (inl machine) = inr (inl machine)
@@ -188,7 +188,7 @@ large_if : (fault : Fault) → IsGrown fault → is_large fault ≡ true
 large_if fault (inl at) = ap is_large at.1
 large_if fault (inr of) = ap is_large of.1
 
--- what hinders listing is no growth
+-- a fault of listing is no growth
 listing_is_not : (task : Task) (folder : Contents) (before after : ℕ) (fault : Fault) → CannotRead before after (listing_faults task folder) fault
     → is_large fault ≡ false
 listing_is_not task folder before after fault (inl (inl memory)) = ap is_large memory
@@ -206,7 +206,7 @@ has_grown task folder before after fault grown (inl has) = has.1
 has_grown task folder before after fault grown (inr read) =
     not_false (sym (large_if fault grown) ∙ listing_is_not task folder before after fault read)
 
--- any other hinders listing them
+-- any other is a fault of listing them
 pub cannot_read : (task : Task) (folder : Contents) (before after : ℕ) (fault : Fault) → (¬ IsGrown fault) → CannotPrint task folder before after fault
     → CannotRead before after (listing_faults task folder) fault
 cannot_read task folder before after fault other (inl has) = absurd (other has.0)

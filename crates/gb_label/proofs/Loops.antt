@@ -25,7 +25,7 @@ one_more f xs i x less is =
 pub map_more : {X Y : Type 0} (f : X → Y) (xs : List X) (i : ℕ) (x : X) → i < length xs → x ≡ get_or xs i x → map f (take (i + 1) xs) ≡ map f (take i xs) ++ f x ∷ []
 map_more f xs i x less is = ap (map f) (take_more xs i x less ∙ ap (λ z. take i xs ++ z ∷ []) (sym is)) ∙ map-append f (take i xs) (x ∷ [])
 
--- the first of all is the first of one, where those before it give none
+-- the first of all is the first of one, if those before it give none
 pub first_of_all : {X Y : Type 0} (f : X → List Y) (xs : List X) (i : ℕ) (x : X) (y : Y) → i < length xs → x ≡ get_or xs i x → flat_map f (take i xs) ≡ []
     → first_of (f x) ≡ Some y → first_of (flat_map f xs) ≡ Some y
 first_of_all f [] i x y less is none h = absurd (omega (arith, less))
@@ -42,7 +42,7 @@ first_of_all {Y = Y} f (z ∷ xs) (suc i) x y less is none h =
     empty [] zs e = (refl, e)
     empty (w ∷ ys) zs e = not_false (sym (ap is_empty e))
 
--- the names of what is gathered are those of what was looked at, and of one more
+-- the names of what is gathered are those of what was read, and of one more
 pub name_more : {X Y K : Type 0} (key : Y → K) (name : X → K) (ys zs : List Y) (y : Y) (xs : List X) (i : ℕ) (x : X) → i < length xs
     → x ≡ get_or xs i x → map key ys ≡ map name (take i xs) → zs ≡ ys ++ y ∷ [] → key y ≡ name x
     → map key zs ≡ map name (take (i + 1) xs)

@@ -15,7 +15,7 @@ use Rattle.gb_tree.specs.Reading.{entries_seen}
 use Rattle.gb_label.specs.ReadingAnswered.{AreInputsAnswered, AreInputsRead, AreOutputsAnswered, AreOutputsRead, IsInputAnswered, IsInputRead, IsOutputAnswered, IsOutputRead}
 use Rattle.gb_label.specs.Reading.{Read}
 
--- ---- Rows side by side
+-- ---- Lists in parallel
 
 pub as_many : {A B : Type 0} (R : A → B → Type 0) (xs : List A) (ys : List B) → AllZip R xs ys → length xs ≡ length ys
 as_many R [] [] all = refl
@@ -23,7 +23,7 @@ as_many R [] (y ∷ ys) all = absurd all
 as_many R (x ∷ xs) [] all = absurd all
 as_many R (x ∷ xs) (y ∷ ys) all = ap suc (as_many R xs ys all.1)
 
--- what is made of the next one stands behind what is made of those before it
+-- what is made of the next one comes after what is made of those before it
 pub next_made : {A B C : Type 0} (R : A → B → Type 0) (S : A → C → Type 0) (xs : List A) (ys : List B) (made : List C) (i : ℕ) (y : B) (z : C) → i < length ys
     → y ≡ get_or ys i y → AllZip R xs ys → ((x : A) → R x y → S x z) → AllZip S (take i xs) made → AllZip S (take (suc i) xs) (made ++ z ∷ [])
 next_made R S [] [] made i y z less is all step so_far = absurd (omega (arith, less))

@@ -28,7 +28,7 @@ pub mapped_more : {X Y : Type 0} (f : X → Y) (xs more : List X) (x : X) (ys ne
 mapped_more f xs more x ys next y so_far added longer is =
     added ∙ ap₂ (λ zs z. zs ++ z ∷ []) so_far is ∙ sym (map-append f xs (x ∷ [])) ∙ sym (ap (map f) longer)
 
--- what is gathered comes of the first ones, and of one more
+-- what is gathered is that of the first ones, and of one more
 pub gathered_more : {X Y : Type 0} (f : X → Y) (ys next : List Y) (y : Y) (xs : List X) (i : ℕ) (x : X) → i < length xs → x ≡ get_or xs i x → next ≡ ys ++ y ∷ [] → y ≡ f x → ys ≡ map f (take i xs) → next ≡ map f (take (i + 1) xs)
 gathered_more f ys next y xs i x less is added same so_far =
     added ∙ ap₂ (λ zs z. zs ++ z ∷ []) so_far same ∙ sym (map_more f xs i x less is)
@@ -39,7 +39,7 @@ seen_more {A} {B} R xs ys next i x y less is added so_far holds =
     (subst (λ (zs : List A). AllZip R zs (ys ++ y ∷ [])) (ap (λ z. take i xs ++ z ∷ []) is ∙ sym (take_more xs i x less))
     (all_zipped_more R (take i xs) ys x y so_far holds))
 
--- the digests of what is read are told of the first ones, and of one more
+-- the digests of what is read are those of the first ones, and of one more
 pub prints_more : {X : Type 0} (told : X → Prints) (readings next : List Read) (x : Read) (xs : List X) (i : ℕ) (y : X) → i < length xs → y ≡ get_or xs i y → next ≡ readings ++ x ∷ [] → x.0 ≡ (told y).0 → digests_seen x.1 ≡ (told y).1
     → prints_read readings ≡ map told (take i xs) → prints_read next ≡ map told (take (i + 1) xs)
 prints_more told readings next x xs i y less is added name digests so_far =
@@ -47,7 +47,7 @@ prints_more told readings next x xs i y less is added name digests so_far =
     (ap prints_read added ∙ map-append (λ (reading : Read). let found : Prints = (reading.0, digests_seen reading.1) in found) readings (x ∷ []))
     (pair_is (x.0, digests_seen x.1) (told y).0 (told y).1 name digests) so_far
 
--- ---- Where they lie
+-- ---- Where they are
 
 entries_all : (P : Place → Type 0) (seen : List SeenFile) → AllByRecursion (λ file. P file.place) seen → AllByRecursion (λ entry. P entry.1) (entries_seen seen)
 entries_all P [] all = tt
@@ -60,11 +60,11 @@ among_within test seen all place among =
 
 -- ---- Inputs
 
--- the files of the reading stand as they were read
+-- the files of the reading are as they were read
 abbrev pub Stands : Files → Read → Type 0
 Stands files reading = AllByRecursion (IsSeenIn files) reading.1
 
--- the tree that it tells of
+-- the tree of the reading
 abbrev pub tree_made : Files → Read → List ℕ × Tree
 tree_made files reading = (reading.0, contents_at files (entries_seen reading.1))
 
@@ -90,7 +90,7 @@ trees_made files (property ∷ properties) (reading ∷ readings) named seen =
 
 -- ---- Outputs
 
--- the output with the files that its reading tells of
+-- the output with the files of its reading
 abbrev pub output_made : Files → Output × Read → OutputFiles
 output_made files pair = record { name = pair.0.name; form = pair.0.form; files = contents_at files (entries_seen pair.1.1) }
 
@@ -139,7 +139,7 @@ outputs_made files (output ∷ outputs) (reading ∷ readings) seen =
 
 -- ---- What is recorded
 
--- the digests of the files that stand at outputs are those that are recorded
+-- the digests of the files at outputs are those that are recorded
 pub prints_recorded : (files : Files) (outputs : List Output) → prints_seen (map (seen_of files) outputs) ≡ prints_in (map (recorded_of files) outputs)
 prints_recorded files [] = refl
 prints_recorded files (output ∷ outputs) = ap (λ (prints : List Prints). (recorded_of files output).prints ∷ prints) (prints_recorded files outputs)

@@ -1,4 +1,4 @@
--- Digests beside the outputs that they are of.
+-- Digests with the outputs that they are of.
 use Rattle.std.specs.Prelude.{◌≡◌, ℕ, List, [], ◌∷◌, map}
 use Rattle.std.proofs.Common.{refl, sym, ap, subst, ◌∙◌}
 use Rattle.gb_folder.specs.Files.{Files}
@@ -11,7 +11,7 @@ use Rattle.gb_plan.specs.declared.task.TaskDeclaration.{TaskDeclaration as Task}
 use Rattle.gb_label.specs.Reading.{AreOutputs, AreOutputsSeen, Read, prints_read, recorded_of, records_with}
 use Rattle.gb_label.specs.Deciding.{AreOutputsFor, AreOutputsSeenFor}
 
--- as many digests as outputs stand in as many records
+-- as many digests as outputs are in as many records
 pub prints_with : (outputs : List Output) (prints : List Prints) → map (λ (found : Prints). found.0) prints ≡ map (λ (output : Output). output.name) outputs
     → prints_in (records_with outputs prints) ≡ prints
 prints_with [] [] same = refl
@@ -23,7 +23,7 @@ prints_with (output ∷ outputs) (found ∷ prints) same = ap (λ (l : List Prin
         → map (λ (f : Prints). f.0) prints ≡ map (λ (o : Output). o.name) outputs
     rest e = cc
 
--- the digests of what stands make the records of it
+-- the digests of the current files make the records of them
 pub with_standing : (files : Files) (outputs : List Output) → records_with outputs (prints_in (map (recorded_of files) outputs)) ≡ map (recorded_of files) outputs
 with_standing files [] = refl
 with_standing files (output ∷ outputs) = ap (λ (l : List OutputRecord). recorded_of files output ∷ l) (with_standing files outputs)
@@ -48,7 +48,7 @@ seen_for task files decisions.UpToDate outputs are = tt
 seen_for task files (decisions.Incremental changes) outputs are = are
 seen_for task files decisions.Full outputs are = tt
 
--- where the run is one in full nothing is to be read
+-- for a full execution nothing has to be read
 pub none_for : (task : Task) (decision : Decision) (outputs : List Read) → decision ≡ decisions.Full → AreOutputsFor task decision outputs
 none_for task decision outputs full = subst (λ (d : Decision). AreOutputsFor task d outputs) (sym full) tt
 

@@ -58,7 +58,7 @@ empty_digests : (tree : Tree) → is_empty (digests_of tree) ≡ is_empty tree
 empty_digests [] = refl
 empty_digests (file ∷ tree) = refl
 
--- of the digests of trees it is told as of the trees themselves
+-- the digests of trees give the same answer as the trees themselves
 same_reasons : (properties : List FileProperty) (files : Files)
     → list_all gives_no_source (zip properties (digests_in (map (λ property. (property.name, tree_of property files)) properties)))
     ≡ list_all (λ property. is_empty (tree_of property files)) (filter (λ property. property.skip_when_empty) properties)
@@ -79,7 +79,7 @@ same_reasons (property ∷ properties) files =
 pub same_source : (task : Task) (files : Files) → lacks_source task.files (digests_in (trees_of task files)) ≡ has_no_source task files
 same_source task files = ap (λ b. list_any (λ property. property.skip_when_empty) task.files && b) (same_reasons task.files files)
 
--- of readings it is told as of their digests
+-- readings give the same answer as their digests
 reasons_read : (properties : List FileProperty) (readings : List Read)
     → list_all gives_no_source (zip properties (prints_read readings)) ≡ list_all gives_no_source (zip properties readings)
 reasons_read [] readings = refl

@@ -1,4 +1,4 @@
--- A tree's fault that is told of the device is of the device.
+-- A tree's fault that is reported as the device's is the device's.
 use Rattle.std.specs.Prelude.{ℕ, ◌≡◌, Option, None, Some, Result, Ok, Err}
 use Rattle.std.proofs.Common.{sym, ap, ◌∙◌, inl, inr}
 use Rattle.gb_folder.specs.Files.{Place}
@@ -11,7 +11,7 @@ use Rattle.gb_store.specs.Faults.{IsOfMachine}
 use Rattle.gb_meaning.specs.Tree.{told_of_tree}
 use Rattle.gb_meaning.proofs.Common.{none_some, some_same}
 
--- the place for which a fault blames the device
+-- the place of a fault that is attributed to the device
 abbrev blamed_by : Fault → Option Place
 blamed_by (faults.Device place) = Some place
 blamed_by other = None
@@ -34,7 +34,7 @@ err_is {E = E} r y w a b = ap (λ o. either o y) (sym a ∙ b)
     either (Ok x) e = e
     either (Err e) d = e
 
--- a tree's fault that is the machine's is told as one
+-- a tree's fault that is the machine's is reported as one
 pub told_machine : (before after : ℕ) (fault : TreeFault) (told : Fault) → told ≡ told_of_tree fault → IsTreeFaultOfMachine before after fault → IsOfMachine before after told
 told_machine before after fault told is (inl none) = inl (is ∙ ap told_of_tree none)
 told_machine before after fault told is (inr device) = inr (device.0, is ∙ ap told_of_tree device.1, device.2)

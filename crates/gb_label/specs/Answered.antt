@@ -1,4 +1,4 @@
--- What a task's label goes by, as calls answered it, over any folder.
+-- What the outcome of a task is based on, as calls answered it, over any folder.
 use Rattle.std.specs.Prelude.{ℕ, ◌≡◌, true, List, Option, Some, ⊤}
 use Rattle.gb_folder.specs.Calls.{Call}
 use Rattle.gb_folder.specs.Files.{Tearing}
@@ -25,7 +25,7 @@ WasSourceless failures may_leave asked old new task =
     (inputs : List Read) × AreInputsAnswered failures may_leave asked old new task inputs
     × (lacks_source task.files inputs ≡ true)
 
--- Where its record is to decide, its inputs were answered, and where it has no source they were found so.
+-- If its record is to decide, its inputs were answered, and if it has no source they were found so.
 abbrev pub WasLookedAt : {F : Type 0} → (F → ℕ) → (F → Tearing) → (F → Call → F → Type 0) → F → F → Task
     → Look → Type 0
 WasLookedAt failures may_leave asked old new task looks.Skips = ⊤
@@ -44,8 +44,8 @@ pub record IsFoundCurrent (options : Options) (task : Task) (last : Option Recor
   pub has : IsPresentOf options task inputs (records_with task.outputs outputs) present
   pub decides : DecidesFrom run present decisions.UpToDate
 
--- What was decided on: outputs that were answered, where the decision goes by them; and what is up to date
--- was found so on just these and these inputs.
+-- What was decided on: outputs that were answered, if the decision is based on them. What is up to date was
+-- found so on exactly these and these inputs.
 abbrev pub WasDecided : {F : Type 0} → (F → ℕ) → (F → Tearing) → (F → Call → F → Type 0) → F → F → Options
     → Task → Option Record → List Read → Decision → List Read → Type 0
 WasDecided failures may_leave asked old new options task last inputs decisions.UpToDate outputs =
@@ -55,7 +55,7 @@ WasDecided failures may_leave asked old new options task last inputs (decisions.
     AreOutputsAnswered failures may_leave asked old new task outputs
 WasDecided failures may_leave asked old new options task last inputs decisions.Full outputs = ⊤
 
--- what a turn is prepared for goes by what was answered
+-- an execution is prepared on the basis of what was answered
 abbrev pub WasPrepared : {F : Type 0} → (F → ℕ) → (F → Tearing) → (F → Call → F → Type 0) → F → F → Options
     → Task → Option Record → Prepared → Type 0
 WasPrepared failures may_leave asked old new options task last prepared.Skips = ⊤

@@ -1,4 +1,4 @@
--- What is decided of a task that has a source.
+-- The decision on a task that has a source.
 use Rattle.std.specs.Prelude.{ℕ, ◌≡◌, ◌⊎◌, true, false, Option, None, Some, map, IsTrue, List, ⊤}
 use Rattle.std.specs.List.{filter, flat_map}
 use Rattle.gb_folder.specs.Files.{Contents, Files, Place, is_empty}
@@ -45,7 +45,7 @@ pub record IsPresentOf (options : Options) (task : Task) (inputs : List Prints) 
   pub rerun : present.rerun ≡ options.rerun
   pub stale : present.is_stale ≡ task.is_stale
 
--- the cause to run in full holds of a task with this record; a record that counts is asked for last
+-- the cause to run in full holds of a task with this record; a record that counts is considered last
 abbrev pub IsCause : Options → Task → Option Record → Cause → Type 0
 IsCause options task None causes.NoRecord = ⊤
 IsCause options task (Some run) causes.Rerun = options.rerun ≡ true
@@ -53,13 +53,13 @@ IsCause options task (Some run) causes.Stale = (options.rerun ≡ false) × (tas
 IsCause options task (Some run) causes.Grown = (options.rerun ≡ false) × (task.is_stale ≡ false)
 IsCause options task old other = ⊥
 
--- The decision follows from what it goes by: a cause to run in full, or the record and what the task has now.
+-- The decision follows from its basis: a cause to run in full, or the record and what the task has now.
 abbrev pub GoesBy : Options → Task → Option Record → Decision → Basis → Type 0
 GoesBy options task old decision (bases.Anew cause) = (decision ≡ Full) × IsCause options task old cause
 GoesBy options task (Some run) decision (bases.Compared present) = DecidesFrom run present decision
 GoesBy options task None decision (bases.Compared present) = ⊥
 
--- And that is so in this folder: its outputs are such as no execution leaves, or that is what the task has.
+-- The basis holds in this folder: the outputs are such as no execution leaves, or it is what the task has.
 abbrev pub IsBasisIn : Options → Task → Contents → Basis → Type 0
 IsBasisIn options task folder (bases.Anew causes.Grown) =
     is_empty (flat_map (print_faults folder) task.outputs) ≡ false
@@ -68,12 +68,12 @@ IsBasisIn options task folder (bases.Compared present) =
     IsPresentOf options task (digests_in (trees_of task folder.files))
     (map (recorded_of folder.files) task.outputs) present
 
--- what is decided of a task with this record in this folder
+-- the decision on a task with this record in this folder
 abbrev pub IsDecided : Options → Task → Contents → Option Record → Decision → Type 0
 IsDecided options task folder old decision =
     (basis : Basis) × GoesBy options task old decision basis × IsBasisIn options task folder basis
 
--- what may be decided over any folder: that a task is up to date only where it may be told so
+-- what may be decided over any folder: a task is up to date only if it may be reported so
 abbrev pub MayDecide : Options → Task → Decision → Type 0
 MayDecide options task decisions.UpToDate = MayAnswer options task outcomes.UpToDate
 MayDecide options task (decisions.Incremental changes) = ⊤
@@ -85,13 +85,13 @@ IsGrown fault =
     ((place : Place) × (fault ≡ faults.TooLarge place))
     ⊎ ((name : List ℕ) × (fault ≡ faults.TooManyFiles name))
 
--- where it may go on by changes its outputs were read
+-- if it may execute incrementally, its outputs were read
 abbrev pub AreOutputsFor : Task → Decision → List Read → Type 0
 AreOutputsFor task decisions.UpToDate outputs = ⊤
 AreOutputsFor task (decisions.Incremental changes) outputs = AreOutputs task outputs
 AreOutputsFor task decisions.Full outputs = ⊤
 
--- and so they stand in these files
+-- and they are so in these files
 abbrev pub AreOutputsSeenFor : Task → Files → Decision → List Read → Type 0
 AreOutputsSeenFor task files decisions.UpToDate outputs = ⊤
 AreOutputsSeenFor task files (decisions.Incremental changes) outputs = AreOutputsSeen task files outputs

@@ -1,4 +1,4 @@
--- The outcome of a task as far as it is known before its record is read.
+-- The outcome of a task, if it is known before its record is read.
 use Rattle.std.specs.Prelude.{ℕ, ◌≡◌, ◌⊎◌, ◌||◌, ◌&&◌, not, Bool, true, false, List, [], Some}
 use Rattle.std.specs.List.{list_any, list_all, zip}
 use Rattle.gb_core.specs.Lists.{first_of}
@@ -23,8 +23,8 @@ lacks_source properties inputs =
     list_any (λ property. property.skip_when_empty) properties
     && list_all gives_no_source (zip properties inputs)
 
--- What is found is the task's case. Where its record is to decide, its inputs can be read and give it a
--- source, and their digests are found; of what stands at its outputs nothing is said.
+-- What is found is the task's case. If its record is to decide, its inputs can be read and give it a source,
+-- and their digests are found. Nothing is claimed about what is at its outputs.
 abbrev pub IsCase : Task → Contents → Look → Type 0
 IsCase task folder looks.Skips = early_case task folder ≡ Some Skips
 IsCase task folder looks.HasNoActions = early_case task folder ≡ Some HasNoActions
@@ -45,7 +45,7 @@ MayBe task (looks.Goes inputs) =
     (task.runs ≡ true) × (is_empty task.actions ≡ false)
     × AreInputs task inputs.items
 
--- the machine failed between these counts, or the fault is the first of what the task cannot be read for
+-- the machine failed between these counts, or the fault is the first that prevents reading the task
 abbrev pub IsHindered : Task → Contents → ℕ → ℕ → Fault → Type 0
 IsHindered task folder before after fault =
     IsOfMachine before after fault

@@ -14,7 +14,7 @@ use Rattle.gb_label.specs.declared.prepare.Prepared.{Prepared}
 use Rattle.gb_label.specs.declared.prepare.Prepared.TheVariants as prepared
 use Rattle.gb_label.specs.declared.prepare.Seen.{Seen}
 
--- It is the task's early case; and where there is none, what is decided by its record or without one.
+-- It is the task's early case; if there is none, the decision by its record or without one.
 abbrev pub IsPrepared : Options → Task → Contents → Option Record → Prepared → Type 0
 IsPrepared options task folder run prepared.Skips = early_case task folder ≡ Some Skips
 IsPrepared options task folder run prepared.HasNoActions = early_case task folder ≡ Some HasNoActions
@@ -32,21 +32,21 @@ MayPrepare task prepared.HasNoSource =
     × (list_any (λ property. property.skip_when_empty) task.files ≡ true)
 MayPrepare task (prepared.Decided decision basis seen) = (task.runs ≡ true) × (is_empty task.actions ≡ false)
 
--- what may be decided over any folder, where that is the outcome
+-- what may be decided over any folder, if that is the outcome
 abbrev pub MayDecideAs : Options → Task → Prepared → Type 0
 MayDecideAs options task prepared.Skips = ⊤
 MayDecideAs options task prepared.HasNoActions = ⊤
 MayDecideAs options task prepared.HasNoSource = ⊤
 MayDecideAs options task (prepared.Decided decision basis seen) = MayDecide options task decision
 
--- over any folder a decision follows from what it goes by
+-- over any folder a decision follows from what it is based on
 abbrev pub GoesByAs : Options → Task → Option Record → Prepared → Type 0
 GoesByAs options task run prepared.Skips = ⊤
 GoesByAs options task run prepared.HasNoActions = ⊤
 GoesByAs options task run prepared.HasNoSource = ⊤
 GoesByAs options task run (prepared.Decided decision basis seen) = GoesBy options task run decision basis
 
--- What a run goes by was read: its inputs where it is due, and its outputs where it may go on by changes.
+-- What a run is based on was read: its inputs if it is due, and its outputs if it may execute incrementally.
 abbrev pub IsReadFor : Task → Seen → Decision → Type 0
 IsReadFor task seen decisions.UpToDate = ⊤
 IsReadFor task seen (decisions.Incremental changes) =
@@ -59,7 +59,7 @@ IsRead task prepared.HasNoActions = ⊤
 IsRead task prepared.HasNoSource = ⊤
 IsRead task (prepared.Decided decision basis seen) = IsReadFor task seen decision
 
--- And so it stands in these files.
+-- And it is so in these files.
 abbrev pub IsSeenFor : Task → Files → Seen → Decision → Type 0
 IsSeenFor task files seen decisions.UpToDate = ⊤
 IsSeenFor task files seen (decisions.Incremental changes) =

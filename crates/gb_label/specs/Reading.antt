@@ -1,4 +1,4 @@
--- What a turn reads, once, and why it does not get to.
+-- What an execution reads, once, and why it cannot read it.
 use Rattle.std.specs.Prelude.{ℕ, ◌≡◌, ◌⊎◌, Bool, List, Some, map, IsTrue}
 use Rattle.std.specs.List.{AllByRecursion, AllZip, list_any, zip}
 use Rattle.sha2.specs.Sha256.{sha256}
@@ -27,7 +27,7 @@ use Rattle.gb_tree.specs.declared.kept.SeenFile.{SeenFile}
 abbrev pub CannotRead : ℕ → ℕ → List Fault → Fault → Type 0
 CannotRead before after hindrances fault = IsOfMachine before after fault ⊎ (first_of hindrances ≡ Some fault)
 
--- at or beneath a root of a file property of the task
+-- at or under a root of a file property of the task
 abbrev pub is_input_of : Task → Place → Bool
 is_input_of task place = list_any (is_under place) (roots_of task)
 
@@ -39,13 +39,13 @@ digests_in trees = map (λ tree. (tree.0, digests_of tree.1)) trees
 abbrev pub recorded_of : Files → Output → OutputRecord
 recorded_of files output = output_record_of sha256 files output
 
--- what hinders reading the files of an output
+-- the faults of reading the files of an output
 abbrev pub print_faults : Contents → Output → List Fault
 print_faults folder output = map told_of_tree (output_faults output.name output.place folder)
 
 -- ---- What was read once
 
--- the files of a property or an output as they were read, beside its name
+-- the files of a property or an output as they were read, with its name
 abbrev pub Read : Type 0
 Read = List ℕ × List SeenFile
 
@@ -53,7 +53,7 @@ Read = List ℕ × List SeenFile
 abbrev pub prints_read : List Read → List Prints
 prints_read readings = map (λ reading. (reading.0, digests_seen reading.1)) readings
 
--- each file that was read lies where the test says
+-- each file that was read is where the test says
 abbrev pub AreWithin : (Place → Bool) → List Read → Type 0
 AreWithin test readings =
     AllByRecursion (λ reading. AllByRecursion (λ seen. IsTrue (test seen.place)) reading.1) readings
@@ -68,32 +68,32 @@ pub record AreOutputs (task : Task) (readings : List Read) : Type 0 where
   pub named : map (λ reading. reading.0) readings ≡ map (λ output. output.name) task.outputs
   pub within : AreWithin (is_output_of task) readings
 
--- the property's files stand as they were read
+-- the property's files are as they were read
 abbrev pub IsPropertySeen : Files → FileProperty → Read → Type 0
 IsPropertySeen files property reading =
     let entries = entries_of property.naming property.roots property.include property.exclude files in
     AreSeen files entries reading.1
 
--- the output's files do
+-- the output's files are
 abbrev pub IsOutputSeen : Files → Output → Read → Type 0
 IsOutputSeen files output reading = AreSeen files (output_entries files output.place) reading.1
 
--- the files of each of the task's file properties do
+-- the files of each of the task's file properties are
 abbrev pub AreInputsSeen : Task → Files → List Read → Type 0
 AreInputsSeen task files readings = AllZip (IsPropertySeen files) task.files readings
 
--- those of each of its outputs do
+-- those of each of its outputs are
 abbrev pub AreOutputsSeen : Task → Files → List Read → Type 0
 AreOutputsSeen task files readings = AllZip (IsOutputSeen files) task.outputs readings
 
 -- ---- What is worked on
 
--- an output with the files that stand there, by their paths
+-- an output with the files that are there, by their paths
 abbrev pub seen_of : Files → Output → OutputFiles
 seen_of files output =
     record { name = output.name; form = output.form; files = files_from files output.place }
 
--- the digests of outputs' files, beside their names
+-- the digests of outputs' files, with their names
 abbrev pub prints_seen : List OutputFiles → List Prints
 prints_seen outputs = map (λ output. (output.name, digests_of output.files)) outputs
 

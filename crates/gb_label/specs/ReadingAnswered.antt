@@ -1,4 +1,4 @@
--- What a turn reads of its task as calls answered it, over any folder.
+-- What an execution reads of its task as calls answered it, over any folder.
 use Rattle.std.specs.Prelude.{ℕ, List}
 use Rattle.std.specs.List.{AllZip}
 use Rattle.gb_action.specs.Files.{Trees}

@@ -1,4 +1,4 @@
-//! One reading is completed for a run.
+//! Completes one reading for a run.
 ghost use Rattle.std.specs.Prelude.{◌≡◌, IsTrue, IfOk, IfErr};
 ghost use Rattle.std.specs.List.{AllByRecursion};
 ghost use Rattle.gb_folder.specs.Calls.{Asks, no_change};
@@ -16,7 +16,7 @@ use gb_tree::kept::Reading;
 use gb_tree::prints::Prints;
 use std::alloc::Global;
 
-/// One tree whole, and the digests of this very tree.
+/// One whole tree, and the digests of this very tree.
 pub(crate) fn complete<F: Folder>(
     alloc: Global,
     folder: &mut F,
@@ -28,7 +28,7 @@ pub(crate) fn complete<F: Folder>(
     ensures same { IsTrue F.tells → F.contents folder.new ≡ F.contents folder.old }
     ensures named { IfOk result (λ made. made.0.0 ≡ reading.0) }
     ensures digests { IfOk result (λ made. made.1 ≡ (reading.0, digests_of made.0.1)) }
-    // Over any folder: what was answered before, and what is answered now of the rest.
+    // Over any folder: what was answered before, and what is answered now for the rest.
     ensures answered { (first : _) → Asks F.failures F.may_leave F.asked no_change first folder.old
         → WereSeen F.failures F.may_leave F.asked first folder.old reading.1
         → IfOk result (λ made. IsTreeRead F.failures F.may_leave F.asked first folder.new

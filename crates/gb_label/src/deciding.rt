@@ -1,4 +1,4 @@
-//! What is decided of a task by its record.
+//! The decision on a task by its record.
 ghost use Rattle.std.specs.Prelude.{◌≡◌, ◌⊎◌, [], false, map, Some, IsTrue, IfOk, IfErr, OnOk, option_copied};
 ghost use Rattle.std.specs.List.{flat_map, list_any};
 ghost use Rattle.gb_folder.specs.Calls.{Asks, no_change};
@@ -43,29 +43,30 @@ pub enum Cause {
     Grown,
 }
 
-/// What a decision goes by.
+/// What a decision is based on.
 #[derive(Drop)]
 pub enum Basis {
-    /// This alone.
+    /// This cause alone.
     Anew(Cause),
     /// Its record, compared with this.
     Compared(Present),
 }
 
-/// What is decided of a task that has a source.
+/// The decision on a task that has a source.
 #[derive(Drop)]
 pub struct Verdict {
     /// What is to be done with the task.
     pub decision: Decision,
-    /// What that goes by.
+    /// What the decision is based on.
     pub basis: Basis,
-    /// The outputs of the task, where they were compared with its record; else nothing.
+    /// The outputs of the task, if they were compared with its record; else nothing.
     pub outputs: Vec<Reading>,
 }
 
-/// Decides on a task that has a source: by its record and by what it has now. Its outputs are listed once,
-/// and they are read only where there is a record that may count; of their bytes so many are kept. Nothing is
-/// changed, also not by an error: the first unsupported entry at its outputs (14), or the machine's.
+/// Decides on a task that has a source: by its record and by what it has now. Its outputs are
+/// listed once, and they are read only if there is a record that may count. Their bytes are kept
+/// while there is `room` for them. Nothing is changed, also not by an error: the first unsupported
+/// entry at its outputs (14), or the machine's.
 pub fn decided<F: Folder>(
     alloc: Global,
     folder: &mut F,
@@ -80,12 +81,12 @@ pub fn decided<F: Folder>(
     ensures asks { Asks F.failures F.may_leave F.asked no_change folder.old folder.new }
     ensures blame { Blames result (F.failures folder.old) (F.failures folder.new) }
     ensures blamed { BlamesOnly (is_output_of task.now) result }
-    // Over any folder: the decision follows from what it goes by.
+    // Over any folder: the decision follows from what it is based on.
     ensures goes_by { IfOk result (λ found.
         GoesBy options task.now (option_copied old.entry) found.decision found.basis) }
-    // Over any folder: what is up to date has outputs, is not stale, and no rerun is asked.
+    // Over any folder: what is up to date has outputs, is not stale, and no rerun is requested.
     ensures may_decide { IfOk result (λ found. MayDecide options task.now found.decision) }
-    // Over any folder: where it may go on by changes its outputs were read.
+    // Over any folder: if it may execute incrementally, its outputs were read.
     ensures read { IfOk result (λ found. AreOutputsFor task.now found.decision found.outputs.items) }
     ensures answered { IfOk result (λ found. WasDecided F.failures F.may_leave F.asked folder.old folder.new
         options task.now (option_copied old.entry) inputs.now found.decision found.outputs.items) }
@@ -112,7 +113,7 @@ pub fn decided<F: Folder>(
     by_record(alloc, folder, task, options, run, inputs, room)
 }
 
-/// That the task runs in full for this cause, where its outputs can be listed.
+/// The decision that the task runs in full for this cause, if its outputs can be listed.
 fn in_full<F: Folder>(
     alloc: Global,
     folder: &mut F,
@@ -137,7 +138,7 @@ fn in_full<F: Folder>(
     })
 }
 
-/// What is decided by this record.
+/// The decision by this record.
 fn by_record<F: Folder>(
     alloc: Global,
     folder: &mut F,
@@ -186,8 +187,8 @@ fn by_record<F: Folder>(
     }
 }
 
-/// The outputs of a task as they are. An error is the machine's, the first unsupported entry there, or that
-/// of outputs such as no execution leaves, after which unsupported entries may follow.
+/// The outputs of a task as they are. An error is the machine's, the first unsupported entry there,
+/// or that of outputs such as no execution leaves, after which unsupported entries may follow.
 fn read_listed<F: Folder>(
     alloc: Global,
     folder: &mut F,
@@ -218,7 +219,7 @@ fn read_listed<F: Folder>(
     read_outputs(alloc, folder, task, &mut room)
 }
 
-/// The same of outputs of which some lie in the tool's own folder, where nothing is read: all are listed
+/// The same if some outputs are in the tool's own folder, where nothing is read: all are listed
 /// first.
 fn read_checked<F: Folder>(
     alloc: Global,
@@ -248,7 +249,7 @@ fn read_checked<F: Folder>(
     read_outputs(alloc, folder, task, &mut room)
 }
 
-/// What is decided of a task by its record, and what that was compared with.
+/// The decision on a task by its record, and what the record was compared with.
 #[derive(Drop)]
 pub struct DecidedOn {
     /// What is to be done with the task.
@@ -257,7 +258,7 @@ pub struct DecidedOn {
     pub present: Present,
 }
 
-/// What is decided by this record of a task whose inputs and outputs have these digests.
+/// The decision by this record on a task whose inputs and outputs have these digests.
 pub fn decide_on(
     alloc: Global,
     task: &TaskDeclaration,
@@ -279,7 +280,7 @@ pub fn decide_on(
     Ok(DecidedOn { decision, present })
 }
 
-/// The same by their readings.
+/// The same, from their readings.
 fn decide_by(
     alloc: Global,
     task: &TaskDeclaration,
@@ -300,14 +301,14 @@ fn decide_by(
     decide_on(alloc, task, options, run, inputs, outputs)
 }
 
-/// Whether an output lies in the tool's own folder.
+/// Whether an output is in the tool's own folder.
 fn has_own(outputs: &[Output]) -> bool
     ensures { result ≡ list_any (λ output. is_own output.place) outputs.now }
 {
     outputs.iter().any(|output| is_own(&output.place))
 }
 
-/// Nothing, where the fault says that outputs are such as no execution leaves; else the fault.
+/// Nothing, if the fault says that outputs are such as no execution leaves; else the fault.
 fn check_grown(fault: Fault) -> Result<(), Fault>
     ensures ok { OnOk result (IsGrown fault) }
     ensures err { IfErr result (λ other. (other ≡ fault) × (¬ IsGrown fault)) }

@@ -1,4 +1,4 @@
-//! The inputs of a task: read by the label, and completed for a run.
+//! The inputs of a task: read to decide its outcome, and completed for a run.
 ghost use Rattle.std.specs.Prelude.{◌≡◌, [], map, IsTrue, IfOk, IfErr, OnOk};
 ghost use Rattle.std.specs.List.{AllByRecursion};
 ghost use Rattle.gb_folder.specs.Calls.{Asks, no_change};
@@ -63,9 +63,9 @@ fn read_one<F: Folder>(
     }
 }
 
-/// The files of all file properties of a task, in the order of their names. Their bytes are kept as far as
-/// there is `room` for them, which they lessen. Nothing is changed, also not by an error: the first of what
-/// hinders reading them.
+/// The files of all file properties of a task, in the order of their names. Their bytes are kept
+/// while there is `room` for them, and reduce it. Nothing is changed, also not by an error: the
+/// first fault of reading them.
 pub(crate) fn read_inputs<F: Folder>(
     alloc: Global,
     folder: &mut F,
@@ -105,8 +105,9 @@ pub struct Inputs {
     pub prints: Vec<Prints>,
 }
 
-/// The trees of a task's inputs, whole: what was kept as it was read, and the rest as it is now, digested
-/// anew. Nothing is changed, also not by an error: the machine's, or that a file is gone since or has grown.
+/// The whole trees of a task's inputs: what was kept as it was read, and the rest as it is now,
+/// digested again. Nothing is changed, also not by an error: the machine's, or that a file has been
+/// removed since or has grown.
 pub fn complete_inputs<F: Folder>(
     alloc: Global,
     folder: &mut F,
@@ -120,7 +121,7 @@ pub fn complete_inputs<F: Folder>(
     // Over any folder: the names of the properties, and the digests of the very trees.
     ensures named { IfOk result (λ inputs. map (λ tree. tree.0) inputs.trees ≡ seen_files task.now.files) }
     ensures digests { IfOk result (λ inputs. inputs.prints.items ≡ digests_in inputs.trees) }
-    // And what was answered before, with what is answered now of the rest.
+    // Also: what was answered before, with what is answered now for the rest.
     ensures answered { (first : _) → Asks F.failures F.may_leave F.asked no_change first folder.old
         → AreInputsAnswered F.failures F.may_leave F.asked first folder.old task.now readings.items
         → IfOk result (λ inputs. AreInputsRead F.failures F.may_leave F.asked first folder.new task.now

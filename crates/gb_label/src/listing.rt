@@ -1,4 +1,4 @@
-//! Whether all that stands at a task's outputs can be listed.
+//! Checks that everything at a task's outputs can be listed.
 ghost use Rattle.std.specs.Prelude.{◌≡◌, [], IsTrue, IfErr, OnOk};
 ghost use Rattle.gb_folder.specs.Calls.{Asks, no_change};
 ghost use Rattle.gb_meaning.specs.Tree.{listing_faults};
@@ -12,7 +12,8 @@ use gb_report::fault::Fault;
 use gb_run::emptying::listed_outputs;
 use std::alloc::Global;
 
-/// Lists the outputs of a task. An error is the first odd thing there (14), or the machine's (3, 10).
+/// Lists the outputs of a task. An error is the first unsupported entry there (14), or the
+/// machine's (3, 10).
 pub fn check_outputs<F: Folder>(
     alloc: Global,
     folder: &mut F,

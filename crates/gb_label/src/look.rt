@@ -1,4 +1,4 @@
-//! The cases that are settled before any record is looked at.
+//! The cases that are decided before any record is considered.
 ghost use Rattle.std.specs.Prelude.{◌≡◌, ◌||◌, true, false, length, IsTrue, IfOk, IfErr, OnErr};
 ghost use Rattle.std.specs.List.{list_all, list_any, zip};
 ghost use Rattle.gb_folder.specs.Calls.{Asks, no_change};
@@ -17,7 +17,7 @@ use gb_report::fault::Fault;
 use gb_tree::kept::Reading;
 use std::alloc::Global;
 
-/// What a task is found to be before its record is looked at.
+/// What a task is found to be before its record is considered.
 #[derive(Drop)]
 pub enum Look {
     /// `enabled` or a test is false.
@@ -65,7 +65,7 @@ fn is_without_source(properties: &[FileProperty], inputs: &[Reading]) -> bool
     may_skip(properties) && are_empty(properties, inputs)
 }
 
-/// What a task that has actions is found to be.
+/// What a task with actions is found to be.
 fn look_at_files<F: Folder>(
     alloc: Global,
     folder: &mut F,
@@ -93,9 +93,9 @@ fn look_at_files<F: Folder>(
     Ok(Look::Goes(inputs))
 }
 
-/// What a task is found to be before its record is looked at; of the bytes of its inputs so many are kept.
-/// Nothing is changed, also not by an error: the first of what hinders reading its inputs or, where it has no
-/// source, listing its outputs; or the machine's.
+/// What a task is found to be before its record is considered. The bytes of its inputs are kept
+/// while there is `room` for them. Nothing is changed, also not by an error: the first fault of
+/// reading its inputs or, if it has no source, of listing its outputs; or the machine's.
 pub fn looked_at<F: Folder>(
     alloc: Global,
     folder: &mut F,
@@ -105,7 +105,8 @@ pub fn looked_at<F: Folder>(
     ensures asks { Asks F.failures F.may_leave F.asked no_change folder.old folder.new }
     ensures blame { Blames result (F.failures folder.old) (F.failures folder.new) }
     ensures blamed { BlamesOnly (λ place. is_input_of task.now place || is_output_of task.now place) result }
-    // Over any folder: which of them it may be, and that what is skipped or has no actions reads nothing.
+    // Over any folder: which of them it may be, and that nothing is read if it is skipped or has no
+    // actions.
     ensures may_be { IfOk result (MayBe task.now) }
     ensures answered { IfOk result
         (WasLookedAt F.failures F.may_leave F.asked folder.old folder.new task.now) }

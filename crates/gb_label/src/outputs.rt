@@ -1,4 +1,5 @@
-//! The outputs of a task: read by the label, completed for a run by changes, and recorded.
+//! The outputs of a task: read to decide its outcome, completed for an incremental execution, and
+//! recorded.
 ghost use Rattle.std.specs.Prelude.{◌≡◌, [], map, IsTrue, IfOk, IfErr, OnOk};
 ghost use Rattle.std.specs.List.{AllByRecursion, flat_map};
 ghost use Rattle.gb_core.specs.Place.{is_under};
@@ -56,9 +57,9 @@ fn read_one<F: Folder>(
     }
 }
 
-/// The files at the outputs of a task, in the order of their names. Their bytes are kept as far as there is
-/// `room` for them, which they lessen. Nothing is changed, also not by an error: the first of what hinders
-/// reading them.
+/// The files at the outputs of a task, in the order of their names. Their bytes are kept while
+/// there is `room` for them, and reduce it. Nothing is changed, also not by an error: the first
+/// fault of reading them.
 pub fn read_outputs<F: Folder>(
     alloc: Global,
     folder: &mut F,
@@ -89,16 +90,16 @@ pub fn read_outputs<F: Folder>(
     Ok(readings)
 }
 
-/// What a run by changes goes on from.
+/// What an incremental execution is based on.
 #[derive(Drop)]
 pub struct Outputs {
-    /// The files that stand at the outputs.
+    /// The files at the outputs.
     pub seen: OutputSnapshots,
     /// The digests of these very files.
     pub prints: Vec<Prints>,
 }
 
-/// One output whole, and the digests of its files.
+/// One whole output, and the digests of its files.
 fn complete_one<F: Folder>(
     alloc: Global,
     folder: &mut F,
@@ -112,7 +113,7 @@ fn complete_one<F: Folder>(
     ensures named { IfOk result (λ made. made.0.name ≡ output.now.name) }
     ensures formed { IfOk result (λ made. made.0.form ≡ output.now.form) }
     ensures digests { IfOk result (λ made. made.1 ≡ (reading.0, digests_of made.0.files)) }
-    // Over any folder: what was answered before, and what is answered now of the rest.
+    // Over any folder: what was answered before, and what is answered now for the rest.
     ensures answered { (first : _) → Asks F.failures F.may_leave F.asked no_change first folder.old
         → WereSeen F.failures F.may_leave F.asked first folder.old reading.1
         → IfOk result (λ made. IsTreeRead F.failures F.may_leave F.asked first folder.new
@@ -132,8 +133,9 @@ fn complete_one<F: Folder>(
     Ok((seen, prints))
 }
 
-/// The files at a task's outputs, whole: what was kept as it was read, and the rest as it is now, digested
-/// anew. Nothing is changed, also not by an error: the machine's, or that a file is gone since or has grown.
+/// The whole files at a task's outputs: what was kept as it was read, and the rest as it is now,
+/// digested again. Nothing is changed, also not by an error: the machine's, or that a file has been
+/// removed since or has grown.
 pub fn complete_outputs<F: Folder>(
     alloc: Global,
     folder: &mut F,
@@ -148,7 +150,7 @@ pub fn complete_outputs<F: Folder>(
     ensures formed { IfOk result (λ outputs. map (λ output. (output.name, output.form)) outputs.seen
         ≡ seen_outputs task.now.outputs) }
     ensures digests { IfOk result (λ outputs. outputs.prints.items ≡ prints_seen outputs.seen) }
-    // And what was answered before, with what is answered now of the rest.
+    // Also: what was answered before, with what is answered now for the rest.
     ensures answered { (first : _) → Asks F.failures F.may_leave F.asked no_change first folder.old
         → AreOutputsAnswered F.failures F.may_leave F.asked first folder.old task.now readings.items
         → IfOk result (λ outputs. AreOutputsRead F.failures F.may_leave F.asked first folder.new task.now

@@ -30,26 +30,26 @@ pub enum Prepared {
     HasNoActions,
     /// All file properties that skip the task when empty are empty: its outputs are to be removed.
     HasNoSource,
-    /// None of these: it is up to date, or runs incrementally or in full; by what that was decided, and what
-    /// was read for it.
+    /// None of these: it is up to date, or runs incrementally or in full. With the basis of that
+    /// decision, and what was read for it.
     Decided(Decision, Basis, Seen),
 }
 
-/// What was read of a task on the way to a decision.
+/// What was read of a task for a decision.
 #[derive(Drop)]
 pub struct Seen {
     /// Its file properties.
     pub inputs: Vec<Reading>,
-    /// Its outputs, where they were compared with its record; else nothing.
+    /// Its outputs, if they were compared with its record; else nothing.
     pub outputs: Vec<Reading>,
 }
 
 /// How many bytes of a task's inputs are kept for its run, and as many of its outputs.
 const KEPT: u64 = 67_108_864;
 
-/// The outcome of a task by its record, its inputs and its outputs as they are. Where an execution follows,
-/// bytes that were read are kept for it. Nothing is changed, also not by an error: the first of what hinders
-/// reading its inputs or listing its outputs, or the machine's.
+/// The outcome of a task by its record, its inputs and its outputs as they are. If an execution
+/// follows, bytes that were read are kept for it. Nothing is changed, also not by an error: the
+/// first fault of reading its inputs or listing its outputs, or the machine's.
 pub fn prepare<F: Folder>(
     alloc: Global,
     folder: &mut F,
@@ -62,16 +62,17 @@ pub fn prepare<F: Folder>(
     ensures asks { Asks F.failures F.may_leave F.asked no_change folder.old folder.new }
     ensures blame { Blames result (F.failures folder.old) (F.failures folder.new) }
     ensures blamed { BlamesOnly (λ place. is_input_of task.now place || is_output_of task.now place) result }
-    // Over any folder: which it may be, when it may be up to date, and that what is skipped or has no
-    // actions reads nothing.
+    // Over any folder: which it may be, when it may be up to date, and that nothing is read if it
+    // is skipped or has no actions.
     ensures may_be { IfOk result (MayPrepare task.now) }
     ensures may_decide { IfOk result (MayDecideAs options task.now) }
     ensures goes_by { IfOk result (GoesByAs options task.now (option_copied old.entry)) }
     ensures reads { OnErr result ((task.now.runs ≡ true) × (is_empty task.now.actions ≡ false)) }
     ensures same { IsTrue F.tells → F.contents folder.new ≡ F.contents folder.old }
-    // What a run goes by was read; and it stands so in a folder that tells.
+    // What a run is based on was read; and it is so in a folder whose contents are known.
     ensures read { IfOk result (IsRead task.now) }
-    // Over any folder it is what calls answered; and what is up to date was found so on just this.
+    // Over any folder it is what calls answered; and what is up to date was found so on exactly
+    // this.
     ensures answered { IfOk result (WasPrepared F.failures F.may_leave F.asked folder.old folder.new options
         task.now (option_copied old.entry)) }
     ensures prepared { IsTrue F.tells → IfOk result
@@ -94,8 +95,8 @@ pub fn prepare<F: Folder>(
     }
 }
 
-/// How many bytes of the inputs are kept: all where the task is to run whatever they are, and none where no
-/// execution follows.
+/// How many bytes of the inputs are kept: all if the task is to run whatever they are, and none if
+/// no execution follows.
 fn input_room(
     task: &TaskDeclaration,
     options: Options,
@@ -111,7 +112,7 @@ fn input_room(
     KEPT
 }
 
-/// How many bytes of the outputs are kept: none where no execution is based on them.
+/// How many bytes of the outputs are kept: none if no execution is based on them.
 fn output_room(properties: &[FileProperty], follows: bool) -> u64 {
     if follows && properties.iter().any(|property| property.incremental) {
         return KEPT;

@@ -12,7 +12,7 @@ use gb_report::report::Options;
 use gb_tree::prints::Prints;
 use std::alloc::{AllocError, Global};
 
-/// Adds the name of the property, where it is incremental.
+/// Adds the name of the property, if it is incremental.
 fn add_incremental(names: &mut Vec<Name>, property: &FileProperty) -> Result<(), AllocError>
     ensures { OnOk result (names.new.items
         ≡ names.old.items ++ incremental_names (property.now ∷ [])) }

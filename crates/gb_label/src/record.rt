@@ -32,7 +32,8 @@ fn actions_of(alloc: Global, actions: &ActionList<Action>) -> Result<Vec<Action>
     Ok(copies)
 }
 
-/// The record of a run of the task with these inputs and outputs, which have the names that it declares.
+/// The record of a run of the task with these inputs and outputs, which have the names that it
+/// declares.
 pub fn record_of(
     alloc: Global,
     task: &TaskDeclaration,

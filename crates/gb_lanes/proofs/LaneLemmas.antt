@@ -1,4 +1,4 @@
--- What holds of each lane, and how words stand in lanes.
+-- Facts about each lane, and the layout of words in lanes.
 use Rattle.std.proofs.Common.{◌≡◌, ℕ, zero, suc, ◌<◌, ◌+◌, ◌-◌, ◌*◌, ◌/◌, ◌%◌, ◌^◌, List, [], ◌∷◌, length, take, drop, slice_index, slice_set, bit_or, Fits, arith, refl, sym}
 use Rattle.std.specs.Int.{w32, rotate_right}
 use Rattle.std.specs.Simd.Lanes.{Each1, zip2}
@@ -8,7 +8,7 @@ use Rattle.sha2.specs.Sha256.{compress, hash_after, initial_hash_256, padded_mes
 use Rattle.sha2.proofs.Absorbing256.{hash_after_next}
 use Rattle.gb_lanes.specs.Lanes.{in_lane, lane_at, window_lane}
 
--- what holds of each of the four lanes
+-- a property of each of the four lanes
 pub below_four : (P : ℕ → Type 0) → P 0 → P 1 → P 2 → P 3 → (j : ℕ) → j < 4 → P j
 below_four P p0 p1 p2 p3 zero h = p0
 below_four P p0 p1 p2 p3 (suc zero) h = p1
@@ -16,7 +16,7 @@ below_four P p0 p1 p2 p3 (suc (suc zero)) h = p2
 below_four P p0 p1 p2 p3 (suc (suc (suc zero))) h = p3
 below_four P p0 p1 p2 p3 (suc (suc (suc (suc n)))) h = absurd (omega arith)
 
--- what holds of each list of four elements
+-- a property of each list of four elements
 pub four_lanes : (P : List ℕ → Type 0) → ((a b c d : ℕ) → P (a ∷ b ∷ c ∷ d ∷ [])) → (xs : List ℕ) → length xs ≡ 4 → P xs
 four_lanes P p (a ∷ b ∷ c ∷ d ∷ []) h = p a b c d
 four_lanes P p [] h = absurd (omega arith)
@@ -53,12 +53,12 @@ shifts_rotate k low high =
 pub slice_index-window : (j : ℕ) (w : List (List ℕ)) (k : ℕ) → slice_index (window_lane j w) k ≡ lane_at w k j
 slice_index-window j w k = get_or-map (λ (v : List ℕ). slice_index v j) w k []
 
--- a word written into a window is written into each message's
+-- a word written into a window is written into the window of each message
 pub window-set : (j : ℕ) (w : List (List ℕ)) (k : ℕ) (x : List ℕ)
     → window_lane j (slice_set w k x) ≡ slice_set (window_lane j w) k (slice_index x j)
 window-set j w k x = map-set (λ (v : List ℕ). slice_index v j) w k x
 
--- the hash value of each message, one block on
+-- the hash value of each message after one more block
 pub next_block : (a b c d a' b' c' d' h : List ℕ) (i : ℕ)
     → a' ≡ take 64 (drop (i * 64) (padded_message a)) → b' ≡ take 64 (drop (i * 64) (padded_message b))
     → c' ≡ take 64 (drop (i * 64) (padded_message c)) → d' ≡ take 64 (drop (i * 64) (padded_message d))

@@ -11,7 +11,7 @@ lane j x =
     lane_at x 0 j ∷ lane_at x 1 j ∷ lane_at x 2 j ∷ lane_at x 3 j
     ∷ lane_at x 4 j ∷ lane_at x 5 j ∷ lane_at x 6 j ∷ lane_at x 7 j ∷ []
 
--- the words of message j in a window, however many the window has
+-- the words of message j in a window of any length
 abbrev pub window_lane : ℕ → List (List ℕ) → List ℕ
 window_lane j w = map (λ v. slice_index v j) w
 

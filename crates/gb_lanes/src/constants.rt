@@ -1,5 +1,5 @@
 //! The constants of SHA-256 (FIPS 180-4, 4.2.2 and 5.3.3).
-// The hash value that every message begins with.
+// The initial hash value of every message.
 pub(crate) const INITIAL: [u32; 8] = [
     0x6a09_e667,
     0xbb67_ae85,

@@ -1,4 +1,4 @@
-//! The blocks that four messages have in common, side by side.
+//! The blocks that all four messages have, hashed side by side.
 ghost use Rattle.std.specs.Prelude.{◌≡◌, ℕ, ◌<◌, ◌≤◌};
 ghost use Rattle.sha2.specs.Sha256.{hash_after, initial_hash_256, padded_message};
 ghost use Rattle.gb_lanes.specs.Lanes.{in_lane, lane};
@@ -9,7 +9,7 @@ use crate::padded::Padded;
 use crate::rounds::compress_four;
 use std::simd::u32x4;
 
-// The hash value that every message begins with, in each lane.
+// The initial hash value of every message, in each lane.
 fn initial_states() -> [u32x4; 8]
     ensures { (j : ℕ) → j < 4 → lane j result ≡ initial_hash_256 }
 {

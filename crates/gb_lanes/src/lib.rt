@@ -1,9 +1,10 @@
 //! SHA-256 of four contents side by side, each in one lane of a vector.
 //!
-//! The contents may be of any lengths. The blocks that all four have are taken in side by side, and
-//! what is left of the longer ones by a content alone in all lanes. That pays where the four are of
-//! about one length; others are digested by `sha2`, one after another. Set aside: rounds of one
-//! content beside those of four, which `sha2` has and does not begin from a state.
+//! The contents may be of any lengths. The blocks that all four have are hashed side by side. The
+//! remaining blocks of the longer ones are hashed one content at a time, in all lanes. This pays if
+//! the four are of about the same length; otherwise `sha2` digests them one after another. Out of
+//! scope: rounds of one content next to those of four; `sha2` has them, but cannot start from a
+//! state.
 #![tactic(auto)]
 
 ghost use Rattle.std.specs.Prelude.{◌≡◌, ◌≤◌, [], ◌∷◌};
@@ -59,7 +60,7 @@ fn digest_alone(content: &[u8]) -> [u8; 32]
     hasher.finalize()
 }
 
-/// The digests of four messages that all have the first `shared` blocks.
+/// The digests of four messages that all have at least `shared` blocks.
 fn digest_alike(
     first: &Padded,
     second: &Padded,

@@ -35,7 +35,7 @@ impl<'a> Padded<'a> {
         }
     }
 
-    // How many blocks there are.
+    // The number of blocks.
     pub(crate) fn block_count(&self) -> usize
         ensures { result ≡ block_count self.now.content.now }
     {
@@ -47,7 +47,7 @@ impl<'a> Padded<'a> {
         }
     }
 
-    // One of them.
+    // The block at an index.
     pub(crate) fn block(&self, index: usize) -> &[u8]
         requires { index < block_count self.now.content.now }
         ensures long { length result.now ≡ 64 }

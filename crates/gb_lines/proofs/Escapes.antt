@@ -9,7 +9,7 @@ abbrev pub prefixed : List ℕ → Option (List ℕ) → Option (List ℕ)
 prefixed done None = None
 prefixed done (Some text) = Some (done ++ text)
 
--- the bytes behind a backslash, or as they stand
+-- the bytes after a backslash, or as they are
 abbrev pub pending : Bool → List ℕ → List ℕ
 pending true text = 92 ∷ text
 pending false text = text
@@ -28,7 +28,7 @@ pub opens : (done rest left : List ℕ) (b : ℕ) (whole : Option (List ℕ)) �
 unfolding unescaped
 opens done rest left b whole here slash so_far = ap (λ (c : ℕ). prefixed done (unescaped (c ∷ rest))) (sym slash) ∙ ap (λ (l : List ℕ). prefixed done (unescaped l)) (sym here) ∙ so_far
 
--- a letter behind a backslash ends it
+-- a letter after a backslash ends it
 pub closes : (done rest left : List ℕ) (b meant : ℕ) (whole : Option (List ℕ)) → left ≡ b ∷ rest → escape b ≡ Some meant → prefixed done (unescaped (92 ∷ left)) ≡ whole → prefixed (done ++ meant ∷ []) (unescaped rest) ≡ whole
 unfolding unescaped
 closes done rest left b meant whole here known so_far =
@@ -45,7 +45,7 @@ stuck done rest left b whole here unknown so_far =
     ∙ ap (λ (l : List ℕ). prefixed done (unescaped (92 ∷ l))) here
     ∙ ap (λ (m : Option ℕ). prefixed done (before m (unescaped rest))) unknown
 
--- any other byte stands for itself
+-- any other byte denotes itself
 pub stands : (done rest left : List ℕ) (b : ℕ) (whole : Option (List ℕ)) → left ≡ b ∷ rest → (b == 92) ≡ false → prefixed done (unescaped left) ≡ whole → prefixed (done ++ b ∷ []) (unescaped rest) ≡ whole
 unfolding unescaped
 stands done rest left b whole here other so_far =

@@ -1,4 +1,4 @@
--- What is printed.
+-- The output of a replay.
 use Rattle.std.specs.Prelude.{ℕ, Bool, ◌||◌, nat_eq, List, [], ◌∷◌, ◌++◌, Option, None, Some, if◌then◌else◌}
 use Rattle.std.specs.Prelude.{codes, decimal, length}
 use Rattle.std.specs.List.{ends_with, flat_map}
@@ -8,7 +8,7 @@ use Rattle.gb_report.specs.Report.{line, report_text}
 use Rattle.gb_meaning.specs.declared.events.Answer.{Answer}
 use Rattle.gb_meaning.specs.declared.events.Answer.TheVariants as answers
 
--- what is printed of an answer
+-- the output for an answer
 abbrev pub answer_text : Answer → List ℕ
 answer_text answers.Edited = []
 answer_text (answers.Refused fault) = refusal_text fault
@@ -34,6 +34,6 @@ abbrev pub shown_places : Files → List Place → List ℕ
 shown_places files [] = line (codes "== none")
 shown_places files (place ∷ places) = flat_map (λ p. shown_at p (file_at files p)) (place ∷ places)
 
--- the files at and beneath a place, in the order of their places; a line says so where there is none
+-- the files at and under a place, in the order of their places; where there is none, a line reports it
 abbrev pub shown_files : Files → Place → List ℕ
 shown_files files root = shown_places files (places_under files root)

@@ -15,7 +15,7 @@ const MAX_LINE: usize = 2_097_152;
 /// A line of a replay.
 #[derive(Debug, Drop)]
 pub enum Line {
-    /// Nothing, which is passed over.
+    /// An empty line, which is skipped.
     Empty,
     /// `put PLACE TEXT`, with the text's escapes undone.
     Put(Place, Bytes),
@@ -32,10 +32,10 @@ pub enum Line {
 /// Why bytes were not read as a line.
 #[derive(Clone, Copy, Debug, PartialEq, Eq, Error)]
 pub enum LineFault {
-    /// They are none.
+    /// They are no line.
     #[error("bad line")]
     BadLine,
-    /// No memory for what it says; 3.
+    /// No memory for its contents; 3.
     #[error("out of memory")]
     OutOfMemory,
 }
@@ -96,7 +96,7 @@ fn read_text(alloc: Global, text: &str) -> Result<Line, LineFault> {
     }
 }
 
-/// Reads a line from its first word and what stands behind the space after it.
+/// Reads a line from its first word and the text after the space that follows.
 fn read_command(alloc: Global, word: &str, rest: &str) -> Result<Line, LineFault> {
     match word {
         "put" => read_put(alloc, rest),
@@ -114,7 +114,7 @@ fn read_put(alloc: Global, rest: &str) -> Result<Line, LineFault> {
     Ok(Line::Put(place, Bytes::new(bytes)))
 }
 
-/// The words of a text, which spaces part.
+/// The words of a text, separated by spaces.
 fn words(alloc: Global, text: &str) -> Result<Vec<String>, LineFault>
     ensures { IfErr result (λ fault. fault ≡ faults.OutOfMemory) }
 {
@@ -127,7 +127,7 @@ fn words(alloc: Global, text: &str) -> Result<Vec<String>, LineFault>
     Ok(found)
 }
 
-/// The bytes that a text stands for, each of its escapes undone.
+/// The bytes that a text denotes, each of its escapes undone.
 fn unescaped(alloc: Global, text: &[u8]) -> Result<Vec<u8>, LineFault>
     ensures { MatchResult result
         (λ bytes. unescaped text.now ≡ Some bytes.items)
@@ -154,7 +154,7 @@ fn unescaped(alloc: Global, text: &[u8]) -> Result<Vec<u8>, LineFault>
     Ok(bytes)
 }
 
-/// What a backslash and this letter stand for.
+/// The byte that a backslash with this letter denotes.
 fn escape(letter: u8) -> Option<u8>
     ensures { result ≡ escape letter }
 {

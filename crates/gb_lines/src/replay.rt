@@ -35,8 +35,8 @@ const MAX_INPUT: u64 = 67_108_864;
 /// The bytes that are read at once.
 const CHUNK: usize = 65_536;
 
-/// Takes the lines of an input over an empty folder, and answers the exit status: 0 after the last
-/// line, 2 after a bad line, and 1 where reading, writing or memory failed.
+/// Executes the lines of an input over an empty folder, and returns the exit status: 0 after the
+/// last line, 2 after a bad line, and 1 where reading, writing or memory failed.
 pub fn replay<A: Actions, T: Transforms, R: Read, W: Write>(
     alloc: Global,
     reader: &mut R,
@@ -79,7 +79,7 @@ fn is_printed<P: Printer>(printer: &P) -> Result<(), Stop>
     }
 }
 
-/// What is printed of a bad line of this number.
+/// The output for a bad line of this number.
 fn bad_line_text(alloc: Global, number: u64) -> Result<Vec<u8>, AllocError>
     ensures { IfOk result (λ text. text.items ≡ refusal_text (faults.BadLine number)) }
 {
@@ -129,7 +129,7 @@ fn take_input<A: Actions, T: Transforms, P: Printer>(
     Ok(())
 }
 
-/// Takes a line, with as many lines before it.
+/// Executes a line, with as many lines before it.
 fn take_line<A: Actions, T: Transforms, F: Folder, P: Printer>(
     alloc: Global,
     folder: &mut F,
@@ -153,7 +153,7 @@ fn take_line<A: Actions, T: Transforms, F: Folder, P: Printer>(
     is_printed(printer)
 }
 
-/// Reads a line, and counts it from 1 where it is none.
+/// Reads a line; its number, counted from 1, is reported where it is not valid.
 fn read_numbered(alloc: Global, line: &[u8], lines_before: u64) -> Result<Line, Stop>
     ensures { IfErr result (λ stop. (stop ≡ stops.OutOfMemory)
         ⊎ (stop ≡ stops.BadLine (min (lines_before + 1) (2 ^ 64 - 1)))) }
@@ -165,7 +165,8 @@ fn read_numbered(alloc: Global, line: &[u8], lines_before: u64) -> Result<Line, 
     }
 }
 
-/// Builds what the words ask for: the part of each task is printed as soon as its turn has ended.
+/// Builds what the arguments request: the part of each task is printed as soon as its execution has
+/// ended.
 fn build<A: Actions, T: Transforms, F: Folder, P: Printer>(
     alloc: Global,
     folder: &mut F,
@@ -178,7 +179,7 @@ fn build<A: Actions, T: Transforms, F: Folder, P: Printer>(
     drop(answer);
 }
 
-/// What becomes of the words.
+/// The answer to the arguments.
 fn built<A: Actions, T: Transforms, F: Folder, P: Printer>(
     alloc: Global,
     folder: &mut F,
@@ -197,7 +198,7 @@ fn built<A: Actions, T: Transforms, F: Folder, P: Printer>(
     }
 }
 
-/// Does what an edit says, and prints what becomes of it, if that is anything.
+/// Executes an edit, and prints its output, if there is any.
 fn edit<A: Actions, T: Transforms, F: Folder, P: Printer>(
     alloc: Global,
     folder: &mut F,
@@ -212,7 +213,7 @@ fn edit<A: Actions, T: Transforms, F: Folder, P: Printer>(
     Ok(())
 }
 
-/// Does what an event says, and answers what is printed of it.
+/// Executes an event, and returns its output.
 fn event_text<A: Actions, T: Transforms, F: Folder>(
     alloc: Global,
     folder: &mut F,

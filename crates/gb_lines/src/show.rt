@@ -1,4 +1,4 @@
-//! What is shown of the files at and beneath a place.
+//! The output for the files at and under a place.
 ghost use Rattle.std.specs.Prelude.{◌≡◌, ◌++◌, IsTrue, IfOk, OnOk, string_bytes};
 ghost use Rattle.gb_lines.specs.Texts.{closing, shown_file, shown_files};
 
@@ -7,7 +7,7 @@ use gb_core::place::Place;
 use gb_folder::folder::Folder;
 use std::alloc::{AllocError, Global};
 
-/// What is shown of the files at and beneath the place.
+/// The output for the files at and under the place.
 pub fn shown_files<F: Folder>(alloc: Global, folder: &mut F, place: &Place) -> Result<Vec<u8>, Stop>
     ensures same { IsTrue F.tells → F.contents folder.new ≡ F.contents folder.old }
     ensures shown { IsTrue F.tells → IfOk result (λ text.

@@ -11,13 +11,13 @@ use thiserror::Error;
 /// Why a replay ends before its last line.
 #[derive(Clone, Copy, Debug, PartialEq, Eq, Error)]
 pub enum Stop {
-    /// The line of this number, counted from 1, is none; 0 where the input is too large.
+    /// The line of this number, counted from 1, is not valid; 0 where the input is too large.
     #[error("bad line {0}")]
     BadLine(u64),
     /// Reading, writing or the folder failed.
     #[error("device")]
     Device,
-    /// No memory to go on.
+    /// No memory to continue.
     #[error("out of memory")]
     OutOfMemory,
 }
@@ -57,7 +57,7 @@ impl From<TableFault> for Stop {
 
     ghost from_gives = { λ _ stop. stop ≡ OutOfMemory };
 
-    /// The table of the built-in actions is refused for want of memory alone.
+    /// The table of the built-in actions is refused only for want of memory.
     fn from(_fault: TableFault) -> Stop {
         Stop::OutOfMemory
     }
@@ -68,7 +68,7 @@ impl From<provider::TableFault> for Stop {
 
     ghost from_gives = { λ _ stop. stop ≡ OutOfMemory };
 
-    /// So is that of the functions of values.
+    /// The table of the functions of values is refused only for want of memory.
     fn from(_fault: provider::TableFault) -> Stop {
         Stop::OutOfMemory
     }

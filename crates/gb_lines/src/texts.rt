@@ -1,4 +1,4 @@
-//! What is printed of the answers.
+//! The output for the answers.
 ghost use Rattle.std.specs.Prelude.{◌≡◌, IfOk};
 ghost use Rattle.gb_lines.specs.Texts.{answer_text};
 
@@ -7,7 +7,7 @@ use gb_meaning::events::Answer;
 use gb_report::render::render;
 use std::alloc::{AllocError, Global};
 
-/// What is printed of an answer.
+/// The output for an answer.
 pub fn answer_text(alloc: Global, answer: &Answer) -> Result<Vec<u8>, AllocError>
     ensures { IfOk result (λ text. text.items ≡ answer_text answer.now) }
 {

@@ -16,7 +16,7 @@ abbrev pub is_visible : List ℕ → Bool
 is_visible [] = true
 is_visible (b ∷ others) = is_visible_byte b && is_visible others
 
--- a `:` comes before each `/`, `?` and `#`
+-- a `:` precedes each `/`, `?` and `#`
 abbrev pub has_scheme : List ℕ → Bool
 has_scheme [] = false
 has_scheme (b ∷ others) =
@@ -36,17 +36,17 @@ has_safe_scheme address =
 abbrev pub is_safe : List ℕ → Bool
 is_safe address = is_visible address && has_safe_scheme address
 
--- ---- The address of the page of a text
+-- ---- The address of a text's page
 
 -- the path of an address ends before a query and a fragment
 abbrev pub is_in_path : ℕ → Bool
 is_in_path b = not (b == 63 || b == 35)
 
--- an address without scheme and host leads to a file of the site
+-- an address without scheme and host refers to a file of the site
 abbrev pub leads_within : List ℕ → Bool
 leads_within address = not (has_scheme address || begins (codes "//") address)
 
--- a path that ends in `.md` leads to the page of that text, which is at `.html`
+-- a path that ends in `.md` refers to the page of that text, whose path ends in `.html`
 abbrev pub as_page : List ℕ → List ℕ → List ℕ
 as_page path rest =
     if bytes_eq (drop (length path - 3) path) (codes ".md")
@@ -60,7 +60,7 @@ page_address address =
 
 -- ---- Addresses in links
 
--- a letter, a digit, or a sign that has a meaning in an address
+-- a letter, a digit, or a sign with a meaning in an address
 abbrev pub is_meant : ℕ → Bool
 is_meant b =
     is_ascii_alphanumeric b || b == 33 || (nat_le 35 b && nat_le b 47) || b == 58 || b == 59 || b == 61

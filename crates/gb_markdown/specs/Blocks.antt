@@ -18,7 +18,7 @@ use Rattle.gb_markdown.specs.declared.blocks.OpenList.{OpenList}
 use Rattle.gb_markdown.specs.declared.blocks.Block.{Block}
 use Rattle.gb_markdown.specs.declared.blocks.Block.TheVariants as blocks
 
--- ---- Lines that belong to the block that is open
+-- ---- Lines that belong to the open block
 
 abbrev pub is_words : Said → Bool
 is_words (Words text) = true
@@ -31,7 +31,7 @@ is_words (Heading element text) = false
 is_words Rule = false
 is_words (Quote text) = false
 
--- as many signs as began code end it, or more
+-- code ends at a line with as many signs as began it, or more
 abbrev pub ends_code : Fence → List ℕ → Bool
 ends_code fence line =
     let body = drop (run 32 line) line in
@@ -48,7 +48,7 @@ is_indented (Quote text) = false
 is_indented (Item marker first text) = false
 is_indented (Words text) = false
 
--- words go on with a quote whose last line is open to them
+-- a quote continues with words where its last line is open to them
 abbrev pub is_quoted : Bool → Said → Bool
 is_quoted more (Quote text) = true
 is_quoted more (Words text) = more
@@ -59,7 +59,8 @@ is_quoted more (Heading element text) = false
 is_quoted more Rule = false
 is_quoted more (Item marker first text) = false
 
--- an empty line goes on with a list, words behind a line that is not empty, and an item with the same sign
+-- a list continues with an empty line, with words after a line that is not empty, and with an item with the
+-- same sign
 abbrev pub is_listed : OpenList → Said → Bool
 is_listed list Nothing = true
 is_listed list (Words text) = not list.ended
@@ -70,7 +71,7 @@ is_listed list (Heading element text) = false
 is_listed list Rule = false
 is_listed list (Quote text) = false
 
--- and so does a line behind as many spaces as its item is wide
+-- and with a line that begins with at least as many spaces as its item is wide
 abbrev pub is_outside : ℕ → List ℕ → Bool
 is_outside width line = nat_lt (run 32 line) width
 
@@ -82,9 +83,9 @@ goes_on blocks.Indented line = is_indented (said line)
 goes_on (blocks.Quote more) line = is_quoted more (said line)
 goes_on (blocks.Items list) line = not (is_outside list.marker.width line) || is_listed list (said line)
 
--- ---- What is taken of such a line
+-- ---- The part of such a line that is taken
 
--- the line without so many spaces before it, or all that are there
+-- the line without this many spaces before it, or without all of them if there are fewer
 abbrev pub without_indent : ℕ → List ℕ → List ℕ
 without_indent count line = if is_outside count line then drop (run 32 line) line else drop count line
 
@@ -101,7 +102,7 @@ unquoted_by line (Words text) = line
 abbrev pub unquoted : List ℕ → List ℕ
 unquoted line = unquoted_by line (said line)
 
--- what a line says in an item of this width
+-- the part of a line that is in an item of this width
 abbrev pub inside : ℕ → List ℕ → List ℕ
 inside width line = if is_outside width line then line else drop width line
 
@@ -132,8 +133,8 @@ is_open (Heading element text) = false
 is_open Rule = false
 is_open (Indented text) = false
 
--- a list has the sign of its last item, and is spaced where more comes behind an empty line, but for an item
--- of a list in it
+-- a list has the sign of its last item; it is spaced where more content follows an empty line, except for an
+-- item of a nested list
 abbrev pub ended_list : OpenList → OpenList
 ended_list list = record { marker = list.marker; ended = true; spaced = list.spaced }
 
@@ -172,7 +173,7 @@ kept_block (blocks.Items list) line = blocks.Items (after list line)
 
 -- ---- Lines that begin a block
 
--- the name of a heading: letters and digits as small letters, `-` and `_`, and `-` for each space
+-- the name of a heading: letters and digits in lower case, `-` and `_`, and `-` for each space
 abbrev pub slug_byte : ℕ → List ℕ
 slug_byte b =
     if b == 32 then 45 ∷ []
@@ -182,11 +183,11 @@ slug_byte b =
 abbrev pub slug : List ℕ → List ℕ
 slug words = flat_map slug_byte words
 
--- the names of the headings of a page so far, of which at most so many count
+-- the names of the page's headings so far; at most this many count
 abbrev pub Names : Type 0
 Names = List (List ℕ)
 
--- a heading whose name others have has their number after it
+-- a heading whose name others have gets their number appended
 abbrev pub id_by : ℕ → List ℕ → List ℕ
 id_by seen name = if seen == 0 then name else name ++ 45 ∷ decimal seen
 
@@ -275,7 +276,7 @@ table_or refs tight text (Some rows) =
     if is_divider false false rows.1 && has 124 rows.0 then table refs rows.0 rows.2
     else paragraph refs tight text
 
--- an item begins, behind one of this width
+-- an item begins, after one of this width
 abbrev pub is_item : Said → Bool
 is_item (Item marker first text) = true
 is_item Nothing = false
@@ -313,7 +314,7 @@ item_words line (Words text) = line
 abbrev pub Inner : Type 0
 Inner = Names → Bool → List ℕ → List Piece × Names
 
--- pieces before and after others
+-- pieces between others
 abbrev pub between : List Piece → List Piece × Names → List Piece → List Piece × Names
 between front made back = (front ++ (made.0 ++ back), made.1)
 
@@ -360,7 +361,7 @@ finished inner refs names tight (blocks.Items list) taken =
 
 -- ---- Texts
 
--- each line goes on with the block that is open, or ends it and begins another
+-- each line continues the open block, or ends it and begins another
 abbrev pub read : Inner → Refs → Names → Bool → Block → List ℕ → List (List ℕ) → List Piece × Names
 read inner refs names tight block taken [] = finished inner refs names tight block taken
 read inner refs names tight block taken (line ∷ others) =
@@ -372,19 +373,19 @@ read inner refs names tight block taken (line ∷ others) =
     (λ more. read inner refs more tight (begun_block (is_code block) (said line))
     (begun_text line (said line)) others))
 
--- the blocks of a text, in which quotes and items are so deep in one another; deeper is a paragraph
+-- the blocks of a text, with quotes and items nested at most this deep; deeper nesting becomes a paragraph
 unfoldable pub blocks_of : ℕ → Refs → Inner
 blocks_of zero refs names tight text = (paragraph refs tight text, names)
 blocks_of (suc depth) refs names tight text =
     read (blocks_of depth refs) refs names tight blocks.Nothing [] (lines_in text)
 
--- how deep these may be in one another
+-- how deep these may be nested
 unfoldable pub blocks_depth : ℕ
 blocks_depth = 16
 
 -- ---- References
 
--- a page has at most so many references
+-- a page has at most this many references
 abbrev pub with_reference : Refs → List ℕ × List ℕ × List ℕ → Refs
 with_reference refs reference = if nat_lt (length refs) 512 then refs ++ reference ∷ [] else refs
 
@@ -396,7 +397,7 @@ begun_with others refs block text line None =
 begun_with others refs block text line (Some reference) =
     others (with_reference refs reference) blocks.Nothing text
 
--- a line that begins a block may define a label, but for one that ends code
+-- a line that begins a block may define a label, unless it ends code
 abbrev pub defined_behind : Block → List ℕ → Option (List ℕ × List ℕ × List ℕ)
 defined_behind block line = if is_code block then None else defined line
 
@@ -410,7 +411,7 @@ taken_apart refs block text (line ∷ others) =
 
 -- ---- Pages
 
--- the page of a text, as pieces, and as it is written
+-- the page of a text, as pieces and as bytes
 abbrev pub page_by : Refs × List ℕ → List Piece
 page_by found = (blocks_of blocks_depth found.0 [] false found.1).0
 

@@ -1,4 +1,4 @@
--- What a text comes to within a block.
+-- How a text within a block is parsed.
 use Rattle.std.specs.Prelude.{ℕ, zero, suc, ◌+◌, ◌-◌, ◌==◌, nat_le, nat_lt, Bool, true, false, not, ◌&&◌}
 use Rattle.std.specs.Prelude.{◌||◌}
 use Rattle.std.specs.Prelude.{List, [], ◌∷◌, ◌++◌, if◌then◌else◌, length, take, drop, slice_index}
@@ -20,8 +20,8 @@ use Rattle.gb_markdown.specs.declared.inline.Nested.TheVariants as nested
 use Rattle.gb_markdown.specs.declared.inline.Side.{Side}
 use Rattle.gb_markdown.specs.declared.inline.Side.TheVariants as sides
 
--- what is at the begin of a text: words; the end of a line; code; words that are stressed; a link with a
--- label, an address and a title; a picture with these; or an address that is a link
+-- the token at the beginning of a text: words; the end of a line; code; stressed words; a link with a label,
+-- an address and a title; a picture with these; or an address that is a link
 pub data Meant : Type 0 where
   Words : List ℕ → Meant
   Break : Meant
@@ -46,18 +46,18 @@ abbrev pub first_is : ℕ → List ℕ → Bool
 first_is sign [] = false
 first_is sign (b ∷ rest) = b == sign
 
--- the byte behind so many, or the end of a line
+-- the first byte of what follows, or the end of a line
 abbrev pub byte_behind : List ℕ → ℕ
 byte_behind [] = 10
 byte_behind (b ∷ rest) = b
 
--- so many bytes, as they are; each token is told with how many bytes behind its first belong to it
+-- this many bytes, unchanged; each token is paired with how many bytes after its first belong to it
 abbrev pub plain : ℕ → List ℕ → Meant × ℕ
 plain length line = (Words (take length line), length - 1)
 
 -- ---- Backslashes and spaces
 
--- a backslash makes a sign of ASCII mean itself, and breaks a line
+-- a backslash before a sign of ASCII makes it literal, and before the end of a line it breaks the line
 abbrev pub escaped_in : List ℕ → Meant × ℕ
 escaped_in [] = (Words (92 ∷ []), 0)
 escaped_in (b ∷ rest) =
@@ -73,7 +73,8 @@ spaced line =
 
 -- ---- Code
 
--- where the first run of so many backquotes begins, if so many of them were seen just before
+-- where the first run of this many backquotes begins; `seen` counts the backquotes directly before this
+-- position
 abbrev pub code_end : ℕ → ℕ → ℕ → List ℕ → Option ℕ
 code_end length seen at [] = if seen == length then Some (at - seen) else None
 code_end length seen at (b ∷ rest) =
@@ -95,14 +96,14 @@ code_of length line None = plain length line
 code_of length line (Some end) =
     (Code (stripped (take end (drop length line))), length + end + length - 1)
 
--- one to eight backquotes begin code, which as many end
+-- one to eight backquotes begin code; as many end it
 abbrev pub coded : List ℕ → Meant × ℕ
 coded line =
     let length = run 96 line in
     if length == 0 || nat_lt 8 length then plain length line
     else code_of length line (code_end length 0 0 (drop length line))
 
--- how many bytes behind the first hide other signs: the one behind a backslash, or code
+-- how many bytes after the first hide other signs: the byte after a backslash, or code
 abbrev pub hidden : List ℕ → ℕ
 hidden [] = 0
 hidden (b ∷ rest) = if b == 92 then 1 else if b == 96 then (coded (b ∷ rest)).1 else 0
@@ -141,7 +142,7 @@ label_end inside skip before at (b ∷ rest) =
     else if is_no_label inside b rest then None
     else label_end (brackets inside before b) (hidden (b ∷ rest)) b (at + 1) rest
 
--- a label, the address and the title that it leads to, and what is after these
+-- a label, the address and title of its target, and the rest after these
 abbrev pub Aimed : Type 0
 Aimed = List ℕ × List ℕ × List ℕ × List ℕ
 
@@ -155,7 +156,7 @@ abbrev pub aimed_at : Refs → List ℕ → List ℕ → Option (List ℕ × Lis
 aimed_at refs label rest None = referring refs label label rest
 aimed_at refs label rest (Some target) = Some (label, target.0, target.1, target.2)
 
--- `[name]`, where no name means that of the label
+-- `[name]`; an empty name means the label's own
 abbrev pub named_by : List ℕ → List ℕ → List ℕ
 named_by label name = if is_blank name then label else name
 
@@ -179,7 +180,7 @@ labelled refs rest (Some end) = behind_label refs (take end rest) (drop (end + 1
 abbrev pub aimed : Refs → List ℕ → Option Aimed
 aimed refs rest = labelled refs rest (label_end nested.Nothing 0 91 0 rest)
 
--- a link behind its bracket, or that itself
+-- a link after its bracket, or the bracket itself
 abbrev pub link_of : List ℕ → Option Aimed → Meant × ℕ
 link_of rest None = (Words (91 ∷ []), 0)
 link_of rest (Some link) = (Linked link.0 link.1 link.2, length rest - length link.3)
@@ -187,7 +188,7 @@ link_of rest (Some link) = (Linked link.0 link.1 link.2, length rest - length li
 abbrev pub linked : Refs → List ℕ → Meant × ℕ
 linked refs rest = link_of rest (aimed refs rest)
 
--- a picture behind its `!`, or that itself
+-- a picture after its `!`, or the `!` itself
 abbrev pub picture_of : List ℕ → Option Aimed → Meant × ℕ
 picture_of rest None = (Words (33 ∷ []), 0)
 picture_of rest (Some picture) = (Pictured picture.0 picture.1 picture.2, length rest - length picture.3)
@@ -226,7 +227,7 @@ abbrev pub closes : ℕ → ℕ → ℕ → Bool
 closes sign before after =
     is_left after before && (sign == 42 || not (is_left before after) || is_ascii_punctuation after)
 
--- what as many signs, or three, do where the words are that such signs began
+-- what signs do whose number is that of the opening signs, or three, given the bytes before and after them
 abbrev pub side_at : ℕ → ℕ → ℕ → ℕ → ℕ → Side
 side_at sign wide before length after =
     if not (length == wide || length == 3) then sides.Neither
@@ -239,7 +240,7 @@ side_of sign wide before line =
     then side_at sign wide before (run sign line) (byte_behind (drop (run sign line) line))
     else sides.Neither
 
--- stressed words that begin in others end in them, and are in at most two others
+-- stressed words that begin within others end within them, and are nested in at most two others
 abbrev pub ends_words : Side → ℕ → Bool
 ends_words sides.Left deep = false
 ends_words sides.Right deep = deep == 0
@@ -255,14 +256,14 @@ deeper sides.Left deep = deep + 1
 deeper sides.Right deep = deep - 1
 deeper sides.Neither deep = deep
 
--- how many bytes behind the first are passed over: those of the same sign, a link, or what hides others
+-- how many bytes after the first are passed over: those of the same sign, a link, or whatever hides others
 abbrev pub passed : Refs → ℕ → List ℕ → ℕ
 passed refs sign [] = 0
 passed refs sign (b ∷ rest) =
     if b == sign then run sign (b ∷ rest) - 1 else if b == 91 then (linked refs rest).1
     else hidden (b ∷ rest)
 
--- where the signs begin that end stressed words, and how many they are
+-- where the signs that end stressed words begin, and how many they are
 abbrev pub closer : Refs → ℕ → ℕ → ℕ → ℕ → ℕ → ℕ → List ℕ → Option (ℕ × ℕ)
 closer refs sign wide deep skip before at [] = None
 closer refs sign wide deep skip before at (b ∷ rest) =
@@ -300,7 +301,7 @@ abbrev pub is_plain : ℕ → Bool
 is_plain b =
     not (b == 92 || b == 96 || b == 42 || b == 95 || b == 91 || b == 33 || b == 32 || b == 60)
 
--- the token at the begin of a text, behind a byte
+-- the token at the beginning of a text that follows this byte
 unfoldable pub token : Refs → ℕ → List ℕ → Meant × ℕ
 token refs before [] = (Words [], 0)
 token refs before (b ∷ rest) =
@@ -313,7 +314,7 @@ token refs before (b ∷ rest) =
     else if b == 60 then angled rest
     else plain (prefix_len is_plain (b ∷ rest)) (b ∷ rest)
 
--- the pieces of a token, by those of the texts in it; in the label of a link nothing refers
+-- the pieces of a token, given those of the texts in it; in the label of a link there are no references
 abbrev pub shown : (Refs → List ℕ → List Piece) → Refs → Meant → List Piece
 shown inner refs (Words text) = Text text ∷ []
 shown inner refs Break = Open elements.Break ∷ Text (10 ∷ []) ∷ []
@@ -326,7 +327,7 @@ shown inner refs (Pictured label address title) =
     Picture (link_address (unescaped false address)) label (unescaped false title) ∷ []
 shown inner refs (Led address) = Link address [] ∷ Text address ∷ Close elements.Anchor ∷ []
 
--- one token behind the other
+-- the tokens of a text, one after the other
 abbrev pub tokens_of : (Refs → List ℕ → List Piece) → Refs → ℕ → ℕ → List ℕ → List Piece
 tokens_of inner refs skip before [] = []
 tokens_of inner refs skip before (b ∷ rest) =
@@ -335,7 +336,7 @@ tokens_of inner refs skip before (b ∷ rest) =
     ++ tokens_of inner refs (token refs before (b ∷ rest)).1 b rest
     else tokens_of inner refs (skip - 1) b rest
 
--- a text whose stressed words and labels are so deep in one another, as pieces; deeper is text
+-- a text as pieces, with stressed words and labels nested at most this deep; deeper ones stay text
 unfoldable pub inline : ℕ → Refs → List ℕ → List Piece
 inline zero refs text = Text text ∷ []
 inline (suc depth) refs text = tokens_of (inline depth) refs 0 10 text

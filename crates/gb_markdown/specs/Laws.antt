@@ -1,4 +1,4 @@
--- What holds of every page, whatever is written on it.
+-- What holds of every page, whatever its text.
 use Rattle.std.specs.Prelude.{◌≡◌, ℕ, ◌*◌, ◌==◌, Bool, true, false, List, cond, count_by, length, sum_by}
 use Rattle.std.specs.Prelude.{All}
 use Rattle.gb_markdown.specs.declared.page.Attribute.{Attribute}
@@ -7,7 +7,7 @@ use Rattle.gb_markdown.specs.Addresses.{address_of, is_safe}
 use Rattle.gb_markdown.specs.Pieces.{Piece, Open, Close, Link, Picture, Listing, Coded, Named, Text}
 use Rattle.gb_markdown.specs.Pieces.{attributes_of, written}
 
--- ---- No sign of a text is taken for one of the page
+-- ---- No sign of a text is parsed as one of the page
 
 abbrev pub is_tag : Piece → Bool
 is_tag (Open element) = true
@@ -40,7 +40,7 @@ TextsAreEscaped =
 
 -- ---- Addresses
 
--- an attribute that leads somewhere leads to a safe address
+-- an attribute that holds an address holds a safe one
 abbrev pub LeadsToSafety : Attribute × List ℕ → Type 0
 LeadsToSafety (attributes.Href, address) = is_safe address ≡ true
 LeadsToSafety (attributes.Source, address) = is_safe address ≡ true
@@ -55,6 +55,6 @@ LeadsToSafety (attributes.Name, value) = Unit {0}
 abbrev pub AddressesAreSafe : Type 0
 AddressesAreSafe = (piece : Piece) → All LeadsToSafety (attributes_of piece)
 
--- The address that is made of a path is safe, so the link to a page is always one.
+-- The address made from a path is safe, so the link to a page always exists.
 abbrev pub PathsAreSafe : Type 0
 PathsAreSafe = (path : List ℕ) → is_safe (address_of path) ≡ true

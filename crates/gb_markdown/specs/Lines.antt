@@ -1,4 +1,4 @@
--- What a line of a page says.
+-- How a line of a page is parsed.
 use Rattle.std.specs.Prelude.{ℕ, ◌+◌, ◌==◌, nat_le, nat_lt, Bool, true, false, not, ◌&&◌, ◌||◌, List, []}
 use Rattle.std.specs.Prelude.{◌∷◌, if◌then◌else◌, codes, bytes_eq, length, take, drop, Option, None}
 use Rattle.std.specs.Prelude.{Some}
@@ -32,14 +32,14 @@ said_by (lines.Item marker first text) = Item marker first.now text.now
 said_by (lines.Indented text) = Indented text.now
 said_by (lines.Words text) = Words text.now
 
--- ---- What a line says that begins with at most three spaces
+-- ---- Lines that begin with at most three spaces
 
--- the text without the space that begins it
+-- the text without a leading space
 abbrev pub without_space : List ℕ → List ℕ
 without_space [] = []
 without_space (b ∷ rest) = if b == 32 then rest else b ∷ rest
 
--- a heading has one to six `#`, and its words behind white space
+-- a heading has one to six `#`, then white space and its words
 abbrev pub headed : ℕ → Option Element
 headed rank =
     if rank == 1 then Some elements.HeadingOne else if rank == 2 then Some elements.HeadingTwo
@@ -47,7 +47,7 @@ headed rank =
     else if rank == 5 then Some elements.HeadingFive else if rank == 6 then Some elements.HeadingSix
     else None
 
--- its words are without the `#` at their end that are behind white space
+-- its words exclude the `#` at their end that follow white space
 abbrev pub without_signs : ℕ → List ℕ → List ℕ
 without_signs sign words = take (end_of (λ b. b == sign) 0 0 words) words
 
@@ -68,7 +68,7 @@ heading_of (Some element) rest body =
 abbrev pub heading : List ℕ → Said
 heading body = heading_of (headed (run 35 body)) (drop (run 35 body) body) body
 
--- code begins with three backquotes or `~`, or more; its language is the first word behind them
+-- code begins with three or more backquotes or `~`; its language is the first word after them
 abbrev pub is_letter : ℕ → Bool
 is_letter b = not (is_space b)
 
@@ -92,7 +92,7 @@ is_rule sign seen [] = nat_le 3 seen
 is_rule sign seen (b ∷ rest) =
     if b == sign then is_rule sign (seen + 1) rest else if is_space b then is_rule sign seen rest else false
 
--- an item has its words behind one to four spaces, or none; the width of its sign is up to these
+-- an item has its words after one to four spaces, or no words; the width of its sign reaches up to them
 abbrev pub gap_of : ℕ → ℕ
 gap_of gap = if nat_lt 4 gap then 1 else gap
 
@@ -109,7 +109,7 @@ rule_or_item indent sign rest =
     else if sign == 95 then Words (sign ∷ rest)
     else item sign (indent + 1) [] rest (sign ∷ rest)
 
--- the number of an item has one to nine digits, and `.` or `)` behind them
+-- the number of an item has one to nine digits, then `.` or `)`
 abbrev pub number : List ℕ → List ℕ
 number digits =
     if run 48 digits == length digits then codes "0" else drop (run 48 digits) digits
@@ -136,7 +136,7 @@ said_behind indent (b ∷ rest) =
 
 -- ---- Any line
 
--- nothing; code behind four spaces; or one of these
+-- nothing; code after four spaces; or one of these
 unfoldable pub said : List ℕ → Said
 said line =
     if is_blank line then Nothing

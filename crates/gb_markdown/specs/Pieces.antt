@@ -1,4 +1,4 @@
--- What a page is made of, and how that is written.
+-- What a page is made of, and how it is written.
 use Rattle.std.specs.Prelude.{ℕ, ◌==◌, List, [], ◌∷◌, ◌++◌, if◌then◌else◌, codes}
 use Rattle.std.specs.List.{flat_map}
 use Rattle.gb_markdown.specs.declared.page.Element.{Element}
@@ -7,8 +7,9 @@ use Rattle.gb_markdown.specs.declared.page.Attribute.{Attribute}
 use Rattle.gb_markdown.specs.declared.page.Attribute.TheVariants as attributes
 use Rattle.gb_markdown.specs.Addresses.{is_safe}
 
--- an element begins or ends, a link to an address with a title begins, a picture of what is at an address, a
--- list whose items have numbers, code in a language, or an element with a name begins, or there is text
+-- the beginning or end of an element, the beginning of a link to an address with a title, a picture at an
+-- address, the beginning of a list whose items have numbers, of code in a language, or of an element with a
+-- name, or text
 pub data Piece : Type 0 where
   Open : Element → Piece
   Close : Element → Piece
@@ -46,7 +47,7 @@ name_of elements.Image = codes "img"
 name_of elements.Rule = codes "hr"
 name_of elements.Break = codes "br"
 
--- `<`, `>`, `&` and the double quote are told by their names
+-- `<`, `>`, `&` and the double quote are written by their names
 abbrev pub escaped_byte : ℕ → List ℕ
 escaped_byte b =
     if b == 60 then codes "&lt;" else if b == 62 then codes "&gt;" else if b == 38 then codes "&amp;"
@@ -72,11 +73,11 @@ attribute_text attribute = attribute_begun attribute.0 ++ (escaped attribute.1 +
 abbrev pub attributes_text : List (Attribute × List ℕ) → List ℕ
 attributes_text attributes = flat_map attribute_text attributes
 
--- only a safe address is one
+-- an address that is not safe is left out
 abbrev pub address_in : Attribute → List ℕ → List (Attribute × List ℕ)
 address_in attribute address = if is_safe address then (attribute, address) ∷ [] else []
 
--- an empty value is none
+-- an empty value is left out
 abbrev pub value_in : Attribute → List ℕ → List (Attribute × List ℕ)
 value_in attribute [] = []
 value_in attribute (b ∷ value) = (attribute, b ∷ value) ∷ []

@@ -3,7 +3,7 @@ use Rattle.std.specs.Prelude.{ℕ, ◌+◌, ◌==◌, nat_le, Bool, ◌&&◌, �
 use Rattle.std.specs.Prelude.{if◌then◌else◌}
 use Rattle.std.specs.List.{prefix_len}
 
--- how many bytes at the begin are the sign
+-- how many bytes at the beginning are the sign
 abbrev pub run : ℕ → List ℕ → ℕ
 run sign line = prefix_len (λ b. b == sign) line
 
@@ -11,14 +11,14 @@ run sign line = prefix_len (λ b. b == sign) line
 abbrev pub is_space : ℕ → Bool
 is_space b = b == 32 || (nat_le 9 b && nat_le b 13)
 
--- how many bytes at the begin are white space
+-- how many bytes at the beginning are white space
 abbrev pub spaces : List ℕ → ℕ
 spaces line = prefix_len is_space line
 
 abbrev pub is_blank : List ℕ → Bool
 is_blank line = spaces line == length line
 
--- where the white space begins at the end of a text, if it stands so many bytes in
+-- where the white space at the end of a text begins, if the text begins at this offset
 abbrev pub end_of : (ℕ → Bool) → ℕ → ℕ → List ℕ → ℕ
 end_of passes end at [] = end
 end_of passes end at (b ∷ rest) = end_of passes (if passes b then end else at + 1) (at + 1) rest

@@ -17,7 +17,7 @@ use Rattle.gb_markdown.specs.declared.page.Element.TheVariants as elements
 abbrev pub line_end : Piece
 line_end = Text (10 ∷ [])
 
--- how deep stressed words and labels may be in one another
+-- how deep stressed words and labels may be nested
 unfoldable pub words_depth : ℕ
 words_depth = 6
 
@@ -29,7 +29,7 @@ lines_in text = map without_terminator (lines_of text)
 
 -- ---- Which paragraphs are tables
 
--- what is before the first end of a line, and behind it
+-- the text before the first end of a line, and the text after it
 abbrev pub cut : List ℕ → Option (List ℕ × List ℕ)
 cut text = option_map (λ k. (take k text, drop (k + 1) text)) (first_of (matches text (10 ∷ []) 0))
 
@@ -60,7 +60,7 @@ abbrev pub without_bar : List ℕ → List ℕ
 without_bar [] = []
 without_bar (b ∷ rest) = if b == 124 then rest else b ∷ rest
 
--- a row may have a `|` before its first cell, and behind its last
+-- a row may have a `|` before its first cell and after its last
 abbrev pub within_bars : List ℕ → List ℕ
 within_bars line = without_signs 124 (without_bar (trimmed (words_of line)))
 

@@ -7,8 +7,8 @@ use Rattle.gb_markdown.specs.Runs.{is_space, spaces}
 
 -- ---- Addresses
 
--- where an address in `<` and `>` ends, on its line, if the text stands so many bytes behind the `<`; a
--- backslash hides the byte behind it
+-- where an address in `<` and `>` ends, on its line, if the text begins this many bytes after the `<`; a
+-- backslash hides the byte after it
 abbrev pub is_hidden : Bool → ℕ → Bool
 is_hidden hidden b = not hidden && b == 92
 
@@ -33,7 +33,7 @@ address_end hidden deep at (b ∷ rest) =
     if ends_address hidden deep b then at
     else address_end (is_hidden hidden b) (parentheses hidden deep b) (at + 1) rest
 
--- a part of a text, and what is behind it
+-- a part of a text, and the rest after it
 abbrev pub in_signs : List ℕ → List ℕ → Option ℕ → List ℕ × List ℕ
 in_signs line inside None = ([], line)
 in_signs line inside (Some end) = (take end inside, drop (end + 1) inside)
@@ -47,14 +47,15 @@ address (b ∷ rest) =
 
 -- ---- Titles
 
--- where a title ends that the sign ends
+-- where a title ends that this sign closes
 abbrev pub quote_end : ℕ → Bool → ℕ → List ℕ → Option ℕ
 quote_end sign hidden at [] = None
 quote_end sign hidden at (b ∷ rest) =
     if not hidden && b == sign then Some at else if not hidden && (b == 40 && sign == 41) then None
     else quote_end sign (is_hidden hidden b) (at + 1) rest
 
--- the sign that ends a title which another begins: a title is in double quotes, in quotes or in parentheses
+-- the sign that ends a title that begins with this one: a title is in double quotes, in quotes or in
+-- parentheses
 abbrev pub quote_of : ℕ → Option ℕ
 quote_of b =
     if b == 34 then Some 34 else if b == 39 then Some 39 else if b == 40 then Some 41 else None
@@ -67,7 +68,7 @@ abbrev pub title_in : List ℕ → List ℕ × List ℕ
 title_in [] = ([], [])
 title_in (b ∷ rest) = quoted (b ∷ rest) rest (quote_of b)
 
--- the title at the begin of a text, if white space is before it
+-- the title at the beginning of a text, if white space precedes it
 abbrev pub title : List ℕ → List ℕ × List ℕ
 title line = if spaces line == 0 then ([], line) else title_in (drop (spaces line) line)
 
@@ -76,12 +77,12 @@ title line = if spaces line == 0 then ([], line) else title_in (drop (spaces lin
 abbrev pub behind : List ℕ → List ℕ
 behind line = drop (spaces line) line
 
--- what is behind a `)`
+-- the rest after a `)`
 abbrev pub closed : List ℕ → Option (List ℕ)
 closed [] = None
 closed (b ∷ rest) = if b == 41 then Some rest else None
 
--- the address, the title, and what is behind the `)`; white space may be before each
+-- the address, the title, and the rest after the `)`; white space may precede each
 abbrev pub target : List ℕ → Option (List ℕ × List ℕ × List ℕ)
 target line =
     let address = address (behind line) in
@@ -90,7 +91,7 @@ target line =
 
 -- ---- Backslashes
 
--- what a byte comes to, behind a backslash or not: a backslash before a sign of ASCII is left out
+-- what a byte becomes, after a backslash or not: a backslash before a sign of ASCII is left out
 abbrev pub unescape : Bool → ℕ → List ℕ
 unescape false b = if b == 92 then [] else b ∷ []
 unescape true b = if is_ascii_punctuation b then b ∷ [] else 92 ∷ b ∷ []

@@ -8,8 +8,8 @@ ghost use Rattle.gb_markdown.specs.Addresses.{is_meant, leads_within, link_addre
 use percent_encoding::percent_encode_byte;
 use std::alloc::{AllocError, Global};
 
-/// Whether a link may have the address: it has no control character, no white space, and no scheme but
-/// `http`, `https` and `mailto`.
+/// Whether a link may have the address: it has no control character, no white space, and no scheme
+/// other than `http`, `https` and `mailto`.
 pub fn is_safe(address: &[u8]) -> bool
     ensures { result ≡ is_safe address.now }
 {
@@ -38,7 +38,7 @@ fn has_safe_scheme(address: &[u8]) -> bool
         || begins(address, b"mailto:")
 }
 
-/// Whether a `:` comes before each `/`, `?` and `#`.
+/// Whether a `:` precedes each `/`, `?` and `#`.
 pub fn has_scheme(address: &[u8]) -> bool
     ensures { result ≡ has_scheme address.now }
 {
@@ -69,7 +69,7 @@ fn begins(address: &[u8], scheme: &[u8]) -> bool
     true
 }
 
-/// The address of the page of a text, where the address is that of the text: `.html` is in place of `.md`.
+/// The address of a text's page, from the address of the text: `.html` replaces `.md`.
 pub(crate) fn page_address(alloc: Global, address: &[u8]) -> Result<Vec<u8>, AllocError>
     ensures { IfOk result (λ made. made.items ≡ page_address address.now) }
 {
@@ -81,7 +81,7 @@ pub(crate) fn page_address(alloc: Global, address: &[u8]) -> Result<Vec<u8>, All
     }
 }
 
-/// Whether an address leads to a file of the site: it has neither a scheme nor a host.
+/// Whether an address refers to a file of the site: it has neither a scheme nor a host.
 fn leads_within(address: &[u8]) -> bool
     ensures { result ≡ leads_within address.now }
 {
@@ -102,7 +102,7 @@ fn is_in_path(byte: u8) -> bool
     !(byte == b'?' || byte == b'#')
 }
 
-/// A path with `.html` in place of `.md` at its end, and what is after it.
+/// A path with `.html` instead of `.md` at its end, and the rest after it.
 fn as_page(alloc: Global, path: &[u8], rest: &[u8]) -> Result<Vec<u8>, AllocError>
     ensures { IfOk result (λ made. made.items ≡ as_page path.now rest.now) }
 {
@@ -118,7 +118,8 @@ fn as_page(alloc: Global, path: &[u8], rest: &[u8]) -> Result<Vec<u8>, AllocErro
     Ok(made)
 }
 
-/// An address as it is in a link: each byte but letters, digits and the signs of addresses as `%XX`.
+/// An address as it is written in a link: each byte except letters, digits and the signs of
+/// addresses as `%XX`.
 pub(crate) fn link_address(alloc: Global, address: &[u8]) -> Result<Vec<u8>, AllocError>
     ensures { IfOk result (λ made. made.items ≡ link_address address.now) }
 {
@@ -141,7 +142,7 @@ fn link_byte(made: &mut Vec<u8>, byte: u8) -> Result<(), AllocError>
     Ok(())
 }
 
-/// Whether a byte is a letter, a digit, or a sign that has a meaning in an address.
+/// Whether a byte is a letter, a digit, or a sign with a meaning in an address.
 fn is_meant(byte: u8) -> bool
     ensures { result ≡ is_meant byte }
 {
@@ -150,7 +151,7 @@ fn is_meant(byte: u8) -> bool
         || matches!(byte, b'!' | b':' | b';' | b'=' | b'?' | b'@' | b'_' | b'~')
 }
 
-/// The address of the file at a path: each byte but letters, digits and `-._~/` as `%XX`.
+/// The address of the file at a path: each byte except letters, digits and `-._~/` as `%XX`.
 pub fn address_of(alloc: Global, path: &[u8]) -> Result<Vec<u8>, AllocError>
     ensures { IfOk result (λ address. address.items ≡ address_of path.now) }
 {

@@ -25,7 +25,7 @@ use crate::tables::{is_divider, rows_of, table, words};
 use bstr::ByteSlice;
 use std::alloc::{AllocError, Global};
 
-/// The block that is open.
+/// The open block.
 #[derive(Clone, Copy)]
 pub enum Block {
     /// None is open.
@@ -36,24 +36,24 @@ pub enum Block {
     Code(Fence),
     /// Code whose lines begin with four spaces.
     Indented,
-    /// A quote, and whether words alone go on with it.
+    /// A quote, and whether it continues with words alone.
     Quote(bool),
     /// Items of a list.
     Items(OpenList),
 }
 
-/// A list whose items are read.
+/// A list whose items are being read.
 #[derive(Clone, Copy)]
 pub struct OpenList {
     /// The sign before its last item.
     pub marker: Marker,
     /// Whether its last line is empty.
     pub ended: bool,
-    /// Whether more comes behind an empty line.
+    /// Whether more content follows an empty line.
     pub spaced: bool,
 }
 
-/// How deep quotes and items may be in one another.
+/// How deep quotes and items may be nested.
 const BLOCKS: u8 = 16;
 
 /// The page of a text.
@@ -129,7 +129,7 @@ fn blocks(
     )
 }
 
-/// Whether a line belongs to the block that is open.
+/// Whether a line belongs to the open block.
 pub(crate) fn goes_on(block: Block, line: &[u8]) -> bool
     ensures { result ≡ goes_on block line.now }
 {
@@ -145,7 +145,7 @@ pub(crate) fn goes_on(block: Block, line: &[u8]) -> bool
     }
 }
 
-/// Whether a line goes on with a paragraph.
+/// Whether a line continues a paragraph.
 fn is_words(says: Line<'_>) -> bool
     ensures { result ≡ is_words (said_by says.entry) }
 {
@@ -169,7 +169,7 @@ fn ends_code(fence: Fence, line: &[u8]) -> bool
     indent < 4 && fence.length <= length && is_blank(&body[length..])
 }
 
-/// Whether a line goes on with code behind four spaces.
+/// Whether a line continues code after four spaces.
 fn is_indented(says: Line<'_>) -> bool
     ensures { result ≡ is_indented (said_by says.entry) }
 {
@@ -184,7 +184,7 @@ fn is_indented(says: Line<'_>) -> bool
     }
 }
 
-/// Whether a line goes on with a quote.
+/// Whether a line continues a quote.
 fn is_quoted(more: bool, says: Line<'_>) -> bool
     ensures { result ≡ is_quoted more (said_by says.entry) }
 {
@@ -199,14 +199,14 @@ fn is_quoted(more: bool, says: Line<'_>) -> bool
     }
 }
 
-/// Whether fewer spaces are before a line than an item is wide.
+/// Whether a line begins with fewer spaces than an item is wide.
 fn is_outside(width: usize, line: &[u8]) -> bool
     ensures { result ≡ is_outside width line.now }
 {
     run(b' ', line) < width
 }
 
-/// Whether a line that is in no item of a list goes on with it.
+/// Whether a line that is in no item of a list continues the list.
 fn is_listed(list: OpenList, says: Line<'_>) -> bool
     ensures { result ≡ is_listed list (said_by says.entry) }
 {
@@ -218,7 +218,7 @@ fn is_listed(list: OpenList, says: Line<'_>) -> bool
     }
 }
 
-/// Takes a line that belongs to the block that is open.
+/// Takes a line that belongs to the open block.
 fn keep(
     page: &mut Vec<u8>,
     taken: &mut Vec<u8>,
@@ -265,7 +265,7 @@ pub(crate) fn add(taken: &mut Vec<u8>, line: &[u8]) -> Result<(), AllocError>
     Ok(())
 }
 
-/// The line without so many spaces before it, or all that are there.
+/// The line without this many spaces before it, or without all of them if there are fewer.
 fn without_indent(count: usize, line: &[u8]) -> &[u8]
     ensures { result.now ≡ without_indent count line.now }
 {
@@ -293,7 +293,7 @@ pub(crate) fn unquoted(line: &[u8]) -> &[u8]
     }
 }
 
-/// Whether words go on with a quote whose last line says this.
+/// Whether words continue a quote whose last line is this.
 pub(crate) fn is_open(says: Line<'_>) -> bool
     ensures { result ≡ is_open (said_by says.entry) }
 {
@@ -304,7 +304,7 @@ pub(crate) fn is_open(says: Line<'_>) -> bool
     }
 }
 
-/// A list behind a line of it.
+/// A list after a line of it.
 pub(crate) fn after(list: OpenList, line: &[u8]) -> OpenList
     ensures { result ≡ after list line.now }
 {
@@ -325,7 +325,7 @@ pub(crate) fn after(list: OpenList, line: &[u8]) -> OpenList
     }
 }
 
-/// A list behind an item of it, or of a list in it.
+/// A list after an item of it, or of a nested list.
 fn with_item(list: OpenList, outer: bool, marker: Marker) -> OpenList
     ensures { result ≡ with_item list outer marker }
 {
@@ -337,7 +337,7 @@ fn with_item(list: OpenList, outer: bool, marker: Marker) -> OpenList
     }
 }
 
-/// A list behind another line with words.
+/// A list after another line with words.
 fn with_words(list: OpenList) -> OpenList
     ensures { result ≡ with_words list }
 {
@@ -348,7 +348,7 @@ fn with_words(list: OpenList) -> OpenList
     }
 }
 
-/// What a line says in an item of this width.
+/// The part of a line that is in an item of this width.
 fn inside(width: usize, line: &[u8]) -> &[u8]
     ensures { result.now ≡ inside width line.now }
 {
@@ -369,7 +369,7 @@ pub(crate) fn is_code(block: Block) -> bool
     }
 }
 
-/// Begins the block of a line, or none where it ends code.
+/// Begins the block of a line, or none if the line ends code.
 fn begin(
     alloc: Global,
     page: &mut Vec<u8>,
@@ -491,7 +491,7 @@ fn begin_heading(
     named(page, element, id.as_slice())
 }
 
-/// Writes the block that is open, and ends it.
+/// Writes the open block, and ends it.
 #[cycle(nested)]
 fn finish(
     alloc: Global,
@@ -694,7 +694,7 @@ fn item(
     Ok(())
 }
 
-/// Whether a line begins an item, behind one of a width.
+/// Whether a line begins an item, after one of this width.
 fn starts(width: usize, line: &[u8]) -> bool
     ensures { result ≡ starts width line.now }
 {

@@ -43,14 +43,14 @@ pub(crate) fn taken_apart(
     Ok((references, text))
 }
 
-/// The label that a line defines that does not go on with the block that is open.
+/// The label that a line defines if it does not continue the open block.
 fn defined_behind(block: Block, line: &[u8]) -> Option<Reference<'_>>
     ensures { option_map meaning result ≡ defined_behind block line.now }
 {
     if is_code(block) { None } else { defined(line) }
 }
 
-/// Adds a label, up to so many.
+/// Adds a label, up to this many.
 fn add_reference<'a>(
     references: &mut Vec<Reference<'a>>,
     reference: Reference<'a>,
@@ -64,7 +64,7 @@ fn add_reference<'a>(
     Ok(())
 }
 
-/// The block that is open after a line that belongs to it.
+/// The open block after a line that belongs to it.
 fn kept_block(block: Block, line: &[u8]) -> Block
     ensures { result ≡ kept_block block line.now }
 {
@@ -75,7 +75,7 @@ fn kept_block(block: Block, line: &[u8]) -> Block
     }
 }
 
-/// The block that a line begins, or none where it ends code.
+/// The block that a line begins, or none if the line ends code.
 fn begun_block(ended: bool, says: Line<'_>) -> Block
     ensures { result ≡ begun_block ended (said_by says.entry) }
 {

@@ -24,7 +24,7 @@ use crate::runs::{is_blank, is_space, run};
 use crate::target::{Target, angle_end, quote_end, read_target, unescaped};
 use std::alloc::{AllocError, Global};
 
-/// What is at the begin of a text.
+/// The token at the beginning of a text.
 #[derive(Clone, Copy)]
 pub enum Token<'a> {
     /// Words.
@@ -33,7 +33,7 @@ pub enum Token<'a> {
     Break,
     /// Code.
     Code(&'a [u8]),
-    /// Words that are stressed, by `em` or by `strong`.
+    /// Stressed words, in `em` or in `strong`.
     Stressed(Element, &'a [u8]),
     /// A link: its label, and where it leads.
     Linked(&'a [u8], Target<'a>),
@@ -43,7 +43,7 @@ pub enum Token<'a> {
     Led(&'a [u8]),
 }
 
-/// The brackets that are open in a label.
+/// The open brackets in a label.
 #[derive(Clone, Copy, PartialEq, Eq)]
 pub enum Nested {
     /// None.
@@ -54,7 +54,7 @@ pub enum Nested {
     Picture,
 }
 
-/// The side of words at which signs are.
+/// The side of words where signs are.
 #[derive(Clone, Copy)]
 pub enum Side {
     /// They begin stressed words.
@@ -65,7 +65,7 @@ pub enum Side {
     Neither,
 }
 
-/// Writes a text, in which stressed words and labels are at most so deep in one another.
+/// Writes a text, with stressed words and labels nested at most this deep.
 #[cycle(texts)]
 pub fn inline<'a>(
     alloc: Global,
@@ -83,7 +83,7 @@ pub fn inline<'a>(
     tokens(alloc, page, depth - 1, refs, line)
 }
 
-/// Writes one token behind the other.
+/// Writes the tokens of a text, one after the other.
 #[cycle(texts)]
 fn tokens<'a>(
     alloc: Global,
@@ -188,7 +188,8 @@ fn picture_of(
     picture(page, address.as_slice(), label, title.as_slice())
 }
 
-/// The token at the begin of a text behind a byte, and how many bytes behind its first belong to it.
+/// The token at the beginning of a text that follows a byte, and how many bytes after its first
+/// belong to it.
 #[tactic(auto, unfolding(crate::specs::Inline::token))]
 fn first_token<'a>(refs: &'a [Reference<'a>], before: u8, line: &'a [u8]) -> (Token<'a>, usize)
     ensures { (meant_by result.0, result.1) ≡ token (meanings refs.now) before line.now }
@@ -208,7 +209,7 @@ fn first_token<'a>(refs: &'a [Reference<'a>], before: u8, line: &'a [u8]) -> (To
     }
 }
 
-/// How many bytes at the begin begin no other token.
+/// How many bytes at the beginning start no other token.
 fn plain_length(line: &[u8]) -> usize
     ensures value { result ≡ prefix_len is_plain line.now }
     ensures within { result ≤ length line.now }
@@ -223,7 +224,7 @@ fn is_plain(byte: u8) -> bool
     !matches!(byte, b'\\' | b'`' | b'*' | b'_' | b'[' | b'!' | b' ' | b'<')
 }
 
-/// So many bytes, as they are.
+/// This many bytes, unchanged.
 fn plain(count: usize, line: &[u8]) -> (Token<'_>, usize)
     requires { count ≤ length line.now }
     ensures { (meant_by result.0, result.1) ≡ plain count line.now }
@@ -231,7 +232,7 @@ fn plain(count: usize, line: &[u8]) -> (Token<'_>, usize)
     (Token::Words(&line[..count]), count.saturating_sub(1))
 }
 
-/// What a backslash is before a text.
+/// What a backslash before a text is parsed as.
 fn escaped_in(rest: &[u8]) -> (Token<'_>, usize)
     ensures { (meant_by result.0, result.1) ≡ escaped_in rest.now }
 {
@@ -271,7 +272,7 @@ fn first_is(sign: u8, line: &[u8]) -> bool
     }
 }
 
-/// The byte at the begin of a text, or the end of a line.
+/// The first byte of a text, or the end of a line.
 fn byte_behind(line: &[u8]) -> u8
     ensures { result ≡ byte_behind line.now }
 {
@@ -292,7 +293,7 @@ fn coded(line: &[u8]) -> (Token<'_>, usize)
     code_of(length, line, code_end(length, &line[length..]))
 }
 
-/// Code behind so many backquotes, or these.
+/// Code after this many backquotes, or these.
 fn code_of(count: usize, line: &[u8], end: Option<usize>) -> (Token<'_>, usize)
     requires low { count ≤ 8 }
     requires room { count ≤ length line.now }
@@ -311,7 +312,7 @@ fn code_of(count: usize, line: &[u8], end: Option<usize>) -> (Token<'_>, usize)
     }
 }
 
-/// Where the first run of so many backquotes begins.
+/// Where the first run of this many backquotes begins.
 fn code_end(count: usize, rest: &[u8]) -> Option<usize>
     ensures value { result ≡ code_end count 0 0 rest.now }
     ensures within { IfSome result (λ end. end ≤ length rest.now) }
@@ -352,7 +353,7 @@ fn is_edge(byte: u8) -> bool
     byte == b' ' || byte == b'\n'
 }
 
-/// How many bytes behind the first hide other signs: the one behind a backslash, or code.
+/// How many bytes after the first hide other signs: the byte after a backslash, or code.
 fn hidden(line: &[u8]) -> usize
     ensures { result ≡ hidden line.now }
 {
@@ -364,7 +365,7 @@ fn hidden(line: &[u8]) -> usize
     }
 }
 
-/// A link behind its bracket, or that itself.
+/// A link after its bracket, or the bracket itself.
 fn linked<'a>(refs: &'a [Reference<'a>], rest: &'a [u8]) -> (Token<'a>, usize)
     ensures { (meant_by result.0, result.1) ≡ linked (meanings refs.now) rest.now }
 {
@@ -379,7 +380,7 @@ fn linked<'a>(refs: &'a [Reference<'a>], rest: &'a [u8]) -> (Token<'a>, usize)
     }
 }
 
-/// A picture behind its `!`, or that itself.
+/// A picture after its `!`, or the `!` itself.
 fn pictured<'a>(refs: &'a [Reference<'a>], rest: &'a [u8]) -> (Token<'a>, usize)
     ensures { (meant_by result.0, result.1) ≡ pictured (meanings refs.now) rest.now }
 {
@@ -400,7 +401,7 @@ fn pictured<'a>(refs: &'a [Reference<'a>], rest: &'a [u8]) -> (Token<'a>, usize)
     }
 }
 
-/// A label, where it leads, and what is after these.
+/// A label, its target, and the rest after these.
 type Aimed<'a> = (&'a [u8], Target<'a>, &'a [u8]);
 
 /// The label of `label](target)`, `label][name]`, `label][]` or `label]`.
@@ -438,14 +439,14 @@ fn behind_label<'a>(refs: &'a [Reference<'a>], label: &'a [u8], rest: &'a [u8]) 
     }
 }
 
-/// A name in brackets, where no name means that of the label.
+/// A name in brackets; an empty name means the label's own.
 fn named_by<'a>(label: &'a [u8], name: &'a [u8]) -> &'a [u8]
     ensures { result.now ≡ named_by label.now name.now }
 {
     if is_blank(name) { label } else { name }
 }
 
-/// A label that leads where the name refers to.
+/// A label whose target is the one that the name refers to.
 fn referring<'a>(
     refs: &'a [Reference<'a>],
     name: &[u8],
@@ -498,7 +499,7 @@ fn is_no_label(inside: Nested, byte: u8, rest: &[u8]) -> bool
         || byte == b']' && inside == Nested::Words && first_is(b'(', rest)
 }
 
-/// The brackets that are open behind a byte.
+/// The brackets that are open after a byte.
 fn brackets(inside: Nested, before: u8, byte: u8) -> Nested
     ensures { result ≡ brackets inside before byte }
 {
@@ -515,7 +516,7 @@ fn brackets(inside: Nested, before: u8, byte: u8) -> Nested
     }
 }
 
-/// An address behind a `<`, or that itself.
+/// An address after a `<`, or the `<` itself.
 fn angled(rest: &[u8]) -> (Token<'_>, usize)
     ensures { (meant_by result.0, result.1) ≡ angled rest.now }
 {
@@ -598,7 +599,7 @@ fn is_left(before: u8, after: u8) -> bool
         && (!after.is_ascii_punctuation() || is_space(before) || before.is_ascii_punctuation())
 }
 
-/// Where the signs begin that end stressed words, and how many they are.
+/// Where the signs that end stressed words begin, and how many they are.
 fn closer(refs: &[Reference<'_>], sign: u8, wide: usize, rest: &[u8]) -> Option<(usize, usize)>
     requires { wide ≤ 3 }
     ensures value { result ≡ closer (meanings refs.now) sign wide 0 0 sign 0 rest.now }
@@ -628,7 +629,7 @@ fn closer(refs: &[Reference<'_>], sign: u8, wide: usize, rest: &[u8]) -> Option<
     None
 }
 
-/// What signs do at the begin of a text.
+/// What signs at the beginning of a text do.
 fn side_of(sign: u8, wide: usize, before: u8, line: &[u8]) -> Side
     ensures { result ≡ side_of sign wide before line.now }
 {
@@ -640,7 +641,7 @@ fn side_of(sign: u8, wide: usize, before: u8, line: &[u8]) -> Side
     }
 }
 
-/// What so many signs do between two bytes.
+/// What this many signs do between two bytes.
 fn side_at(sign: u8, wide: usize, before: u8, count: usize, after: u8) -> Side
     ensures { result ≡ side_at sign wide before count after }
 {
@@ -673,7 +674,7 @@ fn is_too_deep(side: Side, deep: usize) -> bool
     }
 }
 
-/// How deep words are behind signs.
+/// How deep words are nested after signs.
 fn deeper(side: Side, deep: usize) -> usize
     requires low { deep ≤ 2 }
     requires room { is_too_deep side deep ≡ false }
@@ -687,7 +688,7 @@ fn deeper(side: Side, deep: usize) -> usize
     }
 }
 
-/// How many bytes behind the first are passed over.
+/// How many bytes after the first are passed over.
 fn passed(refs: &[Reference<'_>], sign: u8, line: &[u8]) -> usize
     ensures { result ≡ passed (meanings refs.now) sign line.now }
 {

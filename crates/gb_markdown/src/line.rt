@@ -1,4 +1,4 @@
-//! What the lines of a page say.
+//! How the lines of a page are parsed.
 ghost use Rattle.std.specs.Prelude.{◌≡◌, ◌∷◌, ◌<◌, ◌≤◌, length};
 ghost use Rattle.std.specs.List.{prefix_len};
 ghost use Rattle.gb_markdown.specs.Lines.{said_by, said, said_behind, without_space, headed};
@@ -10,7 +10,7 @@ ghost use Rattle.gb_markdown.specs.Lines.{item, rule_or_item, number, numbered};
 use crate::page::Element;
 use crate::runs::{digits, is_blank, is_space, run, spaces, trimmed};
 
-/// What a line says.
+/// What a line is parsed as.
 #[derive(Clone, Copy)]
 pub enum Line<'a> {
     /// It has no words.
@@ -25,7 +25,7 @@ pub enum Line<'a> {
     Quote(&'a [u8]),
     /// An item of a list begins: its sign, its number if it has one, and its words.
     Item(Marker, &'a [u8], &'a [u8]),
-    /// What is behind four spaces.
+    /// The text after four spaces.
     Indented(&'a [u8]),
     /// Words of a paragraph.
     Words(&'a [u8]),
@@ -36,22 +36,22 @@ pub enum Line<'a> {
 pub struct Fence {
     /// A backquote or `~`.
     pub sign: u8,
-    /// How often the sign stands there.
+    /// How many times the sign occurs there.
     pub length: usize,
-    /// How many spaces are before it.
+    /// How many spaces precede it.
     pub indent: usize,
 }
 
 /// The sign before an item of a list.
 #[derive(Clone, Copy)]
 pub struct Marker {
-    /// `-`, `+` or `*`; of a number the sign behind it, `.` or `)`.
+    /// `-`, `+` or `*`; for a number the sign after it, `.` or `)`.
     pub sign: u8,
-    /// How many bytes are before the words of the item.
+    /// How many bytes precede the words of the item.
     pub width: usize,
 }
 
-/// What a line says.
+/// Parses a line.
 #[tactic(auto, unfolding(crate::specs::Lines::said))]
 pub fn read_line(line: &[u8]) -> Line<'_>
     ensures { said_by result ≡ said line.now }
@@ -66,7 +66,7 @@ pub fn read_line(line: &[u8]) -> Line<'_>
     }
 }
 
-/// What a line says behind so many spaces.
+/// Parses a line after this many spaces.
 fn read_behind(indent: usize, body: &[u8]) -> Line<'_>
     requires { indent < 4 }
     ensures { said_by result ≡ said_behind indent body.now }
@@ -83,7 +83,7 @@ fn read_behind(indent: usize, body: &[u8]) -> Line<'_>
     }
 }
 
-/// The text without the space that begins it.
+/// The text without a leading space.
 fn without_space(line: &[u8]) -> &[u8]
     ensures { result.now ≡ without_space line.now }
 {
@@ -93,7 +93,7 @@ fn without_space(line: &[u8]) -> &[u8]
     if *first == b' ' { rest } else { line }
 }
 
-/// One to six `#`, and words behind white space.
+/// One to six `#`, then white space and words.
 fn read_heading(body: &[u8]) -> Line<'_>
     ensures { said_by result ≡ heading body.now }
 {
@@ -115,14 +115,14 @@ fn heading_of<'a>(element: Option<Element>, rest: &'a [u8], body: &'a [u8]) -> L
     }
 }
 
-/// What is behind white space.
+/// The text after white space.
 pub(crate) fn words_of(line: &[u8]) -> &[u8]
     ensures { result.now ≡ words_of line.now }
 {
     &line[spaces(line)..]
 }
 
-/// The heading with so many `#`.
+/// The heading with this many `#`.
 fn headed(rank: usize) -> Option<Element>
     ensures { result ≡ headed rank }
 {
@@ -137,7 +137,7 @@ fn headed(rank: usize) -> Option<Element>
     }
 }
 
-/// The words of a heading without the `#` at its end that are behind white space.
+/// The words of a heading without the `#` at its end that follow white space.
 fn without_end(words: &[u8]) -> &[u8]
     ensures { result.now ≡ without_end words.now }
 {
@@ -163,7 +163,7 @@ pub(crate) fn without_signs(sign: u8, words: &[u8]) -> &[u8]
     &words[..end]
 }
 
-/// Three backquotes or `~`, or more, and a language.
+/// Three or more backquotes or `~`, and a language.
 fn read_fence(indent: usize, sign: u8, body: &[u8]) -> Line<'_>
     ensures { said_by result ≡ fence indent sign body.now }
 {
@@ -195,14 +195,14 @@ pub(crate) fn has(sign: u8, line: &[u8]) -> bool
     false
 }
 
-/// What is before the first white space.
+/// The text before the first white space.
 fn word(line: &[u8]) -> &[u8]
     ensures { result.now ≡ word line.now }
 {
     &line[..letters(line)]
 }
 
-/// How many bytes are before the first white space.
+/// How many bytes precede the first white space.
 fn letters(line: &[u8]) -> usize
     ensures value { result ≡ prefix_len is_letter line.now }
     ensures within { result ≤ length line.now }
@@ -246,7 +246,7 @@ fn is_rule(sign: u8, line: &[u8]) -> bool
     seen >= 3
 }
 
-/// An item behind its sign, or words.
+/// An item after its sign, or words.
 fn read_item<'a>(
     sign: u8,
     width: usize,
@@ -304,7 +304,7 @@ fn numbered(indent: usize, body: &[u8]) -> Line<'_>
     }
 }
 
-/// A number without zeros before it.
+/// A number without leading zeros.
 fn number(digits: &[u8]) -> &[u8]
     ensures { result.now ≡ number digits.now }
 {

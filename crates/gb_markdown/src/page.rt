@@ -1,4 +1,4 @@
-//! The pieces of a page, written one behind the other.
+//! The pieces of a page, written one after the other.
 ghost use Rattle.std.specs.Prelude.{◌≡◌, ◌++◌, ◌∷◌, [], OnOk};
 ghost use Rattle.gb_markdown.specs.Pieces.{name_of, escaped, escaped_byte, piece_text, Open, Close, Link};
 ghost use Rattle.gb_markdown.specs.Pieces.{Text};
@@ -8,7 +8,7 @@ ghost use Rattle.gb_markdown.specs.Pieces.{attributes_text, address_in, value_in
 use crate::address::is_safe;
 use std::alloc::AllocError;
 
-/// What has a beginning and an end, but for a rule, a break and a picture.
+/// The elements of a page: each has a beginning and an end, except a rule, a break and a picture.
 #[derive(Clone, Copy)]
 pub enum Element {
     /// `h1`, the heading of the page.
@@ -33,9 +33,9 @@ pub enum Element {
     Item,
     /// `blockquote`, what is quoted.
     Quote,
-    /// `em`, words that are stressed.
+    /// `em`, stressed words.
     Emphasis,
-    /// `strong`, words that are stressed more.
+    /// `strong`, words with stronger stress.
     Strong,
     /// `code`, words of code.
     Code,
@@ -98,10 +98,10 @@ impl Element {
     }
 }
 
-/// What a tag says of its element.
+/// An attribute of a tag.
 #[derive(Clone, Copy)]
 pub enum Attribute {
-    /// The address that a link leads to.
+    /// The address of a link's target.
     Href,
     /// The address of a picture.
     Source,
@@ -118,7 +118,7 @@ pub enum Attribute {
 }
 
 impl Attribute {
-    /// What is before its value in a tag.
+    /// The text before its value in a tag.
     fn begun(self) -> &'static [u8]
         ensures { result.now ≡ attribute_begun self }
     {
@@ -192,7 +192,7 @@ pub fn picture(
     Ok(())
 }
 
-/// Begins a list whose items have numbers from one on.
+/// Begins a list whose items are numbered from this number on.
 pub fn numbered(page: &mut Vec<u8>, first: &[u8]) -> Result<(), AllocError>
     ensures { OnOk result (page.new.items ≡ page.old.items ++ piece_text (Listing first.now)) }
 {
@@ -202,7 +202,7 @@ pub fn numbered(page: &mut Vec<u8>, first: &[u8]) -> Result<(), AllocError>
     Ok(())
 }
 
-/// Begins code in a language, if one is told.
+/// Begins code in a language, if one is given.
 pub fn code(page: &mut Vec<u8>, language: &[u8]) -> Result<(), AllocError>
     ensures { OnOk result (page.new.items ≡ page.old.items ++ piece_text (Coded language.now)) }
 {
@@ -254,7 +254,7 @@ fn write_attribute(page: &mut Vec<u8>, name: Attribute, value: &[u8]) -> Result<
     Ok(())
 }
 
-/// Writes a text, with its signs escaped that mean something on a page.
+/// Writes a text, and escapes the signs that have a meaning on a page.
 pub fn text(page: &mut Vec<u8>, text: &[u8]) -> Result<(), AllocError>
     ensures { OnOk result (page.new.items ≡ page.old.items ++ escaped text.now) }
 {

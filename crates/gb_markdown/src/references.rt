@@ -12,11 +12,11 @@ use crate::target::{Target, address, behind, quote_end, title};
 pub struct Reference<'a> {
     /// The label, without its brackets.
     pub label: &'a [u8],
-    /// Where links with the label lead.
+    /// The target of links with the label.
     pub target: Target<'a>,
 }
 
-/// Where the first reference with a label leads.
+/// The target of the first reference with a label.
 pub(crate) fn referred<'a>(label: &[u8], references: &'a [Reference<'a>]) -> Option<Target<'a>>
     ensures { option_map (λ found. (found.address.now, found.title.now)) result
         ≡ referred label.now (meanings references.now) }
@@ -29,7 +29,7 @@ pub(crate) fn referred<'a>(label: &[u8], references: &'a [Reference<'a>]) -> Opt
     None
 }
 
-/// Whether two labels are the same, but for the case of letters and the kind of white space.
+/// Whether two labels are the same, ignoring the case of letters and the kind of white space.
 fn is_same(label: &[u8], other: &[u8]) -> bool
     ensures { result ≡ is_same label.now other.now }
 {
@@ -88,7 +88,7 @@ fn is_label(label: &[u8]) -> bool
     !is_blank(label) && quote_end(b'[', label).is_none()
 }
 
-/// What a label is defined as by the text after its brackets.
+/// The definition of a label by the text after its brackets.
 fn behind_colon<'a>(label: &'a [u8], line: &'a [u8]) -> Option<Reference<'a>>
     ensures { option_map meaning result ≡ behind_colon label.now line.now }
 {

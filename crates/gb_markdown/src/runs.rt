@@ -4,7 +4,7 @@ ghost use Rattle.std.specs.Char.{is_ascii_digit};
 ghost use Rattle.std.specs.List.{prefix_len};
 ghost use Rattle.gb_markdown.specs.Runs.{run, is_space, spaces, is_blank, end_of, trimmed};
 
-/// How many bytes at the begin are the sign.
+/// How many bytes at the beginning are the sign.
 pub(crate) fn run(sign: u8, line: &[u8]) -> usize
     ensures value { result ≡ run sign line.now }
     ensures within { result ≤ length line.now }
@@ -19,7 +19,7 @@ pub(crate) fn is_space(byte: u8) -> bool
     byte == b' ' || (b'\t' <= byte && byte <= b'\r')
 }
 
-/// How many bytes at the begin are white space.
+/// How many bytes at the beginning are white space.
 pub(crate) fn spaces(line: &[u8]) -> usize
     ensures value { result ≡ spaces line.now }
     ensures within { result ≤ length line.now }
@@ -27,7 +27,7 @@ pub(crate) fn spaces(line: &[u8]) -> usize
     line.iter().take_while(|byte| is_space(**byte)).count()
 }
 
-/// How many digits are at the begin.
+/// How many digits are at the beginning.
 pub(crate) fn digits(line: &[u8]) -> usize
     ensures value { result ≡ prefix_len is_ascii_digit line.now }
     ensures within { result ≤ length line.now }

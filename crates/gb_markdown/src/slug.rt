@@ -10,14 +10,14 @@ pub(crate) type Names = Vec<Vec<u8>>;
 /// How many names of headings count.
 const MOST: usize = 512;
 
-/// The id of a heading with a name: one whose name others have has their number after it.
+/// The id of a heading with a name: if others have the name, their number is appended.
 pub(crate) fn id_of(alloc: Global, names: &[Vec<u8>], name: &[u8]) -> Result<Vec<u8>, AllocError>
     ensures { IfOk result (λ id. id.items ≡ id_of (map (λ other. other.items) names.now) name.now) }
 {
     id_by(alloc, count(names, name), name)
 }
 
-/// How many names are this one.
+/// How many names are equal to this one.
 fn count(names: &[Vec<u8>], name: &[u8]) -> usize
     ensures { result ≡ count_by (bytes_eq name.now) (map (λ other. other.items) names.now) }
 {
@@ -30,7 +30,7 @@ fn count(names: &[Vec<u8>], name: &[u8]) -> usize
     seen
 }
 
-/// A name with a number after it, if that is not 0.
+/// A name with a number appended, unless the number is 0.
 fn id_by(alloc: Global, seen: usize, name: &[u8]) -> Result<Vec<u8>, AllocError>
     ensures { IfOk result (λ id. id.items ≡ id_by seen name.now) }
 {
@@ -42,7 +42,7 @@ fn id_by(alloc: Global, seen: usize, name: &[u8]) -> Result<Vec<u8>, AllocError>
     Ok(id)
 }
 
-/// Adds a name, up to so many.
+/// Adds a name, up to a limit.
 pub(crate) fn add_name(names: &mut Names, name: Vec<u8>) -> Result<(), AllocError>
     ensures { OnOk result (map (λ other. other.items) names.new.items
         ≡ with_name (map (λ other. other.items) names.old.items) name.items) }
@@ -53,7 +53,7 @@ pub(crate) fn add_name(names: &mut Names, name: Vec<u8>) -> Result<(), AllocErro
     Ok(())
 }
 
-/// The name of a heading: letters and digits as small letters, `-` and `_`, and `-` for each space.
+/// The name of a heading: letters and digits in lower case, `-` and `_`, and `-` for each space.
 pub(crate) fn slug(alloc: Global, words: &[u8]) -> Result<Vec<u8>, AllocError>
     ensures { IfOk result (λ name. name.items ≡ slug words.now) }
 {

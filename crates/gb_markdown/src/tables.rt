@@ -16,7 +16,7 @@ use crate::target::is_hidden;
 use bstr::ByteSlice;
 use std::alloc::{AllocError, Global};
 
-/// How deep stressed words and labels may be in one another.
+/// How deep stressed words and labels may be nested.
 const WORDS: u8 = 6;
 
 /// Writes a text within a block.
@@ -138,7 +138,7 @@ fn row(
     text(page, b"\n")
 }
 
-/// The row without the `|` before its first cell and behind its last.
+/// The row without the `|` before its first cell and after its last.
 fn within_bars(line: &[u8]) -> &[u8]
     ensures { result.now ≡ within_bars line.now }
 {

@@ -9,7 +9,7 @@ ghost use Rattle.gb_markdown.specs.Targets.{ends_address, parentheses};
 use crate::runs::{is_space, spaces};
 use std::alloc::{AllocError, Global};
 
-/// Where a link leads.
+/// The target of a link.
 #[derive(Clone, Copy)]
 pub struct Target<'a> {
     /// The address.
@@ -18,7 +18,7 @@ pub struct Target<'a> {
     pub title: &'a [u8],
 }
 
-/// The target at the begin of a text that a `)` ends, and what is behind it.
+/// The target at the beginning of a text, up to a `)`, and the rest after it.
 pub(crate) fn read_target(line: &[u8]) -> Option<(Target<'_>, &[u8])>
     ensures { option_map (λ found. (found.0.address.now, found.0.title.now, found.1.now)) result
         ≡ target line.now }
@@ -29,7 +29,7 @@ pub(crate) fn read_target(line: &[u8]) -> Option<(Target<'_>, &[u8])>
     Some((Target { address, title }, rest))
 }
 
-/// What is behind a `)`.
+/// The rest after a `)`.
 fn closed(line: &[u8]) -> Option<&[u8]>
     ensures { option_map (λ rest. rest.now) result ≡ closed line.now }
 {
@@ -37,14 +37,14 @@ fn closed(line: &[u8]) -> Option<&[u8]>
     if *first == b')' { Some(rest) } else { None }
 }
 
-/// What is behind white space.
+/// The text after white space.
 pub(crate) fn behind(line: &[u8]) -> &[u8]
     ensures { result.now ≡ behind line.now }
 {
     &line[spaces(line)..]
 }
 
-/// The address at the begin of a text, and what is behind it.
+/// The address at the beginning of a text, and the rest after it.
 pub(crate) fn address(line: &[u8]) -> (&[u8], &[u8])
     ensures { (result.0.now, result.1.now) ≡ address line.now }
 {
@@ -58,7 +58,7 @@ pub(crate) fn address(line: &[u8]) -> (&[u8], &[u8])
     }
 }
 
-/// A part that ends at an index before a sign, and what is behind that.
+/// A part that ends at an index before a sign, and the rest after that sign.
 fn in_signs<'a>(line: &'a [u8], inside: &'a [u8], end: Option<usize>) -> (&'a [u8], &'a [u8])
     requires { IfSome end (λ end. end < length inside.now) }
     ensures { (result.0.now, result.1.now) ≡ in_signs line.now inside.now end }
@@ -69,7 +69,7 @@ fn in_signs<'a>(line: &'a [u8], inside: &'a [u8], end: Option<usize>) -> (&'a [u
     }
 }
 
-/// Where the first `>` is on the line.
+/// Where the first `>` on the line is.
 pub(crate) fn angle_end(line: &[u8]) -> Option<usize>
     ensures value { result ≡ angle_end false 0 line.now }
     ensures within { IfSome result (λ end. end < length line.now) }
@@ -104,14 +104,14 @@ fn address_end(line: &[u8]) -> usize
     line.len()
 }
 
-/// Whether a byte ends an address in which so many parentheses are open.
+/// Whether a byte ends an address in which this many parentheses are open.
 fn ends_address(hidden: bool, deep: usize, byte: u8) -> bool
     ensures { result ≡ ends_address hidden deep byte }
 {
     !hidden && (is_space(byte) || byte == b'(' && deep == 3 || byte == b')' && deep == 0)
 }
 
-/// How many parentheses are open behind a byte that does not end the address.
+/// How many parentheses are open after a byte that does not end the address.
 fn parentheses(hidden: bool, deep: usize, byte: u8) -> usize
     requires low { deep ≤ 3 }
     requires more { ends_address hidden deep byte ≡ false }
@@ -127,14 +127,14 @@ fn parentheses(hidden: bool, deep: usize, byte: u8) -> usize
     }
 }
 
-/// Whether a byte hides the one behind it.
+/// Whether a byte hides the byte after it.
 pub(crate) fn is_hidden(hidden: bool, byte: u8) -> bool
     ensures { result ≡ is_hidden hidden byte }
 {
     !hidden && byte == b'\\'
 }
 
-/// The title at the begin of a text behind white space, and what is behind it.
+/// The title at the beginning of a text after white space, and the rest after it.
 pub(crate) fn title(line: &[u8]) -> (&[u8], &[u8])
     ensures { (result.0.now, result.1.now) ≡ title line.now }
 {
@@ -158,7 +158,7 @@ fn title_in(line: &[u8]) -> (&[u8], &[u8])
     }
 }
 
-/// The sign that ends a title which a sign begins.
+/// The sign that ends a title that begins with a sign.
 fn quote_of(sign: u8) -> Option<u8>
     ensures { result ≡ quote_of sign }
 {
@@ -170,7 +170,7 @@ fn quote_of(sign: u8) -> Option<u8>
     }
 }
 
-/// Where the title ends that the sign ends.
+/// Where the title ends that this sign closes.
 pub(crate) fn quote_end(sign: u8, line: &[u8]) -> Option<usize>
     ensures value { result ≡ quote_end sign false 0 line.now }
     ensures within { IfSome result (λ end. end < length line.now) }
@@ -188,7 +188,7 @@ pub(crate) fn quote_end(sign: u8, line: &[u8]) -> Option<usize>
     None
 }
 
-/// The text without the backslashes before signs that they make mean themselves.
+/// The text without the backslashes before signs that they make literal.
 pub(crate) fn unescaped(alloc: Global, line: &[u8]) -> Result<Vec<u8>, AllocError>
     ensures { IfOk result (λ made. made.items ≡ unescaped false line.now) }
 {
@@ -203,7 +203,7 @@ pub(crate) fn unescaped(alloc: Global, line: &[u8]) -> Result<Vec<u8>, AllocErro
     Ok(made)
 }
 
-/// Writes a byte, and says whether it is a backslash that the next may leave out.
+/// Writes a byte, and returns whether it is a backslash that the next byte may remove.
 fn unescape(made: &mut Vec<u8>, hidden: bool, byte: u8) -> Result<bool, AllocError>
     ensures { IfOk result (λ after. (made.new.items ≡ made.old.items ++ unescape hidden byte)
         × (after ≡ is_hidden hidden byte)) }

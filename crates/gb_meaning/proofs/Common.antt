@@ -1,4 +1,4 @@
--- Small things that several proofs want: what an option holds, and the guard that always holds.
+-- Small definitions that several proofs need: what an option holds, and the guard that always holds.
 use Rattle.std.specs.Prelude.{◌≡◌, Some, None, is_some, unwrap_or, ⊤}
 use Rattle.std.proofs.Common.{sym, ap}
 use mathlib.Core.Bool.{true≢false}

@@ -1,4 +1,4 @@
--- How things stand, and the rules of a build, from their parts.
+-- The state between executions, and the rules of a build, from their parts.
 use Rattle.std.specs.Prelude.{ℕ}
 use Rattle.gb_report.specs.declared.report.TaskReport.{TaskReport}
 use Rattle.gb_report.specs.declared.report.Options.{Options}
@@ -15,7 +15,7 @@ rules_of kinds options may plan = record { kinds = kinds; options = options; may
 abbrev pub standing : World → ℕ → Standing
 standing world failures = record { world = world; failures = failures }
 
--- what is so of a turn whatever is granted, with its turn by other rules, where other things are granted
+-- the part of an execution that needs no guard, with an execution by other rules under another guard
 pub with_turn : {rules others : Rules} {granted other : Type 0} {moment : Moment} {planned : Planned} {report : TaskReport} {new : Standing}
     → GuardedTurn rules granted moment planned report new → (other → Turn others moment planned report new) → GuardedTurn others other moment planned report new
 with_turn guarded turn = record { folder = guarded.folder; files = guarded.files; odd = guarded.odd; count = guarded.count; turn = turn }

@@ -1,4 +1,4 @@
--- What an edit from outside answers and leaves, and the loss of all that the tool keeps for itself.
+-- The result of an edit from outside and what it leaves, and the loss of all that the tool keeps for itself.
 use Rattle.std.specs.Prelude.{ℕ, ◌≡◌, ◌≤◌, ◌<◌, ◌⊎◌, false, not, Option, None, Some, IsSome}
 use Rattle.std.specs.Prelude.{IsTrue, codes, length}
 use Rattle.gb_folder.specs.Files.{Place, Bytes, Contents, HasRisen, Tearing, file_at, files_where, is_blocked}
@@ -16,7 +16,8 @@ pub record Shown : Type 0 where
   pub contents : Contents
   pub failures : ℕ
 
--- The device failed in an edit outside of the tool's own: at its place stands what the device may leave.
+-- The device failed in an edit outside of the tool's own places: at the edit's place is what the device may
+-- leave.
 pub record IsTornEdit (may_leave : Tearing) (place : Place) (next : Option Bytes) (old : Shown)
     (fault : Fault) (new : Shown) : Type 0 where
   pub outside : is_own place ≡ false
@@ -38,7 +39,8 @@ IsNoPlaceToEdit place old fault new =
     ⊎ ((is_own place ≡ false) × IsTrue (is_blocked old.contents.files place)
     × (fault ≡ faults.Blocked place)))
 
--- A file is put where the tool keeps nothing of its own and no other file is in the way; it is not too large.
+-- A file is written where the tool keeps nothing of its own and no other file is in the way; it is not too
+-- large.
 abbrev pub PutStep : Tearing → Place → Bytes → Shown → Answer → Shown → Type 0
 PutStep may_leave place bytes old answers.Edited new =
     (is_own place ≡ false) × (is_blocked old.contents.files place ≡ false) × (length bytes ≤ max_file)
@@ -50,7 +52,7 @@ PutStep may_leave place bytes old (answers.Refused fault) new =
 PutStep may_leave place bytes old (answers.Built report) new = ⊥
 PutStep may_leave place bytes old (answers.NotBuilt fault) new = ⊥
 
--- A file that stands is taken away.
+-- An existing file is removed.
 abbrev pub RemoveStep : Tearing → Place → Shown → Answer → Shown → Type 0
 RemoveStep may_leave place old answers.Edited new =
     (is_own place ≡ false) × IsSome (file_at old.contents.files place)
@@ -67,14 +69,14 @@ RemoveStep may_leave place old (answers.NotBuilt fault) new = ⊥
 abbrev pub own_place : Place
 own_place = codes ".gb"
 
--- why the files of `.gb` cannot be listed: memory ran out, the device failed, or something odd stands there
+-- why the files of `.gb` cannot be listed: memory ran out, the device failed, or a special file is there
 abbrev pub IsNoListing : Shown → Fault → ℕ → Type 0
 IsNoListing old fault after =
     (fault ≡ faults.OutOfMemory) ⊎ ((fault ≡ faults.Device own_place) × HasRisen old.failures after)
     ⊎ (IsTrue (is_odd_under old.contents own_place) × (fault ≡ faults.BadFileName own_place))
 
--- All that the tool keeps for itself is lost. A loss that is refused either changed nothing, as it got no
--- list of the files, or took some first ones of them away, and was hindered at the next.
+-- All that the tool keeps for itself is lost. A refused loss either changed nothing, as it got no list of the
+-- files, or removed some first ones of them, and was stopped at the next.
 abbrev pub LossStep : Tearing → Shown → Answer → Shown → Type 0
 LossStep may_leave old answers.Edited new =
     new.contents

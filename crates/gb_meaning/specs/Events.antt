@@ -1,4 +1,5 @@
--- What may happen to a world: edits, the loss of what is remembered, and invocations; and the answer to each.
+-- What may happen to a world (edits, the loss of what is remembered, and invocations), and the result of
+-- each.
 use Rattle.std.specs.Prelude.{ℕ, ◌≡◌, ◌≢◌, ◌*◌, Bool, false, not, ◌&&◌, ◌||◌, ◌⊎◌, List, [], ◌++◌, length}
 use Rattle.std.specs.Prelude.{bytes_eq, codes, nat_lt, Some, None, Option, Result, Ok, Err, IsTrue, ⊤}
 use Rattle.std.specs.List.{list_any, list_all}
@@ -31,8 +32,8 @@ use Rattle.gb_meaning.specs.Turn.{May, Rules, Guard, Builds, TouchesRecord, IsWr
 use Rattle.gb_history.specs.Record.{Record}
 use Rattle.gb_meaning.specs.TrueRecord.{RecordTexts, record_of, outside}
 
--- What a run is about: what the kinds mean; what scripts register with the values of `-P`, or their first
--- fault; and how records are read, where each stands, what its text is, and the digest of contents; and what
+-- The parameters of a run: what the kinds mean; what scripts register with the values of `-P`, or their first
+-- fault; how records are read, where each is stored, what its text is, and the digest of contents; and what
 -- a stopped write or removal may leave.
 pub record Setting : Type 1 where
   pub kinds : Kinds
@@ -43,7 +44,7 @@ pub record Setting : Type 1 where
   pub record_text : Path → Record → Bytes
   pub may_leave : Tearing
 
--- What stands between two events: the folder, what is remembered, and how often the device has failed.
+-- The state between two events: the folder, what is remembered, and how often the device has failed.
 pub record State : Type 0 where
   pub contents : Contents
   pub remembered : Memory
@@ -76,34 +77,34 @@ is_record_too_long setting task files = too_long (made setting.kinds task files)
         (record_of setting.digest (entry_of task (with_outputs task files new)))))
     too_long (Err hindrances) = false
 
--- no file can stand where the task's record does: it is no place, or another file is in the way
+-- no file can be at the place of the task's record: it is no place, or another file is in the way
 abbrev pub is_record_shut_out : Setting → Files → Path → Bool
 is_record_shut_out setting own path =
     not (is_place (setting.record_place path)) || is_blocked own (setting.record_place path)
 
--- The place is one that the task reads or writes: at or beneath a root of its file properties, or an output.
+-- The place is one that the task reads or writes: at or under a root of its file properties, or an output.
 -- A task that is skipped or has no actions has none.
 abbrev pub is_touched_by : Task → Place → Bool
 is_touched_by task place =
     task.runs && not (is_empty task.actions)
     && (list_any (is_under place) (roots_of task) || is_output_of task place)
 
--- what stands at a place at some time of the task's run: nothing, what stood there, or what an action writes
+-- what is at a place at some time of the task's run: nothing, what was there before, or what an action writes
 abbrev pub StandsInRun : Kinds → Task → Files → Place → Option Bytes → Type 0
 StandsInRun kinds task old place None = ⊤
 StandsInRun kinds task old place (Some bytes) =
     (file_at old place ≡ Some bytes) ⊎ IsWritten kinds task old place bytes
 
--- what the device may leave of what stands at a place in the run and what is to stand there
+-- what the device may leave of what is at a place in the run and what is being written there
 abbrev pub IsTornInRun : Setting → Task → Files → Place → Option Bytes → Type 0
 IsTornInRun setting task old place left =
     (stood : Option Bytes) × (next : Option Bytes) × StandsInRun setting.kinds task old place stood
     × StandsInRun setting.kinds task old place next × setting.may_leave place stood next left
 
--- Which faults of the machine may end a task's turn, where these files stand in `.gb`: want of memory at any
--- time; the device, at a place of the task, where its failures rose in this turn, and there stands what stood
--- in the run or is torn; an unwritten record where the turn touches it, and the device failed, no file can
--- stand there or it is too long.
+-- Which faults of the machine may end the execution of a task, where these files are in `.gb`. Out of memory:
+-- at any time. The device: at a place of the task, where its failures rose in this execution, and the place
+-- has what it had at some time of the run, or is torn. An unwritten record: where the execution touches the
+-- record, and the device failed, no file can be there or the record is too long.
 abbrev pub may_come : Setting → Files → Options → May
 may_come setting own options task moment new faults.OutOfMemory = ⊤
 may_come setting own options task moment new (faults.Device place) =
@@ -117,12 +118,12 @@ may_come setting own options task moment new faults.HistoryNotWritten =
     ⊎ IsTrue (is_record_too_long setting task moment.world.folder.files))
 may_come setting own options task moment new other = ⊥
 
--- what a build of the plan goes by, where these files stand in `.gb`
+-- the rules of a build of the plan, where these files are in `.gb`
 abbrev pub rules_in : Setting → Files → Options → Plan → Rules
 rules_in setting own options plan =
     record { kinds = setting.kinds; options = options; may = may_come setting own options; plan = plan }
 
--- the device is blamed for this place, where its failures rose
+-- a fault of the device names this place, and its failures rose
 abbrev pub IsDeviceFault : ℕ → ℕ → Place → Fault → Type 0
 IsDeviceFault before after place fault = HasRisen before after × (fault ≡ faults.Device place)
 
@@ -131,7 +132,7 @@ IsDeviceFault before after place fault = HasRisen before after × (fault ≡ fau
 abbrev pub has_failure : Report → Bool
 has_failure report = list_any (λ task. is_failed task.outcome) report.tasks
 
--- The scripts of the folder give a registry, and what is asked of it has this plan.
+-- The scripts of the folder give a registry, and the request has this plan.
 pub record HasPlan (setting : Setting) (folder : Contents) (invocation : Invocation)
     (plan : Plan) : Type 0 where
   pub registry : Registry
@@ -140,23 +141,23 @@ pub record HasPlan (setting : Setting) (folder : Contents) (invocation : Invocat
   pub asked : request_of registry invocation.requested invocation.excluded ≡ Ok request
   pub planned : IsPlan request plan
 
--- these files in `.gb` differ at the records of the plan's tasks alone
+-- these files in `.gb` differ only at the records of the plan's tasks
 abbrev pub AreRecordsOf : Setting → Plan → Files → Files → Type 0
 AreRecordsOf setting plan old new =
     DiffersOnlyAt
     (λ place. list_any (λ planned. bytes_eq place (setting.record_place planned.task.path)) plan) old new
 
--- each task that the report tells of was started, but in a dry run
+-- each task in the report was started, except in a dry run
 abbrev pub AreStarted : Report → Type 0
 AreStarted report = report.dry_run ≡ false → IsTrue (list_all (λ task. is_started task.outcome) report.tasks)
 
--- A build from one state to another, as far as what was seen before is as granted.
+-- A build from one state to another, where the contents so far satisfy the guard.
 pub record IsBuild (setting : Setting) (granted : Guard) (seen : List Bytes) (old : State)
     (invocation : Invocation) (report : Report) (new : State) : Type 0 where
   pub plan : Plan
   pub planned : HasPlan setting (outside old.contents) invocation plan
   pub dry_run : report.dry_run ≡ invocation.options.dry_run
-  -- in `.gb` the records of these tasks alone may differ
+  -- in `.gb` only the records of these tasks may differ
   pub elsewhere : AreRecordsOf setting plan (own_files old.contents) (own_files new.contents)
   -- in a dry run nothing there differs
   pub dry_keeps : IsTrue report.dry_run → own_files new.contents ≡ own_files old.contents
@@ -169,22 +170,22 @@ pub record IsBuild (setting : Setting) (granted : Guard) (seen : List Bytes) (ol
       AreStarted report × (from_scratch setting.kinds invocation.options plan (outside old.contents)
       ≡ Some (outside new.contents).files)
 
--- what was asked is refused for the words, or for the plan
+-- the request is refused for its names, or for the plan
 abbrev pub IsRefusedBy : Registry → Invocation → Fault → Type 0
 IsRefusedBy registry invocation fault =
     (request_of registry invocation.requested invocation.excluded ≡ Err fault)
     ⊎ ((request : Request) × (request_of registry invocation.requested invocation.excluded ≡ Ok request)
     × IsRefused request fault)
 
--- the place is one that a build reads before its first task: that of a script, or but in a dry run one of the
--- tool's own
+-- the place is one that a build reads before its first task: that of a script or, except in a dry run, one of
+-- the tool's own
 abbrev pub is_read_first : Options → Place → Bool
 is_read_first options place =
     bytes_eq place (codes "settings.gb") || bytes_eq (last_segment place) (codes "build.gb")
     || (is_own place && not options.dry_run)
 
--- An invocation is refused for the first fault of the scripts, of the words, or of the plan; or for memory,
--- or where the device failed, up to this count, as they or records were read.
+-- An invocation is refused for the first fault of the scripts, of the requested names, or of the plan; or out
+-- of memory; or because the device failed, up to this count, while scripts or records were read.
 abbrev pub IsNotBuilt : (Files → List (Name × Text) → Result Registry Fault → Type 0) → Shown → Invocation
     → Fault → ℕ → Type 0
 IsNotBuilt registers old invocation fault after =
@@ -197,7 +198,7 @@ IsNotBuilt registers old invocation fault after =
 
 -- ---- Losses
 
--- the records left after a loss was refused: what stands where it stood is remembered, and nothing else
+-- the records after a refused loss: a task is remembered as before where its record is as before, else not
 abbrev pub KeepsWhatStands : Setting → State → State → Type 0
 KeepsWhatStands setting old new = (path : Path) → IsTrue (is_task_path path) →
     ((file_at new.contents.files (setting.record_place path)
@@ -206,7 +207,7 @@ KeepsWhatStands setting old new = (path : Path) → IsTrue (is_task_path path) �
     ⊎ ((file_at new.contents.files (setting.record_place path)
     ≢ file_at old.contents.files (setting.record_place path)) × (recalled new.remembered path ≡ None))
 
--- what is remembered after a loss: nothing, or where it was refused what still stands
+-- what is remembered after a loss: nothing; after a refused loss, the records that are as before
 abbrev pub RemembersAfter : Setting → State → Answer → State → Type 0
 RemembersAfter setting old answers.Edited new = new.remembered ≡ []
 RemembersAfter setting old answer new = KeepsWhatStands setting old new
@@ -222,7 +223,7 @@ InvokeStep setting granted seen old invocation (answers.NotBuilt fault) new =
 InvokeStep setting granted seen old invocation answers.Edited new = ⊥
 InvokeStep setting granted seen old invocation (answers.Refused fault) new = ⊥
 
--- The event may be answered so in the one state, and lead to the other.
+-- The event may have this result in the first state, and lead to the second.
 abbrev pub Step : Setting → Guard → List Bytes → State → Event → Answer → State → Type 0
 Step setting granted seen old (events.Put place bytes) answer new =
     PutStep setting.may_leave place bytes (shown_in old) answer (shown_in new)

@@ -21,8 +21,8 @@ use Rattle.gb_meaning.specs.Headline.{EventsHold, Stands, WentThrough, contents_
 abbrev pub contents_of_all : List State → List Bytes
 contents_of_all states = flat_map (λ state. contents_outside state.contents) states
 
--- A build of this folder started each task, and left what the tasks of its plan make from scratch, and
--- nothing else changed.
+-- A build of this folder started each task, left what the tasks of its plan make from scratch, and changed
+-- nothing else.
 pub record IsFromScratch (setting : Setting) (old : Contents) (invocation : Invocation) (report : Report)
     (new : Contents) : Type 0 where
   pub plan : Plan
@@ -30,25 +30,25 @@ pub record IsFromScratch (setting : Setting) (old : Contents) (invocation : Invo
   pub started : AreStarted report
   pub files : from_scratch setting.kinds invocation.options plan (outside old) ≡ Some (outside new).files
 
--- a build in which no task failed is from scratch; of other answers nothing is said
+-- a build in which no task failed is from scratch; nothing is required of other results
 abbrev pub Succeeds : Setting → Contents → Event → Answer → Contents → Type 0
 Succeeds setting old (events.Invoke invocation) (answers.Built report) new =
     has_failure report ≡ false → IsFromScratch setting old invocation report new
 Succeeds setting old event answer new = ⊤
 
--- one event after another, from state to state, and at last this folder
+-- one event after another, from state to state, and finally this folder
 abbrev pub AllSucceed : Setting → State → List State → List Event → List Answer → Shown → Type 0
 AllSucceed setting old [] [] [] end = old.contents ≡ end.contents
 AllSucceed setting old (next ∷ states) (event ∷ rest) (answer ∷ others) end =
     Succeeds setting old.contents event answer next.contents × AllSucceed setting next states rest others end
 AllSucceed setting old states rest others end = ⊥
 
--- what holds of every list of contents
+-- a guard that holds for every list of contents
 abbrev pub always : Guard
 always contents = ⊤
 
--- A run with no word on digests: each event is a step, and after each the folder holds the records of what is
--- remembered, which is true.
+-- A run without a condition on digests: each event is a step, and after each event the folder holds the
+-- records of what is remembered, and these are true.
 abbrev pub PlainRun : Setting → State → List State → List Event → List Answer → Shown → Type 0
 PlainRun setting old [] [] [] end = (old.failures ≤ end.failures) × (old.contents ≡ end.contents)
 PlainRun setting old (next ∷ states) (event ∷ rest) (answer ∷ others) end =
@@ -56,13 +56,13 @@ PlainRun setting old (next ∷ states) (event ∷ rest) (answer ∷ others) end 
     × Stands setting next.contents next.remembered × PlainRun setting next states rest others end
 PlainRun setting old states rest others end = ⊥
 
--- no two contents that stood at these states, or that the first records speak of, have one digest
+-- no two contents at these states, or in the first records, share a digest
 abbrev pub AllApart : Setting → State → List State → Type 0
 AllApart setting start states =
     AreApart setting.digest (memory_contents (world_in start) ++ contents_of_all (start ∷ states))
 
--- This holds of each run, from the first state through those that it went through, if no two contents of
--- these have one digest.
+-- This holds for each run, from the first state through those that it went through, if no two contents of
+-- these share a digest.
 abbrev pub HoldsOfRuns : Setting → (State → List State → List Event → List Answer → Shown → Type 0) → Type 0
 HoldsOfRuns setting Holds =
     (start : State) (states : List State) (all : List Event) (answered : List Answer) (end : Shown)
@@ -77,9 +77,9 @@ EverySuccessIsFromScratch setting = HoldsOfRuns setting (AllSucceed setting)
 abbrev pub ClearRunIsPlain : Setting → Type 0
 ClearRunIsPlain setting = HoldsOfRuns setting (PlainRun setting)
 
--- From any true records that the old folder holds, the run went through states, one after each event and at
--- last this folder. If no two of their contents have one digest, each event is a step with no premise, after
--- each the folder holds true records, and each build in which no task failed is from scratch.
+-- From any true records that the old folder holds, the run went through states, one after each event, and
+-- finally this folder. If no two of their contents share a digest, each event is a step without a premise,
+-- after each event the folder holds true records, and each build in which no task failed is from scratch.
 abbrev pub PromiseHolds : Setting → Shown → List Event → List Answer → Shown → Type 0
 PromiseHolds setting old all answered end =
     (remembered : Memory) → Stands setting old.contents remembered →

@@ -1,4 +1,4 @@
--- What a run asks for is granted: kinds by the tables, and the rest by an empty folder in memory.
+-- The requirements of a run are satisfiable: kinds by the tables, and the rest by an empty folder in memory.
 use Rattle.std.specs.Prelude.{◌≡◌, true, [], map}
 use Rattle.gb_folder.specs.Files.{Tearing}
 use Rattle.gb_action.specs.Meanings.{Meanings}
@@ -8,7 +8,7 @@ use Rattle.gb_meaning.specs.Kinds.{Kinds}
 use Rattle.gb_meaning.specs.Events.{Setting}
 use Rattle.gb_meaning.specs.Headline.{Agrees, Stands, TearsAreSeen}
 
--- some kinds agree with each table in which no name stands twice
+-- some kinds agree with each table in which no name occurs twice
 abbrev pub SomeKindsAgree : {S : Type 0} → Meanings S → Type 0
 SomeKindsAgree {S = S} meanings =
     (rows : Rows S) → no_repeats (map (λ row. row.0) rows) ≡ true
@@ -18,7 +18,7 @@ SomeKindsAgree {S = S} meanings =
 abbrev pub leaves_nothing : Tearing
 leaves_nothing place stood next left = ⊥
 
--- The empty folder stands for an empty memory, and what is never torn is seen for what it is.
+-- The empty folder holds an empty memory, and what is never torn is recognised for what it is.
 pub record MemoryGrants (setting : Setting) : Type 0 where
   pub stands : Stands setting (record { files = []; odd = [] }) []
   pub tears : TearsAreSeen setting.says setting.record_place leaves_nothing

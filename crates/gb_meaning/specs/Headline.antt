@@ -37,7 +37,7 @@ use Rattle.gb_meaning.specs.Events.{Setting, State, Step, world_in}
 abbrev pub kind_at : {S : Type 0} → Meanings S → Name × S → Kind
 kind_at meanings row = record { name = row.0; version = meanings.version row.1 }
 
--- what is stored under a name means what the kinds say of it
+-- what is stored under a name has the meaning that the kinds give it
 pub record AgreesAt {S : Type 0} (meanings : Meanings S) (kinds : Kinds) (row : Name × S) : Type 0 where
   pub makes : kinds.makes (kind_at meanings row) ≡ makes_of meanings row.1
   pub prints : kinds.prints (kind_at meanings row) ≡ prints_of meanings row.1
@@ -52,7 +52,7 @@ Agrees meanings rows kinds = AllByRecursion (AgreesAt meanings kinds) rows
 abbrev pub Registering : Type 1
 Registering = Files → List (Name × Text) → Result Registry Fault → Type 0
 
--- what scripts register is a registry, whatever the folder holds
+-- what scripts register is a registry, whatever the folder's contents
 abbrev pub AreRegistries : Registering → Type 0
 AreRegistries registers =
     (files : Files) (properties : List (Name × Text)) (registry : Registry)
@@ -65,7 +65,7 @@ abbrev pub IsOfTool : RecordTexts → Path → Option Bytes → Type 0
 IsOfTool says path None = ⊤
 IsOfTool says path (Some bytes) = (said : Record) × says path said bytes
 
--- Where the tool's write or removal was stopped, the old text is left, the new one, none, or one that says no
+-- Where the tool's write or removal was stopped, the old text is left, the new one, none, or one that is no
 -- record of its task.
 abbrev pub TearsAreSeen : RecordTexts → (Path → Place) → Tearing → Type 0
 TearsAreSeen says record_place may_leave =
@@ -81,7 +81,7 @@ abbrev pub failed_by_device : Outcome → Bool
 failed_by_device (outcomes.Failed fault) = is_of_device fault
 failed_by_device other = false
 
--- how often an answer blames the device
+-- how many faults in a result are attributed to the device
 abbrev pub times_blamed : Answer → ℕ
 times_blamed answers.Edited = 0
 times_blamed (answers.Refused fault) = cond (is_of_device fault) 1 0
@@ -92,13 +92,13 @@ abbrev pub times_blamed_in_all : List Answer → ℕ
 times_blamed_in_all [] = 0
 times_blamed_in_all (answer ∷ rest) = times_blamed answer + times_blamed_in_all rest
 
--- The device failed at least so often between these counts; from its last value on the count tells no more.
+-- The device failed at least so often between these counts. A count at its last value shows no more.
 abbrev pub HasFailed : ℕ → ℕ → ℕ → Type 0
 HasFailed times before after = (before + times ≤ after) ⊎ (2 ^ 64 - 1 ≤ after)
 
--- ---- What stands beside the world
+-- ---- What is outside of the world
 
--- at or beneath `.gb` or a project's build folder
+-- at or under `.gb` or a project's build folder
 abbrev pub is_of_build : List Path → Place → Bool
 is_of_build projects place =
     is_own place || list_any (λ project. is_under place (build_folder project)) projects
@@ -109,14 +109,14 @@ abbrev pub KeepsElsewhere : Registry → Contents → Contents → Type 0
 KeepsElsewhere registry old new =
     DiffersOnlyAt (is_of_build registry.projects) old.files new.files × (new.odd ≡ old.odd)
 
--- an edit that was refused changes nothing, but where the device failed at most its place
+-- a refused edit changes nothing; where the device failed, it changes at most the edit's place
 abbrev pub RefusedEditKeeps : Place → Fault → Contents → Contents → Type 0
 RefusedEditKeeps place (faults.Device at) old new =
     DiffersOnlyAt (bytes_eq place) old.files new.files × (new.odd ≡ old.odd)
 RefusedEditKeeps place fault old new = new ≡ old
 
--- What an event may change, by its answer: a done edit what was asked, a loss `.gb`, a build what a build
--- may, and a refusal nothing.
+-- What an event may change, by its result: a done edit what it says, a loss `.gb`, a build what a build may
+-- change, and a refusal nothing.
 abbrev pub EventKeeps : Registering → Event → Answer → Contents → Contents → Type 0
 EventKeeps registers (events.Put place bytes) answers.Edited old new =
     new ≡ record old { files = with_file old.files place bytes }
@@ -141,7 +141,7 @@ AllKeepElsewhere registers events answered old new = new ≡ old
 
 -- ---- Any list of events
 
--- nothing was remembered as the event began, or no two of the contents have one digest
+-- nothing was remembered when the event began, or no two of the contents share a digest
 abbrev pub IsClear : Setting → Memory → Guard
 IsClear setting remembered contents = IsTrue (is_empty remembered) ⊎ AreApart setting.digest contents
 
@@ -152,17 +152,18 @@ abbrev pub Stands : Setting → Contents → Memory → Type 0
 Stands setting folder remembered =
     StandsFor setting.kinds setting.digest setting.says setting.record_place folder remembered
 
--- what was clear, and what an event from this state on adds to it, for these contents
+-- the condition so far, and the one that an event from this state adds to it, for these contents
 abbrev pub StillClear : Setting → Type 0 → State → Guard
 StillClear setting clear old contents = clear × IsClear setting old.remembered contents
 
--- all that was seen once the event has led from one state to another
+-- all contents so far once the event has led from one state to another
 abbrev pub seen_with : List Bytes → State → State → List Bytes
 seen_with seen old new = seen ++ contents_outside old.contents ++ contents_outside new.contents
 
 -- A run went through these states, one after each event, and the folder at its end shows the last one. Each
--- event is a step, as far as what was seen before it is clear; after each the folder holds the records of
--- what is remembered, and what is remembered is true. So a state is what led to it, as long as all is clear.
+-- event is a step, where the contents so far are clear (`IsClear`). After each event the folder holds the
+-- records of what is remembered, and what is remembered is true. So a state is what led to it, while all is
+-- clear.
 abbrev pub GoesThrough : Setting → Type 0 → List Bytes → State → List State → List Event → List Answer → Shown
     → Type 0
 GoesThrough setting clear seen old [] [] [] end =
@@ -180,7 +181,7 @@ abbrev pub RunHolds : Setting → Type 0 → List Bytes → State → List Event
 RunHolds setting clear seen old all answered end =
     (states : List State) × GoesThrough setting clear seen old states all answered end
 
--- A run of the events went through these states from a first one, whose records were seen before it.
+-- A run of the events went through these states from a first one; its records count as contents so far.
 abbrev pub WentThrough : Setting → State → List State → List Event → List Answer → Shown → Type 0
 WentThrough setting start states all answered end =
     GoesThrough setting ⊤ (memory_contents (world_in start)) start states all answered end
@@ -190,7 +191,7 @@ abbrev pub state_of : Shown → Memory → State
 state_of shown remembered =
     record { contents = shown.contents; remembered = remembered; failures = shown.failures }
 
--- A run of the events holds over whatever true records the old folder holds.
+-- A run of the events holds for any true records that the old folder holds.
 abbrev pub EventsHold : Setting → Shown → List Event → List Answer → Shown → Type 0
 EventsHold setting old all answered end =
     (remembered : Memory) → Stands setting old.contents remembered →
@@ -208,32 +209,33 @@ InvocationHolds setting old invocation result end =
 
 -- ---- Listeners
 
--- what a listener has heard, and how often it has refused a call
+-- the notifications that a listener has received, and how often it has refused a call
 abbrev pub Ear : Type 0
 Ear = List Heard × ℕ
 
--- the count of refusals after so many more: it goes up to its last value
+-- the count of refusals after so many more: it stops at its last value
 abbrev pub counted : ℕ → ℕ → ℕ
 counted before times = before + min times (2 ^ 64 - 1 - before)
 
--- It has heard all that was told, in its order, and refused none of it.
+-- It has received all notifications, in their order, and refused none of them.
 abbrev pub HearsAll : List Heard → Ear → Ear → Type 0
 HearsAll told old new = new ≡ (old.0 ++ told, old.1)
 
--- It has heard what was told, in its order, but for the calls that it refused, and has counted each of those.
+-- It has received the notifications in their order, except for the calls that it refused, and has counted
+-- each of those.
 abbrev pub HearsSome : List Heard → Ear → Ear → Type 0
 HearsSome told old new =
     (kept : List Bool) × (length kept ≡ length told)
     × (new ≡ (old.0 ++ items_where_true kept told, counted old.1 (count_by not kept)))
 
--- Each listener has heard the build, without the calls that it refused; and the report tells of a refusal
--- exactly where one of them refused a call.
+-- Each listener has been notified of the build, except for the calls that it refused. The report shows a
+-- refusal exactly where one of them refused a call.
 pub record HaveHeard (report : Report) (old new : List Ear) : Type 0 where
   pub each : AllZip (HearsSome (heard_of report.dry_run report.tasks)) old new
   pub refused : report.listener_refused ≡ false
       ↔ AllZip (HearsAll (heard_of report.dry_run report.tasks)) old new
 
--- listeners have heard the builds among the answers, one after another, and nothing else
+-- listeners have been notified of the builds among the results, one after another, and of nothing else
 abbrev pub HaveHeardAll : List Answer → List Ear → List Ear → Type 0
 HaveHeardAll [] old new = new ≡ old
 HaveHeardAll (answers.Built report ∷ rest) old new =

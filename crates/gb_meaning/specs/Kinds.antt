@@ -14,7 +14,7 @@ pub record Kind : Type 0 where
 abbrev pub kind_of : Action → Kind
 kind_of action = record { name = action.kind; version = action.version }
 
--- What the kinds mean, whatever closures stand for them.
+-- What the kinds mean, whatever closures implement them.
 pub record Kinds : Type 0 where
   -- the files that an action makes of arguments, values and trees, or the text with which it fails
   pub makes : Kind → Making
@@ -22,5 +22,5 @@ pub record Kinds : Type 0 where
   pub prints : Kind → Printing
   -- whether the kind writes files
   pub writes : Kind → Bool
-  -- whether it can go on from old outputs by changes alone
+  -- whether it can run incrementally, from old outputs by changes alone
   pub incremental : Kind → Bool

@@ -1,4 +1,4 @@
--- Which label a started task gets.
+-- The outcome of a task that starts: the first case that applies.
 use Rattle.std.specs.Prelude.{ℕ, ◌≡◌, Bool, false, not, ◌&&◌, ◌⊎◌, List, [], ◌∷◌, ◌++◌, map, if◌then◌else◌}
 use Rattle.std.specs.Prelude.{Option, Some, None, IsTrue}
 use Rattle.std.specs.List.{list_any, filter}
@@ -21,8 +21,8 @@ use Rattle.gb_meaning.specs.Memory.{Entry, World, recalled, output_files, entry_
 use Rattle.gb_action.specs.Changes.{Changes, changes_between}
 use Rattle.gb_plan.specs.Graph.{Plan, needs_in}
 
--- the moment when a task's turn comes: the world, the outcomes of the tasks before it, and the count of the
--- device's failures
+-- the moment when the execution of a task begins: the world, the outcomes of the tasks before it, and the
+-- count of the device's failures
 pub record Moment : Type 0 where
   pub world : World
   pub outcomes : List (Path × Outcome)
@@ -32,7 +32,7 @@ pub record Moment : Type 0 where
 abbrev pub some_outcome : (Outcome → Bool) → Moment → List Path → Bool
 some_outcome test moment paths = list_any (λ entry. has_path paths entry.0 && test entry.1) moment.outcomes
 
--- ---- The cases that are settled before any record is looked at, in their order
+-- ---- The cases that are decided before any record is read, in their order
 
 pub data Early : Type 0 where
   -- `enabled` or a test is false
@@ -55,7 +55,8 @@ early_case task folder =
 
 -- ---- Up to date
 
--- The task has outputs and is not stale, no rerun is asked, and what is remembered of it is what it has now.
+-- The task has outputs and is not stale, no rerun is requested, and what is remembered of it is what it has
+-- now.
 pub record IsCurrent (options : Options) (task : Task) (world : World) : Type 0 where
   pub has_outputs : is_empty task.outputs ≡ false
   pub not_stale : task.is_stale ≡ false
@@ -73,7 +74,7 @@ has_one_writer kinds actions = one_incremental (filter (λ action. kinds.writes 
     one_incremental (writer ∷ []) = kinds.incremental (kind_of writer)
     one_incremental (writer ∷ other ∷ others) = false
 
--- What is remembered differs from what the task has now in incremental properties alone.
+-- What is remembered differs from what the task has now only in incremental properties.
 pub record IsIncremental (kinds : Kinds) (options : Options) (task : Task) (world : World) : Type 0 where
   pub entry : Entry
   pub remembered : recalled world.memory task.path ≡ Some entry
@@ -96,27 +97,27 @@ changes_from task old files =
     map (λ property. (property.name, changes_between (tree_at old property.name) (tree_of property files)))
     (filter (λ property. property.incremental) task.files)
 
--- the changes that an action is told: since the remembered run where this run is incremental, else every path
--- is added
+-- the changes that an action is given: since the remembered run where this run is incremental, else every
+-- path is added
 abbrev pub AreChanges : Kinds → Options → Task → World → List Changes → Type 0
 AreChanges kinds options task world changes =
     ((since : IsIncremental kinds options task world)
     × (changes ≡ changes_from task since.entry.inputs world.folder.files))
     ⊎ ((¬ IsIncremental kinds options task world) × (changes ≡ changes_from task [] world.folder.files))
 
--- ---- The label
+-- ---- The outcome
 
 -- the run of the task's actions, over the folder without the files at its outputs
 abbrev pub run_of : Kinds → Task → Files → Ended
 run_of kinds task files =
     ends kinds task.outputs task.values (trees_of task files) (rest_of task files) [] task.actions
 
--- what a run ends with
+-- the outcome of a run
 abbrev pub EndsWith : Option Fault → Outcome → Type 0
 EndsWith None outcome = outcome ≡ outcomes.Executed
 EndsWith (Some fault) outcome = outcome ≡ outcomes.Failed fault
 
--- The label of a started task, by the first case that holds: skipped; no actions; unreadable inputs; no
+-- The outcome of a started task, by the first case that holds: skipped; no actions; unreadable inputs; no
 -- source; up to date; run.
 abbrev pub IsLabelAt : Kinds → Options → Plan → Task → Moment → Option Early → Outcome → Type 0
 IsLabelAt kinds options plan task moment (Some Skips) outcome = outcome ≡ outcomes.Skipped

@@ -26,25 +26,25 @@ output_named [] name = None
 output_named (output ∷ outputs) name =
     if bytes_eq output.name name then Some output else output_named outputs name
 
--- a file beneath the place of its output
+-- a file under the place of its output
 abbrev pub placed_in : Option Output → Written → List (Place × Bytes)
 placed_in None file = []
 placed_in (Some output) file = (beneath output.place file.path, file.bytes) ∷ []
 
--- the files that an action writes, each beneath the place of the output that it names
+-- the files that an action writes, each under the place of the output that it names
 abbrev pub placed : List Output → List Written → List (Place × Bytes)
 placed outputs written = flat_map (λ file. placed_in (output_named outputs file.output) file) written
 
--- files put over others, one after another: of two at one place the later counts
+-- files added to others, one after another: of two at one place the later one is kept
 abbrev pub put_over : Files → List (Place × Bytes) → Files
 put_over held files = fold (λ m file. with_file m file.0 file.1) held files
 
--- ---- What hinders them
+-- ---- Faults of its files
 
 abbrev pub fault_if : Bool → Fault → List Fault
 fault_if hindered fault = if hindered then fault ∷ [] else []
 
--- What hinders a file among all of the task's: it is at no place; it is at a folder of another, or beneath
+-- The faults of a file among all of the task's: it is at no place; it is at a folder of another, or under
 -- one; it is too large.
 abbrev pub file_faults : Files → Place × Bytes → List Fault
 file_faults all file =
@@ -52,12 +52,12 @@ file_faults all file =
     ++ fault_if (is_blocked all file.0) (faults.Blocked file.0)
     ++ fault_if (nat_lt max_file (length file.1)) (faults.TooLarge file.0)
 
--- the outputs at which more files stand than may
+-- the outputs with more files than are allowed
 abbrev pub full_outputs : List Output → Files → List Output
 full_outputs outputs files =
     filter (λ output. nat_lt max_files (length (files_under files output.place))) outputs
 
--- what hinders an action's files over those that the task holds: each by place, then too many at an output
+-- the faults of an action's files over those that the task holds: each by place, then too many at an output
 abbrev pub step_faults : List Output → Files → List (Place × Bytes) → List Fault
 step_faults outputs held files =
     flat_map (file_faults (put_over held files)) (put_over [] files)
@@ -65,7 +65,7 @@ step_faults outputs held files =
 
 -- ---- What the actions make
 
--- one action more: its files over those so far, or what hinders it, the fault that ends the run first
+-- one action more: its files over those so far, or its faults, the fault that ends the run first
 abbrev pub put_result : List Output → Files → Result (List Written) Text → Result Files (List Fault)
 put_result outputs held (Err text) = Err (faults.ActionFailed text ∷ [])
 put_result outputs held (Ok written) =
@@ -83,8 +83,8 @@ act kinds outputs values trees (Ok held) action =
 abbrev pub made_of : Kinds → List Action → Values → Trees → List Output → Result Files (List Fault)
 made_of kinds actions values trees outputs = fold (act kinds outputs values trees) (Ok []) actions
 
--- The files that the task's actions make of its inputs in the folder, or what ends their run. Without source,
--- none.
+-- The files that the task's actions make of its inputs in the folder, or the faults that end their run.
+-- Without source, no files.
 abbrev pub made : Kinds → Task → Files → Result Files (List Fault)
 made kinds task files =
     if has_no_source task files then Ok []
@@ -92,11 +92,11 @@ made kinds task files =
 
 -- ---- In the folder
 
--- the files that stand at no output of the task
+-- the files that are at no output of the task
 abbrev pub rest_of : Task → Files → Files
 rest_of task files = files_where (λ place. not (is_output_of task place)) files
 
--- The folder with the task's output places emptied, and then these files put in: what a run that ended well
+-- The folder with the task's output places emptied and then these files added: what a run that ended well
 -- leaves.
 abbrev pub with_outputs : Task → Files → Files → Files
 with_outputs task files new = put_over (rest_of task files) new

@@ -1,4 +1,4 @@
--- What holds of the reports of a build over any folder, also one that does not tell what it holds.
+-- What holds of the reports of a build over any folder, also one whose contents are not known.
 use Rattle.std.specs.Prelude.{◌≡◌, Bool, false, true, not, ◌⊎◌, List, [], ◌∷◌, ◌++◌, IsTrue, Ok}
 use Rattle.std.specs.List.{list_any}
 use Rattle.gb_report.specs.declared.fault.Fault.TheVariants as faults
@@ -18,7 +18,7 @@ use Rattle.gb_meaning.specs.Label.{Moment, some_outcome}
 use Rattle.gb_report.specs.Outcome.{is_executed}
 use Rattle.gb_meaning.specs.Turn.{DoesStart, dry_reports}
 
--- the moment by its outcomes alone, which is all that starting looks at
+-- the moment by its outcomes alone; whether a task starts depends on nothing else
 abbrev pub moment_by : List (Path × Outcome) → Moment
 moment_by ended =
     record {
@@ -31,7 +31,7 @@ abbrev pub idle_outcome : Bool → Outcome
 idle_outcome true = outcomes.Executed
 idle_outcome false = outcomes.UpToDate
 
--- the lines that an outcome leaves no choice of
+-- the lines that an outcome determines
 abbrev pub PrintsNothing : Outcome → TaskReport → Type 0
 PrintsNothing outcomes.Executed report = Unit {0}
 PrintsNothing outcomes.UpToDate report = report.lines ≡ []
@@ -40,8 +40,8 @@ PrintsNothing outcomes.NoSource report = report.lines ≡ []
 PrintsNothing (outcomes.Failed fault) report = Unit {0}
 PrintsNothing outcomes.NotRun report = report.lines ≡ []
 
--- What a started task with actions may answer that is not skipped: it is current only with outputs, not stale
--- and not asked to rerun, and without source only where a property skips it.
+-- Which outcomes a started task with actions may have that is not skipped: up to date only with outputs, not
+-- stale and without a requested rerun, and without source only where a property skips it.
 abbrev pub MayAnswer : Options → Task → Outcome → Type 0
 MayAnswer options task outcomes.Executed = Unit {0}
 MayAnswer options task outcomes.UpToDate =
@@ -51,8 +51,8 @@ MayAnswer options task outcomes.NoSource = IsTrue (list_any (λ property. proper
 MayAnswer options task (outcomes.Failed fault) = Unit {0}
 MayAnswer options task outcomes.NotRun = ⊥
 
--- what a started task answers that is skipped, or has no actions: its label, or want of memory; else what it
--- may
+-- the outcome of a started task that is skipped, or has no actions: its label, or out of memory; for others,
+-- one that they may have
 abbrev pub AnswersAlone : Options → Plan → Moment → Task → Bool → Bool → Outcome → Type 0
 AnswersAlone options plan moment task false idle outcome =
     (outcome ≡ outcomes.Skipped) ⊎ (outcome ≡ outcomes.Failed faults.OutOfMemory)
@@ -85,7 +85,7 @@ Outlines options plan reports =
     (IsTrue options.dry_run × (reports ≡ dry_reports plan))
     ⊎ ((options.dry_run ≡ false) × AreOutlines options plan [] plan reports)
 
--- What holds of a report whatever the folder is: it is that of a build of the plan of what was asked of this
+-- What holds of a report whatever the folder is: it is that of a build of the plan of the request to this
 -- registry.
 pub record IsOutlinedBy (registry : Registry) (invocation : Invocation) (report : Report) : Type 0 where
   pub request : Request
@@ -95,7 +95,7 @@ pub record IsOutlinedBy (registry : Registry) (invocation : Invocation) (report 
   pub dry_run : report.dry_run ≡ invocation.options.dry_run
   pub outlines : Outlines invocation.options plan report.tasks
 
--- The same where the folder does not tell what its scripts say: they register something.
+-- The same where it is not known what the folder's scripts register: they register something.
 pub record IsOutlined (invocation : Invocation) (report : Report) : Type 0 where
   pub registry : Registry
   pub is_registry : IsRegistry registry

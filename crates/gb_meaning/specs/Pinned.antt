@@ -1,4 +1,4 @@
--- That the states of a run are at nobody's choice.
+-- When the states of a run are determined.
 use Rattle.std.specs.Prelude.{◌≡◌, false, List, map, ⊤}
 use Rattle.std.specs.List.{AllZip}
 use Rattle.gb_folder.specs.Files.{Contents}
@@ -13,8 +13,8 @@ use Rattle.gb_meaning.specs.Events.{HasPlan, Setting, State, has_failure, world_
 use Rattle.gb_meaning.specs.Headline.{Stands, WentThrough, is_of_device}
 use Rattle.gb_meaning.specs.Every.{AllApart}
 
--- What such an answer leaves is determined by what existed before: no task failed, no device hindered an
--- edit, and no loss was cut short.
+-- What such a result leaves is determined by what existed before: no task failed, no device stopped an edit,
+-- and no loss was cut short.
 abbrev pub IsSettled : Event → Answer → Type 0
 IsSettled event answers.Edited = ⊤
 IsSettled events.Lost (answers.Refused fault) = ⊥
@@ -24,14 +24,14 @@ IsSettled (events.Invoke invocation) (answers.Refused fault) = ⊤
 IsSettled event (answers.Built report) = has_failure report ≡ false
 IsSettled event (answers.NotBuilt fault) = ⊤
 
--- what scripts say and what is asked of them give one plan
+-- what scripts register and what is requested give one plan
 abbrev pub HaveOnePlan : Setting → Type 0
 HaveOnePlan setting =
     (folder : Contents) (invocation : Invocation) (one other : Plan)
     → HasPlan setting folder invocation one → HasPlan setting folder invocation other → one ≡ other
 
--- Two lists of states that a run went through with the same answers are of the same worlds, if no two
--- contents of the one have one digest, whatever those of the other have.
+-- Two lists of states that a run went through with the same results have the same worlds, if no two contents
+-- of the one share a digest, whatever holds for the other.
 abbrev pub StatesAreOne : Setting → Type 0
 StatesAreOne setting =
     HaveOnePlan setting → (start : State) → Stands setting start.contents start.remembered

@@ -26,7 +26,7 @@ abbrev pub any_rules : Kinds → Options → Plan → Rules
 any_rules kinds options plan = record { kinds = kinds; options = options; may = any_fault_comes; plan = plan }
 
 -- A build from true memory in which no task failed has started each task, and leaves what the plan makes from
--- scratch, if no two of the contents seen before it, and standing before and after it, have one digest.
+-- scratch. Premise: no two of the contents so far, and of those before and after the build, share a digest.
 abbrev pub SuccessIsFromScratch : Type 0
 SuccessIsFromScratch =
     (kinds : Kinds) (options : Options) (digest : Bytes → List ℕ) (request : Request) (plan : Plan)
@@ -39,8 +39,8 @@ SuccessIsFromScratch =
     → (options.dry_run ≡ false → IsTrue (list_all (λ report. is_started report.outcome) reports))
     × (from_scratch kinds options plan old.world.folder ≡ Some new.world.folder.files)
 
--- Whatever a build answers, stopped and failed ones among them: memory that was true is true after it, over
--- the same contents.
+-- Whatever the result of a build, also where it stopped or failed: memory that was true is true after it,
+-- over the same contents.
 abbrev pub TruthIsKept : Type 0
 TruthIsKept =
     (kinds : Kinds) (options : Options) (digest : Bytes → List ℕ) (plan : Plan) (seen : List Bytes)
@@ -51,8 +51,8 @@ TruthIsKept =
     → Builds (any_rules kinds options plan) (AreApart digest) seen old reports new
     → AllByRecursion (λ entry. IsMade kinds entry.1) new.world.memory
 
--- Whatever else failed in a build: a task with actions that is up to date changes nothing, and at its outputs
--- stands what its actions make of the inputs that it found, if what is remembered is true.
+-- Whatever else failed in a build: a task with actions that is up to date changes nothing, and its outputs
+-- are what its actions make of the inputs that it found, if what is remembered is true.
 abbrev pub UpToDateIsMade : Type 0
 UpToDateIsMade =
     (kinds : Kinds) (options : Options) (plan : Plan) (moment : Moment) (task : Task) (report : TaskReport)

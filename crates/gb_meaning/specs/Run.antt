@@ -1,4 +1,4 @@
--- The run of a task's actions, one after another, beside the rest of the folder.
+-- The run of a task's actions, one after another, in the rest of the folder.
 use Rattle.std.specs.Prelude.{◌≡◌, ◌++◌, false, List, [], ◌∷◌, map, Option, Some, None, Result, Ok, Err}
 use Rattle.std.specs.List.{fold, list_any}
 use Rattle.gb_report.specs.declared.fault.Fault.{Fault}
@@ -13,14 +13,14 @@ use Rattle.gb_meaning.specs.Kinds.{Kinds, kind_of}
 use Rattle.gb_action.specs.declared.reply.Written.{Written}
 use Rattle.gb_meaning.specs.Made.{act, blocked_in, placed, put_over, step_faults}
 
--- How far the actions came: the task's files so far, the actions that ended, and what ended the run before
+-- How far the actions went: the task's files so far, the actions that ended, and what ended the run before
 -- its end.
 pub record Ended : Type 0 where
   pub held : Files
   pub done : List Action
   pub fault : Option Fault
 
--- what hinders an action's files: among the task's own, then in the folder
+-- the faults of an action's files: among the task's own, then in the folder
 abbrev pub hindrances : List Output → Files → Files → List (Place × Bytes) → List Fault
 hindrances outputs rest held files =
     step_faults outputs held files ++ map faults.Blocked (blocked_in rest (put_over [] files))
@@ -52,7 +52,7 @@ ends kinds outputs values trees rest held (action ∷ actions) =
 abbrev pub has_room : Files → Files → Type 0
 has_room rest files = list_any (λ file. is_blocked rest file.0) files ≡ false
 
--- a run that came to its end made what the actions make by themselves, and the folder has room for it
+-- a run that reached its end made what the actions make by themselves, and the folder has room for it
 abbrev pub EndedIsMade : Type 0
 EndedIsMade =
     (kinds : Kinds) (outputs : List Output) (values : Values) (trees : Trees) (rest held : Files)

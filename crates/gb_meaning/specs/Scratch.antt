@@ -20,13 +20,13 @@ active options plan =
 abbrev pub cleared : List Task → Files → Files
 cleared tasks files = files_where (λ place. not (list_any (λ task. is_output_of task place) tasks)) files
 
--- the files put in, where the folder can hold them
+-- the files added, where the folder has room for them
 abbrev pub put_in : Task → Files → Result Files (List Fault) → Option Files
 put_in task files (Err fault) = None
 put_in task files (Ok new) =
     if is_empty (blocked_in (rest_of task files) new) then Some (put_over files new) else None
 
--- a task more, on its inputs in the folder so far
+-- one task more, on its inputs in the folder so far
 abbrev pub add_task : Kinds → Contents → Option Files → Task → Option Files
 add_task kinds folder None task = None
 add_task kinds folder (Some files) task =
@@ -36,7 +36,7 @@ add_task kinds folder (Some files) task =
     else None
 
 -- What the plan's tasks make from scratch, on the inputs in this folder. No result where an input cannot be
--- read, an action fails, or files would stand in each other's way.
+-- read, an action fails, or files would block each other.
 abbrev pub from_scratch : Kinds → Options → Plan → Contents → Option Files
 from_scratch kinds options plan folder =
     fold (add_task kinds folder) (Some (cleared (active options plan) folder.files)) (active options plan)

@@ -1,5 +1,5 @@
--- The tool is called again and again; in between anybody may edit the folder, but no record is written by
--- others.
+-- The tool is called again and again; in between anybody may edit the folder, but nobody else writes a
+-- record.
 use Rattle.std.specs.Prelude.{ℕ, suc, ◌≡◌, ◌⊎◌, List, [], ◌∷◌, None, IsTrue, is_some, ⊤}
 use Rattle.std.specs.FinMap.Entries.{where_key}
 use Rattle.gb_core.specs.Lists.{byte_order}
@@ -14,21 +14,21 @@ use Rattle.gb_meaning.specs.Events.{Setting, State}
 use Rattle.gb_meaning.specs.Headline.{EventsHold, Registering, Stands, WentThrough, state_of}
 use Rattle.gb_meaning.specs.Every.{AllApart, AllSucceed, PlainRun}
 
--- One use of the tool: the folder that it found, what was asked and answered, and the folder that it left.
+-- One use of the tool: the folder that it found, the events and their results, and the folder that it left.
 pub record Session : Type 0 where
   pub start : Shown
   pub events : List Event
   pub answers : List Answer
   pub end : Shown
 
--- Between two sessions the folder was edited, but each record stands as it did, or is gone.
+-- Between two sessions the folder was edited, but each record is as it was, or is gone.
 pub record IsEdited (setting : Setting) (old new : Contents) : Type 0 where
   pub is_folder : IsFolder new.files
   pub records : (path : Path) → IsTrue (is_task_path path)
       → (file_at new.files (setting.record_place path) ≡ file_at old.files (setting.record_place path))
       ⊎ (file_at new.files (setting.record_place path) ≡ None)
 
--- what is remembered of the tasks whose records still stand
+-- what is remembered of the tasks whose records still exist
 abbrev pub still_remembered : Setting → Contents → Memory → Memory
 still_remembered setting folder remembered =
     where_key byte_order (λ path. is_some (file_at folder.files (setting.record_place path))) remembered
@@ -45,7 +45,7 @@ remembered_after remembered (state ∷ states) = remembered_after state.remember
 
 -- Each session may have tables of its own, and so a meaning of scripts, and a device of its own.
 module _ (setting : Setting) (registers : ℕ → Registering) (may_leave : ℕ → Tearing) where
-  -- what the session of this number is about
+  -- the parameters of the session of this number
   abbrev pub setting_at : ℕ → Setting
   setting_at number = record setting { registers = registers number; may_leave = may_leave number }
 
@@ -57,9 +57,9 @@ module _ (setting : Setting) (registers : ℕ → Registering) (may_leave : ℕ 
       × EventsHold (setting_at number) session.start session.events session.answers session.end
       × SessionsHold (suc number) session.end.contents rest
 
-  -- Each session went through states. It is a plain run in which each success is from scratch, if no two
-  -- contents of these, or that the records speak of which it found, have one digest; and then so are those
-  -- after it.
+  -- Each session went through states. If no two contents of these states, or of the records that the session
+  -- found, share a digest, it is a plain run in which each success is from scratch, and the same holds for
+  -- the sessions after it.
   abbrev pub AllHold : ℕ → Memory → List Session → Type 0
   AllHold number remembered [] = ⊤
   AllHold number remembered (session ∷ rest) =
@@ -71,7 +71,7 @@ module _ (setting : Setting) (registers : ℕ → Registering) (may_leave : ℕ 
       × AllSucceed (setting_at number) start states session.events session.answers session.end
       × AllHold (suc number) (remembered_after start.remembered states) rest)
 
-  -- what all sessions of the tool promise, from a folder that holds true records on
+  -- what all sessions of the tool promise, from a folder that holds true records
   abbrev pub HeadlineOfSessions : Type 0
   HeadlineOfSessions =
       (left : Contents) (sessions : List Session) → SessionsHold 0 left sessions →

@@ -30,7 +30,7 @@ has_no_source task files =
 
 -- ---- Faults
 
--- why a tree is not read, as a build tells it
+-- why a tree is not read, as a build reports it
 abbrev pub told_of_tree : TreeFault → Fault
 told_of_tree trees.OutOfMemory = faults.OutOfMemory
 told_of_tree (trees.Device place) = faults.Device place
@@ -41,16 +41,16 @@ told_of_tree (trees.BadFileName place) = faults.BadFileName place
 told_of_tree (trees.DuplicateInput name path) = faults.DuplicateInput name path
 told_of_tree (trees.TooManyFiles name) = faults.TooManyFiles name
 
--- what hinders reading the property's tree, in order
+-- the faults in reading the property's tree, in order
 abbrev pub tree_faults : FileProperty → Contents → List Fault
 tree_faults property folder =
     map told_of_tree
     (faults_by property.name property.naming property.roots property.include property.exclude folder)
 
--- what hinders reading the task's inputs, by property
+-- the faults in reading the task's inputs, by property
 abbrev pub input_faults : Task → Contents → List Fault
 input_faults task folder = flat_map (λ property. tree_faults property folder) task.files
 
--- what hinders listing its outputs: things at or beneath their places that no place can name
+-- the faults in listing its outputs: things at or under their places that no place can name
 abbrev pub listing_faults : Task → Contents → List Fault
 listing_faults task folder = map told_of_tree (odd_roots folder (output_places task))

@@ -15,7 +15,7 @@ use Rattle.gb_tree.specs.Tree.{files_from}
 use Rattle.gb_meaning.specs.Made.{made_of}
 use Rattle.gb_meaning.specs.Memory.{Entry, Memory, World, recalled}
 
--- the digests of a tree's files by their paths, beside its name
+-- the digests of a tree's files by their paths, with its name
 abbrev pub print_of : (Bytes → List ℕ) → Name × Tree → Prints
 print_of digest tree = (tree.0, map (λ file. (file.0, digest file.1)) tree.1)
 
@@ -49,18 +49,18 @@ contents_in trees = flat_map (λ tree. map (λ file. file.1) tree.1) trees
 abbrev pub contents_of : Entry → List Bytes
 contents_of entry = contents_in entry.inputs ++ map (λ file. file.1) entry.files
 
--- no two contents of the set have one digest
+-- no two contents of the set share a digest
 abbrev pub AreApart : (Bytes → List ℕ) → List Bytes → Type 0
 AreApart digest contents =
     (a b : Bytes) → Contains contents a → Contains contents b → digest a ≡ digest b → a ≡ b
 
--- ---- What a folder stands for
+-- ---- The memory that a folder holds
 
 -- the folder outside `.gb`
 abbrev pub outside : Contents → Contents
 outside folder = record folder { files = files_where (λ place. not (is_own place)) folder.files }
 
--- When a text says this record of this task.
+-- When a text is that of this record of this task.
 abbrev pub RecordTexts : Type 1
 RecordTexts = Path → Record → Bytes → Type 0
 
@@ -69,13 +69,13 @@ abbrev pub SaysNoRecord : RecordTexts → Path → Option Bytes → Type 0
 SaysNoRecord says path None = ⊤
 SaysNoRecord says path (Some bytes) = (said : Record) → ¬ says path said bytes
 
--- what is left is the text of the entry's record, or of none
+-- what is left is the text of the entry's record, or without an entry that of no record
 abbrev pub Stores : (Bytes → List ℕ) → RecordTexts → Path → Option Bytes → Option Entry → Type 0
 Stores digest says path left None = SaysNoRecord says path left
 Stores digest says path left (Some entry) =
     (bytes : Bytes) × (left ≡ Some bytes) × says path (record_of digest entry) bytes
 
--- A folder holds the records of this memory, all of whose entries are true.
+-- A folder holds the records of this memory, and all entries of it are true.
 pub record StandsFor (kinds : Kinds) (digest : Bytes → List ℕ) (says : RecordTexts)
     (record_place : Path → Place) (folder : Contents) (memory : Memory) : Type 0 where
   pub is_folder : IsFolder folder.files
@@ -85,6 +85,6 @@ pub record StandsFor (kinds : Kinds) (digest : Bytes → List ℕ) (says : Recor
       → Stores digest says path (file_at folder.files (record_place path)) (recalled memory path)
   pub made : AllByRecursion (λ entry. IsMade kinds entry.1) memory
 
--- all contents that a world's memory speaks of
+-- all contents in a world's memory
 abbrev pub memory_contents : World → List Bytes
 memory_contents world = flat_map (λ entry. contents_of entry.1) world.memory

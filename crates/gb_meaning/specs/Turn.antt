@@ -1,4 +1,4 @@
--- A build, task by task: which tasks start, what each answers, and what it leaves.
+-- A build, task by task: which tasks start, the outcome of each, and what it leaves.
 use Rattle.std.specs.Prelude.{ℕ, ◌≡◌, ◌+◌, ◌≤◌, ◌≢◌, Bool, true, false, not, ◌&&◌, ◌||◌, ◌⊎◌, List, [], ◌∷◌}
 use Rattle.std.specs.Prelude.{◌++◌, length, map, take, if◌then◌else◌, Option, Some, None, Ok}
 use Rattle.std.specs.Prelude.{IsTrue, bytes_eq, Contains}
@@ -62,7 +62,7 @@ is_uncalled plan moment planned =
     && not (list_any (λ other. has_path other.task.needs planned.task.path) plan)
     && not (finalizes_started plan moment planned.task.path)
 
--- a task has failed, and the build is not to go on
+-- a task has failed, and the build is not to continue after a failure
 abbrev pub is_stopping : Options → Moment → Bool
 is_stopping options moment = list_any (λ entry. is_failed entry.1) moment.outcomes && not options.keep_going
 
@@ -73,7 +73,7 @@ pub record DoesStart (options : Options) (plan : Plan) (moment : Moment) (planne
 
 -- ---- What a task leaves
 
--- a file that an incremental run finds as it is to be made stays as it is
+-- an incremental run does not change a file that already is as it is to be made
 abbrev pub KeepsRightFiles : Kinds → Options → Task → World → World → Type 0
 KeepsRightFiles kinds options task old new =
     IsIncremental kinds options task old → (files : Files) → made kinds task old.folder.files ≡ Ok files →
@@ -81,11 +81,11 @@ KeepsRightFiles kinds options task old new =
     → file_at old.folder.files place ≡ Some bytes →
     file_at new.folder.files place ≡ Some bytes
 
--- the actions that the task's run on these files comes to: those that end, and the one that it ends at
+-- the actions that the task's run on these files reaches: those that end, and the one that it ends at
 abbrev pub reached_by : Kinds → Task → Files → List Action
 reached_by kinds task files = take (length (run_of kinds task files).done + 1) task.actions
 
--- an action that the task's run on these files comes to writes these bytes at the place; without source none
+-- an action that the task's run on these files reaches writes these bytes at the place; without source none
 abbrev pub IsWritten : Kinds → Task → Files → Place → Bytes → Type 0
 IsWritten kinds task files place bytes =
     (has_no_source task files ≡ false)
@@ -93,8 +93,8 @@ IsWritten kinds task files place bytes =
     × (kinds.makes (kind_of action) action.args task.values (trees_of task files) ≡ Ok written)
     × Contains (placed task.outputs written) (place, bytes)
 
--- Nothing is invented: each file at the task's outputs stood there, or one of its actions writes it, or the
--- device failed at that very place.
+-- Nothing is invented: each file at the task's outputs was there before, or one of its actions writes it, or
+-- the device failed at that very place.
 abbrev pub InventsNothing : Kinds → Task → Fault → World → World → Type 0
 InventsNothing kinds task fault old new =
     (place : Place) (bytes : Bytes) → is_output_of task place ≡ true
@@ -109,7 +109,7 @@ pub record IsGivenUp (kinds : Kinds) (task : Task) (fault : Fault) (old new : Wo
   pub odd : new.folder.odd ≡ old.folder.odd
   pub memory : new.memory ≡ forget old.memory task.path
 
--- what a failure comes from: the task itself, or the machine, which may fail at any moment of a build
+-- the cause of a failure: the task itself, or the machine, which may fail at any moment of a build
 pub data Cause : Type 0 where
   ByItself : Cause
   ByMachine : Cause
@@ -128,7 +128,7 @@ world_with task old files memory =
       memory = memory;
     }
 
--- where the run has begun, what its end leaves in memory: the entry of a task with outputs
+-- where the run has begun, the memory after its end: an entry where the task has outputs, else none
 abbrev pub memory_after : Task → Memory → Files → Memory
 memory_after task memory files =
     if is_empty task.outputs then forget memory task.path else remember memory task.path (entry_of task files)
@@ -141,7 +141,7 @@ HasEnded kinds task old new =
     × (new ≡ world_with task old files
     (memory_after task old.memory (with_outputs task old.folder.files files)))
 
--- The run was given up, and a run by changes has kept the files that were right.
+-- The run was given up, and an incremental run has kept the files that were right.
 abbrev pub GivesUp : Kinds → Options → Task → Fault → World → World → Type 0
 GivesUp kinds options task fault old new =
     IsGivenUp kinds task fault old new × KeepsRightFiles kinds options task old new
@@ -152,8 +152,8 @@ HadBegun kinds options task fault old new =
     GivesUp kinds options task fault old new
     ⊎ ((fault ≡ faults.HistoryNotWritten) × HasEnded kinds task old new)
 
--- What a failed run leaves. Where the machine failed, the run may not have begun, and may have ended; what is
--- current does not run.
+-- What a failed run leaves. Where the machine failed, the run may not have begun, and may have ended. A
+-- current task does not run.
 abbrev pub FailedRunLeaves : Kinds → Options → Task → Fault → World → World → Cause → Type 0
 FailedRunLeaves kinds options task fault old new ByItself = GivesUp kinds options task fault old new
 FailedRunLeaves kinds options task fault old new ByMachine =
@@ -190,7 +190,7 @@ abbrev pub lines_of : Kinds → Task → Trees → List Changes → List Action 
 lines_of kinds task trees changes actions =
     flat_map (λ action. kinds.prints (kind_of action) action.args task.values trees changes) actions
 
--- The lines of the actions that ended: of all that can end, or of some where the machine hindered the run.
+-- The lines of the actions that ended: of all that can end, or of some where the machine stopped the run.
 abbrev pub FailedRunPrints : Kinds → Options → Task → World → List Text → Cause → Type 0
 FailedRunPrints kinds options task old lines ByItself =
     (changes : List Changes) × AreChanges kinds options task old changes
@@ -220,10 +220,10 @@ Prints kinds options task old outcomes.NotRun lines = lines ≡ []
 Prints kinds options task old (outcomes.Failed fault) lines =
     FailurePrints kinds options task old lines fault (early_case task old.folder)
 
--- ---- A task's turn, and a build
+-- ---- The execution of a task, and a build
 
--- A record is taken out or put in: files are removed or a run begins, of a task that has outputs or is
--- remembered.
+-- The record of the task is deleted or stored: files are removed or a run begins, of a task that has outputs
+-- or is remembered.
 abbrev pub TouchesRecordIn : Options → Task → World → Option Early → Type 0
 TouchesRecordIn options task world (Some HasNoSource) = recalled world.memory task.path ≢ None
 TouchesRecordIn options task world (Some case) = ⊥
@@ -234,28 +234,29 @@ TouchesRecordIn options task world None =
 abbrev pub TouchesRecord : Options → Task → World → Type 0
 TouchesRecord options task world = TouchesRecordIn options task world (early_case task world.folder)
 
--- how things stand between two turns: the world, and how often the device has failed
+-- the state between two executions: the world, and how often the device has failed
 pub record Standing : Type 0 where
   pub world : World
   pub failures : ℕ
 
--- which faults of the machine may end a task's turn that begins at this moment and leaves things so
+-- which faults of the machine may end the execution of a task that begins at this moment and leaves this
+-- state
 abbrev pub May : Type 1
 May = Task → Moment → Standing → Fault → Type 0
 
--- What a build goes by: what the kinds mean, its options, what the machine may do, and the plan.
+-- The rules of a build: what the kinds mean, its options, what the machine may do, and the plan.
 pub record Rules : Type 1 where
   pub kinds : Kinds
   pub options : Options
   pub may : May
   pub plan : Plan
 
--- a fault of the machine that may come in the task's turn
+-- a fault of the machine that may occur in the execution of the task
 abbrev pub IsOfMachine : Rules → Moment → Task → Outcome → Standing → Type 0
 IsOfMachine rules moment task outcome new =
     (fault : Fault) × rules.may task moment new fault × (outcome ≡ outcomes.Failed fault)
 
--- the turn of a started task: its label, or a fault of the machine
+-- the execution of a started task: its outcome by the cases, or a fault of the machine
 pub record StartedTurn (rules : Rules) (moment : Moment) (task : Task) (report : TaskReport)
     (new : Standing) : Type 0 where
   pub label : IsLabel rules.kinds rules.options rules.plan task moment report.outcome
@@ -275,19 +276,19 @@ pub record PassedOver (old : World) (report : TaskReport) (new : World) : Type 0
   pub no_lines : report.lines ≡ []
   pub unchanged : new ≡ old
 
--- a task's turn: it starts and takes its turn, or is passed over
+-- the execution of a planned task: it starts and is executed, or is passed over
 abbrev pub Turn : Rules → Moment → Planned → TaskReport → Standing → Type 0
 Turn rules moment planned report new =
     (report.path ≡ planned.task.path) × (report.has_actions ≡ not (is_empty planned.task.actions))
     × ((DoesStart rules.options rules.plan moment planned × StartedTurn rules moment planned.task report new)
     ⊎ ((¬ DoesStart rules.options rules.plan moment planned) × PassedOver moment.world report new.world))
 
--- What a build may take for granted of contents: that no two of them have one digest, or nothing.
+-- What a build may assume of contents: that no two of them share a digest, or nothing.
 abbrev pub Guard : Type 1
 Guard = List Bytes → Type 0
 
--- Files differ at the task's output places alone; and where what was seen before is as granted, this is the
--- task's turn.
+-- Files differ only at the task's output places; and where the contents so far satisfy the guard, this is the
+-- execution of the task.
 pub record GuardedTurn (rules : Rules) (is_granted : Type 0) (moment : Moment) (planned : Planned)
     (report : TaskReport) (new : Standing) : Type 0 where
   pub folder : IsFolder new.world.folder.files
@@ -304,7 +305,7 @@ moment_after moment report new =
       failures = new.failures;
     }
 
--- The tasks take their turns in the order of the plan, each in the world that the one before it left.
+-- The tasks are executed in the order of the plan, each in the world that the one before it left.
 abbrev pub Turns : Rules → Guard → List Bytes → List Planned → Moment → List TaskReport → Standing → Type 0
 Turns rules granted seen [] moment [] new = (new.world ≡ moment.world) × (moment.failures ≤ new.failures)
 Turns rules granted seen [] moment (report ∷ reports) new = ⊥
@@ -326,19 +327,19 @@ dry_reports plan =
       lines = [];
     }) plan
 
--- the moment before the first turn
+-- the moment before the first execution
 abbrev pub first_moment : Standing → Moment
 first_moment old = record { world = old.world; outcomes = []; failures = old.failures }
 
--- A build of the plan, from how things stood before it to how they stand after it.
+-- A build of the plan, from the state before it to the state after it.
 abbrev pub Builds : Rules → Guard → List Bytes → Standing → List TaskReport → Standing → Type 0
 Builds rules granted seen old reports new =
     (IsTrue rules.options.dry_run × (reports ≡ dry_reports rules.plan) × (new.world ≡ old.world))
     ⊎ ((rules.options.dry_run ≡ false) × Turns rules granted seen rules.plan (first_moment old) reports new)
 
--- ---- What listeners hear
+-- ---- What listeners are notified of
 
--- of each started task its start, then its end with its outcome; in a dry run nothing
+-- for each started task its start, then its end with its outcome; in a dry run nothing
 abbrev pub heard_of : Bool → List TaskReport → List Heard
 heard_of true reports = []
 heard_of false reports =

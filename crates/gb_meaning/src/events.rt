@@ -1,4 +1,4 @@
-//! What happens to a folder: edits and invocations, and the answer to each.
+//! What happens to a folder: edits and invocations, and the result of each.
 ghost use Rattle.std.specs.Prelude.{◌≡◌};
 
 use gb_core::bytes::Bytes;
@@ -9,43 +9,43 @@ use gb_core::text::{Text, Texts};
 use gb_report::fault::Fault;
 use gb_report::report::{Options, Report};
 
-/// The values of properties that an invocation gives, by name, as they were handed in.
+/// The values of properties that an invocation gives, by name, as they were passed.
 pub type Properties = Row<(Name, Text)>;
 
-/// What a build is asked for.
+/// What a build is invoked with.
 #[derive(Drop)]
 pub struct Invocation {
-    /// The tasks that are named; where none is, the default tasks run.
+    /// The tasks that are requested; where none is, the default tasks run.
     pub requested: Texts,
     /// The tasks of `-x`, which are left out.
     pub excluded: Texts,
     /// The values of `-P`.
     pub properties: Properties,
-    /// How the build is to be done.
+    /// How the build runs.
     pub options: Options,
 }
 
 /// What happens to a folder of builds.
 #[derive(Drop)]
 pub enum Event {
-    /// A file is put; over one that stands there.
+    /// A file is written, in place of one that exists there.
     Put(Place, Bytes),
-    /// A file is taken away.
+    /// A file is removed.
     Remove(Place),
-    /// All that the tool keeps for itself, at and beneath `.gb`, is lost.
+    /// All that the tool keeps for itself, at and under `.gb`, is lost.
     Lost,
     /// A build.
     Invoke(Invocation),
 }
 
-/// What is answered to an event.
+/// The result of an event.
 #[derive(Drop)]
 pub enum Answer {
     /// The edit was made.
     Edited,
-    /// An edit was refused, and nothing changed but where the device failed in it.
+    /// An edit was refused, and nothing changed except where the device failed in it.
     Refused(Fault),
-    /// The build was made; a task of it may have failed.
+    /// The build ran; a task of it may have failed.
     Built(Report),
     /// A build was refused, and nothing changed.
     NotBuilt(Fault),

@@ -8,7 +8,7 @@ ghost use Rattle.gb_meaning.specs.Sessions.{HeadlineOfSessions};
 
 use gb_action::actions::Actions;
 
-/// What runs of events stand on.
+/// The parameters of runs of events.
 pub trait Grounds {
     ghost use Rattle.gb_meaning.specs.Events.{Setting};
 
@@ -16,7 +16,7 @@ pub trait Grounds {
     ghost setting: { Setting };
 }
 
-/// A run that came to its end made what its actions make.
+/// A run that reached its end made what its actions make.
 pub fn ended_is_made()
     ensures { EndedIsMade }
 {}
@@ -26,7 +26,7 @@ pub fn success_is_from_scratch()
     ensures { SuccessIsFromScratch }
 {}
 
-/// What is remembered stays true, whatever a build answers.
+/// What is remembered stays true, whatever the result of a build.
 pub fn truth_is_kept()
     ensures { TruthIsKept }
 {}
@@ -41,13 +41,13 @@ pub fn every_success_is_from_scratch<G: Grounds>()
     ensures { EverySuccessIsFromScratch G.setting }
 {}
 
-/// Where no two contents of a run have one digest, no step of it has a premise.
+/// Where no two contents of a run share a digest, every step of it is unconditional.
 pub fn clear_run_is_plain<G: Grounds>()
     ensures { ClearRunIsPlain G.setting }
 {}
 
-/// The states that a run went through are settled by its answers, as long as no task failed and nothing was
-/// hindered: whoever proves of a run that it went through states has no choice among them.
+/// The results of a run determine its states, where no task failed, no device stopped an edit and
+/// no loss was refused: a proof that a run went through states has no choice among them.
 pub fn states_are_one<G: Grounds>()
     ensures { StatesAreOne G.setting }
 {}
@@ -57,8 +57,8 @@ pub fn headline<G: Grounds>()
     ensures { Headline G.setting }
 {}
 
-/// What sessions of the tool stand on: what they share, and by the number of each what its scripts mean and
-/// what its device may leave.
+/// The parameters of sessions of the tool: what they share, and by the number of each what its
+/// scripts mean and what its device may leave.
 pub trait ManyGrounds {
     ghost use Rattle.std.specs.Prelude.{ℕ};
     ghost use Rattle.gb_folder.specs.Files.{Tearing};
@@ -75,18 +75,18 @@ pub trait ManyGrounds {
     ghost may_leave: { ℕ → Tearing };
 }
 
-/// The same of all sessions of the tool, one after another, with edits by anybody in between. Each may have
-/// other tables and another device than the one before it.
+/// The same for all sessions of the tool, one after another, with edits by anybody in between. Each
+/// session may have other tables and another device than the one before it.
 pub fn headline_of_sessions<G: ManyGrounds>()
     ensures { HeadlineOfSessions G.shared G.registers G.may_leave }
 {}
 
-/// Some kinds agree with each table in which no name stands twice.
+/// Some kinds agree with each table in which no name occurs twice.
 pub fn some_kinds_agree<A: Actions>()
     ensures { SomeKindsAgree A.meanings }
 {}
 
-/// An empty folder in memory grants what a run asks of the folder and of the device.
+/// An empty folder in memory satisfies what a run requires of the folder and of the device.
 pub fn memory_grants<G: Grounds>()
     ensures { MemoryGrants G.setting }
 {}

@@ -1,4 +1,4 @@
-//! What a build promises, and a run of any events: definitions, and the laws that hold of them.
+//! What a build promises, and a run of any events: definitions, and their laws.
 #![tactic(auto)]
 
 pub mod events;

@@ -1,4 +1,4 @@
--- A property that is changed in a table, beside the same property changed in the whole.
+-- A property that is changed in a table, compared with the same property changed in the whole.
 use Rattle.std.proofs.Common.{◌≡◌, ◌≢◌, ℕ, ◌==◌, Bool, true, false, List, length, get_or, refl, sym, ap, ◌∙◌, Some, None}
 use Rattle.std.proofs.lemmas.Bool.{eqb-true, eq-eqb}
 use Rattle.std.proofs.lemmas.Option.{slice_get_within, get_or_from_slice_get}
@@ -16,7 +16,8 @@ use Rattle.gb_provider.proofs.WithinLemmas.{changed_within}
 use Rattle.gb_declare.specs.Partly.{IsPartOf, renamed}
 use Rattle.gb_nodes.specs.Changing.{IsApart, ChangesKeepParts}
 
--- where the first stands that passes, where one that does not is changed to one that does not
+-- the first position that passes is unchanged, where an element that does not pass is changed to one that
+-- does not
 position_kept : {X : Type 0} (p : X → Bool) (xs : List X) (i : ℕ) (x y : X) → slice_get xs i ≡ Some x → p x ≡ false → p y ≡ false → position p (slice_set xs i y) ≡ position p xs
 position_kept p xs i x y is old new =
     let same : p y ≡ p (get_or xs i x) = new ∙ sym old ∙ ap p (sym (get_or_from_slice_get xs i x x is)) in

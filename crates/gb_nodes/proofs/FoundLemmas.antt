@@ -1,4 +1,4 @@
--- An expression in which nothing is found by one search, in which nothing is found by another either.
+-- If one search finds nothing in an expression, another search finds nothing in it either.
 use Rattle.std.proofs.Common.{◌≡◌, ℕ, Bool, true, false, List, [], ◌∷◌, ◌++◌, refl, ap, ◌∙◌, Some}
 use Rattle.std.specs.Prelude.{cond}
 use Rattle.gb_registry.specs.Projects.{is_among}
@@ -63,7 +63,7 @@ module _ {X Y : Type 0} (at_root : Root → List X) (at_link : Link → List X) 
 
 -- ---- Expressions without a fault in a scope
 
--- the scope knows no property but those that have a node
+-- the scope knows only properties that have a node
 abbrev pub HasNodesOf : Site → List (List ℕ) → Type 0
 HasNodesOf site properties = (name : List ℕ) → is_among properties name ≡ true → (node : Node) × (property_node site name ≡ Some node)
 
@@ -92,7 +92,7 @@ module _ {M F Z S A : Type 0} (tables : Tables M F Z S A) (site : Site) (scope :
   link_none (ZipBy tree f) none = none
   link_none (Else tree) none = refl
 
-  -- what is without a fault there is made without one
+  -- an expression without a fault there is made without a fault
   pub made_good : (tree : Tree) → tree_faults tables scope tree ≡ [] → making_faults tables.means tables.functions site tree ≡ []
   made_good tree none =
       tree_none (told.root_faults scope) (told.link_faults tables) (root_faults site) (link_faults tables.means tables.functions) root_none link_none tree none

@@ -1,4 +1,4 @@
--- The last value that is put under a name is found.
+-- The last value that is stored under a name is found.
 use Rattle.std.proofs.Common.{◌≡◌, ℕ, ◌+◌, ◌<◌, Bool, true, false, cond, List, [], ◌∷◌, ◌++◌, length, take, get_or, reverse, refl, sym, ap, ◌∙◌, Option, Some}
 use Rattle.std.proofs.lemmas.List.{reverse-append, take_more}
 use Rattle.std.specs.BTreeMap.{insert_entry, is_at}

@@ -1,4 +1,4 @@
--- What is made for an expression of the scripts stands in the whole table.
+-- The nodes made for an expression of the scripts are in the whole table.
 use Rattle.std.proofs.Common.{◌≡◌, ℕ, zero, suc, ◌<◌, ◌≤◌, true, false, List, [], ◌∷◌, ◌++◌, length, map, refl, sym, ap, subst, ◌∙◌, arith, append_assoc, length-append}
 use Rattle.std.proofs.lemmas.List.{append-nil}
 use Rattle.std.proofs.lemmas.List.Elements.{All-from_recursion}
@@ -54,7 +54,7 @@ module _ {M F Z : Type 0} where
   no_output (Zipped left right call) chosen plain is = absurd (cc)
   no_output (OrElse left right) chosen plain is = absurd (cc)
 
-  -- ---- Expressions behind others
+  -- ---- Expressions after others
 
   pub at_front : (xs ys : List (Expression M F Z)) (i : ℕ) → i < length xs → slice_get (xs ++ ys) i ≡ slice_get xs i
   at_front [] ys i below = absurd (omega (arith, below))

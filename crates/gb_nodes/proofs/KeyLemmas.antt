@@ -1,4 +1,4 @@
--- Which properties stand among expressions.
+-- The properties among expressions.
 use Rattle.std.proofs.Common.{◌≡◌, ◌≢◌, ℕ, ◌==◌, true, false, List, ◌++◌, length, get_or, refl, sym, ap, ◌∙◌, Option, Some, None}
 use Rattle.std.proofs.lemmas.Bool.{eqb-true, eq-eqb, ltb-true, ltb-false}
 use Rattle.std.proofs.lemmas.List.Quantifiers.{position-Some}
@@ -49,7 +49,7 @@ module _ {M F Z : Type 0} where
   keyed (Some (Zipped left right call)) k is = absurd (cc)
   keyed (Some (OrElse left right)) k is = absurd (cc)
 
-  -- each property stands once
+  -- each property occurs once
   abbrev pub AreOnce : List (Expression M F Z) → Type 0
   AreOnce nodes = (x y : ℕ) (k : Key) → key_at nodes x ≡ Some k → key_at nodes y ≡ Some k → x ≡ y
 

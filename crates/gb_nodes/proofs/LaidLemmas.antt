@@ -1,4 +1,4 @@
--- The properties of a project stand in the whole table, once their nodes are made.
+-- The properties of a project are in the whole table, once their nodes are made.
 use Rattle.std.proofs.Common.{◌≡◌, ℕ, zero, suc, ◌+◌, ◌<◌, true, false, cond, List, [], ◌∷◌, ◌++◌, length, map, refl, sym, ap, subst, ◌∙◌, arith, append_assoc, length-append, Some}
 use Rattle.std.proofs.lemmas.List.{append-nil}
 use Rattle.std.proofs.lemmas.Option.{slice_get_within}
@@ -62,7 +62,7 @@ at_place [] x rest (suc i) is = absurd (omega (arith, is))
 at_place (y ∷ front) x rest zero is = absurd (omega (arith, is))
 at_place (y ∷ front) x rest (suc i) is = at_place front x rest i (omega (arith, is))
 
--- the node of a name is that of a place where the name stands
+-- the node of a name is that of a position of the name
 abbrev IsNode : ℕ → List (List ℕ) → List ℕ → Node → Type 0
 IsNode n names name node = (k : ℕ) × (slice_get names k ≡ Some name) × (node.number ≡ n + k)
 

@@ -22,7 +22,7 @@ use Rattle.gb_nodes.specs.Site.{Site, AreThere}
 use Rattle.gb_nodes.specs.Nodes.{Made, IsMade, behind, tree_made, trees_made, link_made, links_made}
 use Rattle.gb_nodes.specs.Wrong.{root_faults, link_faults, making_faults}
 
--- what is there stays there
+-- what is present stays present
 pub there_on : (site : Site) (n m : ℕ) → n ≤ m → AreThere site n → AreThere site m
 there_on site n m le there name node is = omega (arith, there name node is, le)
 
@@ -43,7 +43,7 @@ pub all_within : (n m : ℕ) (row row' : List Node) (node : Node) → row' ≡ r
 all_within n m row row' node pushed le below all =
     subst (All (λ (k : Node). k.number < m)) (sym pushed) (last_all n m row node le below all)
 
--- an element of a borrowed row is one of what it stands for
+-- an element of a borrowed row is one of what it represents
 pub item_now : (row : List (Bor Tree)) (i : ℕ) (item : Bor Tree) → i < length row → item ≡ get_or row i item → item.now ≡ get_or (now_of row) i item.now
 item_now [] i item below is = absurd (omega (arith, below))
 item_now (b ∷ row) zero item below is = ap (λ (x : Bor Tree). x.now) is
@@ -53,7 +53,7 @@ pub count_now : (row : List (Bor Tree)) → length (now_of row) ≡ length row
 count_now [] = refl
 count_now (b ∷ row) = omega (arith, count_now row)
 
--- what stands behind a source is smaller
+-- what follows a source is smaller
 pub links_below : (tree : Tree) → links_size (links tree) + 1 ≤ tree_size tree
 links_below (Chain r ls) = omega arith
 

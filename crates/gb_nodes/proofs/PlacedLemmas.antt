@@ -1,4 +1,4 @@
--- The expressions of scripts stand in a table of all of them.
+-- The expressions of scripts are in a table of all of them.
 use Rattle.std.proofs.Common.{◌≡◌, ℕ, List, [], ◌∷◌, ◌++◌, length, refl, sym, ap, subst, ◌∙◌, append_assoc}
 use Rattle.std.proofs.lemmas.Grind.{flat_map-append}
 use Rattle.std.proofs.lemmas.Option.{slice_get-map}
@@ -64,7 +64,7 @@ module _ (project : Path) where
     link_written (ZipBy tree f) = parts_written tree
     link_written (Else tree) = parts_written tree
 
--- ---- Each stands under its number
+-- ---- Each is at its number
 
 module _ {M F Z S A : Type 0} (tables : Tables M F Z S A) (source : Source) (all : List Spot) where
   pub written_stands : (project : Path) (root : Root) (steps : List Link) → IsAmong all (Written project root steps)
@@ -97,7 +97,7 @@ module _ {M F Z S A : Type 0} (tables : Tables M F Z S A) (source : Source) wher
   abbrev of_tasks : List Spot
   of_tasks = flat_map (λ task. task_spots task (declared tables source.names source.said task)) (tasks_of source.said)
 
-  -- what a statement declares and gives is among all
+  -- what a statement declares and assigns is among all
   pub statement_among : (front back : List Said) (s : Said) → source.said ≡ front ++ s ∷ back → AllByRecursion (IsAmong (spots tables source)) (statement_spots s)
   statement_among front back s split =
       let before = flat_map statement_spots front in

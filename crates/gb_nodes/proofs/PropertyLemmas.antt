@@ -24,7 +24,7 @@ skipped : (s : Statement) (rest : List Statement) → None ≡ declared_property
 skipped s rest e = rw (sym e) refl
 
 module _ (ss : List Statement) (i : ℕ) (s : Statement) (below : i < length ss) (is : s ≡ get_or ss i s) where
-  -- the names of the statements that are left
+  -- the names of the remaining statements
   pub taken : (name : List ℕ) → Some name ≡ declared_property s → filter_map declared_property (drop i ss) ≡ name ∷ filter_map declared_property (drop (i + 1) ss)
   taken name e = ap (filter_map declared_property) (left_from ss i s below is) ∙ chosen s (drop (i + 1) ss) name e
 
@@ -55,7 +55,7 @@ module _ {M F Z S : Type 0} (a b : Held M F Z S) (same : a ≡ b) where
 pub same_entries : (a b : BTreeMap (List ℕ) Node) → a ≡ b → a.entries ≡ b.entries
 same_entries a b same = ap (λ (m : BTreeMap (List ℕ) Node). m.entries) same
 
--- ---- The nodes of names stand among the expressions
+-- ---- The nodes of names are among the expressions
 
 abbrev AreBelow : ℕ → List (List ℕ × Node) → Type 0
 AreBelow m there = AllByRecursion (λ (e : List ℕ × Node). e.1.number < m) there
@@ -86,7 +86,7 @@ count_map : {X Y : Type 0} (f : X → Y) (xs : List X) → length (map f xs) ≡
 count_map f [] = refl
 count_map f (x ∷ xs) = omega (arith, count_map f xs)
 
--- the nodes of a project's properties stand once they are made
+-- the nodes of a project's properties exist once they are made
 pub laid_there : {M F Z : Type 0} (project : Path) (build : List ℕ) (given : List (List ℕ × List ℕ)) (properties : List (List ℕ × Node)) (nodes new : List (Expression M F Z)) (names : List (List ℕ))
     → properties ≡ named_from (length nodes) [] names → new ≡ properties_made project nodes names
     → AreThere (record { project = project; build = build; properties = properties; given = given }) (length new)

@@ -1,4 +1,4 @@
--- What one statement more says of the properties of its project.
+-- The effect of one more statement on the properties of its project.
 use Rattle.std.proofs.Common.{◌≡◌, ℕ, Bool, true, false, ◌||◌, List, [], ◌∷◌, ◌++◌, refl, sym, ap, subst, ◌∙◌, Option, Some, None}
 use Rattle.std.proofs.lemmas.Grind.{fold-append}
 use Rattle.std.proofs.lemmas.List.{append-nil}
@@ -53,7 +53,7 @@ script_other done project other statement apart =
     ∙ ap (λ l. script_of done other ++ l) (own_script project other false apart (statement ∷ []))
     ∙ append-nil (script_of done other)
 
--- ---- What one statement more makes of a property
+-- ---- The effect of one more statement on a property
 
 pub fold_more : {A B : Type 0} (f : B → A → B) (b : B) (xs : List A) (x : A) → fold f b (xs ++ x ∷ []) ≡ f (fold f b xs) x
 fold_more f b xs x = fold-append f b xs (x ∷ [])
@@ -62,7 +62,7 @@ or_none : (b c : Bool) → c ≡ false → (b || (c || false)) ≡ b
 or_none true c is = refl
 or_none false c is = ap (λ d. d || false) is
 
--- the statement says nothing of the property of a name
+-- the statement does not concern the property of a name
 pub record IsUntouched (name : List ℕ) (statement : Statement) : Type 0 where
   pub set : (before : Option Tree) → set_after name before statement ≡ before
   pub convention : (before : Option Tree) → convention_after name before statement ≡ before
@@ -79,7 +79,7 @@ module _ {M F Z S A : Type 0} (tables : Tables M F Z S A) (source : Source) (all
   abbrev pub place : Path → Tree → ℕ
   place project tree = number_of tables source all (spot_of project tree)
 
-  -- a property as the statements of a script leave it
+  -- a property after the statements of a script
   abbrev pub property_after : Path → List ℕ → List Statement → Property
   property_after project name script = record {
     project = project;
@@ -119,13 +119,13 @@ module _ {M F Z S A : Type 0} (tables : Tables M F Z S A) (source : Source) (all
       ∙ ap (λ c. property_with project name set c (list_any (finalizes name) script || (finalizes name statement || false))) (untouched.convention convention)
       ∙ ap (property_with project name set convention) (or_none (list_any (finalizes name) script) (finalizes name statement) untouched.final)
 
-  -- ---- What one statement more leaves of all expressions
+  -- ---- The expressions that one more statement does not change
 
   module _ (done : List Said) (project : Path) (statement : Statement) where
     abbrev pub more : List Said
     more = done ++ says project statement ∷ []
 
-    -- the statement says nothing of the property, if the expression is one of the project
+    -- the statement does not concern the property, if the expression is one of the project
     abbrev pub IsLeft : Expression M F Z → Type 0
     IsLeft e = (name : List ℕ) → key_of (Some e) ≡ Some (project, name) → IsUntouched name statement
 
@@ -159,7 +159,7 @@ module _ {M F Z S A : Type 0} (tables : Tables M F Z S A) (source : Source) (all
     kept_spot (Written other root (Else tree ∷ before)) left = refl
     kept_spot (Made other task name tree) left = refl
 
-    -- an expression of which the statement says nothing stands where it stood
+    -- an expression that the statement does not concern keeps its position
     pub table_kept : (k : ℕ) (e : Expression M F Z) → slice_get (table_after done) k ≡ Some e → IsLeft e → slice_get (table_after more) k ≡ Some e
     table_kept k e is left =
         let spot = mapped_at (expression_at tables (after done) all) all k e (slice_get all k) refl (sym (slice_get-map (expression_at tables (after done) all) all k) ∙ is) in

@@ -1,4 +1,4 @@
--- The properties that a script declares stand once, and each has its node.
+-- The properties that a script declares occur once, and each has its node.
 use Rattle.std.proofs.Common.{◌≡◌, ℕ, zero, suc, ◌+◌, ◌⊎◌, inl, inr, Bool, true, false, cond, ◌||◌, List, [], ◌∷◌, ◌++◌, length, map, refl, sym, ap, subst, ◌∙◌, Some, append_assoc}
 use Rattle.std.proofs.lemmas.List.{append-nil}
 use Rattle.std.proofs.lemmas.List.Elements.{filter_map-append}
@@ -85,7 +85,7 @@ module _ (q : List ℕ) where
 
 -- ---- Names that are new
 
--- none of them is known before, nor stands twice
+-- none of them is known before, and none occurs twice
 abbrev pub AreApart : List (List ℕ) → List (List ℕ) → Type 0
 AreApart known [] = Unit {0}
 AreApart known (name ∷ names) = (is_among known name ≡ false) × AreApart (known ++ name ∷ []) names
@@ -120,13 +120,13 @@ module _ {M F Z S A : Type 0} (tables : Tables M F Z S A) (project : Path) where
       (subst (λ known. AreApart known (filter_map declared_property script)) (properties_more done project statement)
       (names_apart (done ++ says project statement ∷ []) script (nil_back (statement_faults tables done (says project statement)) _ none)))
 
--- ---- Properties behind others
+-- ---- Properties after others
 
 module _ {M F Z : Type 0} (project : Path) where
   abbrev own : List ℕ → Expression M F Z
   own name = unset_property project name
 
-  -- what stands once they are made stood before, or is one of them
+  -- what is present once they are made was present before, or is one of them
   pub made_split : (nodes : List (Expression M F Z)) (names : List (List ℕ)) (x : ℕ) (e : Expression M F Z) → slice_get (properties_made project nodes names) x ≡ Some e
       → (slice_get nodes x ≡ Some e) ⊎ ((name : List ℕ) × (is_among names name ≡ true) × (own name ≡ e))
   made_split [] names x e is =
@@ -145,7 +145,7 @@ module _ {M F Z : Type 0} (project : Path) where
             inr (last.0, ap (λ o. key_of (Some o)) last.1 ∙ ap key_of (sym found.1) ∙ is)
       ] refl
 
-  -- the properties of the project that stand are among these
+  -- the properties of the project in the table are among these
   abbrev pub AreAmong : List (Expression M F Z) → List (List ℕ) → Type 0
   AreAmong nodes known = (x : ℕ) (name : List ℕ) → key_at nodes x ≡ Some (project, name) → is_among known name ≡ true
 
@@ -184,7 +184,7 @@ module _ {M F Z : Type 0} (project : Path) where
 -- ---- The declaration of each name
 
 module _ (all : List Spot) (project : Path) where
-  -- what each of these statements declares and gives is among all
+  -- what each of these statements declares and assigns is among all
   abbrev pub AreGiven : List Statement → Type 0
   AreGiven script = AllByRecursion (λ s. AllByRecursion (IsAmong all) (statement_spots s)) (said_by (project, script))
 

@@ -1,4 +1,4 @@
--- What stands once some statements are made.
+-- The table after some statements are made.
 use Rattle.std.proofs.Common.{◌≡◌, ◌≢◌, ℕ, ◌==◌, ◌<◌, ◌≤◌, true, false, List, length, refl, sym, ap, subst, ◌∙◌, Some, None, arith, length-append}
 use Rattle.std.proofs.lemmas.Bool.{eqb-true, eq-eqb, ltb-true, ltb-false}
 use Rattle.std.proofs.lemmas.List.{length-set}
@@ -25,15 +25,15 @@ use Rattle.gb_nodes.proofs.KeyLemmas.{AreOnce, HasKeysOf, HasNoOutputs, Key, at_
 use Rattle.gb_nodes.proofs.SaidLemmas.{IsLeft, IsUntouched, after, more, table_after, table_kept}
 
 module _ {M F Z S A : Type 0} (tables : Tables M F Z S A) (source : Source) (all : List Spot) where
-  -- Expressions that are a part of the whole, as these statements leave it: each property stands once, other
-  -- expressions come after their operands, and no output stands there.
+  -- Expressions that are a part of the whole after these statements: each property occurs once, other
+  -- expressions come after their operands, and there is no output.
   pub record IsStage (done : List Said) (number : ℕ → ℕ) (nodes : List (Expression M F Z)) : Type 0 where
     pub part : IsPartOf number nodes (table_after tables source all done)
     pub once : AreOnce nodes
     pub behind : (x : ℕ) (e : Expression M F Z) → slice_get nodes x ≡ Some e → is_named (Some e) ≡ false → OperandsWithin x e
     pub none : HasNoOutputs nodes
 
-  -- The same of more expressions, their numbers those that were, and with no properties but those that were.
+  -- The same for more expressions, with the same numbers as before, and with no new properties.
   pub record IsStepped (done : List Said) (number : ℕ → ℕ) (nodes new : List (Expression M F Z)) : Type 0 where
     pub numbers : ℕ → ℕ
     pub stage : IsStage done numbers new
@@ -59,7 +59,7 @@ module _ {M F Z S A : Type 0} (tables : Tables M F Z S A) (source : Source) (all
         keys = λ x k at. one.keys x k (two.keys x k at);
       }
 
-  -- what is right of a site stays right
+  -- a right site stays right
   abbrev pub IsSite : List Said → (ℕ → ℕ) → List (Expression M F Z) → Site → Type 0
   IsSite done number nodes site = IsRight tables (after tables source all done) all (table_after tables source all done) number nodes site
 
@@ -114,7 +114,7 @@ module _ {M F Z S A : Type 0} (tables : Tables M F Z S A) (source : Source) (all
     abbrev next : List Said
     next = more tables source all done project statement
 
-    -- one that says nothing of any property
+    -- a statement that concerns no property
     pub left_steps : ((name : List ℕ) → IsUntouched name statement) → IsStepped next number nodes nodes
     left_steps untouched = record {
       numbers = number;
@@ -146,7 +146,7 @@ module _ {M F Z S A : Type 0} (tables : Tables M F Z S A) (source : Source) (all
       changed_keys : HasKeysOf nodes changed
       changed_keys = keys_changed nodes place old new stands same_key
 
-      -- of any other expression the statement says nothing
+      -- the statement does not concern any other expression
       other_left : (x : ℕ) (e : Expression M F Z) → x ≢ place → slice_get nodes x ≡ Some e → IsLeft tables source all done project statement (renamed number e)
       other_left x e other is name key = untouched name (λ same.
           let there : key_at nodes x ≡ Some (project, name) = ap key_of is ∙ sym (key_renamed number e) ∙ key in

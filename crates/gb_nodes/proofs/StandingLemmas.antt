@@ -1,4 +1,4 @@
--- All that the scripts say stands in the whole table.
+-- Everything that the scripts declare is in the whole table.
 use Rattle.std.proofs.Common.{◌≡◌, ℕ, ◌<◌, ◌≤◌, inl, inr, true, false, List, [], ◌∷◌, ◌++◌, length, map, get_or, refl, sym, ap, subst, ◌∙◌, Option, Some, None, arith, append_assoc, length-append}
 use Rattle.std.proofs.lemmas.List.{append-nil}
 use Rattle.std.proofs.lemmas.List.Elements.{filter_map-append}
@@ -104,11 +104,11 @@ module _ {M F Z S A : Type 0} (tables : Tables M F Z S A) (source : Source) (all
 
   -- ---- A script
 
-  -- a property that stands is one of a project that has said something
+  -- a property in the table is one of a project with earlier statements
   abbrev HaveSaid : List Said → List (Expression M F Z) → Type 0
   HaveSaid done nodes = (x : ℕ) (k : Key) → key_at nodes x ≡ Some k → script_of done k.0 ≡ [] → ⊥
 
-  -- what stands after a script, of which its site is right, and that it is made without a fault
+  -- the table after a script, for which its site is right, and that the script is made without a fault
   record IsScriptDone (project : Path) (given : List (Named (List ℕ))) (script : List Statement) (done : List Said) (number : ℕ → ℕ) (nodes : List (Expression M F Z)) : Type 0 where
     pub numbers : ℕ → ℕ
     pub stage : Stage (done ++ said_by (project, script)) numbers (script_made tables.functions project given nodes script)
@@ -173,7 +173,7 @@ module _ {M F Z S A : Type 0} (tables : Tables M F Z S A) (source : Source) (all
     abbrev made : List (Expression M F Z)
     made = script_made tables.functions project given nodes script
 
-    -- no property stands of a project that still says nothing
+    -- the table has no property of a project without statements so far
     said_then : HaveSaid (done ++ said_by (project, script)) made
     said_then x k at silent =
         let before : script_of done k.0 ≡ [] = nil_front (script_of done k.0) (script_of (said_by (project, script)) k.0) (sym (script_of-append done (said_by (project, script)) k.0) ∙ silent) in
@@ -208,7 +208,7 @@ module _ {M F Z S A : Type 0} (tables : Tables M F Z S A) (source : Source) (all
 
   -- ---- All scripts
 
-  -- what each of these statements declares and gives is among all
+  -- what each of these statements declares and assigns is among all
   abbrev AllGiven : List Said → Type 0
   AllGiven said = AllByRecursion (λ s. AllByRecursion (IsAmong all) (statement_spots s)) said
 
@@ -216,7 +216,7 @@ module _ {M F Z S A : Type 0} (tables : Tables M F Z S A) (source : Source) (all
     abbrev made_of : List (Expression M F Z) → List (Path × List Statement) → List (Expression M F Z)
     made_of nodes scripts = scripts_made tables.functions given nodes scripts
 
-    -- what stands after scripts, after which this is said
+    -- the table after scripts, after which these are the statements
     pub record AreScriptsDone (said : List Said) (number : ℕ → ℕ) (nodes : List (Expression M F Z)) (scripts : List (Path × List Statement)) : Type 0 where
       pub numbers : ℕ → ℕ
       pub stage : Stage said numbers (made_of nodes scripts)
@@ -304,7 +304,7 @@ module _ {M F Z : Type 0} where
   named_keyed (Some (Zipped left right call)) named plain = absurd (cc)
   named_keyed (Some (OrElse left right)) named plain = absurd (cc)
 
-  -- expressions that stand at one number of the whole have one key
+  -- expressions at one number of the whole have one key
   same_key : (number : ℕ → ℕ) (nodes whole : List (Expression M F Z)) → IsPartOf number nodes whole → (x y : ℕ) (k : Key) → key_at nodes x ≡ Some k → y < length nodes → number x ≡ number y → key_at nodes y ≡ Some k
   same_key number nodes whole part x y k at below same =
       let there = keyed (slice_get nodes x) k at in

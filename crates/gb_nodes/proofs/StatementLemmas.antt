@@ -1,4 +1,4 @@
--- A statement keeps what stands.
+-- A statement preserves what is in the table.
 use Rattle.std.proofs.Common.{◌≡◌, ℕ, ◌<◌, Bool, true, false, cond, not, ◌||◌, List, [], ◌∷◌, ◌++◌, length, get_or, refl, sym, ap, subst, ◌∙◌, Option, Some, None}
 use Rattle.std.proofs.lemmas.Option.{get_or_from_slice_get, slice_get-get_or, slice_get_within}
 use Rattle.std.specs.Prelude.{bytes_eq, filter_map, fold, option_map, slice_get, slice_set}
@@ -61,7 +61,7 @@ module _ {M F Z : Type 0} where
   from_renamed number (Zipped left right call) p is = absurd (cc)
   from_renamed number (OrElse left right) p is = absurd (cc)
 
-  -- what stands at a node: a property, under other numbers this one
+  -- the node holds a property, which under other numbers is this one
   record IsHeldAs (number : ℕ → ℕ) (nodes : List (Expression M F Z)) (p : Property) (at : ℕ) : Type 0 where
     pub old : Property
     pub stands : slice_get nodes at ≡ Some (OfProperty old)
@@ -73,7 +73,7 @@ module _ {M F Z : Type 0} where
       let found = from_renamed number e p same in
       record { old = found.0; stands = stands ∙ ap Some found.1; is = found.2 }
 
-  -- what stands below the length, stands in the whole
+  -- what is below the length is in the whole
   below_held : (number : ℕ → ℕ) (nodes whole : List (Expression M F Z)) → IsPartOf number nodes whole → (at : ℕ) → at < length nodes
       → (e : Expression M F Z) × (slice_get nodes at ≡ Some e) × (slice_get whole (number at) ≡ Some (renamed number e))
   below_held number nodes whole part at below =
@@ -130,7 +130,7 @@ module _ {M F Z S A : Type 0} (tables : Tables M F Z S A) (source : Source) (all
     abbrev own : List Statement
     own = script_of done site.project
 
-    -- what stands at the node of a property
+    -- the property at its node
     abbrev IsHeld : List ℕ → ℕ → Type 0
     IsHeld name at = IsHeldAs number nodes (property_after tables source all site.project name own) at
 
@@ -201,14 +201,14 @@ module _ {M F Z S A : Type 0} (tables : Tables M F Z S A) (source : Source) (all
             (ap (known_faults name) known.found)
             (ap (λ o. change_faults change nodes (number_in o) name) known.found ∙ ap (final_faults name) (open_is change nodes known.node.number here.old here.stands said.taken))
 
-    -- a property that no statement makes final takes a change
+    -- a property that no statement makes final accepts a change
     is_open : (name : List ℕ) (known : IsKnown name) → list_any (finalizes name) own ≡ false → (held name known).old.is_final ≡ false
     is_open name known none = ap (λ (p : Property). p.is_final) (held name known).is ∙ none
 
     set_as_said : (name : List ℕ) (known : IsKnown name) → (held name known).old.is_final ≡ list_any (finalizes name) own
     set_as_said name known = ap (λ (p : Property). p.is_final) (held name known).is
 
--- ---- What statements say nothing of
+-- ---- What statements do not concern
 
 set_untouched : (a : Assignment) (other : List ℕ) → (other ≡ a.name → ⊥) → IsUntouched other (statements.Set a)
 set_untouched a other apart = record {
@@ -245,7 +245,7 @@ or_so false c is = ap (λ d. d || false) is
 -- ---- Statements
 
 module _ {M F Z S A : Type 0} (tables : Tables M F Z S A) (source : Source) (all : List Spot) (site : Site) (done : List Said) where
-  -- what is made of a statement, and that it is made without a fault
+  -- the result of a statement, and that it is made without a fault
   pub record IsDone (statement : Statement) (number : ℕ → ℕ) (nodes : List (Expression M F Z)) : Type 0 where
     pub steps : IsStepped tables source all (done ++ says site.project statement ∷ []) number nodes (statement_made tables.functions site nodes statement)
     pub good : statement_faults tables.means tables.functions site nodes statement ≡ []
@@ -369,7 +369,7 @@ module _ {M F Z S A : Type 0} (tables : Tables M F Z S A) (source : Source) (all
               (change_good tables source all site done grown.steps.numbers mid.nodes mid_stage mid_right statement a.name known change grown.within (convention_untouched a) said);
         }
 
-    -- one that says nothing of properties
+    -- a statement that concerns no properties
     left_done : (statement : Statement) → ((name : List ℕ) → IsUntouched name statement) → statement_made tables.functions site nodes statement ≡ nodes
         → statement_faults tables.means tables.functions site nodes statement ≡ [] → IsDone statement number nodes
     left_done statement untouched same good = record {

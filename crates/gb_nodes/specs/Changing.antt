@@ -1,4 +1,4 @@
--- A property that is changed in a table, beside the same property changed in the whole.
+-- A property that is changed in a table, compared with the same property changed in the whole.
 use Rattle.std.specs.Prelude.{◌≡◌, ℕ, ◌<◌, List, length, Some, slice_get, slice_set}
 use Rattle.gb_provider.specs.Rules.{OperandsWithin}
 use Rattle.gb_provider.specs.declared.expression.Expression.{Expression}
@@ -10,7 +10,7 @@ use Rattle.gb_declare.specs.Partly.{IsPartOf, renamed}
 abbrev pub IsApart : (ℕ → ℕ) → ℕ → ℕ → Type 0
 IsApart number n place = (i : ℕ) → i < n → number i ≡ number place → i ≡ place
 
--- A part of a table stays one where a property of it, under a number of its own, is changed in both.
+-- A part of a table stays a part where a property of it, under a number of its own, is changed in both.
 abbrev pub ChangesKeepParts : Type 0 → Type 0 → Type 0 → Type 0
 ChangesKeepParts M F Z =
     (number : ℕ → ℕ) (part whole : List (Expression M F Z)) (place : ℕ) (old new : Property)

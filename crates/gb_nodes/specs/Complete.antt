@@ -1,4 +1,4 @@
--- A table in which all that the scripts declare stands.
+-- A table that contains everything that the scripts declare.
 use Rattle.std.specs.Prelude.{◌≡◌, ℕ, ◌<◌, true, false, All, List, length, map, Some, slice_get}
 use Rattle.gb_provider.specs.Rules.{OperandsWithin, output_place}
 use Rattle.gb_provider.specs.declared.expression.Expression.{Expression}
@@ -20,7 +20,7 @@ module _ {M F Z S A : Type 0} (tables : Tables M F Z S A) (source : Source) wher
   place_in_whole project tree = number_of tables source (spots tables source) (spot_of project tree)
 
   module _ (number : ℕ → ℕ) (nodes : List (Expression M F Z)) where
-    -- Expressions that are a part of the whole table, by these numbers: properties and outputs stand once,
+    -- Expressions that are a part of the whole table, by these numbers: properties and outputs occur once,
     -- any other expression comes after its operands.
     pub record IsLaidOut : Type 0 where
       pub part : IsPartOf number nodes (whole tables source)
@@ -29,7 +29,7 @@ module _ {M F Z S A : Type 0} (tables : Tables M F Z S A) (source : Source) wher
       pub behind : (x : ℕ) (e : Expression M F Z) → slice_get nodes x ≡ Some e → is_named (Some e) ≡ false
           → OperandsWithin x e
 
-    -- All that the scripts declare stands there: each output, too.
+    -- The table contains everything that the scripts declare, including each output.
     pub record IsComplete : Type 0 where
       pub laid : IsLaidOut
       pub placed : (chosen : Chosen) (k : ℕ) → output_place (whole tables source) chosen ≡ Some k

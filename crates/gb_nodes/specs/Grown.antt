@@ -1,4 +1,4 @@
--- What is made for an expression of the scripts stands in the whole table.
+-- The nodes made for an expression of the scripts are in the whole table.
 use Rattle.std.specs.Prelude.{◌≡◌, ℕ, ◌<◌, ◌≤◌, Bool, true, false, List, [], ◌∷◌, ◌++◌, length, map}
 use Rattle.std.specs.Prelude.{Some, reverse, slice_get}
 use Rattle.std.specs.List.{AllByRecursion, flat_map}
@@ -47,7 +47,7 @@ module _ {M F Z : Type 0} (whole : List (Expression M F Z)) where
     pub plain : (x : ℕ) (e : Expression M F Z) → length nodes ≤ x → slice_get made.nodes x ≡ Some e
         → IsPlain x e
 
-  -- the same of several, each with its number in the whole
+  -- the same for several, each with its number in the whole
   pub record IsRowGrown (number : ℕ → ℕ) (nodes : List (Expression M F Z)) (targets : List ℕ)
       (made : These M F Z (List ℕ)) : Type 0 where
     pub numbers : ℕ → ℕ
@@ -61,7 +61,7 @@ module _ {M F Z : Type 0} (whole : List (Expression M F Z)) where
 
 module _ {M F Z S A : Type 0} (tables : Tables M F Z S A) (source : Source) (all : List Spot)
     (whole : List (Expression M F Z)) where
-  -- unless it is a property, the expression of a spot stands under the number of the spot
+  -- unless it is a property, the expression of a spot is in the table under the number of the spot
   abbrev pub Stands : Spot → Type 0
   Stands spot = is_property spot ≡ false
       → slice_get whole (number_of tables source all spot) ≡ Some (expression_at tables source all spot)
@@ -76,8 +76,8 @@ module _ {M F Z S A : Type 0} (tables : Tables M F Z S A) (source : Source) (all
     pub named : (name : List ℕ) (node : Node) → property_node site name ≡ Some node
         → number node.number ≡ number_of tables source all (Written site.project (PropertyOf name) [])
 
-  -- What is made for an expression without a fault, all parts of which stand in the whole, keeps the table a
-  -- part of it.
+  -- If all parts of an expression without a fault are in the whole, the nodes made for it keep the table a
+  -- part of the whole.
   abbrev pub TreesGrow : Type 0
   TreesGrow =
       (number : ℕ → ℕ) (nodes : List (Expression M F Z)) (site : Site) (tree : Tree)
@@ -87,7 +87,7 @@ module _ {M F Z S A : Type 0} (tables : Tables M F Z S A) (source : Source) (all
       → IsGrown whole number nodes (number_of tables source all (spot_of site.project tree))
       (tree_made tables.functions site nodes tree)
 
-  -- The same of expressions in a row, as those of a task.
+  -- The same for expressions in a row, such as those of a task.
   abbrev pub RowsGrow : Type 0
   RowsGrow =
       (number : ℕ → ℕ) (nodes : List (Expression M F Z)) (site : Site) (row : List Tree)

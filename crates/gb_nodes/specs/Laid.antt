@@ -1,4 +1,4 @@
--- The properties of a project stand in the whole table, once their nodes are made.
+-- The properties of a project are in the whole table, once their nodes are made.
 use Rattle.std.specs.Prelude.{◌≡◌, ℕ, ◌<◌, List, [], filter_map, length, Some, reverse, slice_get}
 use Rattle.std.specs.BTreeMap.{is_at}
 use Rattle.std.specs.Map.{lookup}
@@ -21,15 +21,15 @@ use Rattle.gb_nodes.specs.Statements.{properties_made, unset_property}
 
 module _ {M F Z S A : Type 0} (tables : Tables M F Z S A) (source : Source) (all : List Spot)
     (whole : List (Expression M F Z)) where
-  -- a property that nothing sets stands under the number of each of these names
+  -- a property that nothing sets is in the table under the number of each of these names
   abbrev pub AreUnset : Path → List (List ℕ) → Type 0
   AreUnset project names =
       (k : ℕ) (name : List ℕ) → slice_get names k ≡ Some name
       → slice_get whole (number_of tables source all (Written project (PropertyOf name) []))
       ≡ Some (unset_property project name)
 
-  -- Behind other expressions of a part the properties of a script: the table is a part still, and where the
-  -- expressions of the project stand is right.
+  -- The properties of a script follow other expressions of a part: the table is still a part, and the site of
+  -- the expressions of the project is right.
   pub record IsLaid (number : ℕ → ℕ) (nodes : List (Expression M F Z)) (project : Path)
       (given : List (Named (List ℕ))) (statements : List Statement) : Type 0 where
     pub numbers : ℕ → ℕ
@@ -40,8 +40,7 @@ module _ {M F Z S A : Type 0} (tables : Tables M F Z S A) (source : Source) (all
         (properties_made project nodes (filter_map declared_property statements))
         (script_site project given (length nodes) statements)
 
-  -- The properties of a script that stand in the whole, unset, are laid, where what
-  -- is given by name is right.
+  -- The unset properties of a script in the whole are laid, where the values given by name are right.
   abbrev pub ScriptsAreLaid : Type 0
   ScriptsAreLaid =
       (number : ℕ → ℕ) (nodes : List (Expression M F Z)) (project : Path) (given : List (Named (List ℕ)))

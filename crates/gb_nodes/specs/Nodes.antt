@@ -1,4 +1,4 @@
--- The nodes that are made for an expression, one behind the other.
+-- The nodes that are made for an expression, one after another.
 use Rattle.std.specs.Prelude.{ℕ, ◌≡◌, ◌<◌, ◌≤◌, List, [], ◌∷◌, ◌++◌, length, All, Option, Some, None}
 use Rattle.gb_core.specs.Place.{joined as place_in}
 use Rattle.gb_core.specs.declared.value.Value.{Value}
@@ -29,7 +29,7 @@ abbrev pub as_text : Option (List ℕ) → Option Value
 as_text (Some text) = Some (values.Text text)
 as_text None = None
 
--- what a source is that awaits nothing: a value, or nothing
+-- the value of a source that awaits nothing: a value, or nothing
 abbrev pub constant_of : Site → Root → Option Value
 constant_of site (TextOf text) = Some (values.Text text)
 constant_of site (FlagOf flag) = Some (values.Flag flag)
@@ -46,7 +46,7 @@ number_in (Some node) = node.number
 number_in None = 0
 
 module _ {M F Z : Type 0} where
-  -- one expression behind the others
+  -- one expression after the others
   abbrev pub added : List (Expression M F Z) → Expression M F Z → Made M F Z ℕ
   added nodes e = record { nodes = nodes ++ e ∷ []; place = length nodes }
 
@@ -59,7 +59,7 @@ module _ {M F Z : Type 0} where
 -- ---- Expressions
 
 module _ {M F Z S : Type 0} (functions : Table M F Z S) where
-  -- behind the operand of a step the step
+  -- the step after its operand
   abbrev pub zip_made : ℕ → Function → Made M F Z ℕ → Made M F Z ℕ
   zip_made left f right =
       added right.nodes (if_found (Zipped left right.place) f (zip_named functions f.name))
@@ -67,7 +67,7 @@ module _ {M F Z S : Type 0} (functions : Table M F Z S) where
   abbrev pub else_made : ℕ → Made M F Z ℕ → Made M F Z ℕ
   else_made left right = added right.nodes (OrElse left right.place)
 
--- behind the elements of a list the list
+-- the list after its elements
 abbrev pub list_made : {M F Z : Type 0} → Made M F Z (List ℕ) → Made M F Z ℕ
 list_made row = added row.nodes (Listed row.place)
 
@@ -77,7 +77,7 @@ behind numbers element = record { nodes = element.nodes; place = numbers ++ elem
 
 module _ {M F Z S : Type 0} (functions : Table M F Z S) (site : Site) where
   abbrev mutual
-    -- A source, and then step by step, an operand before its step; of a list its elements from the left.
+    -- A source, and then step by step, an operand before its step; for a list, its elements from the left.
     pub tree_made : List (Expression M F Z) → Tree → Made M F Z ℕ
     tree_made nodes (Chain root links) = links_made (root_made nodes root) links
 
@@ -92,12 +92,12 @@ module _ {M F Z S : Type 0} (functions : Table M F Z S) (site : Site) where
     root_made nodes (GradlePropertyOf t) = plain_made site nodes (GradlePropertyOf t)
     root_made nodes (TaskOf t) = plain_made site nodes (TaskOf t)
 
-    -- these elements behind others
+    -- these elements after others
     pub trees_made : Made M F Z (List ℕ) → Trees → Made M F Z (List ℕ)
     trees_made row NoTree = row
     trees_made row (AndTree tree trees) = trees_made (behind row.place (tree_made row.nodes tree)) trees
 
-    -- steps behind an expression
+    -- steps after an expression
     pub links_made : Made M F Z ℕ → Links → Made M F Z ℕ
     links_made made NoLink = made
     links_made made (AndLink link links) = links_made (link_made made.nodes made.place link) links
@@ -112,7 +112,7 @@ module _ {M F Z S : Type 0} (functions : Table M F Z S) (site : Site) where
 -- ---- What a call adds
 
 module _ {M F Z S : Type 0} (old new : Held M F Z S) where
-  -- the table of functions stays, and the new nodes and the number are these
+  -- the table of functions is unchanged, and the new nodes and the number are these
   pub record IsMade (made : Made M F Z ℕ) (node : Node) : Type 0 where
     pub table : new.table ≡ old.table
     pub nodes : new.nodes ≡ made.nodes
@@ -120,7 +120,7 @@ module _ {M F Z S : Type 0} (old new : Held M F Z S) where
     pub within : node.number < length new.nodes
     pub grown : length old.nodes ≤ length new.nodes
 
-  -- the same of several
+  -- the same for several
   pub record AreMade (made : Made M F Z (List ℕ)) (row : List Node) : Type 0 where
     pub table : new.table ≡ old.table
     pub nodes : new.nodes ≡ made.nodes

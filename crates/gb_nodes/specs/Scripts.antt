@@ -1,4 +1,4 @@
--- What the script of a project makes of its properties.
+-- The effect of the script of a project on its properties.
 use Rattle.std.specs.Prelude.{ℕ, List, [], ◌∷◌, ◌++◌, filter_map, length, if◌then◌else◌}
 use Rattle.gb_core.specs.Place.{is_place}
 use Rattle.gb_provider.specs.Meanings.{Meanings}
@@ -15,16 +15,16 @@ use Rattle.gb_nodes.specs.declared.scripts.Laid.{Laid}
 use Rattle.gb_nodes.specs.Site.{Site}
 use Rattle.gb_nodes.specs.Statements.{named_from, properties_made, statements_faults, statements_made}
 
--- the folder of what the project builds is no place
+-- the build folder of the project is no place
 abbrev pub build_faults : Path → List Fault
 build_faults project = if is_place (build_folder project) then [] else faults.BadProjectPlace project ∷ []
 
--- where the expressions of a project stand, once its properties do
+-- the site of the expressions of a project, once its properties have nodes
 abbrev pub laid_site : Path → Laid → List (Named (List ℕ)) → Site
 laid_site project laid given =
     record { project = project; build = laid.build; properties = laid.properties.entries; given = given }
 
--- the same as its script says it, its properties numbered from one number on
+-- the same by its script, its properties numbered from one number on
 abbrev pub script_site : Path → List (Named (List ℕ)) → ℕ → List Statement → Site
 script_site project given n statements = record {
   project = project;

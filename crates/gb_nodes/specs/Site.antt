@@ -1,4 +1,4 @@
--- Where an expression stands.
+-- The position of an expression.
 use Rattle.std.specs.Prelude.{ℕ, ◌≡◌, ◌<◌, List, Option, Some}
 use Rattle.std.specs.BTreeMap.{is_at}
 use Rattle.std.specs.Map.{lookup}
@@ -8,14 +8,14 @@ use Rattle.gb_registry.specs.Projects.{Path}
 use Rattle.gb_declare.specs.Joined.{Named}
 use Rattle.gb_nodes.specs.declared.site.Site as handed
 
--- the project, the folder of what it builds, the node of each of its properties, and what is given by name
+-- the project, its build folder, the node of each of its properties, and the values given by name
 pub record Site : Type 0 where
   pub project : Path
   pub build : List ℕ
   pub properties : List (Named Node)
   pub given : List (Named (List ℕ))
 
--- what a borrowed one stands for
+-- what a borrowed site represents
 abbrev pub site_of : handed.Site → Site
 site_of g = record {
   project = g.project.now;

@@ -1,4 +1,4 @@
--- All that the scripts say stands in the whole table.
+-- Everything that the scripts declare is in the whole table.
 use Rattle.std.specs.Prelude.{◌≡◌, ℕ, List, [], ◌∷◌, ◌++◌, length, None, reverse, zip}
 use Rattle.std.specs.BTreeMap.{is_at}
 use Rattle.std.specs.FinMap.Entries.{find}
@@ -26,20 +26,20 @@ use Rattle.gb_nodes.specs.Scripts.{build_faults, script_faults, script_made, scr
 use Rattle.gb_nodes.specs.Site.{Site}
 
 module _ {M F Z S : Type 0} (functions : Table M F Z S) (given : List (Named (List ℕ))) where
-  -- all expressions after one script and another
+  -- all expressions after the scripts, one after another
   abbrev pub scripts_made : List (Expression M F Z) → List (Path × List Statement) → List (Expression M F Z)
   scripts_made nodes [] = nodes
   scripts_made nodes (script ∷ scripts) =
       scripts_made (script_made functions script.0 given nodes script.1) scripts
 
-  -- where the expressions of each of their projects stand
+  -- the sites of the expressions of each of their projects
   abbrev pub sites_made : List (Expression M F Z) → List (Path × List Statement) → List Site
   sites_made nodes [] = []
   sites_made nodes (script ∷ scripts) =
       script_site script.0 given (length nodes) script.1
       ∷ sites_made (script_made functions script.0 given nodes script.1) scripts
 
-  -- the faults of one script and another
+  -- the faults of the scripts, one after another
   abbrev pub scripts_faults : Meanings M F Z S → List (Expression M F Z) → List (Path × List Statement)
       → List Fault
   scripts_faults means nodes [] = []
@@ -48,7 +48,7 @@ module _ {M F Z S : Type 0} (functions : Table M F Z S) (given : List (Named (Li
       ++ scripts_faults means (script_made functions script.0 given nodes script.1) scripts
 
 module _ {M F Z S A : Type 0} (tables : Tables M F Z S A) (source : Source) where
-  -- Expressions that are laid out, none of them an output, and where those of these projects stand.
+  -- Expressions that are laid out, none of them an output, and the sites of these projects.
   pub record AreStanding (nodes : List (Expression M F Z)) (sites : List Site) : Type 0 where
     pub number : ℕ → ℕ
     pub laid : IsLaidOut tables source number nodes
@@ -65,21 +65,21 @@ module _ {M F Z S A : Type 0} (tables : Tables M F Z S A) (source : Source) wher
     pub found : (text : List ℕ)
         → lookup (is_at (byte_order text)) given ≡ find byte_order text (reverse source.given)
 
-  -- What such scripts make stands in the whole table.
+  -- The nodes that such scripts make are in the whole table.
   abbrev pub ScriptsStand : Type 0
   ScriptsStand =
       (scripts : List (Path × List Statement)) (given : List (Named (List ℕ))) → AreSaid scripts given
       → AreStanding (scripts_made tables.functions given [] scripts)
       (sites_made tables.functions given [] scripts)
 
-  -- Such scripts are at fault only where the folder of what a project builds is no place.
+  -- Such scripts are at fault only where the build folder of a project is no place.
   abbrev pub ScriptsAreGood : Type 0
   ScriptsAreGood =
       (scripts : List (Path × List Statement)) (given : List (Named (List ℕ))) → AreSaid scripts given
       → scripts_faults tables.functions given tables.means [] scripts
       ≡ flat_map (λ script. build_faults script.0) scripts
 
--- The folder of what a project builds is a place, where settings without a fault name the project.
+-- The build folder of a project is a place, where settings without a fault name the project.
 abbrev pub BuildsArePlaces : Type 0
 BuildsArePlaces =
     (settings : List (List (List ℕ))) (scripts : List (List Statement)) → settings_faults settings ≡ []

@@ -1,4 +1,4 @@
--- What the statements of a script make of the properties of its project.
+-- The effect of the statements of a script on the properties of its project.
 use Rattle.std.specs.Prelude.{◌≡◌, ℕ, List, [], ◌∷◌, ◌++◌, ◌+◌, length, map, ◌≤◌, false, Option, Some}
 use Rattle.std.specs.Prelude.{None, slice_get, slice_set}
 use Rattle.std.specs.BTreeMap.{insert_entry}
@@ -35,7 +35,7 @@ unset_property project name =
       is_final = false;
     })
 
--- properties of these names behind other expressions
+-- properties of these names after other expressions
 abbrev pub properties_made : {M F Z : Type 0} → Path → List (Expression M F Z) → List (List ℕ)
     → List (Expression M F Z)
 properties_made project nodes names = nodes ++ map (unset_property project) names
@@ -49,7 +49,7 @@ named_from n there (name ∷ names) =
 -- ---- Changes
 
 module _ {M F Z : Type 0} where
-  -- the property, if there is one that takes the change, is changed where it stands
+  -- the property, if there is one that accepts the change, is changed at its position
   abbrev pub with_property : Change → List (Expression M F Z) → ℕ → Option Property → List (Expression M F Z)
   with_property change nodes place None = nodes
   with_property change nodes place (Some property) =
@@ -59,7 +59,7 @@ module _ {M F Z : Type 0} where
   with_change change nodes place =
       with_property change nodes place (open_property change (slice_get nodes place))
 
--- the property takes no change any more
+-- the property accepts no more changes
 abbrev pub final_faults : List ℕ → Option Property → List Fault
 final_faults name None = faults.Final name ∷ []
 final_faults name (Some property) = []
@@ -89,7 +89,7 @@ module _ {M F Z S : Type 0} (functions : Table M F Z S) (site : Site) where
   statement_made nodes (statements.DisallowChanges name) = with_change Finalize nodes (place_of name)
   statement_made nodes other = nodes
 
-  -- after one statement and another
+  -- after the statements, one after another
   abbrev pub statements_made : List (Expression M F Z) → List Statement → List (Expression M F Z)
   statements_made nodes [] = nodes
   statements_made nodes (s ∷ ss) = statements_made (statement_made nodes s) ss
@@ -118,7 +118,7 @@ module _ {M F Z S : Type 0} (means : Meanings M F Z S) (functions : Table M F Z 
   statements_faults nodes (s ∷ ss) =
       statement_faults nodes s ++ statements_faults (statement_made functions site nodes s) ss
 
--- what a call makes of providers: the table of functions stays, and these are the expressions
+-- the effect of a call on providers: the table of functions is unchanged, and these are the expressions
 pub record IsRun {M F Z S : Type 0} (old new : Held M F Z S) (nodes : List (Expression M F Z)) : Type 0 where
   pub table : new.table ≡ old.table
   pub made : new.nodes ≡ nodes

@@ -26,12 +26,12 @@ constant_faults site (FileOf text) = place_faults site.project text
 constant_faults site (TaskOf text) = name_faults site.project text
 constant_faults site other = []
 
--- of a source that is no list
+-- the faults of a source that is no list
 abbrev pub root_faults : Site → Root → List Fault
 root_faults site (PropertyOf name) = known_faults name (property_node site name)
 root_faults site other = constant_faults site other
 
--- of a step: no function of that use has the name, or it takes another count of arguments
+-- the faults of a step: no function of that use has the name, or it takes another count of arguments
 module _ {M F Z S : Type 0} (means : Meanings M F Z S) (functions : Table M F Z S) where
   abbrev pub link_faults : Link → List Fault
   link_faults (MapBy f) = function_faults means.map.arity f (map_named functions f.name)
@@ -43,7 +43,7 @@ module _ {M F Z S : Type 0} (means : Meanings M F Z S) (functions : Table M F Z 
   abbrev pub making_faults : Site → Tree → List Fault
   making_faults site tree = found_in (root_faults site) link_faults tree
 
--- the fault of a step as it is told
+-- the fault of a step as it is reported
 abbrev pub step_fault : Function → StepFault → Fault
 step_fault f steps.UnknownTransform = faults.UnknownTransform f.name
 step_fault f steps.BadArguments = faults.BadArguments f.name

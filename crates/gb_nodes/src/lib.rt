@@ -1,4 +1,4 @@
-//! The expressions of scripts as nodes of providers.
+//! Turns the expressions of scripts into nodes of providers.
 #![tactic(auto)]
 
 pub mod given;

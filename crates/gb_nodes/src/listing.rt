@@ -15,7 +15,7 @@ use gb_script::script::{Call, Condition, InputFiles};
 use std::alloc::{AllocError, Global};
 use std::collections::BTreeMap;
 
-/// Puts the values of conditions behind others.
+/// Appends the values of conditions.
 fn push_conditions<'a>(
     to: &mut Vec<&'a Expression>,
     conditions: &[&'a Condition],
@@ -29,7 +29,7 @@ fn push_conditions<'a>(
     Ok(())
 }
 
-/// Puts the values of inputs behind others.
+/// Appends the values of inputs.
 fn push_values<'a>(
     to: &mut Vec<&'a Expression>,
     values: &BTreeMap<Name, &'a Expression>,
@@ -43,7 +43,7 @@ fn push_values<'a>(
     Ok(())
 }
 
-/// Puts expressions in a row behind others.
+/// Appends the expressions of a row.
 fn push_row<'a>(to: &mut Vec<&'a Expression>, row: &'a Expressions) -> Result<(), AllocError>
     ensures { OnOk result (now_of to.new.items ≡ now_of to.old.items ++ row.now) }
 {
@@ -53,7 +53,7 @@ fn push_row<'a>(to: &mut Vec<&'a Expression>, row: &'a Expressions) -> Result<()
     Ok(())
 }
 
-/// Puts the roots of input files behind others.
+/// Appends the roots of input files.
 fn push_roots<'a>(
     to: &mut Vec<&'a Expression>,
     files: &BTreeMap<Name, &'a InputFiles>,
@@ -67,7 +67,7 @@ fn push_roots<'a>(
     Ok(())
 }
 
-/// Puts what the places of outputs are made from behind others.
+/// Appends the expressions of the places of outputs.
 fn push_outputs<'a>(
     to: &mut Vec<&'a Expression>,
     outputs: &BTreeMap<Name, (Form, &'a Expression)>,
@@ -81,7 +81,7 @@ fn push_outputs<'a>(
     Ok(())
 }
 
-/// Puts what actions are given behind others.
+/// Appends the arguments of actions.
 fn push_arguments<'a>(
     to: &mut Vec<&'a Expression>,
     calls: &ActionList<&'a Call>,
@@ -95,7 +95,7 @@ fn push_arguments<'a>(
     Ok(())
 }
 
-/// Puts an expression that there may be behind others.
+/// Appends an expression, if there is one.
 fn push_any<'a>(to: &mut Vec<&'a Expression>, any: Option<&'a Expression>) -> Result<(), AllocError>
     ensures { OnOk result (now_of to.new.items ≡ now_of to.old.items
         ++ option_to_list (option_copied any.entry)) }

@@ -19,9 +19,10 @@ use gb_report::fault::Fault;
 use gb_script::expression::{Expression, Source, Step};
 use std::alloc::Global;
 
-/// Adds the nodes of an expression: its source, and then step by step, an operand before its step. Refused
-/// with the first of its faults in that order: a property without a node (54), a text that is no place (2) or
-/// no path (1), a function that there is not (31) or that takes other arguments (32).
+/// Adds the nodes of an expression: its source, and then step by step, an operand before its step.
+/// Refused with the first of its faults in that order: a property without a node (54), a text that
+/// is no place (2) or no path (1), a function that does not exist (31) or that takes other
+/// arguments (32).
 #[cycle(making)]
 pub fn add_tree<T: Transforms>(
     alloc: Global,
@@ -84,7 +85,7 @@ fn add_trees<T: Transforms>(
     Ok(row)
 }
 
-/// Steps behind an expression that stands already.
+/// Steps after an expression that already has its node.
 #[cycle(making)]
 fn add_steps<T: Transforms>(
     alloc: Global,
@@ -109,7 +110,7 @@ fn add_steps<T: Transforms>(
     Ok(node)
 }
 
-/// A step behind an expression that stands already, its operand before it.
+/// A step after an expression that already has its node. Its operand comes before it.
 #[cycle(making)]
 fn add_step<T: Transforms>(
     alloc: Global,

@@ -25,7 +25,7 @@ fn declared(statement: &Statement) -> Option<&Name>
     }
 }
 
-/// Adds a node for a property, and keeps it by its name.
+/// Adds a node for a property, and stores it by its name.
 fn add_property<T: Transforms>(
     providers: &mut Providers<'_, T>,
     nodes: &mut BTreeMap<Name, Node>,

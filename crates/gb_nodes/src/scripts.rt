@@ -22,16 +22,16 @@ use gb_report::fault::Fault;
 use std::alloc::Global;
 use std::collections::BTreeMap;
 
-/// What the expressions of a project and of its tasks read there.
+/// What the expressions of a project and of its tasks read.
 #[derive(Drop)]
 pub struct Laid {
-    /// The folder of what the project builds.
+    /// The build folder of the project.
     pub build: Place,
     /// The node of each of its properties.
     pub properties: BTreeMap<Name, Node>,
 }
 
-/// The folder of what a project builds. Refused where it is no place (57).
+/// The build folder of a project. Refused where it is no place (57).
 fn build_of(alloc: Global, project: &Project) -> Result<Place, Fault>
     ensures place { IfOk result (λ place. place ≡ build_folder project.now) }
     ensures faults { TellsFirst (build_faults project.now) result }
@@ -43,7 +43,7 @@ fn build_of(alloc: Global, project: &Project) -> Result<Place, Fault>
     }
 }
 
-/// Adds what the statements of a script say, its properties standing already.
+/// Adds the statements of a script. The nodes of its properties already exist.
 fn run_script<T: Transforms>(
     alloc: Global,
     providers: &mut Providers<'_, T>,
@@ -69,8 +69,8 @@ fn run_script<T: Transforms>(
     add_statements(alloc, providers, &site, scripted.script.statements())
 }
 
-/// Adds the nodes of a project's script: first its properties, and then statement by statement. Refused where
-/// the folder of what it builds is no place (57), and then as in `add_statements`.
+/// Adds the nodes of a project's script: first its properties, and then statement by statement.
+/// Refused where the build folder is no place (57), and then as in `add_statements`.
 pub fn add_script<T: Transforms>(
     alloc: Global,
     providers: &mut Providers<'_, T>,

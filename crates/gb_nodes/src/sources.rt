@@ -26,7 +26,7 @@ use gb_report::fault::Fault;
 use gb_script::expression::Source;
 use std::alloc::{AllocError, Global};
 
-/// The place of a text in a project. Refused where it is none (2).
+/// The place of a text in a project. Refused where the text is no place (2).
 fn place_of(alloc: Global, project: &Project, text: &Text) -> Result<Place, Fault>
     ensures place { IfOk result (λ place. place ≡ joined (folder_of project.now) text.now) }
     ensures faults { TellsFirst (place_faults project.now text.now) result }
@@ -38,7 +38,7 @@ fn place_of(alloc: Global, project: &Project, text: &Text) -> Result<Place, Faul
     }
 }
 
-/// The task that a text names in a project. Refused where it is no path (1).
+/// The task that a text names in a project. Refused where the text is no path (1).
 fn task_of(alloc: Global, project: &Project, text: &Text) -> Result<TaskPath, Fault>
     ensures path { IfOk result (λ task. task ≡ absolute project.now text.now) }
     ensures faults { TellsFirst (name_faults project.now text.now) result }
@@ -86,7 +86,8 @@ fn add_constant<T: Transforms>(
     }
 }
 
-/// What a source is that awaits nothing: a value, or nothing. A list and a property are not asked for.
+/// The value of a source that awaits nothing: a value, or nothing. The function is not called for a
+/// list or a property.
 fn constant_of(alloc: Global, site: &Site<'_>, source: &Source) -> Result<Option<Value>, Fault>
     ensures value { IfOk result (λ value. value ≡ constant_of (site_of site.now) (root_of source.now)) }
     ensures faults { TellsFirst (constant_faults (site_of site.now) (root_of source.now)) result }

@@ -1,4 +1,4 @@
-//! What the statements of a script make of the properties of its project.
+//! The effect of the statements of a script on the properties of its project.
 ghost use Rattle.std.specs.Prelude.{◌≡◌, ◌<◌, OnOk, length};
 ghost use Rattle.gb_provider.specs.declared.change.Change.TheVariants.{Convention, Finalize, SetFrom, Unset};
 ghost use Rattle.gb_registry.specs.Faults.{TellsFirst};
@@ -17,7 +17,7 @@ use gb_report::fault::Fault;
 use gb_script::script::Statement;
 use std::alloc::Global;
 
-/// Lets a property follow an expression. Refused where it has no node (54), or is final (35).
+/// Makes a property follow an expression. Refused where it has no node (54), or is final (35).
 fn set<T: Transforms>(
     providers: &mut Providers<'_, T>,
     site: &Site<'_>,
@@ -38,7 +38,7 @@ fn set<T: Transforms>(
     }
 }
 
-/// What a property follows where it is not set. Refused as in `set`.
+/// Sets the expression that a property follows where it is not set. Refused as in `set`.
 fn convention<T: Transforms>(
     providers: &mut Providers<'_, T>,
     site: &Site<'_>,
@@ -59,7 +59,7 @@ fn convention<T: Transforms>(
     }
 }
 
-/// Takes back what a property was set to. Refused as in `set`.
+/// Removes what a property was set to. Refused as in `set`.
 fn unset<T: Transforms>(
     providers: &mut Providers<'_, T>,
     site: &Site<'_>,
@@ -97,8 +97,8 @@ fn disallow<T: Transforms>(
     }
 }
 
-/// Adds the expression of a statement and changes the property that it names. Refused with the first fault:
-/// of the expression, then that the property has no node (54) or is final (35).
+/// Adds the expression of a statement and changes the property that it names. Refused with the
+/// first fault: of the expression, then that the property has no node (54) or is final (35).
 fn add_statement<T: Transforms>(
     alloc: Global,
     providers: &mut Providers<'_, T>,
@@ -126,8 +126,8 @@ fn add_statement<T: Transforms>(
     }
 }
 
-/// Adds the expressions of statements and changes the properties that they name, in the order of the script.
-/// Refused as in `add_statement`.
+/// Adds the expressions of statements and changes the properties that they name, in the order of
+/// the script. Refused as in `add_statement`.
 pub(crate) fn add_statements<T: Transforms>(
     alloc: Global,
     providers: &mut Providers<'_, T>,

@@ -1,4 +1,4 @@
-//! The nodes of steps, their operands made before.
+//! The nodes of steps whose operands already have nodes.
 ghost use Rattle.std.specs.Prelude.{◌≡◌, ◌<◌, IfOk, length};
 ghost use Rattle.gb_provider.specs.Table.{flat_map_named, map_named, zip_named};
 ghost use Rattle.gb_provider.specs.declared.expression.Expression.TheVariants.{FlatMapped, Mapped, Zipped};
@@ -17,7 +17,7 @@ use gb_report::fault::Fault;
 use gb_script::function::Function;
 use std::alloc::{AllocError, Global};
 
-/// The fault of a step as it is told to users.
+/// The fault of a step as it is reported to users.
 fn told(alloc: Global, function: &Function, fault: StepFault) -> Result<Fault, AllocError>
     ensures { IfOk result (λ told. told ≡ step_fault function.now fault) }
 {
@@ -31,8 +31,8 @@ fn told(alloc: Global, function: &Function, fault: StepFault) -> Result<Fault, A
     }
 }
 
-/// Adds a `map` behind an expression. Refused where no function has the name (31), or it takes another count
-/// of arguments (32).
+/// Adds a `map` after an expression. Refused where no function has the name (31), or it takes
+/// another count of arguments (32).
 pub fn add_map<T: Transforms>(
     alloc: Global,
     providers: &mut Providers<'_, T>,
@@ -53,7 +53,7 @@ pub fn add_map<T: Transforms>(
     }
 }
 
-/// Adds a `flatMap` behind an expression. Refused as in `add_map`.
+/// Adds a `flatMap` after an expression. Refused as in `add_map`.
 pub(crate) fn add_flat_map<T: Transforms>(
     alloc: Global,
     providers: &mut Providers<'_, T>,

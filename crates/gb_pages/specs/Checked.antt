@@ -11,14 +11,14 @@ use Rattle.gb_action.specs.Files.{Tree, Trees, tree_at}
 use Rattle.gb_action.specs.Shapes.{source}
 use Rattle.gb_pages.specs.FrontMatter.{body, front_matter, halves, heading, value_of}
 
--- the line on which the first byte stands that is no text
+-- the line with the first byte that is not text
 abbrev pub bad_line : List ℕ → ℕ
 bad_line bytes = count_by (λ b. b == 10) (take (utf8_valid_len bytes) bytes) + 1
 
 abbrev pub no_text : ℕ → List ℕ
 no_text line = decimal line ++ codes ": not UTF-8"
 
--- front matter begins, and has no end
+-- front matter begins, but does not end
 abbrev pub is_unended : List ℕ → Bool
 is_unended text = starts_with nat_eq text (codes "---\n") && not (is_some (halves text))
 
@@ -31,15 +31,15 @@ wrong_text text =
     if is_unended text then Some (codes "1: no end of the front matter")
     else if has_title text then None else Some (codes "1: no heading")
 
--- and is a text
+-- and is valid UTF-8 text
 abbrev pub wrong : List ℕ → Option (List ℕ)
 wrong bytes = if is_utf8 bytes then wrong_text bytes else Some (no_text (bad_line bytes))
 
--- behind the path of the page
+-- after the path of the page
 abbrev pub wrong_at : List ℕ → List ℕ → Option (List ℕ)
 wrong_at path bytes = option_map (λ text. path ++ codes ":" ++ text) (wrong bytes)
 
--- the first of all pages in the order of their paths
+-- the first error of all pages, in the order of their paths
 abbrev pub first_wrong : Tree → Option (List ℕ)
 first_wrong [] = None
 first_wrong (file ∷ files) = option_or (wrong_at file.0 file.1) (first_wrong files)

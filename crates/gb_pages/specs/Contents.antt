@@ -1,5 +1,5 @@
--- The contents of a page: a list of links to its headings, in which those of the third rank are in the items
--- of those of the second. Headings of other ranks are not in it.
+-- The contents of a page: a list of links to its headings of the second and the third rank; those of the
+-- third rank are nested in the items of those of the second. Headings of other ranks are left out.
 use Rattle.std.specs.Prelude.{ℕ, ◌==◌, Bool, true, false, List, [], ◌∷◌, ◌++◌, if◌then◌else◌, codes}
 use Rattle.std.specs.Prelude.{Option, None, Some, option_and_then}
 use Rattle.std.specs.Option.{option_map, option_or}
@@ -14,21 +14,21 @@ line_end = Text (10 ∷ [])
 
 -- ---- Headings
 
--- the words of a page without their tags
+-- the words of a page without tags
 abbrev pub untagged : Bool → List ℕ → List ℕ
 untagged inside [] = []
 untagged inside (b ∷ rest) =
     if b == 60 then untagged true rest else if b == 62 then untagged false rest
     else if inside then untagged true rest else b ∷ untagged false rest
 
--- the id of a heading and its words with their tags, after the begin of its tag
+-- the id of a heading and its words with tags, after the beginning of its tag
 abbrev pub heading_behind : List ℕ → List ℕ → Option (List ℕ × List ℕ)
 heading_behind sign part =
     option_and_then
     (λ rest. option_map (λ half. (half.0, up_to (codes "</h") half.1)) (cut (codes "\">") rest))
     (behind sign part)
 
--- whether a heading of the third rank is after `<h`, or one of the second; its id, and its words
+-- whether a heading of the third rank follows `<h`, or one of the second; its id and its words
 abbrev pub heading_in : List ℕ → Option (Bool × List ℕ × List ℕ)
 heading_in part =
     option_or (option_map (λ found. (false, found.0, found.1)) (heading_behind (codes "2 id=\"") part))
@@ -49,7 +49,7 @@ list_ended = Close elements.Item ∷ line_end ∷ Close elements.Items ∷ line_
 abbrev pub nested_ended : List Piece
 nested_ended = Close elements.Item ∷ line_end ∷ Close elements.Items ∷ []
 
--- what is before an item, and which lists are open after it
+-- the pieces before an item
 abbrev pub item_begun : Bool → Depth → List Piece
 item_begun nested depths.Nothing = list_begun
 item_begun nested depths.Items = if nested then line_end ∷ list_begun else item_ended

@@ -1,4 +1,4 @@
--- Pages in a layout, with what their front matter says.
+-- Pages in a layout, filled with values of their front matter.
 use Rattle.std.specs.Prelude.{ℕ, ◌+◌, ◌==◌, Bool, true, false, List, [], ◌∷◌, ◌++◌, codes, decimal, take}
 use Rattle.std.specs.Prelude.{if◌then◌else◌, bytes_eq, count_by, Option, None, Some, unwrap_or}
 use Rattle.std.specs.Prelude.{Result, Ok, Err}
@@ -17,14 +17,14 @@ use Rattle.gb_markdown.specs.Addresses.{address_of}
 use Rattle.gb_markdown.specs.Pieces.{Piece, Close, Link, Text, escaped, written}
 use Rattle.gb_markdown.specs.declared.page.Element.TheVariants as elements
 
--- ---- What stands in the place of a name
+-- ---- The value that replaces a name
 
--- what leads from a page to the folder of the site: `../` for each folder that the page lies in
+-- the relative path from a page to the folder of the site: `../` for each folder that contains the page
 abbrev pub root_of : List ℕ → List ℕ
 root_of path = flat_map (λ b. if b == 47 then codes "../" else []) path
 
--- the page itself, a list of links to its headings, the links to the pages before and after it, the way to the
--- folder of the site, its title, or a value of its front matter
+-- the page itself, a list of links to its headings, the links to the pages before and after it, the relative
+-- path to the folder of the site, its title, or a value of its front matter
 abbrev pub value_for : List ℕ → List ℕ → List ℕ → List ℕ → List ℕ → List ℕ → Option (List ℕ)
 value_for previous next path text page name =
     if bytes_eq name (codes "content") then Some page
@@ -37,46 +37,46 @@ value_for previous next path text page name =
 
 -- ---- Layouts
 
--- bytes in front of others, or the first failure
+-- bytes before others, or the first failure
 abbrev pub before : Result (List ℕ) (List ℕ) → Result (List ℕ) (List ℕ) → Result (List ℕ) (List ℕ)
 before (Err name) others = Err name
 before (Ok bytes) (Err name) = Err name
 before (Ok bytes) (Ok others) = Ok (bytes ++ others)
 
--- the value of a name and what stands behind it, or the name that has no value
+-- the value of a name and the rest after it, or the name that has no value
 abbrev pub replaced : List ℕ → List ℕ → Option (List ℕ) → Result (List ℕ) (List ℕ)
 replaced name rest None = Err name
 replaced name rest (Some value) = Ok (value ++ rest)
 
--- what stands behind `{{`: a name and `}}`, or that sign itself and text
+-- the text after `{{`: a name and `}}`, or that sign itself and text
 abbrev pub behind_braces : (List ℕ → Option (List ℕ)) → List ℕ → Option (List ℕ × List ℕ)
     → Result (List ℕ) (List ℕ)
 behind_braces value part None = Ok (codes "{{" ++ part)
 behind_braces value part (Some found) = replaced found.0 found.1 (value found.0)
 
--- the parts between `{{`, of which each but the first stands behind one
+-- the parts between `{{`; each part except the first follows one
 abbrev pub filled : (List ℕ → Option (List ℕ)) → Bool → List (List ℕ) → Result (List ℕ) (List ℕ)
 filled value behind [] = Ok []
 filled value false (part ∷ others) = before (Ok part) (filled value true others)
 filled value true (part ∷ others) =
     before (behind_braces value part (cut (codes "}}") part)) (filled value true others)
 
--- bytes, or the name at which they end
+-- the bytes, or the name without a value
 abbrev pub ended : List ℕ → Option (List ℕ) → Result (List ℕ) (List ℕ)
 ended bytes None = Ok bytes
 ended bytes (Some name) = Err name
 
 -- ---- Pages
 
--- the line on which a text stands first
+-- the line where a text occurs first
 abbrev pub line_of : List ℕ → List ℕ → ℕ
 line_of sign text = count_by (λ b. b == 10) (take (unwrap_or (first_of (matches text sign 0)) 0) text) + 1
 
--- a name or an address as it is shown
+-- a name or an address as it is printed
 abbrev pub shown : List ℕ → List ℕ
 shown name = if is_utf8 name then name else codes "(no text)"
 
--- what is told of a name that the layout has and the page does not
+-- the message for a name that the layout has and the page does not
 abbrev pub unknown : List ℕ → List ℕ → List ℕ → List ℕ → List ℕ
 unknown at layout path name =
     at ++ codes ":" ++ decimal (line_of (token name) layout) ++ codes ": " ++ path ++ codes " has no "
@@ -86,8 +86,8 @@ abbrev pub or_unknown : List ℕ → List ℕ → List ℕ → Result (List ℕ)
 or_unknown at layout path (Ok bytes) = Ok bytes
 or_unknown at layout path (Err name) = Err (unknown at layout path name)
 
--- The layout of a page, by the path and the bytes of the layout, the links to the pages before it and after
--- it, the path and the text of the page, and what Markdown makes of that.
+-- The layout of a page, from the path and the bytes of the layout, the links to the pages before and after
+-- it, the path and the text of the page, and the Markdown output of that text.
 abbrev pub laid_out_page : List ℕ → List ℕ → List ℕ → List ℕ → List ℕ → List ℕ → List ℕ
     → Result (List ℕ) (List ℕ)
 laid_out_page at layout previous next path text page =
@@ -101,7 +101,7 @@ laid_out_file path None made = Err (path ++ codes ": no path of a page")
 laid_out_file path (Some new) (Err text) = Err text
 laid_out_file path (Some new) (Ok bytes) = Ok (new, bytes)
 
--- the text of a page, which is empty where there is none
+-- the text of a page; empty if there is none
 abbrev pub text_at : Tree → List ℕ → List ℕ
 text_at texts path = unwrap_or (file_at texts path) []
 
@@ -113,7 +113,7 @@ link_to path text (Some name) (Some new) =
 link_to path text None new = []
 link_to path text (Some name) None = []
 
--- the link from a page to another, under the title of that, if there is one
+-- the link from a page to another, under the title of the other, if there is one
 abbrev pub neighbour : Tree → List ℕ → Option (List ℕ) → List ℕ
 neighbour texts path None = []
 neighbour texts path (Some other) =
@@ -146,7 +146,7 @@ in_one_layout texts files [] = Err (codes "no layout")
 in_one_layout texts files (layout ∷ others) =
     unless_more others (all_laid_out layout.0 layout.1 texts None files)
 
--- the pages of `src`, with what the texts of `texts` say, in the one file of `layout`
+-- the pages of `src`, with the front matter of the texts of `texts`, in the one file of `layout`
 abbrev pub site_pages : List Value → Trees → Result Tree (List ℕ)
 site_pages arguments trees =
     in_one_layout (tree_at trees (codes "texts")) (tree_at trees source) (tree_at trees (codes "layout"))

@@ -1,4 +1,4 @@
--- Links of pages that lead nowhere.
+-- Dead links of pages.
 use Rattle.std.specs.Prelude.{ℕ, Bool, true, false, ◌||◌, List, [], ◌∷◌, ◌++◌, codes, decimal}
 use Rattle.std.specs.Prelude.{if◌then◌else◌, bytes_eq, length, take, drop, Option, None, Some, is_some}
 use Rattle.std.specs.Prelude.{nat_eq, unwrap_or, option_and_then}
@@ -13,9 +13,9 @@ use Rattle.gb_pages.specs.FrontMatter.{cut, parts, up_to}
 use Rattle.gb_pages.specs.Layouts.{line_of, shown}
 use Rattle.gb_pages.specs.Paths.{as_path, before}
 
--- ---- Where an address leads
+-- ---- The target of an address
 
--- what stands behind it, or nothing
+-- the text after it, or nothing
 abbrev pub from : List ℕ → List ℕ → List ℕ
 from sign text = unwrap_or (option_map (λ half. half.1) (cut sign text)) []
 
@@ -27,7 +27,7 @@ path_in address = up_to (codes "?") (up_to (codes "#") address)
 abbrev pub leads_out : List ℕ → Bool
 leads_out path = is_some (first_of (matches path (codes ":") 0)) || starts_with nat_eq path (codes "//")
 
--- the folder that something stands in; each has a `/` in front
+-- the folder that contains a path; each path begins with `/`
 abbrev pub above : List ℕ → Option (List ℕ)
 above path = option_map (λ k. take k path) (first_of (rmatches path (codes "/") (length path)))
 
@@ -37,12 +37,12 @@ step folder segment =
     else if bytes_eq segment (codes ".") then Some folder
     else Some (folder ++ (codes "/" ++ segment))
 
--- where segments lead from a folder
+-- the target of segments from a folder
 abbrev pub walk : List ℕ → List (List ℕ) → Option (List ℕ)
 walk folder [] = Some folder
 walk folder (segment ∷ others) = option_and_then (λ next. walk next others) (step folder segment)
 
--- where a path leads from a page: from the folder of the site where it begins with `/`
+-- the folder from which a path of a page is resolved: the folder of the site if the path begins with `/`
 abbrev pub start : List ℕ → List ℕ → List ℕ
 start page path =
     if starts_with nat_eq path (codes "/") then [] else unwrap_or (above (codes "/" ++ page)) []
@@ -53,7 +53,7 @@ unrooted path = if starts_with nat_eq path (codes "/") then drop 1 path else pat
 abbrev pub target_of : List ℕ → List ℕ → Option (List ℕ)
 target_of page path = walk (start page path) (parts (codes "/") (unrooted path))
 
--- the folder of the site means its `index.html`, as does what ends with `/`
+-- the folder of the site means its `index.html`, as does a path that ends with `/`
 abbrev pub as_file : List ℕ → List ℕ
 as_file [] = codes "/index.html"
 as_file (b ∷ others) =
@@ -64,7 +64,7 @@ abbrev pub file_in : Tree → List ℕ → Option (List ℕ)
 file_in files [] = None
 file_in files (slash ∷ path) = option_and_then (file_at files) (as_path path)
 
--- ---- Links that lead nowhere
+-- ---- Dead links
 
 abbrev pub id_sign : List ℕ → List ℕ
 id_sign fragment = codes " id=\"" ++ (fragment ++ codes "\"")
@@ -76,7 +76,7 @@ wrong_with fragment (Some bytes) =
     if bytes_eq fragment [] || is_some (first_of (matches bytes (id_sign fragment) 0)) then None
     else Some (codes "no fragment")
 
--- the file that a path leads to from a page, which is the page itself where the path is empty
+-- the file that a path on a page refers to: the page itself if the path is empty
 abbrev pub led_to : Tree → List ℕ → List ℕ → List ℕ → Option (List ℕ)
 led_to files page html path =
     if bytes_eq path [] then Some html
@@ -93,18 +93,18 @@ wrong_link files page html address =
 
 -- ---- Pages
 
--- what is told of a link: the page, the line, what is wrong, and the address
+-- the message for a link: the page, the line, what is wrong, and the address
 abbrev pub line_mark : ℕ → List ℕ
 line_mark line = codes ":" ++ decimal line ++ codes ": "
 
 abbrev pub told : List ℕ → ℕ → List ℕ → List ℕ → List ℕ
 told page line wrong address = page ++ (line_mark line ++ (wrong ++ (codes " at " ++ address)))
 
--- the line on which an address stands first behind a sign
+-- the line where an address occurs first after a sign
 abbrev pub line_in : List ℕ → List ℕ → List ℕ → ℕ
 line_in html sign address = line_of (sign ++ (address ++ codes "\"")) html
 
--- what is wrong with what stands behind the sign of an attribute
+-- what is wrong with the address after the sign of an attribute
 abbrev pub dead_address : Tree → List ℕ → List ℕ → List ℕ → List ℕ → Option (List ℕ)
 dead_address files page html sign address =
     option_map (λ wrong. told page (line_in html sign address) wrong (shown address))
@@ -121,7 +121,7 @@ dead_parts dead true (part ∷ others) = option_or (dead part) (dead_parts dead 
 abbrev pub dead_by : Tree → List ℕ → List ℕ → List ℕ → Option (List ℕ)
 dead_by files page html sign = dead_parts (dead_at files page html sign) false (parts sign html)
 
--- the first link of a page, and then the first picture, that leads nowhere
+-- the first dead link of a page, or else its first dead picture
 abbrev pub dead_in : Tree → List ℕ → List ℕ → Option (List ℕ)
 dead_in files page html =
     if is_some (before (codes ".html") page)

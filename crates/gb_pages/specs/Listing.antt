@@ -1,4 +1,4 @@
--- The page that links all pages.
+-- The page that links to all pages.
 use Rattle.std.specs.Prelude.{ℕ, List, [], ◌∷◌, ◌++◌, if◌then◌else◌, codes, bytes_eq, Option, None, Some}
 use Rattle.std.specs.Prelude.{Result, Ok, Err, reverse, unwrap_or}
 use Rattle.std.specs.List.{flat_map}
@@ -20,7 +20,7 @@ linked address title =
     Open elements.Item ∷ Link address [] ∷ Text title ∷ Close elements.Anchor ∷ Close elements.Item
     ∷ Text (10 ∷ []) ∷ []
 
--- the link to the page of a text, by what stands before `.md` in its path, and the path of the page
+-- the link to the page of a text, from the part of its path before `.md` and the path of the page
 abbrev pub entry : List ℕ → Option (List ℕ) → Option (List ℕ) → List Piece
 entry text (Some name) (Some path) = linked (address_of path) (title_of text name)
 entry text None path = []
@@ -35,12 +35,12 @@ entry_of path text = written (entry text (stem path) (page_path (stem path)))
 abbrev pub by_name : Tree → List ℕ
 by_name files = flat_map (λ file. entry_of file.0 file.1) files
 
--- where a text stands among all: at its date, or else before all dates, and there at its path
+-- the sort path of a text: its date, or `0` before all dates, and then its path
 abbrev pub day_path : List ℕ → List ℕ → Option (List ℕ)
 day_path path text =
     as_path (unwrap_or (value_of (codes "date") (front_matter text)) (codes "0") ++ codes "/" ++ path)
 
--- the links by these paths, beside others, or the path of a text whose date is none
+-- the links with these sort paths added to others, or an error with the path of a text whose date is invalid
 abbrev pub with_day : Tree → List ℕ → List ℕ → Option (List ℕ) → Result Tree (List ℕ)
 with_day days path text None = Err (path ++ codes ": no date")
 with_day days path text (Some day) = Ok (put byte_order day (entry_of path text) days)
@@ -86,7 +86,7 @@ abbrev pub one_page : List ℕ → Result (List ℕ) (List ℕ) → Result Tree 
 one_page title (Err text) = Err text
 one_page title (Ok links) = Ok ((codes "index.html", index_page title links) ∷ [])
 
--- the title, and `date` where the latest page stands first
+-- the arguments: the title, and `date` for the latest page first
 abbrev pub indexed : List Value → Trees → Result Tree (List ℕ)
 indexed arguments trees =
     one_page (first_text arguments) (links_by (second_text arguments) (tree_at trees source))

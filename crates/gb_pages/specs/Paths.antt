@@ -1,4 +1,4 @@
--- Where pages stand, and what is made of all pages at once.
+-- The paths of pages, and kinds that make all pages at once.
 use Rattle.std.specs.Prelude.{ℕ, ◌-◌, ◌&&◌, Bool, List, [], ◌∷◌, ◌++◌, if◌then◌else◌, codes, bytes_eq, length}
 use Rattle.std.specs.Prelude.{take, drop, Option, None, Some, Result, Ok, Err, is_some}
 use Rattle.std.specs.Option.{option_or}
@@ -12,30 +12,30 @@ use Rattle.gb_action.specs.Shapes.{source}
 use Rattle.gb_kinds.specs.Builtin.{first_text}
 use Rattle.gb_with.specs.Renamed.{onto}
 
--- the path that these bytes are, if they are one
+-- the path that these bytes form, if they form one
 abbrev pub as_path : List ℕ → Option (List ℕ)
 as_path text = if is_utf8 text && is_rel_path text then Some text else None
 
--- what stands before an ending
+-- the text before an ending
 abbrev pub before : List ℕ → List ℕ → Option (List ℕ)
 before ending path =
     if bytes_eq (drop (length path - length ending) path) ending
     then Some (take (length path - length ending) path) else None
 
--- what stands before `.md`
+-- the text before `.md`
 abbrev pub stem : List ℕ → Option (List ℕ)
 stem path = before (codes ".md") path
 
--- the same, or what stands before `.markdown`
+-- the same, or the text before `.markdown`
 abbrev pub front : List ℕ → Option (List ℕ)
 front path = option_or (stem path) (before (codes ".markdown") path)
 
--- the path of the page of a text: `.html` stands in place of `.md`
+-- the path of a text's page: `.html` replaces `.md`
 abbrev pub page_path : Option (List ℕ) → Option (List ℕ)
 page_path None = None
 page_path (Some text) = as_path (text ++ codes ".html")
 
--- where the page of a text stands by itself
+-- the path of a text's page, without a layout
 abbrev pub html_path : List ℕ → Option (List ℕ)
 html_path path = page_path (front path)
 
@@ -48,7 +48,7 @@ token name = codes "{{" ++ name ++ codes "}}"
 abbrev pub has_token : List ℕ → List ℕ → Bool
 has_token sign layout = is_some (first_of (matches layout sign 0))
 
--- the layout with a page in place of each token
+-- the layout with a page replacing each token
 abbrev pub filled : List ℕ → List ℕ → List ℕ → List ℕ
 filled sign layout page = replaced_at layout (length sign) page 0 (matches layout sign 0)
 
@@ -76,7 +76,7 @@ abbrev pub laid_out : List ℕ → Tree → Tree → Result Tree (List ℕ)
 laid_out name files [] = Err (codes "no layout")
 laid_out name files (layout ∷ others) = unless_more others (in_layout (token name) files layout.0 layout.1)
 
--- the name of the token: the argument, or `page` where it is left out
+-- the name of the token: the argument, or `page` if it is left out
 abbrev pub token_name : List Value → List ℕ
 token_name [] = codes "page"
 token_name (argument ∷ others) = first_text (argument ∷ others)

@@ -23,7 +23,7 @@ type AtOnce = Both<Laid, Both<OfTrees<Index>, Checking>>;
 /// Those that put pages into a layout.
 type Laid = Both<OfTrees<Template>, OfTrees<SitePages>>;
 
-/// Those that make nothing.
+/// The kinds that make nothing.
 type Checking = Both<Checks<CheckPages>, Checks<CheckLinks>>;
 
 /// All kinds of pages.
@@ -46,7 +46,7 @@ pub fn page_actions(alloc: Global) -> Result<ActionTable<<Pages as Actions>::Sto
     beside(alloc, markdown, others)
 }
 
-/// The table of those that work on all pages at once.
+/// The table of the kinds that work on all pages at once.
 fn at_once(alloc: Global) -> Result<ActionTable<<AtOnce as Actions>::Stored>, TableFault>
     ensures { IfOk result (λ table. table ≡ (codes "template", First (First 1))
         ∷ (codes "sitePages", First (Second 2)) ∷ (codes "index", Second (First 3))
@@ -59,7 +59,7 @@ fn at_once(alloc: Global) -> Result<ActionTable<<AtOnce as Actions>::Stored>, Ta
     beside(alloc, laid(alloc)?, others)
 }
 
-/// The table of those that put pages into a layout.
+/// The table of the kinds that put pages into a layout.
 fn laid(alloc: Global) -> Result<ActionTable<<Laid as Actions>::Stored>, TableFault>
     ensures { IfOk result (λ table.
         table ≡ (codes "template", First 1) ∷ (codes "sitePages", Second 2) ∷ []) }
@@ -69,7 +69,7 @@ fn laid(alloc: Global) -> Result<ActionTable<<Laid as Actions>::Stored>, TableFa
     beside(alloc, template, site)
 }
 
-/// The table of those that make nothing.
+/// The table of the kinds that make nothing.
 fn checking(alloc: Global) -> Result<ActionTable<<Checking as Actions>::Stored>, TableFault>
     ensures { IfOk result (λ table.
         table ≡ (codes "checkPages", First 2) ∷ (codes "checkLinks", Second 1) ∷ []) }

@@ -1,4 +1,4 @@
-//! Pages that are none: the kind `checkPages`.
+//! Checks of pages: the kind `checkPages`.
 ghost use Rattle.std.specs.Prelude.{◌≡◌, ◌≤◌, ◌+◌, ◌==◌, length, take, count_by, IfOk};
 ghost use Rattle.gb_pages.specs.Checked.{first_wrong, has_title, is_unended, no_text, wrong, wrong_at};
 ghost use Rattle.gb_pages.specs.Checked.{wrong_text};
@@ -15,9 +15,9 @@ use gb_with::tree_kind::CheckKind;
 use std::alloc::{AllocError, Global};
 use std::str;
 
-/// The kind `checkPages`, without arguments: it fails with the path, the line and what is wrong there, of the
-/// first page that is no text, whose front matter has no end, or that has no title: it neither begins with a
-/// heading nor has a `title` in its front matter.
+/// The kind `checkPages`, without arguments: it fails with the path, the line and the error of the
+/// first page that is not UTF-8 text, whose front matter has no end, or that has no title: it
+/// neither begins with a heading nor has a `title` in its front matter.
 #[derive(Drop)]
 pub struct CheckPages;
 
@@ -45,7 +45,7 @@ impl CheckKind for CheckPages {
     }
 }
 
-/// What is wrong with the first page that is none.
+/// The error of the first page that has one.
 fn first_wrong(alloc: Global, files: &[(RelPath, Bytes)]) -> Result<Option<Text>, AllocError>
     ensures { IfOk result (λ found. found ≡ first_wrong files.now) }
 {
@@ -58,7 +58,7 @@ fn first_wrong(alloc: Global, files: &[(RelPath, Bytes)]) -> Result<Option<Text>
     Ok(None)
 }
 
-/// What is wrong with the page at the path.
+/// The error of the page at the path.
 fn wrong_at(alloc: Global, path: &RelPath, bytes: &[u8]) -> Result<Option<Text>, AllocError>
     ensures { IfOk result (λ found. found ≡ wrong_at path.now bytes.now) }
 {
@@ -68,7 +68,7 @@ fn wrong_at(alloc: Global, path: &RelPath, bytes: &[u8]) -> Result<Option<Text>,
     }
 }
 
-/// What is wrong with a page, behind its line.
+/// The error of a page, after its line.
 fn wrong(alloc: Global, bytes: &[u8]) -> Result<Option<Text>, AllocError>
     ensures { IfOk result (λ found. found ≡ wrong bytes.now) }
 {
@@ -78,7 +78,7 @@ fn wrong(alloc: Global, bytes: &[u8]) -> Result<Option<Text>, AllocError>
     }
 }
 
-/// What is wrong with a text.
+/// The error of a text.
 fn wrong_text(alloc: Global, bytes: &[u8]) -> Result<Option<Text>, AllocError>
     ensures { IfOk result (λ found. found ≡ wrong_text bytes.now) }
 {
@@ -91,7 +91,7 @@ fn wrong_text(alloc: Global, bytes: &[u8]) -> Result<Option<Text>, AllocError>
     Ok(Some(Text::from_str(alloc, "1: no heading")?))
 }
 
-/// Whether front matter begins, and has no end.
+/// Whether front matter begins, but does not end.
 fn is_unended(text: &[u8]) -> bool
     ensures { result ≡ is_unended text.now }
 {
@@ -108,14 +108,14 @@ fn has_title(alloc: Global, text: &[u8]) -> Result<bool, AllocError>
     Ok(value_of(alloc, b"title", front_matter(text))?.is_some())
 }
 
-/// What is told of bytes that are no text from a line on.
+/// The message for bytes that are not text from a line on.
 fn no_text(alloc: Global, line: usize) -> Result<Option<Text>, AllocError>
     ensures { IfOk result (λ found. found ≡ Some (no_text line)) }
 {
     Ok(Some(Text::new(format!(in alloc; "{line}: not UTF-8")?)?))
 }
 
-/// The line on which the byte at an index stands, counted from 1.
+/// The line of the byte at an index, counted from 1.
 pub(crate) fn line_of(bytes: &[u8], index: usize) -> usize
     requires { index ≤ length bytes.now }
     ensures { result ≡ count_by (λ b. b == 10) (take index bytes.now) + 1 }

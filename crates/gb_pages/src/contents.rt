@@ -13,14 +13,14 @@ use bstr::ByteSlice;
 use gb_markdown::page::{Element, close, link, open, text};
 use std::alloc::{AllocError, Global};
 
-/// Which lists of the contents are open.
+/// The open lists of the contents.
 #[derive(Clone, Copy)]
 pub enum Depth {
     /// None.
     Nothing,
-    /// That of the headings of the second rank.
+    /// The list of the headings of the second rank.
     Items,
-    /// That of the headings of the third rank, in an item of the other.
+    /// The list of the headings of the third rank, in an item of the other.
     Nested,
 }
 
@@ -47,7 +47,7 @@ fn items(alloc: Global, list: &mut Vec<u8>, page: &[u8]) -> Result<(), AllocErro
     end_lists(list, deep)
 }
 
-/// Writes the item of a heading, if one is after `<h`, and returns which lists are open then.
+/// Writes the item of a heading, if one follows `<h`, and returns which lists are open then.
 fn item(alloc: Global, list: &mut Vec<u8>, deep: Depth, part: &[u8]) -> Result<Depth, AllocError>
     ensures { IfOk result (λ after. (list.new.items ≡ list.old.items ++ item_of deep (heading_in part.now))
         × (after ≡ depth_after deep (heading_in part.now))) }
@@ -60,7 +60,8 @@ fn item(alloc: Global, list: &mut Vec<u8>, deep: Depth, part: &[u8]) -> Result<D
     Ok(deeper(nested, deep))
 }
 
-/// Whether a heading of the third rank is after `<h`, or one of the second; its id, and its words with tags.
+/// Whether a heading of the third rank follows `<h`, or one of the second; its id, and its words
+/// with tags.
 fn heading_in(part: &[u8]) -> Option<(bool, &[u8], &[u8])>
     ensures { option_map (λ found. (found.0, found.1.now, found.2.now)) result ≡ heading_in part.now }
 {
@@ -73,7 +74,7 @@ fn heading_in(part: &[u8]) -> Option<(bool, &[u8], &[u8])>
     }
 }
 
-/// The id of a heading and its words with their tags, after the begin of its tag.
+/// The id of a heading and its words with their tags, after the beginning of its tag.
 fn heading_behind<'a>(part: &'a [u8], sign: &[u8]) -> Option<(&'a [u8], &'a [u8])>
     ensures { option_map (λ found. (found.0.now, found.1.now)) result ≡ heading_behind sign.now part.now }
 {
@@ -116,7 +117,7 @@ fn untagged(list: &mut Vec<u8>, words: &[u8]) -> Result<(), AllocError>
     Ok(())
 }
 
-/// Begins an item for a heading, and ends what is open before it.
+/// Ends whatever is open before the item of a heading, and begins the item.
 fn begin_item(list: &mut Vec<u8>, nested: bool, deep: Depth) -> Result<(), AllocError>
     ensures { OnOk result (list.new.items ≡ list.old.items ++ written (item_begun nested deep)) }
 {
@@ -169,7 +170,7 @@ fn deeper(nested: bool, deep: Depth) -> Depth
     }
 }
 
-/// Ends the lists that are open.
+/// Ends the open lists.
 fn end_lists(list: &mut Vec<u8>, deep: Depth) -> Result<(), AllocError>
     ensures { OnOk result (list.new.items ≡ list.old.items ++ written (lists_ended deep)) }
 {

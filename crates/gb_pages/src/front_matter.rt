@@ -1,4 +1,4 @@
-//! What a page says of itself in front of its text.
+//! The front matter of a page, which precedes its text.
 ghost use Rattle.std.specs.Prelude.{◌≡◌, ◌++◌, codes, IfOk};
 ghost use Rattle.std.specs.Option.{option_copied, option_map};
 ghost use Rattle.gb_pages.specs.FrontMatter.{body, first_line, front_matter, halves, heading};
@@ -7,7 +7,7 @@ ghost use Rattle.gb_pages.specs.FrontMatter.{title_of, up_to, value_of};
 use bstr::ByteSlice;
 use std::alloc::{AllocError, Global};
 
-/// The front matter of a text, each line of it behind a line feed, and the text behind it.
+/// The front matter of a text, each line of it after a line feed, and the text after it.
 pub fn halves(text: &[u8]) -> Option<(&[u8], &[u8])>
     ensures { option_map (λ half. (half.0.now, half.1.now)) result ≡ halves text.now }
 {
@@ -39,7 +39,7 @@ pub fn body(text: &[u8]) -> &[u8]
     }
 }
 
-/// The part before a sign, or all.
+/// The part before a sign, or the whole text.
 pub(crate) fn up_to<'a>(text: &'a [u8], sign: &[u8]) -> &'a [u8]
     ensures { result.now ≡ up_to sign.now text.now }
 {
@@ -49,7 +49,7 @@ pub(crate) fn up_to<'a>(text: &'a [u8], sign: &[u8]) -> &'a [u8]
     }
 }
 
-/// The first line of a text, without its end.
+/// The first line of a text, without its line end.
 fn first_line(text: &[u8]) -> &[u8]
     ensures { result.now ≡ first_line text.now }
 {
@@ -74,7 +74,7 @@ pub fn value_of<'a>(
     }
 }
 
-/// The text in front of the value of a key.
+/// The text before the value of a key.
 fn sign(alloc: Global, key: &[u8]) -> Result<Vec<u8>, AllocError>
     ensures { IfOk result (λ sign. sign.items ≡ codes "\n" ++ (key.now ++ codes ": ")) }
 {
@@ -85,7 +85,7 @@ fn sign(alloc: Global, key: &[u8]) -> Result<Vec<u8>, AllocError>
     Ok(sign)
 }
 
-/// The words of a heading with which a text begins.
+/// The words of the heading with which a text begins.
 pub fn heading(text: &[u8]) -> Option<&[u8]>
     ensures { option_copied result ≡ heading text.now }
 {

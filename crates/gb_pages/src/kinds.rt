@@ -11,8 +11,8 @@ use gb_markdown::blocks::html;
 use gb_with::file_kind::{FileKind, Renaming};
 use std::alloc::{AllocError, Global};
 
-/// The kind `markdown`, without arguments: the page of each text without its front matter, at the same path;
-/// and the kind `htmlPages`, at the path with `.html` in place of `.md` or `.markdown`.
+/// The kind `markdown`, without arguments: the page of each text without its front matter, at the
+/// same path; and the kind `htmlPages`, at the path with `.html` instead of `.md` or `.markdown`.
 #[derive(Drop)]
 pub struct Markdown;
 

@@ -21,14 +21,14 @@ use gb_markdown::page::text;
 use std::alloc::{AllocError, Global};
 use std::str;
 
-/// A page that a layout is filled with.
+/// A page that fills a layout.
 #[derive(Clone, Copy)]
 pub(crate) struct Page<'a> {
     /// Its path, which ends in `.md`.
     pub path: &'a RelPath,
     /// Its text, with its front matter.
     pub text: &'a [u8],
-    /// What Markdown makes of its text.
+    /// The Markdown output of its text.
     pub html: &'a [u8],
     /// The link to the page before it, which may be empty.
     pub previous: &'a [u8],
@@ -74,7 +74,7 @@ fn unknown(
     Text::new(format!(in alloc; "{at}:{line}: {path} has no {name}")?)
 }
 
-/// A name or an address as it is shown.
+/// A name or an address as it is printed.
 pub(crate) fn shown(name: &[u8]) -> &str
     ensures { result.now ≡ shown name.now }
 {
@@ -84,7 +84,7 @@ pub(crate) fn shown(name: &[u8]) -> &str
     }
 }
 
-/// The line on which the layout has a name first.
+/// The line where a name occurs first in the layout.
 fn line_of_token(alloc: Global, layout: &[u8], name: &[u8]) -> Result<usize, AllocError>
     ensures { IfOk result (λ line. line ≡ line_of (token name.now) layout.now) }
 {
@@ -103,7 +103,7 @@ fn token(alloc: Global, name: &[u8]) -> Result<Vec<u8>, AllocError>
     Ok(sign)
 }
 
-/// The line on which a sign is found first.
+/// The line where a sign occurs first.
 pub(crate) fn line_of(sign: &[u8], text: &[u8]) -> usize
     ensures { result ≡ line_of sign.now text.now }
 {
@@ -138,7 +138,7 @@ fn fill<'a>(
     Ok(None)
 }
 
-/// Fills in a part of a layout that begins behind `{{`, unless the page does not have its name.
+/// Fills in a part of a layout after `{{`, unless the page does not have its name.
 fn behind_braces<'a>(
     alloc: Global,
     made: &mut Vec<u8>,
@@ -164,7 +164,7 @@ fn behind_braces<'a>(
     Ok(None)
 }
 
-/// Puts bytes behind others.
+/// Appends bytes to others.
 fn append(made: &mut Vec<u8>, bytes: Vec<u8>) -> Result<(), AllocError>
     ensures { OnOk result (made.new.items ≡ made.old.items ++ bytes.items) }
 {
@@ -202,7 +202,7 @@ fn value_for(alloc: Global, page: &Page<'_>, name: &[u8]) -> Result<Option<Vec<u
     }
 }
 
-/// The title of the page at a path, as HTML has it.
+/// The title of the page at a path, escaped for HTML.
 fn title(alloc: Global, path: &[u8], text: &[u8]) -> Result<Vec<u8>, AllocError>
     ensures { IfOk result (λ title. title.items
         ≡ escaped (title_of text.now (unwrap_or (stem path.now) path.now))) }
@@ -211,7 +211,7 @@ fn title(alloc: Global, path: &[u8], text: &[u8]) -> Result<Vec<u8>, AllocError>
     escaped(alloc, title)
 }
 
-/// Bytes as a text of HTML.
+/// Bytes as an HTML text.
 fn escaped(alloc: Global, bytes: &[u8]) -> Result<Vec<u8>, AllocError>
     ensures { IfOk result (λ made. made.items ≡ escaped bytes.now) }
 {
@@ -220,7 +220,7 @@ fn escaped(alloc: Global, bytes: &[u8]) -> Result<Vec<u8>, AllocError>
     Ok(made)
 }
 
-/// What leads from the page at a path to the folder of the site.
+/// The relative path from the page at a path to the folder of the site.
 pub(crate) fn root_of(alloc: Global, path: &[u8]) -> Result<Vec<u8>, AllocError>
     ensures { IfOk result (λ root. root.items ≡ root_of path.now) }
 {

@@ -1,4 +1,4 @@
-//! Kinds of actions that make pages of a site, of texts in Markdown.
+//! Kinds of actions that make the pages of a site from Markdown texts.
 #![tactic(auto)]
 
 pub mod actions;

@@ -1,4 +1,4 @@
-//! Links that lead nowhere: the kind `checkLinks`.
+//! Dead links: the kind `checkLinks`.
 ghost use Rattle.std.specs.Prelude.{◌≡◌, ◌++◌, codes, is_some, string_bytes, IfOk, OnOk};
 ghost use Rattle.std.specs.Option.{option_copied, option_map};
 ghost use Rattle.gb_pages.specs.FrontMatter.{parts};
@@ -27,8 +27,9 @@ use gb_with::tree_kind::CheckKind;
 use percent_encoding::percent_decode;
 use std::alloc::{AllocError, Global};
 
-/// The kind `checkLinks`, without arguments: it fails at the first link of an `.html` file of `src` to a file
-/// or a fragment that is not there, with the path, the line and the address. Links out of the site pass.
+/// The kind `checkLinks`, without arguments: it fails at the first link of an `.html` file of `src`
+/// to a missing file or fragment, with the path, the line and the address. Links out of the site
+/// pass.
 #[derive(Drop)]
 pub struct CheckLinks;
 
@@ -64,7 +65,7 @@ impl CheckKind for CheckLinks {
     }
 }
 
-/// The first link of all pages that leads nowhere.
+/// The first dead link of all pages.
 fn first_dead(alloc: Global, files: &Files) -> Result<Option<Text>, AllocError>
     ensures { IfOk result (λ found. found ≡ first_dead files.now files.now) }
 {
@@ -78,7 +79,7 @@ fn first_dead(alloc: Global, files: &Files) -> Result<Option<Text>, AllocError>
     Ok(None)
 }
 
-/// The first link of a page that leads nowhere.
+/// The first dead link of a page.
 fn dead_in(alloc: Global, site: &Site<'_>) -> Result<Option<Text>, AllocError>
     ensures { IfOk result (λ found. found ≡ dead_in site.now.files.now site.now.page.now site.now.html.now) }
 {
@@ -92,7 +93,7 @@ fn dead_in(alloc: Global, site: &Site<'_>) -> Result<Option<Text>, AllocError>
     }
 }
 
-/// The first address behind a sign that leads nowhere.
+/// The first dead address after a sign.
 fn dead_by(alloc: Global, site: &Site<'_>, sign: &[u8]) -> Result<Option<Text>, AllocError>
     ensures { IfOk result (λ found.
         found ≡ dead_by site.now.files.now site.now.page.now site.now.html.now sign.now) }
@@ -110,7 +111,7 @@ fn dead_by(alloc: Global, site: &Site<'_>, sign: &[u8]) -> Result<Option<Text>, 
     Ok(None)
 }
 
-/// The message for the address behind a sign.
+/// The message for the address after a sign.
 fn dead_at(
     alloc: Global,
     site: &Site<'_>,
@@ -155,7 +156,7 @@ fn push_line(alloc: Global, text: &mut String, line: usize) -> Result<(), AllocE
     Ok(())
 }
 
-/// The line on which an address is found first behind a sign.
+/// The line where an address occurs first after a sign.
 fn line_of_address(
     alloc: Global,
     html: &[u8],
@@ -168,7 +169,7 @@ fn line_of_address(
     Ok(line_of(attribute.as_slice(), html))
 }
 
-/// A sign, an address and the quote behind it.
+/// A sign, an address and the quote after it.
 fn attribute(alloc: Global, sign: &[u8], address: &[u8]) -> Result<Vec<u8>, AllocError>
     ensures { IfOk result (λ made. made.items ≡ sign.now ++ (address.now ++ codes "\"")) }
 {
@@ -223,7 +224,7 @@ fn has_id(alloc: Global, bytes: &[u8], fragment: &[u8]) -> Result<bool, AllocErr
     Ok(has_token(sign.as_slice(), bytes))
 }
 
-/// The file that a path leads to.
+/// The file that a path refers to.
 fn led_to<'a>(alloc: Global, site: &Site<'a>, path: &[u8]) -> Result<Option<&'a [u8]>, AllocError>
     ensures { IfOk result (λ file. option_copied file
         ≡ led_to site.now.files.now site.now.page.now site.now.html.now path.now) }
@@ -267,7 +268,7 @@ fn as_file(target: Vec<u8>) -> Result<Vec<u8>, AllocError>
     Ok(file)
 }
 
-/// Where a path leads from a page.
+/// The target of a path on a page.
 fn target_of(alloc: Global, page: &RelPath, path: &[u8]) -> Result<Option<Vec<u8>>, AllocError>
     ensures { IfOk result (λ target. option_map (λ bytes. bytes.items) target ≡ target_of page.now path.now) }
 {
@@ -275,7 +276,7 @@ fn target_of(alloc: Global, page: &RelPath, path: &[u8]) -> Result<Option<Vec<u8
     walk(alloc, folder, unrooted(path))
 }
 
-/// The folder from which a path leads.
+/// The folder from which a path is resolved.
 fn start(alloc: Global, page: &[u8], path: &[u8]) -> Result<Vec<u8>, AllocError>
     ensures { IfOk result (λ folder. folder.items ≡ start page.now path.now) }
 {
@@ -299,7 +300,7 @@ fn unrooted(path: &[u8]) -> &[u8]
     }
 }
 
-/// Where the segments of a path lead from a folder.
+/// The target of a path's segments from a folder.
 fn walk(alloc: Global, folder: Vec<u8>, path: &[u8]) -> Result<Option<Vec<u8>>, AllocError>
     ensures { IfOk result (λ target. option_map (λ bytes. bytes.items) target
         ≡ walk folder.items (parts (codes "/") path.now)) }
@@ -314,7 +315,7 @@ fn walk(alloc: Global, folder: Vec<u8>, path: &[u8]) -> Result<Option<Vec<u8>>, 
     Ok(Some(folder))
 }
 
-/// Where a segment leads from a folder.
+/// The target of a segment from a folder.
 fn step(alloc: Global, folder: Vec<u8>, segment: &[u8]) -> Result<Option<Vec<u8>>, AllocError>
     ensures { IfOk result (λ next. option_map (λ bytes. bytes.items) next ≡ step folder.items segment.now) }
 {
@@ -342,7 +343,7 @@ fn above(path: &[u8]) -> Option<&[u8]>
     }
 }
 
-/// The part behind a sign, or nothing.
+/// The part after a sign, or nothing.
 fn from<'a>(text: &'a [u8], sign: &[u8]) -> &'a [u8]
     ensures { result.now ≡ from sign.now text.now }
 {
@@ -366,7 +367,7 @@ fn leads_out(path: &[u8]) -> bool
     has_token(b":", path) || path.starts_with(b"//")
 }
 
-/// The bytes that an address means.
+/// The bytes that an address encodes.
 fn decoded(alloc: Global, path: &[u8]) -> Result<Vec<u8>, AllocError>
     ensures { IfOk result (λ made. made.items ≡ decoded path.now) }
 {

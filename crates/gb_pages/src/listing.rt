@@ -1,4 +1,4 @@
-//! The page that links all pages: the kind `index`.
+//! The page that links to all pages: the kind `index`.
 ghost use Rattle.std.specs.Prelude.{◌≡◌, ◌++◌, ◌∷◌, [], codes, Ok, OnOk, IfOk, MatchResult};
 ghost use Rattle.std.specs.Option.{option_copied};
 ghost use Rattle.gb_kinds.specs.Builtin.{second_text};
@@ -26,9 +26,9 @@ use gb_markdown::page::{Element, close, link, open, text};
 use gb_with::tree_kind::{TreeKind, files_of};
 use std::alloc::{AllocError, Global};
 
-/// The kind `index(TITLE, ORDER)`: a page `index.html` with a link to the page of each text of `src`, under
-/// its title, in the order of their paths. Where `ORDER` is `date` the latest page comes first, by the dates
-/// of their front matters, and those without a date come last.
+/// The kind `index(TITLE, ORDER)`: a page `index.html` with a link to the page of each text of
+/// `src`, under its title, in the order of their paths. If `ORDER` is `date`, the latest page comes
+/// first, by the dates of their front matters, and the pages without a date come last.
 #[derive(Drop)]
 pub struct Index;
 
@@ -62,7 +62,7 @@ impl TreeKind for Index {
     }
 }
 
-/// The second argument, which is empty where it is left out.
+/// The second argument; empty if it is left out.
 pub fn second_text(arguments: &Arguments) -> &str
     ensures { result.now ≡ second_text arguments.now }
 {
@@ -155,7 +155,7 @@ fn by_name(alloc: Global, files: &[(RelPath, Bytes)]) -> Result<Vec<u8>, AllocEr
     Ok(links)
 }
 
-/// The links of all texts by their days.
+/// The links of all texts, by their dates.
 fn by_day(alloc: Global, files: &[(RelPath, Bytes)]) -> Result<Files, ActionFault>
     ensures { MatchResult result
         (λ days. by_day [] files.now ≡ Ok days)
@@ -168,7 +168,7 @@ fn by_day(alloc: Global, files: &[(RelPath, Bytes)]) -> Result<Files, ActionFaul
     Ok(days)
 }
 
-/// Puts the link of a text at its day.
+/// Stores the link of a text at its date.
 fn put_day(alloc: Global, days: &mut Files, path: &RelPath, bytes: &[u8]) -> Result<(), ActionFault>
     ensures { let meant = with_day days.old path.now bytes.now (day_path path.now bytes.now) in
         MatchResult result (λ _. meant ≡ Ok days.new) (λ fault. IsFailure fault meant) }
@@ -182,7 +182,7 @@ fn put_day(alloc: Global, days: &mut Files, path: &RelPath, bytes: &[u8]) -> Res
     }
 }
 
-/// The position of a text among all.
+/// The sort path of a text.
 fn day_path(alloc: Global, path: &RelPath, bytes: &[u8]) -> Result<Option<RelPath>, AllocError>
     ensures { IfOk result (λ day. day ≡ day_path path.now bytes.now) }
 {
@@ -213,7 +213,7 @@ pub fn latest_first(alloc: Global, days: &[(RelPath, Bytes)]) -> Result<Vec<u8>,
     Ok(links)
 }
 
-/// Writes the link to the page of a text, by the part of its path before `.md`.
+/// Writes the link to the page of a text, from the part of its path before `.md`.
 fn entry(
     alloc: Global,
     page: &mut Vec<u8>,

@@ -1,4 +1,4 @@
-//! Where pages stand.
+//! Paths of pages.
 ghost use Rattle.std.specs.Prelude.{◌≡◌, IfOk};
 ghost use Rattle.std.specs.Option.{option_copied};
 ghost use Rattle.gb_pages.specs.Paths.{as_path, front, stem, page_path};
@@ -7,14 +7,14 @@ use gb_core::place::{PlaceFault, RelPath};
 use std::alloc::{AllocError, Global};
 use std::str;
 
-/// What stands before `.md`.
+/// The text before `.md`.
 pub fn stem(path: &[u8]) -> Option<&[u8]>
     ensures { option_copied result ≡ stem path.now }
 {
     path.strip_suffix(b".md")
 }
 
-/// The same, or what stands before `.markdown`.
+/// The same, or the text before `.markdown`.
 pub fn front(path: &[u8]) -> Option<&[u8]>
     ensures { option_copied result ≡ front path.now }
 {
@@ -24,7 +24,7 @@ pub fn front(path: &[u8]) -> Option<&[u8]>
     }
 }
 
-/// The path of the page of a text, by what stands before `.md` in the path of that.
+/// The path of a text's page, from the part of the text's path before `.md`.
 pub fn page_path(alloc: Global, front: Option<&[u8]>) -> Result<Option<RelPath>, AllocError>
     ensures { IfOk result (λ path. path ≡ page_path (option_copied front.entry)) }
 {
@@ -36,7 +36,7 @@ pub fn page_path(alloc: Global, front: Option<&[u8]>) -> Result<Option<RelPath>,
     as_path(alloc, bytes.as_slice())
 }
 
-/// The path that these bytes are, if they are one.
+/// The path that these bytes form, if they form one.
 pub fn as_path(alloc: Global, bytes: &[u8]) -> Result<Option<RelPath>, AllocError>
     ensures { IfOk result (λ path. path ≡ as_path bytes.now) }
 {

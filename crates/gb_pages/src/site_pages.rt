@@ -1,4 +1,4 @@
-//! Pages in a layout, with what their front matter says: the kind `sitePages`.
+//! Pages in a layout, filled with values of their front matter: the kind `sitePages`.
 ghost use Rattle.std.specs.Prelude.{◌≡◌, ◌++◌, [], codes, unwrap_or, None, Ok, IfOk, OnOk, MatchResult};
 ghost use Rattle.std.specs.Option.{option_copied};
 ghost use Rattle.gb_action.specs.declared.reply.ActionFault.TheVariants.{ActionFailed};
@@ -28,11 +28,12 @@ use gb_markdown::page::{Element, close, link, text};
 use gb_with::tree_kind::{TreeKind, files_of};
 use std::alloc::{AllocError, Global};
 
-/// The kind `sitePages`, without arguments: each page of `src`, with `.html` in place of `.md`, in the one
-/// file of `layout`. The text at the same path of `texts` says by its front matter what is put in the place
-/// of each `{{name}}`; `{{content}}` is the page itself, `{{contents}}` a list of links to its headings,
-/// `{{title}}` its title, `{{root}}` the way to the folder of the site, and `{{previous}}` and `{{next}}` are
-/// links to the pages before it and after it in the order of their paths.
+/// The kind `sitePages`, without arguments: each page of `src`, with `.html` instead of `.md`, in
+/// the one file of `layout`. The front matter of the text at the same path of `texts` gives the
+/// value that replaces each `{{name}}`; `{{content}}` is the page itself, `{{contents}}` a list of
+/// links to its headings, `{{title}}` its title, `{{root}}` the relative path to the folder of the
+/// site, and `{{previous}}` and `{{next}}` are links to the pages before and after it in the order
+/// of their paths.
 #[derive(Drop)]
 pub struct SitePages;
 
@@ -147,7 +148,7 @@ fn first_path(files: &[(RelPath, Bytes)]) -> Option<&RelPath>
     }
 }
 
-/// The link from a page to another, under the title of that, if there is one.
+/// The link from a page to another, under the title of the other, if there is one.
 fn neighbour(
     alloc: Global,
     texts: Option<&Files>,
@@ -165,7 +166,8 @@ fn neighbour(
     Ok(made)
 }
 
-/// Writes the link from a page to the page of a text, by the part of the path of that before `.md`.
+/// Writes the link from a page to the page of a text, from the part of that text's path before
+/// `.md`.
 fn link_to(
     alloc: Global,
     made: &mut Vec<u8>,
@@ -187,7 +189,7 @@ fn link_to(
     close(made, Element::Anchor)
 }
 
-/// The text of the page at a path, which is empty where there is none.
+/// The text of the page at a path; empty if there is none.
 fn text_at<'a>(texts: Option<&'a Files>, path: &RelPath) -> &'a [u8]
     ensures { result.now ≡ text_at (unwrap_or (option_copied texts.entry) []) path.now }
 {

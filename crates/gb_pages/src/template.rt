@@ -20,8 +20,8 @@ use gb_kinds::names::source_name;
 use gb_with::tree_kind::{TreeKind, files_of};
 use std::alloc::{AllocError, Global};
 
-/// The kind `template(NAME)`: each page of `src`, with `.html` in place of `.md`, in place of each `{{NAME}}`
-/// of the one file of `layout`. `NAME` may be left out: it is `page` then.
+/// The kind `template(NAME)`: each page of `src`, with `.html` instead of `.md`, replaces each
+/// `{{NAME}}` of the one file of `layout`. `NAME` may be left out; it is then `page`.
 #[derive(Drop)]
 pub struct Template;
 
@@ -58,7 +58,7 @@ pub(crate) fn layout_name(alloc: Global) -> Result<Name, AllocError>
     Name::read(alloc, "layout").map_err(|_| AllocError)
 }
 
-/// The name of the token: the argument, or `page` where it is left out.
+/// The name of the token: the argument, or `page` if it is left out.
 fn token_name(arguments: &Arguments) -> &str
     ensures { result.now ≡ token_name arguments.now }
 {
@@ -113,7 +113,7 @@ fn in_layout(
     }
 }
 
-/// A layout at the path has no token.
+/// The failure of a layout at the path that has no token.
 fn without_token(alloc: Global, sign: &str, path: &RelPath) -> Result<Made, ActionFault>
     ensures { let text = path.now ++ codes ": no " ++ sign.now in MatchResult result
         (λ made. ◌≡◌ {A = Result Tree (List ℕ)} (Err text) (Ok made.items))

@@ -1,6 +1,7 @@
 //! Vectors from outside.
 //!
-//! Each case is a function that answers whether it holds, so that no assertion stands where values live.
+//! Each case is a function that returns whether it holds, so that no assertion is made while values
+//! are alive.
 use gb_action::list::ActionList;
 use gb_action::output::Form;
 use gb_action::shape::{Arg, ArgList, Fit, Shape};
@@ -22,7 +23,7 @@ fn all_hold(cases: &[(&str, bool)]) -> Result<(), Fail> {
     Ok(())
 }
 
-/// The number of the fault of a name that is added, or 0.
+/// The fault number when a name is added, or 0.
 fn number_of_added(table: &mut ActionTable<u8>, name: &Name) -> u16 {
     match table.add(name, 8) {
         Ok(()) => 0,
@@ -30,7 +31,7 @@ fn number_of_added(table: &mut ActionTable<u8>, name: &Name) -> u16 {
     }
 }
 
-/// The number of the fault of a name that is looked for, or what stands under it.
+/// The fault number when a name is looked up, or the entry under the name.
 fn number_of_found(table: &ActionTable<u8>, name: &str) -> u16 {
     match table.find(name) {
         Ok(found) => u16::from(*found),
@@ -38,7 +39,7 @@ fn number_of_found(table: &ActionTable<u8>, name: &str) -> u16 {
     }
 }
 
-/// Whether a name is refused where it stands already, and what stands there stays.
+/// Whether a name that already exists is refused, and its entry stays.
 fn is_taken(table: &mut ActionTable<u8>, name: &Name) -> bool {
     number_of_added(table, name) == 41 && number_of_found(table, name.as_str()) == 7
 }
@@ -64,7 +65,7 @@ fn names_are_taken_once(rt: HostRuntime) -> Result<(), Fail> {
     all_hold(&[("copy", is_taken_once(rt.alloc(), "copy") == Ok(true))])
 }
 
-/// Adds two actions before the main one, and one behind it.
+/// Adds two actions before the main one, and one after it.
 fn add_four(list: &mut ActionList<u8>) -> Result<(), AllocError> {
     list.set_main(b'M')?;
     list.do_first(b'A')?;
@@ -125,7 +126,7 @@ const CASES: [Case; 9] = [
     (Arg::Rel, "", Fit::BadArgument),
 ];
 
-/// Fails at the first text that fits otherwise.
+/// Fails at the first text that fits differently.
 fn fit_so(alloc: Global, cases: &[Case]) -> Result<(), Fail> {
     for case in cases {
         if fit(alloc, case.0, case.1) != Ok(case.2) {
@@ -140,7 +141,7 @@ fn arguments_fit_their_shapes(rt: HostRuntime) -> Result<(), Fail> {
     fit_so(rt.alloc(), &CASES)
 }
 
-/// How so many texts fit a line that has to be given, and behind it a text that may be left out.
+/// How this many texts fit a required line followed by an optional text.
 fn fit_of_texts(alloc: Global, count: usize) -> Result<Fit, AllocError> {
     let mut shape = shape_of(alloc, Arg::Line, None)?;
     shape.args.push_optional(Arg::Text)?;
@@ -162,7 +163,7 @@ fn optional_arguments_may_be_left_out(rt: HostRuntime) -> Result<(), Fail> {
     ])
 }
 
-/// How no arguments fit a shape that wants one, a property and a folder.
+/// How no arguments fit a signature that requires one, a property and a folder.
 fn fit_of_none(
     alloc: Global,
     properties: &[Name],

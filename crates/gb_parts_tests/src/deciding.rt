@@ -1,4 +1,4 @@
-//! What is decided of a task by its record.
+//! Whether a task is executed, decided by its record.
 use crate::steps::is_answered;
 use crate::texts::{ARGUMENT, FILE, FIRST, OUTPUT, VALUE, VERSION};
 use gb_core::name::Name;
@@ -9,8 +9,8 @@ use gb_history::text::read_record;
 use std::alloc::{AllocError, Global};
 use std::test::Fail;
 
-/// The record of a run, what is asked, and what is decided. Asked is a `rerun`, `src` as a `whole`, what is
-/// `stale`, a task that is `new`, or nothing beside the record of the first run.
+/// The record of a run, a request, and the decision. The request is a `rerun`, `src` as a `whole`,
+/// a task that is `stale` or `new`, or nothing but the record of the first run.
 type Row = (&'static str, &'static str, &'static str);
 
 const DECISIONS: [Row; 10] = [
@@ -26,7 +26,7 @@ const DECISIONS: [Row; 10] = [
     (OUTPUT, "", "full"),
 ];
 
-/// The names of the incremental properties: `src`, where it is not to be read whole.
+/// The names of the incremental properties: `src`, unless it is read whole.
 fn incremental(alloc: Global, asked: &str) -> Result<Vec<Name>, Fail> {
     if asked == "whole" {
         return Ok(Vec::new(alloc));
@@ -34,7 +34,7 @@ fn incremental(alloc: Global, asked: &str) -> Result<Vec<Name>, Fail> {
     Ok(vec![in alloc; Name::read(alloc, "src")?]?)
 }
 
-/// What there is now.
+/// The present state.
 pub fn present(alloc: Global, task: &TaskPath, text: &str, asked: &str) -> Result<Present, Fail> {
     let incremental = incremental(alloc, asked)?;
     Ok(Present {
@@ -45,7 +45,7 @@ pub fn present(alloc: Global, task: &TaskPath, text: &str, asked: &str) -> Resul
     })
 }
 
-/// What is decided where a new task has no record, and another has that of the first run.
+/// The decision if a new task has no record, and another task has the record of the first run.
 fn decided(
     alloc: Global,
     first: &Record,

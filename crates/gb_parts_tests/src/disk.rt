@@ -1,4 +1,4 @@
-//! The same calls of folders on a disk, in memory and of those that fail.
+//! The same calls on folders on disk, in memory and on failing devices.
 use crate::steps::{cut, is_answered};
 use gb_core::place::Place;
 use gb_disk::disk::DiskFolder;
@@ -11,11 +11,12 @@ use std::os::unix::fs::symlink;
 use std::test::Fail;
 use std::{fs, io};
 
-/// Steps, with a `;` between them, and what is answered. A step is a call, by a word of [`answer`] and a
-/// place, or a change of a folder on a disk from outside, by a word of [`change`], a place and a text.
+/// Steps, with a `;` between them, and the expected results. A step is a call, as a word of
+/// [`answer`] and a place, or a change of a folder on disk from outside, as a word of [`change`], a
+/// place and a text.
 type Row<'a> = (&'a str, &'a str);
 
-/// The places, with a space behind each.
+/// The places, with a space after each.
 fn told(alloc: Global, places: &[Place]) -> Result<Vec<u8>, FolderFault> {
     let mut text = Vec::new(alloc);
     for place in places {
@@ -32,7 +33,7 @@ fn wrote(alloc: Global, outcome: Result<(), FolderFault>) -> Result<Vec<u8>, Fol
     }
 }
 
-/// Writes `hello` at a place, or takes away what stands there.
+/// Writes `hello` at a place, or removes the file there.
 fn write<F: Folder>(folder: &mut F, word: &str, place: &Place) -> Result<(), FolderFault> {
     match word {
         "write" => folder.write(place, b"hello", 5),
@@ -41,7 +42,7 @@ fn write<F: Folder>(folder: &mut F, word: &str, place: &Place) -> Result<(), Fol
     }
 }
 
-/// What a folder answers to one call.
+/// The result of one call to a folder.
 fn answer<F: Folder>(
     alloc: Global,
     folder: &mut F,
@@ -59,7 +60,7 @@ fn answer<F: Folder>(
     }
 }
 
-/// The bytes of an answer, or the number of its fault.
+/// The bytes of a result, or the number of its fault.
 fn shown(alloc: Global, outcome: Result<Vec<u8>, FolderFault>) -> Result<Vec<u8>, AllocError> {
     match outcome {
         Ok(bytes) => Ok(bytes),
@@ -67,14 +68,14 @@ fn shown(alloc: Global, outcome: Result<Vec<u8>, FolderFault>) -> Result<Vec<u8>
     }
 }
 
-/// What is shown of the answer to a call.
+/// The printed result of a call.
 fn answered<F: Folder>(alloc: Global, folder: &mut F, step: &str) -> Result<Vec<u8>, Fail> {
     let (word, place) = cut(step, ' ');
     let place = Place::read(alloc, place)?;
     Ok(shown(alloc, answer(alloc, folder, word, &place))?)
 }
 
-/// Adds what a folder answers to a call.
+/// Adds the result of a call to a folder.
 fn call<F: Folder>(
     alloc: Global,
     folder: &mut F,
@@ -86,7 +87,7 @@ fn call<F: Folder>(
     Ok(all.push(b';')?)
 }
 
-/// Adds what a folder answers to calls.
+/// Adds the results of calls to a folder.
 fn call_all<F: Folder>(
     alloc: Global,
     folder: &mut F,
@@ -99,14 +100,14 @@ fn call_all<F: Folder>(
     Ok(())
 }
 
-/// What an empty folder in memory answers.
+/// The results of calls to an empty folder in memory.
 fn in_memory(alloc: Global, steps: &str) -> Result<Vec<u8>, Fail> {
     let mut all = Vec::new(alloc);
     call_all(alloc, &mut MemoryFolder::new(alloc), steps, &mut all)?;
     Ok(all)
 }
 
-/// Fails at the first row that an empty folder in memory answers otherwise.
+/// Fails at the first row whose results an empty folder in memory does not give.
 fn hold_in_memory(alloc: Global, rows: &[Row<'_>]) -> Result<(), Fail> {
     for (steps, wanted) in rows {
         is_answered(wanted, in_memory(alloc, steps)?.as_slice())?;
@@ -114,7 +115,8 @@ fn hold_in_memory(alloc: Global, rows: &[Row<'_>]) -> Result<(), Fail> {
     Ok(())
 }
 
-/// Changes from outside what stands at a path. A `name` is a further one of the file at the path in the text.
+/// Changes the entry at a path from outside. A `name` is a further name of the file at the path in
+/// the text.
 fn change(rt: &HostRuntime, word: &str, path: &str, text: &str) -> io::Result<()> {
     match word {
         "!make" => fs::create_dir_all(rt, path),
@@ -134,7 +136,7 @@ fn change_in(rt: &HostRuntime, folder: &str, step: &str) -> Result<(), Fail> {
     Ok(change(rt, word, path.as_str(), text)?)
 }
 
-/// Changes the folder at a path from outside, or adds what it answers to a call.
+/// Changes the folder at a path from outside, or adds the result of a call to it.
 fn take_step(
     rt: &HostRuntime,
     path: &str,
@@ -149,7 +151,7 @@ fn take_step(
     }
 }
 
-/// Adds what the folder at a path answers to steps.
+/// Adds the results of steps on the folder at a path.
 fn take_steps(
     rt: &HostRuntime,
     path: &str,
@@ -163,7 +165,7 @@ fn take_steps(
     Ok(())
 }
 
-/// What the folder at a path answers.
+/// The results of steps on the folder at a path.
 fn on_disk(rt: &HostRuntime, path: &str, steps: &str) -> Result<Vec<u8>, Fail> {
     let mut folder = DiskFolder::new(rt, String::from_str(rt.alloc(), path)?);
     let mut all = Vec::new(rt.alloc());
@@ -171,7 +173,7 @@ fn on_disk(rt: &HostRuntime, path: &str, steps: &str) -> Result<Vec<u8>, Fail> {
     Ok(all)
 }
 
-/// Makes a folder of this name anew, and changes it.
+/// Creates a new folder with this name, and changes it.
 fn renew(rt: &HostRuntime, name: &str, changes: &[&str]) -> Result<(), Fail> {
     if fs::exists(rt, name)? {
         fs::remove_dir_all(rt, name)?;
@@ -183,7 +185,8 @@ fn renew(rt: &HostRuntime, name: &str, changes: &[&str]) -> Result<(), Fail> {
     Ok(())
 }
 
-/// Fails at the first row that a folder of this name answers otherwise, made anew and changed before each.
+/// Fails at the first row whose results a folder with this name does not give; it is created again
+/// and changed before each row.
 fn hold_on_disk(
     rt: &HostRuntime,
     name: &str,
@@ -203,12 +206,12 @@ const ALIKE: [Row<'static>; 4] = [
         "read a;write a;read a;read4 a;read a/b;read b;part a;far a;part b;part a/b",
         "11;ok;hello;13;12;11;lo;;11;12;",
     ),
-    // A file is in the way of others, as a folder with files is.
+    // A file blocks others, and so does a folder with files.
     (
         "write a;write src/b;write a/b;write a/b/c;write src;write4 c;write srcx;write a;read c",
         "ok;ok;12;12;12;13;ok;ok;11;",
     ),
-    // A folder goes with its last file.
+    // A folder is removed with its last file.
     (
         "write src/b;remove b;remove src;remove src/b/c;remove src/b;remove src/b;remove src;\
          write src;list src",
@@ -228,12 +231,12 @@ fn folders_answer_alike(rt: HostRuntime) -> Result<(), Fail> {
 }
 
 const ODD: [Row<'static>; 6] = [
-    // Folders without files give way.
+    // Folders without files are replaced by a file.
     (
         "!make e/f/g;!make e/h;list e;read e;remove e;write e;list e;read e",
         ";11;11;ok;e ;hello;",
     ),
-    // No link is followed at the place, above it or beneath the root.
+    // No link is followed at the place, above it or under the root.
     (
         "!put a 1;!link l a;list l;read l;part l;write l;remove l;read a",
         "14;10;10;10;10;1;",
@@ -247,12 +250,12 @@ const ODD: [Row<'static>; 6] = [
         "!make d;!link d/l ..;list d;read d;write d;remove d;write d/a;read d/a;read d/l;read d/l/a",
         "14;10;10;10;ok;hello;10;10;",
     ),
-    // Another name of a file keeps its bytes.
+    // A write at one name of a file keeps the bytes under its other name.
     (
         "!put source 1;!name out odd/source;write out;read out;read source",
         "ok;hello;1;",
     ),
-    // A name is no segment.
+    // A file name is not a segment.
     (
         "!make d;!put d/x\x7f 1;list d;read d;write d;remove d;write d/y;read d/y",
         "14;10;10;10;ok;hello;",
@@ -264,11 +267,11 @@ fn odd_folders_are_answered(rt: HostRuntime) -> Result<(), Fail> {
     hold_on_disk(&rt, "odd", &[], &ODD)
 }
 
-/// What makes a folder that is changed: a file of five bytes and an empty one.
+/// The calls that create the folder to change: a file of five bytes and an empty one.
 const BEFORE: [&str; 3] = ["!make d/e", "!put d/e/a hello", "!put d/e/z"];
 
 const CHANGES: [Row<'static>; 30] = [
-    // Folders above the file were met.
+    // The folders above the file were visited.
     (
         "list d;read d/e/a;!clear d;read d/e/a;list d/e;write d/e/a;read d/e/a",
         "d/e/a d/e/z ;hello;11;;ok;hello;",
@@ -277,7 +280,7 @@ const CHANGES: [Row<'static>; 30] = [
         "list d;read d/e/a;!clear d;!link d nowhere;list d/e;read d/e/a;remove d/e/a",
         "d/e/a d/e/z ;hello;14;10;10;",
     ),
-    // It was listed just before, and is longer or shorter by now: the read looks it up again.
+    // The file was listed just before, and is longer or shorter by now: the read looks it up again.
     (
         "list d/e/a;!put d/e/a hello world;read d/e/a;read d/e/a;part d/e/a",
         "d/e/a ;13;13;lo world;",
@@ -290,7 +293,7 @@ const CHANGES: [Row<'static>; 30] = [
         "list d/e/a;!put d/e/a hell;part d/e/a;part d/e/a",
         "d/e/a ;l;l;",
     ),
-    // It was listed without a byte: it is read to its end.
+    // The file was listed as empty: it is read to its end.
     (
         "list d/e/z;!put d/e/z hello;read d/e/z;list d/e/z",
         "d/e/z ;hello;d/e/z ;",
@@ -301,7 +304,7 @@ const CHANGES: [Row<'static>; 30] = [
         "d/e/z ;lo world;",
     ),
     ("read d/e/z;part d/e/z;far d/e/z", ";;;"),
-    // So it is where its folder was listed and has no other file.
+    // The same holds if its folder was listed and has no other file.
     (
         "!unlink d/e/z;list d;!put d/e/a hello world;read d/e/a;read d/e/a",
         "d/e/a ;13;13;",
@@ -337,7 +340,7 @@ const CHANGES: [Row<'static>; 30] = [
         "list d/e/a;!clear d;!link d nowhere;read d/e/a",
         "d/e/a ;10;",
     ),
-    // Any other call in between ends that.
+    // Any other call in between ends this.
     (
         "list d/e/a;read b;!put d/e/a hello world;read d/e/a",
         "d/e/a ;11;13;",
@@ -362,12 +365,12 @@ const CHANGES: [Row<'static>; 30] = [
         "list d/e/a;list b;!put d/e/a hello world;read d/e/a",
         "d/e/a ;;13;",
     ),
-    // The first write removes what a stopped build left beneath `.gb/new`, and leaves nothing there.
+    // The first write removes what a stopped build left under `.gb/new`, and leaves nothing there.
     (
         "!make .gb/new;!put .gb/new/1 left;list .gb;write b;list .gb;read b",
         ".gb/new/1 ;ok;;hello;",
     ),
-    // Where `.gb` is no folder, a file is written at its place at once.
+    // If `.gb` is not a folder, a file is written at its place at once.
     ("!put .gb 1;write b;read b;read .gb", "ok;hello;1;"),
     ("!link .gb nowhere;write b;read b", "ok;hello;"),
     (
@@ -381,7 +384,8 @@ fn changes_from_outside_are_seen(rt: HostRuntime) -> Result<(), Fail> {
     hold_on_disk(&rt, "changed", &BEFORE, &CHANGES)
 }
 
-/// How long a place is, steps at it, as `LONG`, and at its first segment, as `FIRST`, and what is answered.
+/// The length of a place, steps at the place, as `LONG`, and at its first segment, as `FIRST`, and
+/// the expected results.
 type LongRow = (usize, &'static str, &'static str);
 
 const LONG: [LongRow; 2] = [
@@ -389,7 +393,7 @@ const LONG: [LongRow; 2] = [
     (1025, "!make LONG;list FIRST", "14;"),
 ];
 
-/// A place of so many bytes, the first of those with segments of 255, 255, 255, 200 and more bytes.
+/// A place of this many bytes; its first segments have 255, 255, 255, 200 and more bytes.
 fn long_place(alloc: Global, len: usize) -> Result<String, AllocError> {
     let mut place = String::new(alloc);
     for at in 0..len {
@@ -399,7 +403,7 @@ fn long_place(alloc: Global, len: usize) -> Result<String, AllocError> {
     Ok(place)
 }
 
-/// The steps with a place of so many bytes for a word.
+/// The steps, with a place of this many bytes replacing a word.
 fn steps_at(alloc: Global, steps: &str, word: &str, len: usize) -> Result<String, Fail> {
     let place = long_place(alloc, len)?;
     if place.len() == len {
@@ -409,7 +413,7 @@ fn steps_at(alloc: Global, steps: &str, word: &str, len: usize) -> Result<String
     }
 }
 
-/// Fails where a new folder answers a row otherwise.
+/// Fails if a new folder gives other results than a row.
 fn hold_long(rt: &HostRuntime, row: &LongRow) -> Result<(), Fail> {
     let (len, steps, wanted) = row;
     let steps = steps_at(rt.alloc(), steps, "LONG", *len)?;
@@ -425,7 +429,7 @@ fn places_have_at_most_1_024_bytes(rt: HostRuntime) -> Result<(), Fail> {
     Ok(())
 }
 
-/// Paths of folders that are not made, steps, and what is answered to them.
+/// Paths of folders that the test does not create, steps, and their expected results.
 const PATHS: [(&str, &str, &str); 3] = [
     // No device is opened.
     (
@@ -434,7 +438,7 @@ const PATHS: [(&str, &str, &str); 3] = [
         "14;10;10;10;",
     ),
     ("no_such_folder", "list a;read a;write a", ";11;10;"),
-    // Of such a file the system tells no byte.
+    // The system reports no bytes for such a file.
     (
         "/proc/sys/kernel",
         "list ostype;read9 ostype;part ostype;far ostype;read ostype",
@@ -450,7 +454,7 @@ fn folders_that_are_not_made_are_answered(rt: HostRuntime) -> Result<(), Fail> {
     Ok(())
 }
 
-/// Names of entries of a folder `d`, and the places or the fault that they tell.
+/// Names of entries of a folder `d`, and the resulting places or fault.
 const NAMES: [(&[u8], &str); 2] = [(b".\0..\0b\0", "d/b "), (b"a\0b\xff\0", "14")];
 
 fn places_told(alloc: Global, folder: &Place, names: &[u8]) -> Result<Vec<u8>, FolderFault> {
@@ -479,7 +483,8 @@ fn mode(alloc: Global, word: &str) -> Result<FaultMode, AllocError> {
     })
 }
 
-/// How a device fails and at which call, steps, steps for what it leaves, and what is answered to both.
+/// How a device fails and at which call, steps, steps on what it leaves, and the expected results
+/// of both.
 type FailingRow = (&'static str, u64, &'static str, &'static str, &'static str);
 
 const FAILING: [FailingRow; 5] = [
@@ -522,7 +527,7 @@ const FAILING: [FailingRow; 5] = [
     ),
 ];
 
-/// What a folder in memory answers whose device fails, and then what it left.
+/// The results of a folder in memory whose device fails, and then what it left.
 fn on_failing(alloc: Global, row: &FailingRow) -> Result<Vec<u8>, Fail> {
     let (word, at, steps, steps_after, _) = row;
     let mode = mode(alloc, word)?;

@@ -1,4 +1,4 @@
-//! Why a task runs, by its record.
+//! Why a task is executed, by its record.
 use crate::deciding::present;
 use crate::steps::is_answered;
 use crate::texts::{ARGUMENT, FILE, FIRST, OUTPUT, VALUE, VERSION};
@@ -10,7 +10,8 @@ use gb_reason::text::push_reason;
 use std::alloc::Global;
 use std::test::Fail;
 
-/// The record of a run, what is asked, and the reasons why it runs after the first one, each on a line.
+/// The record of a run, a request, and the reasons why the task is executed after the first run,
+/// each on a line.
 type Row = (&'static str, &'static str, &'static str);
 
 const REASONS: [Row; 9] = [

@@ -64,7 +64,7 @@ fn are_settings_formatted(alloc: Global, text: &str, want: &str) -> Result<bool,
     Ok(out.as_str() == want)
 }
 
-/// Fails with the first script that is formatted otherwise, the first time or once more.
+/// Fails with the first script that is formatted differently, the first time or once more.
 #[test]
 fn formats_scripts(rt: HostRuntime) -> Result<(), Fail> {
     for case in &SCRIPTS {

@@ -1,4 +1,4 @@
-//! What histories answer, and what is read from texts.
+//! The results of histories, and what is read from texts.
 ghost use Rattle.std.specs.Prelude.{◌<◌, length};
 
 use crate::sample::record;
@@ -13,13 +13,13 @@ use gb_history::text::{read_record, record_text};
 use std::alloc::{AllocError, Global};
 use std::test::Fail;
 
-/// Puts in the record of a task that wrote, or of one that has nothing.
+/// Stores the record of a task that wrote, or of one that has nothing.
 fn put(alloc: Global, history: &mut History, word: &str, path: &str) -> Result<(), Fail> {
     let path = TaskPath::read(alloc, path)?;
     Ok(history.put(path, record(alloc, word)?)?)
 }
 
-/// Forgets a task, or sends a history through its text.
+/// Forgets a task, or writes a history to text and reads it back.
 fn turn(
     alloc: Global,
     history: &mut History,
@@ -33,7 +33,7 @@ fn turn(
     Ok(())
 }
 
-/// Takes a step: a word of [`turn`], or one of [`record`] and the path of a task.
+/// Performs a step: a word of [`turn`], or a word of [`record`] and the path of a task.
 fn take_step(
     alloc: Global,
     history: &mut History,
@@ -71,7 +71,7 @@ fn answer(
     }
 }
 
-/// What is done with a new history, what it is asked then, and what it answers.
+/// The steps on a new history, the query after them, and its result.
 type Row = (&'static [&'static str], &'static str, &'static str);
 
 const HISTORIES: [Row; 11] = [
@@ -79,7 +79,7 @@ const HISTORIES: [Row; 11] = [
     (&["wrote :gen"], "text", STORED),
     (&["wrote :gen", "rests :lib:gen"], "text", BOTH),
     (&["wrote :lib:gen", "rests :b", "rests :a"], "text", THREE),
-    // It goes through its text, and has the same.
+    // It is written to text and read back, and has the same contents.
     (&["through"], "text", NONE),
     (&["wrote :gen", "through"], "text", STORED),
     (&["wrote :gen", "rests :lib:gen", "through"], "text", BOTH),
@@ -114,7 +114,8 @@ fn history_again(alloc: Global, bytes: &[u8]) -> Result<Vec<u8>, RecordFault> {
     Ok(History::read(alloc, bytes)?.text(alloc)?)
 }
 
-/// The record of a task that is read from a text, written again. No path of a task is no memory.
+/// The record of a task that is read from a text, written again. An invalid path of a task counts
+/// as lack of memory.
 fn record_again(alloc: Global, task: &str, bytes: &[u8]) -> Result<Vec<u8>, RecordFault> {
     let Ok(task) = TaskPath::read(alloc, task) else {
         return Err(RecordFault::OutOfMemory);
@@ -123,7 +124,8 @@ fn record_again(alloc: Global, task: &str, bytes: &[u8]) -> Result<Vec<u8>, Reco
     Ok(record_text(alloc, &task, &run)?)
 }
 
-/// Fails where something else is read from the text of a task, or from that of a history, which is `*`.
+/// Fails if something else is read from the text of a task, or from that of a history, which is
+/// `*`.
 fn is_read_as(alloc: Global, whose: &str, bytes: &[u8], wanted: &str) -> Result<(), Fail> {
     let again = if whose == "*" {
         history_again(alloc, bytes)
@@ -137,7 +139,7 @@ fn is_read_as(alloc: Global, whose: &str, bytes: &[u8], wanted: &str) -> Result<
     }
 }
 
-/// Whose text it is, the text, and what it is when it is read and written again.
+/// The owner of a text, the text, and the result of reading it and writing it again.
 const READ: [(&str, &str, &str); 9] = [
     (":gen", STORED, STORED),
     (":gen", STORED_FIRST, STORED),
@@ -147,7 +149,7 @@ const READ: [(&str, &str, &str); 9] = [
     ("*", BOTH, BOTH),
     ("*", BOTH_FIRST, BOTH),
     ("*", THREE, THREE),
-    // A good record of another task is no record.
+    // A valid record of another task is not a record of this task.
     (":other", STORED, "refused"),
 ];
 
@@ -172,7 +174,7 @@ fn other_texts_are_refused(rt: HostRuntime) -> Result<(), Fail> {
     are_refused(rt.alloc(), "*", &NO_HISTORIES)
 }
 
-/// Fails where a text is read with the byte at this place raised by one.
+/// Fails if a text is read after the byte at this place is raised by one.
 fn raised_is_refused(alloc: Global, whose: &str, text: &[u8], at: usize) -> Result<(), Fail>
     requires { at < length text.now }
 {
@@ -181,7 +183,7 @@ fn raised_is_refused(alloc: Global, whose: &str, text: &[u8], at: usize) -> Resu
     is_read_as(alloc, whose, raised.as_slice(), "refused")
 }
 
-/// Fails where a front of a text but itself is read, or the text with one byte raised by one.
+/// Fails if a proper prefix of a text is read, or the text with one byte raised by one.
 fn damaged_are_refused(alloc: Global, whose: &str, text: &[u8]) -> Result<(), Fail> {
     for at in 0..text.len() {
         is_read_as(alloc, whose, &text[..at], "refused")?;

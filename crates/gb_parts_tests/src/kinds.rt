@@ -1,7 +1,8 @@
-//! The built-in actions, asked as a program asks them. An answer is shown as what it removes (`-`),
-//! writes (`+`) and prints (`>`), each ended by `;`, or as the text that the action fails with.
+//! The built-in actions, called as a program calls them. A result is shown as what it removes
+//! (`-`), writes (`+`) and prints (`>`), each ended by `;`, or as the text with which the action
+//! fails.
 //!
-//! What is asked and shown stands in tables, so that no assertion stands where values live.
+//! The calls and the results are in tables, so that no assertion is made while values are alive.
 ghost use Rattle.std.specs.Prelude.{◌≡◌, ℕ, List, ◌∷◌, [], map, true, IfOk};
 ghost use Rattle.gb_action.specs.Shapes.{source, target};
 ghost use Rattle.gb_action.specs.declared.output.Form.{Form};
@@ -34,11 +35,12 @@ use std::alloc::{AllocError, Global};
 use std::str;
 use std::test::Fail;
 
-/// The number of a kind, steps of [`take_step`] that tell the call, those that tell what changed, and what
-/// is shown of the answer. Steps have a `;` between them. Where nothing changed it is a full request.
+/// The number of a kind, steps of [`take_step`] for the call, steps for the changes, and the shown
+/// result. Steps have a `;` between them. Without changes it is a full request.
 type Row = (u16, &'static str, &'static str, &'static str);
 
-/// What an action is asked: its arguments, the files of `src`, those that stand in `out`, and the changes.
+/// The request to an action: its arguments, the files of `src`, the existing files of `out`, and
+/// the changes.
 #[derive(Drop)]
 struct Asked {
     args: Arguments,
@@ -47,7 +49,7 @@ struct Asked {
     changes: ChangeList,
 }
 
-/// Puts a file, as `path=text`, among the files.
+/// Adds a file, as `path=text`, to the files.
 fn put(alloc: Global, files: &mut Files, file: &str) -> Result<(), PlaceFault> {
     let (path, text) = cut(file, '=');
     let path = RelPath::read(alloc, path)?;
@@ -113,7 +115,7 @@ fn lists_of(alloc: Global, changes: ChangeList) -> Result<ChangeLists, AllocErro
     Ok(lists)
 }
 
-/// The request of a row, to a task whose output has this form.
+/// The request of a row, for a task whose output has this form.
 fn request_of(alloc: Global, form: Form, row: &Row) -> Result<Request, PlaceFault>
     ensures files { IfOk result (λ request. map (λ tree. tree.0) request.files ≡ source ∷ []) }
     ensures outputs { IfOk result (λ request. map {B = List ℕ × Form} (λ output. (output.name, output.form))
@@ -148,7 +150,7 @@ fn request_of(alloc: Global, form: Form, row: &Row) -> Result<Request, PlaceFaul
     })
 }
 
-/// Puts a mark, two texts with a sign between them, and `;` behind what is shown.
+/// Appends a mark, two texts with a sign between them, and `;` to the shown result.
 fn push_part(
     shown: &mut String,
     mark: &str,
@@ -202,7 +204,7 @@ fn show(alloc: Global, answer: &Result<Reply, ActionFault>) -> Result<String, Al
     }
 }
 
-/// Whether an action can answer a request, if it asks for changes alone.
+/// Whether an action can answer a request, if the request is incremental.
 fn can_answer(stored: &StoredAction, request: &Request) -> bool
     ensures { result ≡ true → request.now.changes.incremental ≡ true
         → (builtin_shape stored.now.kind).incremental ≡ true }
@@ -210,7 +212,7 @@ fn can_answer(stored: &StoredAction, request: &Request) -> bool
     incremental::<Builtin>(stored) || !request.changes.is_incremental()
 }
 
-/// What is shown of the answer to a request by a task with the property `src` and the output `out`.
+/// The shown result of a request by a task with the property `src` and the output `out`.
 fn ask_stored(
     alloc: Global,
     stored: &StoredAction,
@@ -231,7 +233,7 @@ fn ask_stored(
     }
 }
 
-/// What is shown of the answer to a request by the action of a closure.
+/// The shown result of a request to the action of a closure.
 fn ask(
     alloc: Global,
     kind: u16,
@@ -254,14 +256,14 @@ fn ask(
     }
 }
 
-/// Asks the kind of a number by a closure of the function that stands for it.
+/// Calls the kind with a number by a closure of its function.
 macro_rules! ask_by {
     ($alloc:expr, $form:expr, $request:expr; $kind:expr, $run:expr, $shape:expr) => {
         ask($alloc, $kind, Box::new($alloc, $run)?, $shape($alloc), $form, $request)
     };
 }
 
-/// What is shown of the answer to a request by a kind.
+/// The shown result of a request to a kind.
 fn ask_kind(alloc: Global, kind: u16, form: Form, request: &Request) -> Result<String, AllocError>
     requires files { map (λ tree. tree.0) request.now.files ≡ source ∷ [] }
     requires outputs { map {B = List ℕ × Form} (λ output. (output.name, output.form)) request.now.outputs
@@ -282,7 +284,7 @@ fn ask_kind(alloc: Global, kind: u16, form: Form, request: &Request) -> Result<S
     }
 }
 
-/// What is shown of the answer to a row.
+/// The shown result of a row.
 fn answer(alloc: Global, row: &Row) -> Result<String, PlaceFault> {
     let form = match row.0 {
         CONCAT | WRITE_TEXT => Form::File,
@@ -292,7 +294,7 @@ fn answer(alloc: Global, row: &Row) -> Result<String, PlaceFault> {
     Ok(ask_kind(alloc, row.0, form, &request)?)
 }
 
-/// Fails with what is shown of the first row that is answered otherwise.
+/// Fails with the shown result of the first row that differs.
 fn hold(alloc: Global, rows: &[Row]) -> Result<(), Fail> {
     for row in rows {
         let shown = answer(alloc, row)?;
@@ -303,7 +305,7 @@ fn hold(alloc: Global, rows: &[Row]) -> Result<(), Fail> {
     Ok(())
 }
 
-/// Three files, where `b` is gone and `a` and `d` do not stand so.
+/// Three files; `b` is gone, and `a` and `d` differ from the outputs.
 const COPIED: &str = "src a=X;src c=C;src d=D;out a=A;out b=B;out c=C";
 
 const COPIES: [Row; 7] = [
@@ -326,10 +328,10 @@ fn copies_follow_the_changes(rt: HostRuntime) -> Result<(), Fail> {
     hold(rt.alloc(), &COPIES)
 }
 
-/// `a` is modified, `b` gone, `c` made as it stands, and `d` new.
+/// `a` is modified, `b` is gone, `c` already has its output, and `d` is new.
 const TOKENS_EACH: &str = "arg k;arg v;src a=@k@x;src c=@k@;src d=;out a=v;out b=b;out c=v";
 
-/// `a` is modified, `b` gone, `c` made as it stands, and `d` new.
+/// `a` is modified, `b` is gone, `c` already has its output, and `d` is new.
 const KEPT_EACH: &str = "arg x;src a=x1\ny\n;src c=x\nz;src d=y\nx;out a=x0\n;out b=x;out c=x\n";
 
 const EDITS: [Row; 17] = [
@@ -386,7 +388,8 @@ fn files_are_edited(rt: HostRuntime) -> Result<(), Fail> {
     hold(rt.alloc(), &EDITS)
 }
 
-/// `a` is modified, `b` gone, `c` made as it stands, and `d` new. `a` and `c` are empty files.
+/// `a` is modified, `b` is gone, `c` already has its output, and `d` is new. `a` and `c` are empty
+/// files.
 const DIGESTS_EACH: &str = "src a=;src c=;src d=abc;out a=;out b=;\
      out c=e3b0c44298fc1c149afbf4c8996fb92427ae41e4649b934ca495991b7852b855\n";
 
@@ -435,7 +438,7 @@ const DIGESTS: [Row; 8] = [
     ),
 ];
 
-/// The digests are the examples that go with FIPS 180-4.
+/// The digests are the examples of FIPS 180-4.
 #[test]
 fn sums_are_digests(rt: HostRuntime) -> Result<(), Fail> {
     hold(rt.alloc(), &DIGESTS)
@@ -450,18 +453,18 @@ const OTHERS: [Row; 6] = [
     (FAIL, "arg a\nb;src a=", "", "no fit"),
 ];
 
-/// Those that write one file or none.
+/// The kinds that write one file or none.
 #[test]
 fn other_actions_answer(rt: HostRuntime) -> Result<(), Fail> {
     hold(rt.alloc(), &OTHERS)
 }
 
-/// Of a file that did not change the old index tells the words, whatever the file holds: `b` stays
-/// at `w` and gets no other word, while `a` leaves it.
+/// The words of an unchanged file are read from the old index, whatever the file contains: `b`
+/// stays at `w` and gets no other word, while `a` leaves it.
 const TOLD: &str = "src a=x;src a-=y;src b=z;out w=a\na-\nb\n;out x=a-\n";
 
 const WORDS: [Row; 12] = [
-    // They are told in full,
+    // Full requests index the words,
     (
         WORD_INDEX,
         "src a=red Blue;src b=blue",
@@ -476,7 +479,7 @@ const WORDS: [Row; 12] = [
     ),
     (WORD_INDEX, "src a=green", "", "+green=a\n;"),
     (WORD_INDEX, "src a=", "", ""),
-    // and these three trees by what changed from one to the next.
+    // and incremental requests index these three trees by the changes from one to the next.
     (
         WORD_INDEX,
         "src a=green;src b=blue;out blue=a\nb\n;out red=a\n",
@@ -489,7 +492,7 @@ const WORDS: [Row; 12] = [
         "R b",
         "-blue;>REMOVED b;",
     ),
-    // A word of 64 letters counts, and one of 65 does not.
+    // A word of 64 letters counts; one of 65 does not.
     (
         WORD_INDEX,
         "src a=AAAAAAAAAAAAAAAAAAAAAAAAAAAAAAAAAAAAAAAAAAAAAAAAAAAAAAAAAAAAAAAA4\
@@ -497,7 +500,7 @@ const WORDS: [Row; 12] = [
         "",
         "+aaaaaaaaaaaaaaaaaaaaaaaaaaaaaaaaaaaaaaaaaaaaaaaaaaaaaaaaaaaaaaaa=a\n;+c=a\n;",
     ),
-    // Words stay where they stand.
+    // Words stay where they are.
     (
         WORD_INDEX,
         "src a=x;src b=x;out x=b\n",
@@ -512,7 +515,7 @@ const WORDS: [Row; 12] = [
         "A a;M b;R c",
         "-w;+x=a\n;+y=a\n;+z=b\n;>ADDED a;>MODIFIED b;>REMOVED c;",
     ),
-    // Words of other files are as told.
+    // Words of other files are read from the index.
     (
         WORD_INDEX,
         TOLD,

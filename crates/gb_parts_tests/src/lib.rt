@@ -1,7 +1,7 @@
-//! Tests of the parts that a build is made of: values, folders, disks, scripts, actions and the built-in
-//! kinds, files and their digests, records, and reports. They stand apart from the crates that they test, so
-//! that the proofs of these are not paid for once more, and in one crate, as each costs the gate what reading
-//! it does.
+//! Tests of the parts of a build: values, folders, disks, scripts, actions and the built-in kinds,
+//! files and their digests, records, and reports. They are in a crate separate from the crates that
+//! they test, so that the proofs of these are not run once more, and in one crate, because each
+//! crate costs the gate the time to read it.
 #![tactic(auto)]
 
 #[cfg(test)]

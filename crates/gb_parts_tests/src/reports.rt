@@ -1,6 +1,7 @@
-//! Each call that takes memory, once, and texts from outside.
+//! Each call that allocates memory, once, and texts from outside.
 //!
-//! Each case is a function that answers whether it holds, so that no assertion stands where values live.
+//! Each case is a function that returns whether it holds, so that no assertion is made while values
+//! are alive.
 use gb_core::name::{Name, NameFault};
 use gb_core::path::TaskPath;
 use gb_core::place::{Place, PlaceFault, RelPath};
@@ -30,10 +31,10 @@ fn texts_of(alloc: Global, texts: &[&str]) -> Result<Texts, AllocError> {
     Ok(all)
 }
 
-/// The path of a task, how it ended, and the lines that it printed.
+/// The path of a task, its outcome, and the lines that it printed.
 type Row<'a> = (&'a str, &'a str, &'a [&'a str]);
 
-/// The outcome of this name; any other text is why an action failed.
+/// The outcome with this name; any other text is the reason for which an action failed.
 fn outcome_of(alloc: Global, name: &str) -> Result<Outcome, AllocError> {
     Ok(match name {
         "executed" => Outcome::Executed,
@@ -93,7 +94,7 @@ fn reports_of(alloc: Global, rows: &[Row<'_>]) -> Result<TaskReports, Fail> {
     Ok(TaskReports::from_vec(copies_of(alloc, tasks.as_slice())?))
 }
 
-/// Whether the report is of a build that ended so, and is printed so.
+/// Whether the report is of a build that ended with this success, and is printed as this text.
 fn is_told_so(alloc: Global, report: &Report, is_successful: bool, want: &str) -> bool {
     match render(alloc, report) {
         Ok(bytes) => {
@@ -152,7 +153,7 @@ fn a_build_of_no_task_is_printed(rt: HostRuntime) -> Result<(), Fail> {
     all_hold(&[("no task", no_task_is_printed(rt.alloc()))])
 }
 
-/// What is printed of a copy of the fault.
+/// The printed form of a copy of the fault.
 fn copy_printed(alloc: Global, fault: &Fault) -> Result<Vec<u8>, AllocError> {
     let copied = fault.copy(alloc)?;
     let bytes = render_fault(alloc, &copied);
@@ -160,7 +161,7 @@ fn copy_printed(alloc: Global, fault: &Fault) -> Result<Vec<u8>, AllocError> {
     bytes
 }
 
-/// Whether a copy of the fault is told so.
+/// Whether a copy of the fault is printed as this text.
 fn is_told(alloc: Global, fault: Fault, want: &str) -> Result<bool, AllocError> {
     let bytes = copy_printed(alloc, &fault);
     drop(fault);
@@ -236,7 +237,7 @@ fn faults_of_builds_are_copied_and_told(rt: HostRuntime) -> Result<(), Fail> {
     ])
 }
 
-/// Both wants of memory become faults.
+/// Both failures to allocate become faults.
 fn one_text(alloc: Global) -> Result<Vec<Text>, Fault> {
     let mut texts = Vec::new(alloc);
     texts.push(Text::from_str(alloc, "a")?)?;

@@ -1,4 +1,4 @@
-//! Records that are made.
+//! Records for tests.
 use gb_action::output::Form;
 use gb_action::values::{Arguments, NamedValues};
 use gb_core::name::Name;
@@ -44,7 +44,7 @@ fn output(alloc: Global) -> Result<OutputRecord, Fail> {
     })
 }
 
-/// Of a task that wrote `abc` to `build/a.txt`.
+/// The record of a task that wrote `abc` to `build/a.txt`.
 fn worked(alloc: Global) -> Result<Record, Fail> {
     let actions = vec![in alloc; action(alloc)?]?;
     let outputs = vec![in alloc; output(alloc)?]?;

@@ -1,6 +1,7 @@
-//! Texts from outside, and what they are told as.
+//! Texts from outside, and how they are read.
 //!
-//! Each case is a function that answers whether it holds, so that no assertion stands where values live.
+//! Each case is a function that returns whether it holds, so that no assertion is made while values
+//! are alive.
 use gb_script::expression::{Expression, Source};
 use gb_script::fault::ScriptFault;
 use gb_script::script::{Clause, Statement};
@@ -8,7 +9,7 @@ use gb_script::{StatementLines, read_script, read_script_lines, read_settings};
 use std::alloc::{AllocError, Global};
 use std::test::Fail;
 
-/// What `Debug` writes around the parts of a script that tests look at.
+/// The text that `Debug` writes around the parts of a script under test.
 const WRAPPINGS: [&str; 12] = [
     " ",
     "{",
@@ -32,7 +33,7 @@ fn unwrapped(alloc: Global, text: String) -> Result<String, AllocError> {
     Ok(out)
 }
 
-/// What the bytes are read as: a script, or the fault's number and text.
+/// The reading of the bytes: a script, or the fault's number and text.
 fn told(alloc: Global, bytes: &[u8]) -> Result<String, AllocError> {
     match read_script(alloc, bytes) {
         Ok(script) => unwrapped(alloc, format!(in alloc; "{script:?}")?),
@@ -40,7 +41,7 @@ fn told(alloc: Global, bytes: &[u8]) -> Result<String, AllocError> {
     }
 }
 
-/// What the bytes are read as: settings, or the fault's number and text.
+/// The reading of the bytes: settings, or the fault's number and text.
 fn told_settings(alloc: Global, bytes: &[u8]) -> Result<String, AllocError> {
     match read_settings(alloc, bytes) {
         Ok(settings) => unwrapped(alloc, format!(in alloc; "{settings:?}")?),
@@ -70,10 +71,10 @@ fn all_hold(cases: &[(&str, bool)]) -> Result<(), Fail> {
     Ok(())
 }
 
-/// A text, and what it is told as.
+/// A text, and its reading.
 type Case = (&'static str, &'static str);
 
-/// A front and a back.
+/// A prefix and a suffix.
 type Pair = [&'static str; 2];
 
 fn between(alloc: Global, around: &Pair, text: &str) -> Result<String, AllocError> {
@@ -91,7 +92,8 @@ fn is_told_between(
     is_told(alloc, text.as_bytes(), want.as_str())
 }
 
-/// Whether each text between the first two is told as its own between the last two; if not, which is not.
+/// Whether each text between the first two reads as its own reading between the last two; if not,
+/// which one does not.
 fn are_told(alloc: Global, around: Pair, around_told: Pair, cases: &[Case]) -> Result<(), Fail> {
     for case in cases {
         if is_told_between(alloc, &around, &around_told, case) != Ok(true) {
@@ -103,7 +105,7 @@ fn are_told(alloc: Global, around: Pair, around_told: Pair, cases: &[Case]) -> R
 
 const NONE: Pair = ["", ""];
 
-/// This many times the part, between a front and a back.
+/// The part, repeated this many times, between a prefix and a suffix.
 fn repeated(
     alloc: Global,
     front: &str,
@@ -282,7 +284,7 @@ fn knows_reserved_words_as_names(rt: HostRuntime) -> Result<(), Fail> {
     are_names(rt.alloc(), &RESERVED)
 }
 
-/// Fails at the first word that may stand behind the statement.
+/// Fails at the first word that is allowed after the statement.
 fn are_refused_behind(alloc: Global, statement: &str, words: &[&str]) -> Result<(), Fail> {
     for word in words {
         if is_refused_behind(alloc, statement, word) != Ok(true) {
@@ -436,13 +438,13 @@ fn takes_words_of_64_bytes(rt: HostRuntime) -> Result<(), Fail> {
     ])
 }
 
-/// Whether 64 open brackets and then this are told so.
+/// Whether 64 open brackets followed by this text have this reading.
 fn is_told_behind_64_brackets(alloc: Global, then: &str, want: &str) -> Result<bool, AllocError> {
     let text = repeated(alloc, "set a = ", "[", 64, then)?;
     is_told(alloc, text.as_bytes(), want)
 }
 
-/// Whether 64 brackets that close and then this are told so.
+/// Whether 64 closing brackets followed by this text have this reading.
 fn is_told_behind_closed_brackets(
     alloc: Global,
     then: &str,
@@ -458,7 +460,7 @@ fn are_64_brackets_read(alloc: Global) -> Result<bool, AllocError> {
     Ok(is_read(alloc, text.as_str()))
 }
 
-/// Whether 64 steps that are open and one more in the next line are told so.
+/// Whether 64 open steps and one more in the next line have this reading.
 fn is_told_of_nested_steps(alloc: Global, want: &str) -> Result<bool, AllocError> {
     let text = repeated(alloc, "set a = ", "a.orElse(", 64, "a.map\n(f)")?;
     is_told(alloc, text.as_bytes(), want)
@@ -496,7 +498,7 @@ fn a_bracket_that_closes_makes_room_again(rt: HostRuntime) -> Result<(), Fail> {
     )])
 }
 
-/// Whether 64 steps between these are told so.
+/// Whether 64 steps between these have this reading.
 fn is_told_of_64_steps(alloc: Global, around: &Pair, want: &str) -> Result<bool, AllocError> {
     let text = repeated(alloc, around[0], ".map(f)", 64, around[1])?;
     is_told(alloc, text.as_bytes(), want)
@@ -534,7 +536,7 @@ fn a_mebibyte_and(alloc: Global, then: &[u8]) -> Result<Vec<u8>, AllocError> {
     Ok(bytes)
 }
 
-/// Whether these bytes are told so, as a script and as settings.
+/// Whether these bytes have this reading, as a script and as settings.
 fn is_told_of_both(alloc: Global, bytes: &[u8], want: &str) -> Result<bool, AllocError> {
     Ok(is_told(alloc, bytes, want)? && is_told_of_settings(alloc, bytes, want)?)
 }
@@ -588,7 +590,8 @@ fn is_answered(alloc: Global, bytes: &[u8]) -> Result<bool, AllocError> {
     }
 }
 
-/// Whether each front of the text is answered, and the text with the byte behind that front raised by one.
+/// Whether each prefix of the text is answered, and so is the text with the byte after that prefix
+/// raised by one.
 fn are_answered(alloc: Global, text: &[u8]) -> Result<bool, AllocError> {
     for at in 0..text.len() {
         let mut raised = text.to_vec(alloc)?;
@@ -631,7 +634,7 @@ const SETTINGS: [Case; 5] = [
     ("include \"a\"\nproperty b", "20 syntax error in line 2"),
 ];
 
-/// Fails at the first text that is told as other settings.
+/// Fails at the first text that does not read as its settings.
 fn are_told_as_settings(alloc: Global, cases: &[Case]) -> Result<(), Fail> {
     for case in cases {
         if is_told_of_settings(alloc, case.0.as_bytes(), case.1) != Ok(true) {

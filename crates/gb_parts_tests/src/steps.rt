@@ -1,12 +1,12 @@
-//! Steps of tests, which stand in texts, and what is wanted of answers.
+//! Steps of tests, written as texts, and expected results.
 use std::test::Fail;
 
-/// A word, and what stands behind the first such sign.
+/// A word before the first such sign, and the text after it.
 pub fn cut(text: &str, sign: char) -> (&str, &str) {
     text.split_once(sign).unwrap_or((text, ""))
 }
 
-/// Fails where something else was answered than is wanted.
+/// Fails if the result is not the expected one.
 pub fn is_answered(wanted: &str, answer: &[u8]) -> Result<(), Fail> {
     if answer == wanted.as_bytes() {
         Ok(())

@@ -1,13 +1,14 @@
-//! Texts of records and histories, and texts of none.
+//! Texts of records and histories, and texts that are neither.
 
-/// Pieces of a text in a row, a line feed, a seal, a line feed.
+/// Pieces of a text, one after another, then a line feed, a seal and a line feed.
 macro_rules! sealed {
     ($($piece:literal),*; $seal:literal) => {
         concat!($($piece,)* "\n", $seal, "\n")
     };
 }
 
-/// Of the record of `:gen`, which wrote `abc` to `build/a.txt`, and of a history with that alone.
+/// The text of the record of `:gen`, which wrote `abc` to `build/a.txt`, and of a history with that
+/// record alone.
 pub const STORED: &str = sealed!(
     r#"{"form":2,"tasks":[{"actions":[{"args":[{"text":"abc"}],"kind":"writeText","#,
     r#""version":1}],"files":[],"outputs":[{"name":"out","place":"build/a.txt","prints":[["","#,
@@ -16,7 +17,7 @@ pub const STORED: &str = sealed!(
     "2955006ca03804ff3c46a3e49b43bc5b2d2b745a1e2409659e8f6898a6c9c2bb"
 );
 
-/// The same in the first edition, which knows no versions.
+/// The same in the first edition, which has no versions.
 pub const STORED_FIRST: &str = sealed!(
     r#"{"form":1,"tasks":[{"actions":[{"args":[{"text":"abc"}],"kind":"writeText"}],"files":[],"#,
     r#""outputs":[{"name":"out","place":"build/a.txt","prints":[["","#,
@@ -25,7 +26,7 @@ pub const STORED_FIRST: &str = sealed!(
     "d075510cbf1b60d97c23d1462bc14617e7d32f2285ef1b385b1956761cf96c72"
 );
 
-/// Of a history of no record.
+/// The text of a history without records.
 pub const NONE: &str = sealed!(
     r#"{"form":2,"tasks":[]}"#;
     "4bbbdae58366fdf1d42534cf64f7b3fb18f1a7ff1608e1bb496c10a8f2d5f34a"
@@ -37,7 +38,7 @@ pub const NONE_FIRST: &str = sealed!(
     "dff59f90beb7381996230cc561a72744c66d1a5295b6f0c4eb3779618ad9584f"
 );
 
-/// Of a history of `:gen`, which wrote, and of `:lib:gen`, which has nothing.
+/// The text of a history of `:gen`, which wrote, and of `:lib:gen`, which has nothing.
 pub const BOTH: &str = sealed!(
     r#"{"form":2,"tasks":[{"actions":[{"args":[{"text":"abc"}],"kind":"writeText","#,
     r#""version":1}],"files":[],"outputs":[{"name":"out","place":"build/a.txt","prints":[["","#,
@@ -57,7 +58,7 @@ pub const BOTH_FIRST: &str = sealed!(
     "689d983615603d27fb0b13c0c08b034179e51c68f424072fce973be791a509a1"
 );
 
-/// Of a history of `:a` and `:b`, which have nothing, and of `:lib:gen`, which wrote.
+/// The text of a history of `:a` and `:b`, which have nothing, and of `:lib:gen`, which wrote.
 pub const THREE: &str = sealed!(
     r#"{"form":2,"tasks":[{"actions":[],"files":[],"outputs":[],"task":":a","values":[]},"#,
     r#"{"actions":[],"files":[],"outputs":[],"task":":b","values":[]},"#,
@@ -68,7 +69,7 @@ pub const THREE: &str = sealed!(
     "7547c8fd83e953c07255273924c8aa33d7968ad75cf00d43abf4df20e7a31527"
 );
 
-/// Of the record of the first run of a task that copies files.
+/// The text of the record of the first run of a task that copies files.
 pub const FIRST: &str = sealed!(
     r#"{"form":2,"tasks":[{"actions":[{"args":[{"text":"x"}],"kind":"copyFiles","version":1}],"#,
     r#""files":[{"name":"src","prints":[["a","#,
@@ -79,7 +80,7 @@ pub const FIRST: &str = sealed!(
     "5feb8fc68febd159ff87ebb73826bd544c84fd813c4230e74010091a4e56fb3a"
 );
 
-/// Of a run where the file of its property `src` has other content.
+/// The text of a run where the file of its property `src` has other content.
 pub const FILE: &str = sealed!(
     r#"{"form":2,"tasks":[{"actions":[{"args":[{"text":"x"}],"kind":"copyFiles","version":1}],"#,
     r#""files":[{"name":"src","prints":[["a","#,
@@ -90,7 +91,7 @@ pub const FILE: &str = sealed!(
     "164474b23bfbb911010f4dfd92882988af2d33642fd3610e0c83c19b6e5e9780"
 );
 
-/// Of one with an action of another version.
+/// The text of a run with an action of another version.
 pub const VERSION: &str = sealed!(
     r#"{"form":2,"tasks":[{"actions":[{"args":[{"text":"x"}],"kind":"copyFiles","version":2}],"#,
     r#""files":[{"name":"src","prints":[["a","#,
@@ -101,7 +102,7 @@ pub const VERSION: &str = sealed!(
     "a023118785d5048d1b049dc56473a4acc58b0bf8ca0bfc38bd2d6cf36114bd09"
 );
 
-/// Of one with another argument.
+/// The text of a run with another argument.
 pub const ARGUMENT: &str = sealed!(
     r#"{"form":2,"tasks":[{"actions":[{"args":[{"text":"y"}],"kind":"copyFiles","version":1}],"#,
     r#""files":[{"name":"src","prints":[["a","#,
@@ -112,7 +113,7 @@ pub const ARGUMENT: &str = sealed!(
     "974a38b15983bfbdb3ad8348124e7e12768aab1e981431766e3a6eedea9d8b15"
 );
 
-/// Of one with another input value.
+/// The text of a run with another input value.
 pub const VALUE: &str = sealed!(
     r#"{"form":2,"tasks":[{"actions":[{"args":[{"text":"x"}],"kind":"copyFiles","version":1}],"#,
     r#""files":[{"name":"src","prints":[["a","#,
@@ -123,7 +124,7 @@ pub const VALUE: &str = sealed!(
     "dfd12ac5097660fe9f45bf4ad28ede1b54d4f3c3de2db4b146c1deca5004dde9"
 );
 
-/// Of one where the file of its output has other content.
+/// The text of a run where the file of its output has other content.
 pub const OUTPUT: &str = sealed!(
     r#"{"form":2,"tasks":[{"actions":[{"args":[{"text":"x"}],"kind":"copyFiles","version":1}],"#,
     r#""files":[{"name":"src","prints":[["a","#,
@@ -134,7 +135,8 @@ pub const OUTPUT: &str = sealed!(
     "75afd8d901019e9e40cfc1a8ad584ec32f8e905409a71cb2006a9b47aa4caca7"
 );
 
-/// Of no record of `:gen`: forms, numbers, keys, space, digests, places, names, and orders.
+/// Texts that are no record of `:gen`: forms, numbers, keys, space, digests, places, names, and
+/// orders.
 pub const NO_RECORDS: [&str; 25] = [
     sealed!(
         r#"{"form":3,"tasks":[{"actions":[{"args":[{"text":"abc"}],"kind":"writeText","#,
@@ -318,7 +320,8 @@ pub const NO_RECORDS: [&str; 25] = [
     ),
 ];
 
-/// Of no history: paths out of order and twice, other forms, keys, space and paths, and bad seals.
+/// Texts that are no history: paths out of order and twice, other forms, keys, space and paths, and
+/// bad seals.
 pub const NO_HISTORIES: [&str; 27] = [
     sealed!(
         r#"{"form":2,"tasks":[{"actions":[],"files":[],"outputs":[],"task":":lib:gen","values":[]},"#,

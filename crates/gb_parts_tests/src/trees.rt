@@ -1,4 +1,4 @@
-//! What is told of patterns, and of the files, the digests and the changes of a folder.
+//! Patterns, and the files, the digests and the changes of a folder.
 use crate::steps::cut;
 use gb_action::change::Change;
 use gb_action::files::Files;
@@ -18,12 +18,12 @@ use gb_tree::property::{Naming, prints_of, snapshot};
 use std::alloc::{AllocError, Global};
 use std::test::Fail;
 
-/// Steps, with a `;` between them, and what is told. A step is a word of [`take_step`], [`tell`] or
-/// [`tell_files`], and what it is about: a path and a text or a number, a pattern and a place, or places
-/// of a folder with patterns.
+/// Steps, with a `;` between them, and the expected output. A step is a word of [`take_step`],
+/// [`tell`] or [`tell_files`], and its operands: a path and a text or a number, a pattern and a
+/// place, or places of a folder with patterns.
 type Row = (&'static str, &'static str);
 
-/// So many bytes, which tell where they stand.
+/// This many bytes; each depends on its index.
 fn bytes_of(alloc: Global, count: usize) -> Result<Vec<u8>, AllocError> {
     let mut bytes = Vec::with_capacity(alloc, count)?;
     for index in 0..count {
@@ -36,7 +36,7 @@ fn write<F: Folder>(alloc: Global, folder: &mut F, path: &str, bytes: &[u8]) -> 
     Ok(folder.write(&Place::read(alloc, path)?, bytes, u64::MAX)?)
 }
 
-/// Writes so many empty files beneath a path, with numbers as their names.
+/// Writes this many empty files under a path, with numbers as their names.
 fn write_many<F: Folder>(
     alloc: Global,
     folder: &mut F,
@@ -50,7 +50,7 @@ fn write_many<F: Folder>(
     Ok(())
 }
 
-/// Writes a file of so many bytes.
+/// Writes a file of this many bytes.
 fn write_bytes<F: Folder>(
     alloc: Global,
     folder: &mut F,
@@ -67,7 +67,7 @@ fn push_match(pattern: &Pattern, place: &Place, all: &mut String) -> Result<(), 
     write!(all, "{} {copy} {};", copy.as_str(), copy.matches(place))
 }
 
-/// Adds what is told of the pattern of a text, or the number of its fault.
+/// Adds the output for the pattern of a text, or the number of its fault.
 fn push_pattern(alloc: Global, text: &str, place: &str, all: &mut String) -> Result<(), Fail> {
     let place = Place::read(alloc, place)?;
     match Pattern::read(alloc, text) {
@@ -76,7 +76,7 @@ fn push_pattern(alloc: Global, text: &str, place: &str, all: &mut String) -> Res
     }
 }
 
-/// What is asked of a folder: about places, with patterns that let files in or keep them out.
+/// A query of a folder: its places, with patterns that include or exclude files.
 #[derive(Drop)]
 struct Asked {
     name: Name,
@@ -86,7 +86,7 @@ struct Asked {
     exclude: Vec<Pattern>,
 }
 
-/// Adds a pattern behind a `+` or a `-`, which lets files in or keeps them out, or a place.
+/// Adds a pattern after a `+` or a `-`, which includes or excludes files, or a place.
 fn add(alloc: Global, asked: &mut Asked, text: &str) -> Result<(), Fail> {
     if let Some(text) = text.strip_prefix('+') {
         asked.include.push(Pattern::read(alloc, text)?)?;
@@ -98,7 +98,7 @@ fn add(alloc: Global, asked: &mut Asked, text: &str) -> Result<(), Fail> {
     Ok(())
 }
 
-/// What a word and the texts behind it ask.
+/// The query of a word and the texts after it.
 fn asked_of(alloc: Global, word: &str, texts: &str) -> Result<Asked, Fail> {
     let is_named = word == "names";
     let mut asked = Asked {
@@ -236,7 +236,7 @@ fn tell_files(
     }
 }
 
-/// Adds what a folder tells.
+/// Adds the output for a folder.
 fn tell<F: Folder>(
     alloc: Global,
     folder: &mut F,
@@ -258,7 +258,7 @@ fn push_fault(fault: &TreeFault, all: &mut String) -> Result<(), AllocError> {
     write!(all, "{} {fault};", fault.number())
 }
 
-/// Adds what a folder tells, or its fault.
+/// Adds the output for a folder, or its fault.
 fn tell_or_fail<F: Folder>(
     alloc: Global,
     folder: &mut F,
@@ -283,7 +283,7 @@ fn ask<F: Folder>(
     Ok(tell_or_fail(alloc, folder, word, &asked, all)?)
 }
 
-/// Writes a file or files, or adds what is told of a pattern or of the folder.
+/// Writes a file or files, or adds the output for a pattern or for the folder.
 fn take_step<F: Folder>(
     alloc: Global,
     folder: &mut F,
@@ -315,7 +315,7 @@ fn take_steps<F: Folder>(
     Ok(())
 }
 
-/// Fails with what is told where that is not what is wanted.
+/// Fails with the output if it is not the expected one.
 fn hold_row(alloc: Global, steps: &str, wanted: &str) -> Result<(), Fail> {
     let mut all = String::new(alloc);
     take_steps(alloc, &mut MemoryFolder::new(alloc), steps, &mut all)?;
@@ -326,7 +326,7 @@ fn hold_row(alloc: Global, steps: &str, wanted: &str) -> Result<(), Fail> {
     }
 }
 
-/// Fails at the first row of which something else is told.
+/// Fails at the first row with another output.
 fn hold(alloc: Global, rows: &[Row]) -> Result<(), Fail> {
     for (steps, wanted) in rows {
         hold_row(alloc, steps, wanted)?;
@@ -383,7 +383,7 @@ const PATTERNS: [Row; 16] = [
         "pattern a*b*c axbxbxc;pattern a*b*c axbx",
         "a*b*c a*b*c true;a*b*c a*b*c false;",
     ),
-    // Many stars take no longer over many letters.
+    // Many stars take no longer with many letters.
     (
         "letters *a*a*a*a*b;letters *a*a*a*a*",
         "*a*a*a*a*b *a*a*a*a*b false;*a*a*a*a* *a*a*a*a* true;",
@@ -414,29 +414,29 @@ fn outputs_stand_by_their_paths(rt: HostRuntime) -> Result<(), Fail> {
 }
 
 const PROPERTIES: [Row; 6] = [
-    // Roots give their files.
+    // Roots have their files.
     (
         "put m/a 1;put m/sub/b 12;put m-x 123;put n/a 1234;\
          files m m;files m m/sub;files m/sub/b;files m-x m/sub;files m n;files none",
         "a 1\nsub/b 2\n;a 1\nb 2\nsub/b 2\n;b 2\n;b 2\nm-x 3\n;71 duplicate input src a;;",
     ),
-    // A folder does not stand where a file does.
+    // A folder does not count as a file at the same path.
     (
         "put x/m;put y/m-n;put z/m/c;put z/m/b;files x y z;files y z",
         "71 duplicate input src m/b;m-n 0\nm/b 0\nm/c 0\n;",
     ),
-    // The tool's own folder does not count.
+    // The tool's own folder is ignored.
     (
         "put .gb/state/a;put .gbx/b;put m/.gb/c;files .gb .gb/state .gbx m",
         ".gb/c 0\nb 0\n;",
     ),
-    // Files stand by their names.
+    // Files are listed by their names.
     ("put m/d/a 1;put m/b 12;names m", "a 1\nb 2\n;"),
     (
         "put m/d/a 1;put m/a 12;names m",
         "71 duplicate input src a;",
     ),
-    // Patterns let files in.
+    // Patterns include files.
     (
         "put m/a.txt;put m/d/b.txt;put m/d/c;\
          names m;names m +**/*.txt;names m +d/;names m +*.txt +d/c;names m +**/*.txt -d/;names m -d/b.txt",
@@ -451,18 +451,18 @@ fn properties_have_their_files(rt: HostRuntime) -> Result<(), Fail> {
 }
 
 const STARTS: [Row; 5] = [
-    // A folder that two includes name gives each file once.
+    // A folder that two includes name returns each file once.
     (
         "put x/m/f 1;put x/m/a/g 12;put x/m-a/h 123;put x/n 1;\
          files x +m/** +m/a/**;files x +m/a/* +m/*;names x +m/a/** +m/** +m/a/g",
         "m/a/g 2\nm/f 1\n;m/a/g 2\nm/f 1\n;f 1\ng 2\n;",
     ),
-    // A pattern without `*` and `?` is looked for at its own place.
+    // A pattern without `*` and `?` is looked up at its own place.
     (
         "put x/a/b 1;put x/c 12;files x +a/b;files x +a/b +c;files x +a;files x +d",
         "a/b 1\n;a/b 1\nc 2\n;;;",
     ),
-    // A root that is a file is seen by its name.
+    // A root that is a file is matched by its name.
     (
         "put x/m 1;files x/m +m;files x/m +m/**;files x/m +m/*;files x/m +*;files x/m +n",
         "m 1\n;m 1\n;;m 1\n;;",
@@ -471,7 +471,7 @@ const STARTS: [Row; 5] = [
         "put m/m/a 1;put m/b 12;files m +m/**;files m +m/** -m/a",
         "m/a 1\n;;",
     ),
-    // Roots that lie in one another keep their own paths.
+    // Nested roots keep their own paths.
     (
         "put m/a/b 1;files m m/a +a/** +b;files m m/a +a/b;names m m/a +a/** +b",
         "a/b 1\nb 1\n;a/b 1\n;71 duplicate input src b;",
@@ -483,8 +483,8 @@ fn files_stand_at_the_fronts_of_patterns(rt: HostRuntime) -> Result<(), Fail> {
     hold(rt.alloc(), &STARTS)
 }
 
-/// The files of a folder, the call at which its device fails, counted from 1, what is asked of it
-/// then, and what is told.
+/// The files of a folder, the call at which its device fails, counted from 1, the query after that,
+/// and the expected output.
 type Failing = (&'static str, u64, &'static str, &'static str);
 
 /// Each call of the device is at a place that the includes name, and a folder is listed once.
@@ -516,7 +516,7 @@ const CALLS: [Failing; 5] = [
     ),
 ];
 
-/// Fails with what is told where that is not what is wanted.
+/// Fails with the output if it is not the expected one.
 fn hold_call(alloc: Global, row: &Failing) -> Result<(), Fail> {
     let (files, at, asked, wanted) = row;
     let mut all = String::new(alloc);
@@ -546,7 +546,7 @@ const DIGESTS: [Row; 8] = [
         "src a ba7816bf8f01cfea414140de5dae2223b00361a396177a9cb410ff61f20015ad\n\
          src b e3b0c44298fc1c149afbf4c8996fb92427ae41e4649b934ca495991b7852b855\n;",
     ),
-    // Changes are told by path.
+    // Changes are listed by path.
     (
         "put m/a 1;put m/b 2;put n/b 3;put n/c 1;put o/a 1;put o/b 2;changes m n;changes m o",
         "R a\nM b\nA c\n;;",
@@ -577,7 +577,7 @@ const DIGESTS: [Row; 8] = [
         "src a feb1e4409d009e0ec502eaabe321f86b5197a881e9b765252ec8a75d6957596d\n;\
          src a feb1e4409d009e0ec502eaabe321f86b5197a881e9b765252ec8a75d6957596d\n;",
     ),
-    // Small files are digested four at a time, and the larger in their turn.
+    // Small files are digested four at a time, and larger ones in their order.
     (
         "put m/a abc;put m/b;bytes m/c 65535;put m/d 1;put m/e 2;bytes m/f 65536;\
          put m/g 3;bytes m/h 55;bytes m/i 56;bytes m/j 200;put m/k 4;\
@@ -601,7 +601,7 @@ fn digests_are_told(rt: HostRuntime) -> Result<(), Fail> {
     hold(rt.alloc(), &DIGESTS)
 }
 
-/// Files of as many bytes as are read, and of one more.
+/// Files with as many bytes as are read, and with one more.
 const LARGE: [Row; 2] = [
     (
         "bytes m/a 8388608;outputs m;digests m",

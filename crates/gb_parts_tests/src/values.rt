@@ -1,6 +1,7 @@
-//! Vectors from outside, and each call that takes memory once.
+//! Vectors from outside, and each call that allocates memory, once.
 //!
-//! Each case is a function that answers whether it holds, so that no assertion stands where values live.
+//! Each case is a function that returns whether it holds, so that no assertion is made while values
+//! are alive.
 use gb_core::bytes::Bytes;
 use gb_core::name::{Name, NameFault};
 use gb_core::path::{ProjectPath, TaskPath, is_task_path};
@@ -314,7 +315,7 @@ fn copy_holds(alloc: Global, value: &Value, want: &str) -> Result<bool, AllocErr
     Ok(holds(&value.copy(alloc)?, want))
 }
 
-/// Whether a copy of the value holds this, and lets the value go.
+/// Whether a copy of the value holds this; drops the value.
 fn is_copied(alloc: Global, value: Value, want: &str) -> Result<bool, AllocError> {
     copy_holds(alloc, &value, want)
 }

@@ -1,4 +1,4 @@
--- How names are written where some characters have a meaning of their own.
+-- How names are written where some characters have a special meaning.
 use Rattle.std.specs.Prelude.{ℕ, ◌==◌, ◌||◌, Bool, true, false, List, [], ◌∷◌, Option, Some, None, codes}
 use Rattle.std.specs.Prelude.{if◌then◌else◌}
 use Rattle.std.specs.Option.{option_map}
@@ -31,8 +31,8 @@ is_special c = (c == 34) || (c == 38) || (c == 60) || (c == 62) || (c == 96)
 abbrev pub with_front : ℕ → Option (List ℕ × List ℕ) → Option (List ℕ × List ℕ)
 with_front c read = option_map (λ parts. (c ∷ parts.0, parts.1)) read
 
--- How DOT reads what follows a quote, whether a backslash precedes it: the text up to the next quote that no
--- backslash precedes, and what follows that quote.
+-- How DOT reads the text after a quote, given whether a backslash precedes it: the text up to the next quote
+-- that no backslash precedes, and the text after that quote.
 abbrev pub read_dot : Bool → List ℕ → Option (List ℕ × List ℕ)
 read_dot escaped [] = None
 read_dot true (c ∷ rest) = with_front c (read_dot false rest)

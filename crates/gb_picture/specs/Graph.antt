@@ -7,12 +7,12 @@ use Rattle.gb_picture.specs.declared.graph.Node.{Node}
 abbrev pub line : List ℕ → List ℕ
 line text = text ++ 10 ∷ []
 
--- what is written of each, in order, with its number
+-- the text for each, in order, with its number
 abbrev pub numbered : {T : Type 0} → (ℕ → T → List ℕ) → ℕ → List T → List ℕ
 numbered write number [] = []
 numbered write number (one ∷ more) = write number one ++ numbered write (number + 1) more
 
--- the name of the node of a number: nothing where there is none
+-- the name of the node with a number; empty if there is none
 abbrev pub name_at : List Node → ℕ → List ℕ
 name_at nodes number = unwrap_or (option_map (λ node. string_bytes node.name) (slice_get nodes number)) []
 

@@ -4,7 +4,7 @@ use Rattle.std.specs.List.{AllByRecursion, flat_map}
 use Rattle.gb_picture.specs.Escapes.{dot_char, is_markup, is_special, mermaid_char, read_dot, xml_char}
 use Rattle.gb_picture.specs.Shown.{is_hidden, shown}
 
--- no hidden character is shown of a text
+-- no hidden character of a text is shown
 abbrev pub ShowsNoHidden : Type 0
 ShowsNoHidden = (text : List ℕ) → AllByRecursion (λ c. is_hidden c ≡ false) (shown text)
 

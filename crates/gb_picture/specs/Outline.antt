@@ -1,4 +1,4 @@
--- A graph as an outline: each node, and under it those that it is connected to.
+-- A graph as an outline: each node, and under it the nodes that it is connected to.
 use Rattle.std.specs.Prelude.{ℕ, List, ◌++◌, codes, string_bytes}
 use Rattle.std.specs.List.{flat_map}
 use Rattle.gb_picture.specs.Graph.{line, name_at}

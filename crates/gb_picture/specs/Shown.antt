@@ -1,4 +1,4 @@
--- Which characters of a text are shown, and what is shown in the place of the others.
+-- Which characters of a text are shown, and what replaces the others.
 use Rattle.std.specs.Prelude.{ℕ, ◌==◌, ◌&&◌, ◌||◌, Bool, List, if◌then◌else◌, encode_utf8, map}
 use Rattle.std.specs.Prelude.{nat_le, nat_lt}
 use Rattle.std.specs.List.{flat_map}
@@ -14,11 +14,11 @@ is_hidden c =
     nat_lt c 0x20 || is_between 0x7F 0x9F c || (c == 0x61C) || is_between 0x200E 0x200F c
     || is_between 0x2028 0x202E c || is_between 0x2066 0x2069 c
 
--- U+FFFD in place of a character that is not shown
+-- U+FFFD instead of a character that is not shown
 abbrev pub shown_char : ℕ → ℕ
 shown_char c = if is_hidden c then 0xFFFD else c
 
--- the characters that are shown of a text
+-- the shown characters of a text
 abbrev pub shown : List ℕ → List ℕ
 shown text = map shown_char (chars text)
 
@@ -26,6 +26,6 @@ shown text = map shown_char (chars text)
 abbrev pub bytes_of : List ℕ → List ℕ
 bytes_of cs = flat_map encode_utf8 cs
 
--- what is printed of a text
+-- the printed form of a text
 abbrev pub shown_text : List ℕ → List ℕ
 shown_text text = bytes_of (shown text)

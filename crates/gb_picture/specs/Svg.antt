@@ -1,4 +1,4 @@
--- A graph as a picture in SVG, by where its nodes are placed.
+-- A graph as a picture in SVG, given the places of its nodes.
 use Rattle.std.specs.Prelude.{ℕ, ◌≡◌, List, ◌++◌, codes, decimal, slice_get, string_bytes, unwrap_or}
 use Rattle.std.specs.List.{flat_map}
 use Rattle.gb_picture.specs.Escapes.{xml_char}
@@ -12,7 +12,7 @@ use Rattle.gb_picture.specs.declared.place.Spot.{Spot}
 abbrev pub xml_text : List ℕ → List ℕ
 xml_text text = bytes_of (flat_map xml_char (shown text))
 
--- the place of the node of a number: the corner where there is none
+-- the place of the node with a number; the corner if there is none
 abbrev pub spot_at : List Spot → ℕ → Spot
 spot_at spots number =
     unwrap_or (slice_get spots number) (record { left = 0; top = 0; right = 0; middle = 0 })
@@ -30,7 +30,7 @@ abbrev pub curve_ended : Spot → List ℕ → List ℕ
 curve_ended to style =
     line (decimal to.left ++ codes " " ++ decimal to.middle ++ codes "\" class=\"" ++ style ++ codes "\"/>")
 
--- A curve from the right side of the one to the left side of the other, drawn in this style.
+-- A curve from the right side of one node to the left side of the other, drawn in this style.
 abbrev pub curve : Spot → Spot → List ℕ → List ℕ
 curve from to style = curve_begun from ++ curve_bent from to ++ curve_ended to style
 

@@ -1,4 +1,4 @@
-//! Names where some characters have a meaning of their own.
+//! Names escaped where some characters have a special meaning.
 ghost use Rattle.std.specs.Prelude.{◌≡◌, ◌++◌, IfOk, OnOk, string_bytes};
 ghost use Rattle.std.specs.List.{flat_map};
 ghost use Rattle.gb_picture.specs.Escapes.{dot_char, mermaid_char, xml_char};

@@ -1,7 +1,7 @@
 //! A graph of tasks.
 
-/// A task in the order in which it runs, and those that it is connected to by their numbers. Numbers count
-/// from 0.
+/// A task in the order in which tasks run, and the tasks that it is connected to, by their numbers.
+/// Numbers count from 0.
 #[derive(Drop)]
 pub struct Node {
     /// Its name.

@@ -1,7 +1,7 @@
 //! What follows from the definitions alone, each the contract of a function that does nothing.
 ghost use Rattle.gb_picture.specs.Laws.{DotReadsBack, MermaidHasNoSpecial, ShowsNoHidden, XmlHasNoMarkup};
 
-/// No hidden character is shown of a text.
+/// No hidden character of a text is shown.
 pub fn shows_no_hidden()
     ensures { ShowsNoHidden }
 {}

@@ -8,7 +8,8 @@ use crate::graph::Node;
 use crate::shown::push_shown;
 use std::alloc::{AllocError, Global};
 
-/// Each node on a line, and under it those that it is connected to, each on a line that says how.
+/// Each node on a line, and under it each node that it is connected to, on a line with the
+/// relation.
 pub fn outline_of(alloc: Global, nodes: &[Node]) -> Result<String, AllocError>
     ensures { IfOk result (λ text. string_bytes text ≡ outline_text nodes.now) }
 {
@@ -41,7 +42,7 @@ fn push_node(alloc: Global, out: &mut String, nodes: &[Node], node: &Node) -> Re
     )
 }
 
-/// The lines of those that a node is connected to in one way.
+/// The lines of the nodes that a node is connected to in one way.
 fn push_edges(
     alloc: Global,
     out: &mut String,
@@ -60,7 +61,7 @@ fn push_edges(
     Ok(())
 }
 
-/// The name of the node of a number: nothing where there is none.
+/// The name of the node with a number; empty if there is none.
 fn name_at(nodes: &[Node], number: usize) -> &str
     ensures { result.now ≡ name_at nodes.now number }
 {

@@ -45,7 +45,7 @@ fn set_layer(layers: &mut [usize], number: usize, layer: usize) {
     }
 }
 
-/// The least layer from this one on that is behind those of these nodes.
+/// The least layer, from this one on, that is after those of these nodes.
 fn behind(layers: &[usize], numbers: &[usize], least: usize) -> usize {
     let mut least = least;
     for number in numbers {
@@ -54,7 +54,7 @@ fn behind(layers: &[usize], numbers: &[usize], least: usize) -> usize {
     least
 }
 
-/// Moves these nodes to this layer, where they are in front of it.
+/// Moves these nodes to this layer if they are in an earlier one.
 fn lift(layers: &mut [usize], numbers: &[usize], layer: usize) {
     for number in numbers {
         let lifted = layer_at(layers, *number).max(layer);
@@ -62,7 +62,7 @@ fn lift(layers: &mut [usize], numbers: &[usize], layer: usize) {
     }
 }
 
-/// Gives a node its layer, once those that run before it have theirs.
+/// Gives a node its layer, once the nodes that run before it have theirs.
 fn give_layer(layers: &mut [usize], number: usize, node: &Node) {
     let least = behind(layers, node.needs.as_slice(), layer_at(layers, number));
     let layer = behind(layers, node.runs_after.as_slice(), least);
@@ -70,7 +70,7 @@ fn give_layer(layers: &mut [usize], number: usize, node: &Node) {
     lift(layers, node.finalizers.as_slice(), layer.saturating_add(1));
 }
 
-/// The layer of each node: 0, or behind all that run before it.
+/// The layer of each node: 0, or after all nodes that run before it.
 fn layers(alloc: Global, nodes: &[Node]) -> Result<Vec<usize>, AllocError> {
     let mut layers = zeros(alloc, nodes.len())?;
     for (number, node) in nodes.iter().enumerate() {

@@ -1,4 +1,4 @@
-//! What is shown of texts from outside.
+//! The shown form of texts from outside.
 ghost use Rattle.std.specs.Prelude.{◌≡◌, ◌++◌, IfOk, OnOk, string_bytes};
 ghost use Rattle.gb_picture.specs.Shown.{bytes_of, is_hidden, shown, shown_char, shown_text};
 
@@ -24,7 +24,7 @@ fn shown_char(c: char) -> char
     if is_hidden(c) { '\u{fffd}' } else { c }
 }
 
-/// The characters that are shown of a text.
+/// The shown characters of a text.
 pub(crate) fn shown(alloc: Global, text: &str) -> Result<Vec<char>, AllocError>
     ensures { IfOk result (λ cs. cs.items ≡ shown text.now) }
 {
@@ -41,7 +41,7 @@ pub(crate) fn push_chars(out: &mut String, chars: &[char]) -> Result<(), AllocEr
     Ok(())
 }
 
-/// Adds what is shown of a text.
+/// Adds the shown form of a text.
 pub fn push_shown(alloc: Global, out: &mut String, text: &str) -> Result<(), AllocError>
     ensures { OnOk result (string_bytes out.new ≡ string_bytes out.old ++ shown_text text.now) }
 {

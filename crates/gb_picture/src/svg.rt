@@ -56,7 +56,7 @@ fn push_size(out: &mut String, frame: Frame) -> Result<(), AllocError>
     write!(out, " width=\"{width}\" height=\"{height}\"")
 }
 
-/// The text behind the size of each picture.
+/// The text after the size of each picture.
 const LEGEND: &str = " font-family=\"monospace\" font-size=\"12\">
 <style>rect{fill:#eef2f6;stroke:#8896a5}path{fill:none;stroke-width:1.5}
 .n{stroke:#52606d}.a{stroke:#b7791f;stroke-dasharray:6 3}
@@ -159,7 +159,7 @@ fn push_ended(out: &mut String, to: Spot, style: &str) -> Result<(), AllocError>
     writeln!(out, "{left} {middle}\" class=\"{style}\"/>")
 }
 
-/// The place of the node of a number: the corner where there is none.
+/// The place of the node with a number; the corner if there is none.
 fn spot_at(spots: &[Spot], number: usize) -> Spot
     ensures { result ≡ spot_at spots.now number }
 {

@@ -1,4 +1,4 @@
--- In a plan in order, all that a task comes after by a chain stands before it.
+-- In a plan in order, all tasks that a task comes after by a chain are before it.
 use Rattle.std.specs.Prelude.{◌≡◌, Bool, true, false, not, cond, ◌&&◌, ◌||◌, List, [], ◌∷◌, ◌++◌, bytes_eq, refl}
 use Rattle.std.specs.List.{list_all, filter, flat_map, AllByRecursion}
 use Rattle.std.specs.Cmp.Lexicographic.{bytes_decides}
@@ -10,13 +10,13 @@ use Rattle.gb_plan.specs.Task.{Path, has_path}
 use Rattle.gb_plan.specs.Graph.{Plan, order, after, after_at, is_ready, stuck, no_repeats, IsAfter, IsSound, IsReadInOrder, reads_output_of}
 use Rattle.gb_plan.proofs.Tests.{not_true, no_longer, left_of, right_of, none_left, none_right, any_append, all_at, each_all, all_both, filter_append, itself, turned, all_of_members, goes_into, reached_in}
 
--- ---- Paths that stand once
+-- ---- Paths that occur once
 
 pub repeats_tail : (xs ys : List Path) → no_repeats (xs ++ ys) ≡ true → no_repeats ys ≡ true
 repeats_tail [] ys e = e
 repeats_tail (x ∷ xs) ys e = repeats_tail xs ys (right_of (not (has_path (xs ++ ys) x)) (no_repeats (xs ++ ys)) e)
 
--- what stands in the first part stands not in the second
+-- what is in the first part is not in the second
 pub parts_apart : (xs ys : List Path) (p : Path) → no_repeats (xs ++ ys) ≡ true → has_path xs p ≡ true → has_path ys p ≡ false
 parts_apart [] ys p e h = not_true h
 parts_apart (x ∷ xs) ys p e h =
@@ -51,7 +51,7 @@ grouped [] next rest = refl
 grouped (z ∷ placed) next rest = ap (λ zs. z ∷ zs) (grouped placed next rest)
 
 module _ (plan : Plan) where
-  -- all that these come after stands in the set
+  -- all that these come after is in the set
   abbrev pub Closed : List Path → List Planned → Type 0
   Closed set placed = AllByRecursion (λ (z : Planned). list_all (has_path set) (after plan z.task) ≡ true) placed
 
@@ -64,7 +64,7 @@ module _ (plan : Plan) where
         | false ↦ steps_in set p placed h.1
       ]
 
-  -- what a task comes after by a chain stands before it
+  -- what a task comes after by a chain is before it
   pub stands_before : (set : List Path) (placed rest : List Planned) (task : TaskDeclaration) (path : Path) → plan ≡ placed ++ rest → set ≡ order placed
       → no_repeats (order plan) ≡ true → Closed set placed → is_ready plan set task ≡ true → IsAfter plan task path → has_path set path ≡ true
   stands_before set placed rest task path whole same once closed ready chain =
@@ -78,7 +78,7 @@ module _ (plan : Plan) where
       (steps_in set p placed closed)))
       chain
 
-  -- no task reads an output of one that stands behind it
+  -- no task reads an output of a later one
   pub reads_no_later : (set : List Path) (placed : List Planned) (reader : Planned) (rest : List Planned) → plan ≡ placed ++ reader ∷ rest → set ≡ order placed
       → no_repeats (order plan) ≡ true → Closed set placed → is_ready plan set reader.task ≡ true → IsSound plan
       → AllByRecursion (λ (writer : Planned). reads_output_of reader.task writer.task ≡ false) rest
@@ -109,7 +109,7 @@ module _ (plan : Plan) where
             (none_right (bytes_eq reader.task.path w.task.path) (has_path (order later) reader.task.path) differs),
       )
 
-  -- ---- A plan of which all get ready
+  -- ---- A plan in which all become ready
 
   not_empty : {X : Type 0} {x : X} {xs : List X} {A : Type 0} → x ∷ xs ≡ [] → A
   not_empty e = not_true (ap is_empty e)
@@ -122,7 +122,7 @@ module _ (plan : Plan) where
         | false ↦ λ e. not_empty e
       ] e
 
-  -- and so are the others in turn
+  -- and so are the others, one after another
   pub stuck_rest : (set : List Path) (next : Planned) (rest : List Planned) → stuck plan set (next ∷ rest) ≡ [] → stuck plan (set ++ next.task.path ∷ []) rest ≡ []
   stuck_rest set next rest e =
       elim (is_ready plan set next.task) as (λ b. cond b (stuck plan (set ++ next.task.path ∷ []) rest) (next ∷ rest) ≡ [] → stuck plan (set ++ next.task.path ∷ []) rest ≡ []) [

@@ -1,4 +1,4 @@
--- Circles of tasks, through needs, orders and finalizers.
+-- Cycles of tasks, through needs, orders and finalizers.
 use Rattle.std.specs.Prelude.{List, [], ◌∷◌, codes, refl}
 use Rattle.gb_report.specs.declared.fault.Fault.TheVariants as faults
 use Rattle.gb_plan.specs.declared.task.TaskDeclaration.{TaskDeclaration}
@@ -31,7 +31,8 @@ circle_of_three = has_cycle (record {
   told = refl;
 })
 
--- the least unplaced task leads into a circle that it is not on: `:a` needs `:c`, which must run after `:b`, which needs `:c`
+-- the least unplaced task leads into a cycle that it is not on: `:a` needs `:c`, which must run after `:b`,
+-- which needs `:c`
 abbrev pub into : Plan
 into = planned (needing (codes ":a") (codes ":c" ∷ [])) 0 ∷ planned (needing (codes ":b") (codes ":c" ∷ [])) 0
     ∷ planned (record (needing (codes ":c") []) { must_run_after = codes ":b" ∷ [] }) 0 ∷ []

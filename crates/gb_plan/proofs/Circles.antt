@@ -1,4 +1,4 @@
--- A way on which each step is determined leads into one circle at most.
+-- A walk in which each step is determined leads into at most one cycle.
 use Rattle.std.specs.Prelude.{◌≡◌, ◌⊎◌, true, false, not, ◌||◌, List, ◌∷◌, bytes_eq, refl}
 use Rattle.std.specs.Ordering.{is_lt, ordering_reverse}
 use Rattle.std.specs.declared.cmp.Ordering.{Ordering}
@@ -19,28 +19,28 @@ equal_if Less e f = not_false e
 equal_if Equal e f = refl
 equal_if Greater e f = not_false f
 
--- texts of which neither comes before the other are one
+-- two texts where neither comes before the other are equal
 pub neither_less : (a b : Path) → is_lt (byte_order a b) ≡ false → is_lt (byte_order b a) ≡ false → a ≡ b
 neither_less a b e f = tied_same a b (equal_if (byte_order a b) e (sym (ap is_lt (nat_list_cmp_total.antisymm b a)) ∙ f))
 
 not_less : (paths : List Path) (least path : Path) → IsLeastOf paths least → has_path paths path ≡ true → is_lt (byte_order path least) ≡ false
 not_less paths least path is h = no_longer (is_lt (byte_order path least)) (at_member (λ other. not (is_lt (byte_order other least))) paths path is.least h)
 
--- the least of these is one, where each is had by the other's list
+-- the least elements of two lists are equal, where each is in the other's list
 pub least_is_one : (xs ys : List Path) (a b : Path) → IsLeastOf xs a → IsLeastOf ys b → has_path ys a ≡ true → has_path xs b ≡ true → a ≡ b
 least_is_one xs ys a b of_a of_b a_in b_in = neither_less a b (not_less ys b a of_b a_in) (not_less xs a b of_a b_in)
 
--- ---- Ways
+-- ---- Walks
 
 module _ (steps : Path → Path → Type 0) (one_next : (a b c : Path) → steps a b → steps a c → b ≡ c) where
-  -- of two ways from one task the one goes on where the other ends
+  -- of two walks from one task, one continues where the other ends
   goes_on_to : (a b c : Path) (xs ys : List Path) → Leads steps a xs b → Leads steps a ys c → ((zs : List Path) × Leads steps b zs c) ⊎ ((zs : List Path) × Leads steps c zs b)
   goes_on_to a b c xs ys is_there other = inl (ys, other)
   goes_on_to a b c xs ys (goes {next = next} {passed = passed} s way) is_there = inr (xs, goes s way)
   goes_on_to a b c xs ys (goes {next = next} {passed = passed} s way) (goes {next = second} {passed = others} t other) =
       goes_on_to next b c passed others way (subst (λ n. Leads steps n others c) (one_next a second next t s) other)
 
-  -- from each task of a way it leads on to the end
+  -- from each task of a walk it leads on to the end
   leads_from : (a b : Path) (xs : List Path) → Leads steps a xs b → (x : Path) → has_path xs x ≡ true → (ys : List Path) × Leads steps x ys b
   leads_from a b xs is_there x h = not_true h
   leads_from a b xs (goes {next = next} {passed = passed} s way) x h =
@@ -49,12 +49,12 @@ module _ (steps : Path → Path → Type 0) (one_next : (a b c : Path) → steps
         | false ↦ λ _ h. leads_from next b passed way x h
       ] refl h
 
-  -- a way passes the task it begins at, unless it ends there
+  -- a walk passes the task it begins at, unless it ends there
   begins_on : (a b : Path) (xs : List Path) → Leads steps a xs b → (has_path xs a ≡ true) ⊎ (a ≡ b)
   begins_on a b xs is_there = inr refl
   begins_on a b xs (goes {passed = passed} s way) = inl (ap (λ e. e || has_path passed a) (itself a))
 
-  -- a step from a task of a way leads to a task of it, or to its end
+  -- a step from a task of a walk leads to a task of it, or to its end
   next_on : (a b : Path) (xs : List Path) → Leads steps a xs b → (x y : Path) → has_path xs x ≡ true → steps x y → (has_path xs y ≡ true) ⊎ (y ≡ b)
   next_on a b xs is_there x y h t = not_true h
   next_on a b xs (goes {next = next} {passed = passed} s way) x y h t =
@@ -67,7 +67,7 @@ module _ (steps : Path → Path → Type 0) (one_next : (a b c : Path) → steps
       wider (inl e) = inl (or_right (bytes_eq y a) (has_path passed y) e)
       wider (inr e) = inr e
 
-  -- from a task of a circle all ways stay on it
+  -- from a task of a cycle all walks stay on it
   stays_on : (a : Path) (circle : List Path) → Leads steps a circle a → has_path circle a ≡ true → (x y : Path) (ys : List Path) → has_path circle x ≡ true → Leads steps x ys y → has_path circle y ≡ true
   stays_on a circle round on x y ys h is_there = h
   stays_on a circle round on x y ys h (goes {next = next} {passed = passed} s way) =
@@ -77,7 +77,7 @@ module _ (steps : Path → Path → Type 0) (one_next : (a b c : Path) → steps
       here (inl e) = e
       here (inr e) = ap (has_path circle) e ∙ on
 
-  -- ways that come to a task for the first time are one
+  -- walks that reach a task for the first time are equal
   first_ways : (a b c : Path) (xs ys : List Path) → b ≡ c → Leads steps a xs b → Leads steps a ys c → has_path xs b ≡ false → has_path ys b ≡ false → xs ≡ ys
   first_ways a b c xs ys same is_there is_there e f = refl
   first_ways a b c xs ys same is_there (goes {passed = others} t other) e f = not_false (sym (itself a) ∙ none_left (bytes_eq a a) (has_path others a) f)
@@ -88,7 +88,7 @@ module _ (steps : Path → Path → Type 0) (one_next : (a b c : Path) → steps
       (first_ways next b c passed others same way (subst (λ n. Leads steps n others c) (one_next a second next t s) other)
       (none_right (bytes_eq b a) (has_path passed b) e) (none_right (bytes_eq b a) (has_path others b) f))
 
-  -- circles from one task on, in which it stands once
+  -- cycles from one task on, in which it occurs once
   one_round : (a b c : Path) (xs ys : List Path) → a ≡ b → a ≡ c → Leads steps a xs b → Leads steps a ys c → has_path xs a ≡ true → has_path ys a ≡ true
       → no_repeats xs ≡ true → no_repeats ys ≡ true → xs ≡ ys
   one_round a b c xs ys to_b to_c is_there other h g e f = not_true h
@@ -98,7 +98,7 @@ module _ (steps : Path → Path → Type 0) (one_next : (a b c : Path) → steps
       (first_ways next b c passed others (sym to_b ∙ to_c) way (subst (λ n. Leads steps n others c) (one_next a second next t s) other)
       (ap (has_path passed) (sym to_b) ∙ no_longer (has_path passed a) (left_of _ _ e)) (ap (has_path others) (sym to_b) ∙ no_longer (has_path others a) (left_of _ _ f)))
 
-  -- two circles that a way from one task comes to are one
+  -- two cycles that a walk from one task reaches are equal
   pub one_circle : (start a b : Path) (v w xs ys : List Path) → Leads steps start v a → Leads steps start w b → Leads steps a xs a → Leads steps b ys b
       → IsLeastOf xs a → IsLeastOf ys b → no_repeats xs ≡ true → no_repeats ys ≡ true → xs ≡ ys
   one_circle start a b v w xs ys to_a to_b round_a round_b least_a least_b once_a once_b =

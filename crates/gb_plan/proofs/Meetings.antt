@@ -1,4 +1,4 @@
--- The meetings of a plan in a list, from which the least is told by computation.
+-- The conflicts (`Meeting`) of a plan in a list, from which the least is computed.
 use Rattle.std.specs.Prelude.{◌≡◌, Bool, true, false, not, cond, ◌&&◌, ◌||◌, List, [], ◌∷◌, ◌++◌, map, bytes_eq, refl, Contains}
 use Rattle.std.specs.List.{list_any, list_all, filter, flat_map, AllByRecursion}
 use Rattle.std.specs.Cmp.Lexicographic.{bytes_decides}
@@ -131,7 +131,7 @@ is_undeclared_listed plan meeting at =
 abbrev pub is_first_of : List Meeting → Meeting → Bool
 is_first_of listed meeting = list_all (λ other. not (is_before other meeting)) listed
 
--- of those that are all listed, one that none of the list comes before is the least
+-- where all are listed, one that none of the list comes before is the least
 least_listed : (Meets : Meeting → Type 0) (listed : List Meeting) → ((other : Meeting) → Meets other → In other listed) → (meeting : Meeting) → Meets meeting
     → is_first_of listed meeting ≡ true → IsLeastMeeting Meets meeting
 least_listed Meets listed all meeting meets none = record {

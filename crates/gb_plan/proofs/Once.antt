@@ -1,4 +1,4 @@
--- What was asked is refused with one fault at most.
+-- A request is refused with at most one fault.
 use Rattle.std.specs.Prelude.{◌≡◌, Bool, true, false, not, List, [], ◌∷◌, ◌++◌, refl, Option, Some, None, Result, Ok, Err}
 use Rattle.std.specs.List.{filter}
 use Rattle.std.specs.Ordering.{is_lt, ordering_reverse, ordering_then}
@@ -26,7 +26,7 @@ use Rattle.gb_plan.proofs.Circles.{neither_less, circles_are_one}
 abbrev behind : Request → List Path → Path → List Path → List Path
 behind request done path waiting = waiting ++ newly_brought request path (done ++ path ∷ waiting)
 
--- from how far the queue has come to how far it comes later
+-- from one state of the queue to a later one
 data Comes (request : Request) : List Path → List Path → List Path → List Path → Type 0 where
   stays : {done : List Path} {waiting : List Path} → Comes request done waiting done waiting
   moves : {done : List Path} {path : Path} {waiting : List Path} {task : TaskDeclaration} {later : List Path} {rest : List Path}
@@ -52,7 +52,7 @@ not_at_fault : {A : Type 0} (request : Request) (path : Path) (task : TaskDeclar
     → declaration_at request.registry path ≡ Some (Ok task) → declaration_at request.registry path ≡ Some (Err fault) → A
 not_at_fault request path task fault e f = not_true (sym (ap is_declared f) ∙ ap is_declared e)
 
--- however far the queue has come, it comes to a task at fault that it comes to
+-- a state that the queue reaches with a task at fault in front is reached from each of its states
 comes_there : (request : Request) (later : List Path) (last : Path) (rest : List Path) (fault : Fault) → declaration_at request.registry last ≡ Some (Err fault)
     → Comes request [] (distinct (open_of request (selected request))) later (last ∷ rest) → (done waiting : List Path) → Queued request done waiting → Comes request done waiting later (last ∷ rest)
 comes_there request later last rest fault at_fault whole done waiting begins = whole
@@ -79,7 +79,7 @@ task_faults_are_one request f g of_f of_g =
     there done path waiting stays at_fault = ap (fault_or f) (sym of_f.at_fault ∙ at_fault)
     there done path waiting (moves {task = task} declared comes) at_fault = not_at_fault request path task g declared at_fault
 
--- ---- The least meeting
+-- ---- The least conflict
 
 neither_before : (x y : Path) (r s : Ordering) → is_lt (ordering_then (byte_order x y) r) ≡ false → is_lt (ordering_then (byte_order y x) s) ≡ false
     → (x ≡ y) × (is_lt r ≡ false) × (is_lt s ≡ false)
@@ -119,7 +119,7 @@ schedule_faults plan f g ready (is_undeclared a) (has_own_input b) = absurd (a.i
 schedule_faults plan f g ready (is_undeclared a) (is_undeclared b) =
     a.told ∙ (ap (λ (m : Meeting). faults.UndeclaredDependency m.task m.other m.place) (meetings_are_one _ a.meeting b.meeting a.is_least b.is_least) ∙ sym b.told)
 
--- what is least of a list is least of one with the same paths
+-- the least of a list is the least of a list with the same paths
 least_of_same : (xs ys : List Path) → ((x : Path) → has_path xs x ≡ true → has_path ys x ≡ true) → ((x : Path) → has_path ys x ≡ true → has_path xs x ≡ true) → (path : Path) → IsLeastOf xs path → IsLeastOf ys path
 least_of_same xs ys within back path is = record {
   is_in = within path is.is_in;
@@ -160,7 +160,7 @@ module _ (request : Request) (p q : Plan) (of_p : IsSchedule request p) (of_q : 
   cycle_faults f g of_f of_g =
       of_f.told ∙ (ap faults.Cycle (circles_are_one p (left p) of_f.circle of_g.circle of_f.is_circle (circle_of of_g.circle of_g.is_circle)) ∙ sym of_g.told)
 
-  -- where all get ready in the second, the two are one
+  -- where all become ready in the second, the two are equal
   ready_faults : (f g : Fault) → stuck q [] q ≡ [] → IsScheduleFault p f → IsScheduleFault q g → f ≡ g
   ready_faults f g ready of_f of_g = schedule_faults q f g ready (subst (λ plan. IsScheduleFault plan f) (sym (schedules_are_one request q p of_q of_p ready)) of_f) of_g
 

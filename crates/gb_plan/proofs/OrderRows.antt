@@ -1,4 +1,4 @@
--- Two tasks of which one reads what the other writes: overlaps, reads without an order, and orders.
+-- Two tasks where one reads what the other writes: overlaps, reads without an order, and orders.
 use Rattle.std.specs.Prelude.{◌≡◌, true, false, [], ◌∷◌, codes, refl, Ok}
 use Rattle.std.proofs.Common.{lit<}
 use Rattle.gb_report.specs.declared.fault.Fault.TheVariants as faults

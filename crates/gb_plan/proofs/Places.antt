@@ -1,4 +1,5 @@
--- Places under outputs: of two roots of one place the one overlaps the other, so outputs that are apart share no place.
+-- Places under outputs: of two roots of one place, one overlaps the other. So disjoint outputs share no
+-- place.
 use Rattle.std.specs.Prelude.{ℕ, ◌≡◌, ◌⊎◌, true, false, ◌||◌, List, [], ◌∷◌, ◌++◌, length, take, drop, get_or, bytes_eq, nat_eq}
 use Rattle.std.specs.List.{starts_with, list_any}
 use Rattle.std.specs.Cmp.Lexicographic.{bytes_decides}
@@ -14,7 +15,7 @@ use Rattle.gb_plan.proofs.Tests.{not_true, none_left, none_right, neither, or_tr
 abbrev slash : ℕ
 slash = 47
 
--- what starts with a text goes on behind it
+-- what starts with a text continues after it
 starts_as : (xs needle : List ℕ) → starts_with nat_eq xs needle ≡ true → (rest : List ℕ) × (xs ≡ needle ++ rest)
 starts_as xs needle e =
     (drop (length needle) xs, sym (take-append-drop (length needle) xs) ∙ ap (λ front. front ++ drop (length needle) xs) (sym ((bytes_decides needle (take (length needle) xs)).0 e)))
@@ -26,7 +27,7 @@ take_front (c ∷ needle) rest = ap (λ xs. c ∷ xs) (take_front needle rest)
 starts_so : (xs needle rest : List ℕ) → xs ≡ needle ++ rest → starts_with nat_eq xs needle ≡ true
 starts_so xs needle rest e = (bytes_decides needle (take (length needle) xs)).1 (sym (ap (take (length needle)) e ∙ take_front needle rest))
 
--- at it, or beneath it with something behind the '/'
+-- at it, or under it with something after the '/'
 abbrev IsIn : Place → Place → Type 0
 IsIn place root = (place ≡ root) ⊎ ((rest : List ℕ) × (place ≡ root ++ slash ∷ rest))
 
@@ -52,7 +53,7 @@ same_tail x y xs ys e = ap (drop 1) e
 same_head : (x y : ℕ) (xs ys : List ℕ) → x ∷ xs ≡ y ∷ ys → x ≡ y
 same_head x y xs ys e = ap (λ l. get_or l 0 0) e
 
--- of two roots of one place the one is in the other
+-- of two roots of one place, one is in the other
 comparable : (a b r s : List ℕ) → a ++ slash ∷ r ≡ b ++ slash ∷ s → IsIn a b ⊎ IsIn b a
 comparable [] [] r s e = inl (inl refl)
 comparable [] (y ∷ b) r s e = inr (inr (b, ap (λ c. c ∷ b) (sym (same_head slash y r (b ++ slash ∷ s) e))))
@@ -82,7 +83,7 @@ overlap_of a b (inr h) = ap (λ c. is_under a b || c) (under_so b a h) ∙ or_tr
 pub under_both : (q a b : Place) → is_under q a ≡ true → is_under q b ≡ true → overlaps a b ≡ true
 under_both q a b h g = overlap_of a b (both_in q a b (under_as q a h) (under_as q b g))
 
--- the place of a path beneath a root lies under it
+-- the place of a path strictly under a root lies under it
 pub beneath_under : (place path : Place) → is_under (beneath place path) place ≡ true
 beneath_under place [] = under_so place place (inl refl)
 beneath_under place (c ∷ path) = under_so (place ++ slash ∷ c ∷ path) place (inr (c ∷ path, refl))

@@ -1,4 +1,4 @@
--- The plan of two words: a need with a finalizer, the task behind it, and another task.
+-- The plan of two requested names: a need with a finalizer, the task after it, and another task.
 use Rattle.std.specs.Prelude.{ℕ, zero, suc, ◌≡◌, ◌<◌, ◌↔◌, IsTrue, true, false, [], ◌∷◌, codes, refl, Ok, unwrap_or}
 use Rattle.std.specs.List.{AllByRecursion}
 use Rattle.std.proofs.Common.{arith, sym, ap, subst}
@@ -49,7 +49,7 @@ brought task = record { task = task; word = 0; is_selected = false }
 abbrev pub plan : Plan
 plan = brought bad ∷ brought fin ∷ planned q 0 ∷ planned p 1 ∷ []
 
--- ---- It is the plan of what was asked
+-- ---- It is the plan of the request
 
 reached_q : IsScheduled request (codes ":q")
 reached_q = start refl refl
@@ -123,15 +123,15 @@ is_plan = record {
 pub not_empty : ¬ IsPlan request []
 not_empty other = not_false (ap is_empty (plans_are_one request [] plan other is_plan))
 
--- one that passes the finalizer over
+-- one that leaves out the finalizer
 pub finalizer_is_scheduled : ¬ IsPlan request (brought bad ∷ planned q 0 ∷ planned p 1 ∷ [])
 finalizer_is_scheduled other = not_true ((other.schedule.scheduled (codes ":fin")).1 reached_fin)
 
--- one in which the finalizer stands before the task that it finalizes
+-- one in which the finalizer is before the task that it finalizes
 pub not_turned : ¬ IsPlan request (brought fin ∷ brought bad ∷ planned q 0 ∷ planned p 1 ∷ [])
 not_turned other = not_true other.schedule.in_order
 
--- one in which the second word's task comes first
+-- one in which the second name's task comes first
 pub not_by_path : ¬ IsPlan request (brought bad ∷ brought fin ∷ planned p 1 ∷ planned q 0 ∷ [])
 not_by_path other = not_true other.schedule.in_order
 
@@ -139,7 +139,7 @@ not_by_path other = not_true other.schedule.in_order
 pub not_twice : ¬ IsPlan request (brought bad ∷ brought fin ∷ planned q 0 ∷ planned p 1 ∷ planned p 1 ∷ [])
 not_twice other = not_true other.schedule.once
 
--- one with a task that no word reaches
+-- one with a task that no requested name reaches
 abbrev only_p : Request
 only_p = record { registry = registry; words = codes "p" ∷ []; excluded = [] }
 
@@ -159,6 +159,6 @@ asked_without = refl
 pub excluded_enters_not : (path : Path) → IsScheduled without_bad path → is_scheduled_in (planned q 0 ∷ []) path ≡ true
 excluded_enters_not path r = reached_in (selected without_bad) (brings registry) (leaves_out without_bad) (codes ":q" ∷ []) refl refl r
 
--- the task that needs it stands alone, and is ready
+-- the task that needs it is alone, and is ready
 pub alone_in_order : stands_in_order (planned q 0 ∷ []) [] (planned q 0 ∷ []) ≡ true
 alone_in_order = refl

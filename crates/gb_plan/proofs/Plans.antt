@@ -1,4 +1,4 @@
--- What is asked of a plan, told task by task.
+-- Queries on a plan, task by task.
 use Rattle.std.specs.Prelude.{ℕ, ◌≡◌, ◌<◌, ◌+◌, length, get_or, take, Bool, true, false, cond, ◌&&◌, ◌||◌, List, [], ◌∷◌, ◌++◌, bytes_eq, refl}
 use Rattle.std.specs.List.{list_any, filter, flat_map}
 use Rattle.std.specs.Cmp.Lexicographic.{bytes_decides}
@@ -37,7 +37,7 @@ finalized_is (z ∷ zs) path finalizer =
       | false ↦ ap (λ b. b || list_any (λ (planned : Planned). bytes_eq path planned.task.path && has_path planned.task.finalizers finalizer) zs) (and_false (bytes_eq path z.task.path)) ∙ finalized_is zs path finalizer
     ]
 
--- what a task needs, where the other one stands or does not
+-- what a task needs, where the other one is in the plan or not
 kept : (plan : Plan) (paths : List Path) (other : Path) → has_path (filter (is_scheduled_in plan) paths) other ≡ (is_scheduled_in plan other && has_path paths other)
 kept plan paths other = any-filter_same (bytes_eq other) (is_scheduled_in plan) (is_scheduled_in plan other) (λ k e. ap (is_scheduled_in plan) (sym ((bytes_decides other k).0 e))) paths
 

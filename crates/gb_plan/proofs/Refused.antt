@@ -1,4 +1,4 @@
--- What has a plan is not refused.
+-- A request that has a plan is not refused.
 use Rattle.std.specs.Prelude.{◌≡◌, Bool, true, false, not, ◌&&◌, ◌||◌, List, [], ◌∷◌, ◌++◌, map, bytes_eq, refl, Option, Some, None, Result, Ok, Err, Contains}
 use Rattle.std.specs.List.{list_any, filter, flat_map, AllByRecursion}
 use Rattle.std.specs.Cmp.Lexicographic.{bytes_decides}
@@ -85,7 +85,7 @@ places_of (planned ∷ plan) =
     map-append (λ (output : Path × Place). output.1) (map (λ place. (planned.task.path, place)) (output_places planned.task)) (outputs_of plan)
     ∙ (λ i. places_in planned.task (output_places planned.task) i ++ places_of plan i)
 
--- of places that are apart, one overlaps none of the others
+-- of disjoint places, one overlaps none of the others
 none_meet : (front : List (Path × Place)) (path : Path) (place : Place) (back : List (Path × Place))
     → some_overlap (map (λ (output : Path × Place). output.1) (front ++ (path, place) ∷ back)) ≡ false → list_any (λ (output : Path × Place). overlaps place output.1) (front ++ back) ≡ false
 none_meet [] path place back e =
@@ -145,7 +145,7 @@ none_undeclared plan declared meeting at =
 
 -- ---- Plans
 
--- nothing is wrong with a sound plan of which all tasks get ready
+-- a sound plan in which all tasks become ready has no fault
 pub no_schedule_fault : (plan : Plan) (fault : Fault) → stuck plan [] plan ≡ [] → IsSound plan → ¬ IsScheduleFault plan fault
 no_schedule_fault plan fault ready sound (has_cycle at) = not_false (sym (ap is_empty ready) ∙ at.some_stuck)
 no_schedule_fault plan fault ready sound (has_overlap at) = no_overlap plan sound.outputs_apart at.meeting at.is_least.meets

@@ -83,7 +83,7 @@ at_declared P (entry ∷ tasks) all path task e =
       | Greater ↦ λ _ e. at_declared P tasks all.1 path task e
     ] refl e
 
--- each task of a schedule is declared as the registry asks
+-- each task of a schedule is declared as the registry requires
 pub planned_declared : (request : Request) (plan : Plan) → IsRegistry request.registry → IsSchedule request plan
     → AllByRecursion (λ (planned : Planned). IsDeclared request.registry planned.task.path planned.task) plan
 planned_declared request plan registry schedule =

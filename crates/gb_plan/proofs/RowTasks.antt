@@ -73,7 +73,7 @@ reads_x needs must_run_after = b (codes "build/x") (to_file (codes "build/y")) n
 abbrev pub two : TaskDeclaration → Plan
 two second = planned a 0 ∷ planned second 1 ∷ []
 
--- ---- A need with a finalizer, the task behind it, and another task
+-- ---- A need with a finalizer, the task after it, and another task
 
 abbrev pub p : TaskDeclaration
 p = plain (codes ":p") (action (codes "printLine") (codes "p") ∷ []) [] []

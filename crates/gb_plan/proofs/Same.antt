@@ -1,4 +1,4 @@
--- Of what was asked there is one schedule in which all tasks get ready, and so one plan.
+-- A request has one schedule in which all tasks become ready, and so one plan.
 use Rattle.std.specs.Prelude.{ℕ, ◌≡◌, ◌⊎◌, ◌==◌, Bool, true, false, not, cond, ◌&&◌, ◌||◌, List, [], ◌∷◌, ◌++◌, bytes_eq, nat_lt, refl, Option, Some, None, Result, Ok, Err}
 use Rattle.std.specs.List.{list_all, filter, flat_map, AllByRecursion}
 use Rattle.std.specs.Ordering.{is_lt, ordering_reverse}
@@ -29,7 +29,7 @@ at_in P [] x all i = absurd i
 at_in P (y ∷ ys) x all (inl e) = subst P (sym e) all.0
 at_in P (y ∷ ys) x all (inr i) = at_in P ys x all.1 i
 
--- of a path that passing tasks have, one that passes
+-- for a path that passing tasks have, a task that passes
 pub found : (test : Planned → Bool) (plan : List Planned) (path : Path) → has_path (order (filter test plan)) path ≡ true
     → (z : Planned) × In z plan × (test z ≡ true) × (z.task.path ≡ path)
 found test [] path h = not_true h
@@ -57,7 +57,7 @@ keep_all : {X : Type 0} (xs : List X) → filter (λ x. true) xs ≡ xs
 keep_all [] = refl
 keep_all (x ∷ xs) = ap (λ ys. x ∷ ys) (keep_all xs)
 
--- of a path that the plan has, the task
+-- for a path that the plan has, the task
 pub planned_at : (plan : List Planned) (path : Path) → has_path (order plan) path ≡ true → (z : Planned) × In z plan × (z.task.path ≡ path)
 planned_at plan path h =
     let at = found (λ _. true) plan path (ap (λ zs. has_path (order zs) path) (keep_all plan) ∙ h) in (at.0, at.1, at.3)
@@ -131,7 +131,7 @@ same_planned request p q of_p of_q a b in_p in_q e =
 pub same_paths : (request : Request) (p q : Plan) → IsSchedule request p → IsSchedule request q → (path : Path) → is_scheduled_in p path ≡ true → is_scheduled_in q path ≡ true
 same_paths request p q of_p of_q path h = (of_q.scheduled path).1 ((of_p.scheduled path).0 h)
 
--- each task of the one stands in the other
+-- each task of the one is in the other
 pub same_tasks : (request : Request) (p q : Plan) → IsSchedule request p → IsSchedule request q → (z : Planned) → In z p → In z q
 same_tasks request p q of_p of_q z i =
     let at = planned_at q z.task.path (same_paths request p q of_p of_q z.task.path (path_of_in p z i)) in
@@ -169,7 +169,7 @@ same_after request p q of_p of_q task path h =
         subst (λ x. has_path (finalized_by q task.path) x ≡ true) at.3
         (finds (λ (z : Planned). has_path z.task.finalizers task.path) q at.0 (same_tasks request p q of_p of_q at.0 at.1) at.2)
 
--- and so is ready as soon
+-- and so becomes ready at the same point
 pub same_ready : (request : Request) (p q : Plan) → IsSchedule request p → IsSchedule request q → (standing : List Path) (task : TaskDeclaration)
     → is_ready p standing task ≡ true → is_ready q standing task ≡ true
 same_ready request p q of_p of_q standing task h =
@@ -206,7 +206,7 @@ rest_in_order plan standing next rest ready in_order =
     (sym (ap (λ b. cond b (list_all (λ o. precedes next o || not (is_ready plan standing o.task)) rest && stands_in_order plan (standing ++ next.task.path ∷ []) rest)
     (list_all (λ o. not (is_ready plan standing o.task)) rest)) ready) ∙ in_order)
 
--- of the same tasks without the next one, which stands once
+-- the same tasks without the next one, which occurs once
 rest_has : (x : Planned) (xs ys : List Planned) → no_repeats (order (x ∷ xs)) ≡ true → ((z : Planned) → In z (x ∷ xs) → In z (x ∷ ys)) → (z : Planned) → In z xs → In z ys
 rest_has x xs ys once within z i = elim (within z (inr i)) [
   | inl e ↦ absurd (not_true (sym (no_longer (has_path (order xs) x.task.path) (left_of _ _ once)) ∙ ap (has_path (order xs)) (ap (λ (y : Planned). y.task.path) (sym e)) ∙ path_of_in xs z i))
@@ -241,7 +241,7 @@ module _ (request : Request) (p q : Plan) (of_p : IsSchedule request p) (of_q : 
       (rest_has x xs ys p_once within) (rest_has x ys xs q_once back)))
       q_order q_once within back
 
-  -- a schedule of which all tasks get ready is the only one of the request
+  -- a schedule in which all tasks become ready is the only one of the request
   pub schedules_are_one : stuck p [] p ≡ [] → p ≡ q
   schedules_are_one ready =
       one_order [] p q ready of_p.in_order of_q.in_order of_p.once of_q.once
@@ -257,7 +257,7 @@ module _ (request : Request) (p q : Plan) (of_p : IsSchedule request p) (of_q : 
       (sym (ap (λ b. cond b (list_all (λ o. precedes next o || not (is_ready plan standing o.task)) rest && stands_in_order plan (standing ++ next.task.path ∷ []) rest)
       (list_all (λ o. not (is_ready plan standing o.task)) rest)) unready) ∙ in_order)) i)
 
-  -- what never gets ready in the one schedule, never does in the other
+  -- what never becomes ready in the one schedule, never does in the other
   stuck_within : (standing : List Path) (xs ys : List Planned) → stands_in_order p standing xs ≡ true → stands_in_order q standing ys ≡ true
       → no_repeats (order xs) ≡ true → no_repeats (order ys) ≡ true → ((z : Planned) → In z xs → In z ys) → ((z : Planned) → In z ys → In z xs)
       → (z : Planned) → In z (stuck p standing xs) → In z (stuck q standing ys)

@@ -109,7 +109,7 @@ pub each_of_all : {X : Type 0} (p : X → Bool) (xs : List X) → list_all p xs 
 each_of_all p [] h = tt
 each_of_all p (x ∷ xs) h = (left_of (p x) (list_all p xs) h, each_of_all p xs (right_of (p x) (list_all p xs) h))
 
--- what passes of each, passes of one that the list has
+-- what passes for each, passes for one that the list has
 pub at_member : (test : Path → Bool) (set : List Path) (path : Path) → list_all test set ≡ true → has_path set path ≡ true → test path ≡ true
 at_member test set path all h = at_each (λ p. test p ≡ true) set path (each_of_all test set all) h
 
@@ -131,7 +131,7 @@ in_filter test (x ∷ xs) p h =
       | false ↦ λ _ h. (or_right (bytes_eq p x) (has_path xs p) (in_filter test xs p h).0, (in_filter test xs p h).1)
     ] refl h
 
--- what the list has and passes, is had of those that pass
+-- what the list has and passes is among those that pass
 pub into_filter : (test : Path → Bool) (xs : List Path) (p : Path) → has_path xs p ≡ true → test p ≡ true → has_path (filter test xs) p ≡ true
 into_filter test [] p h t = not_true h
 into_filter test (x ∷ xs) p h t =

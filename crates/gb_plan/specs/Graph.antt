@@ -1,4 +1,4 @@
--- The plan of what was asked: which tasks are scheduled, and in which order they stand.
+-- The plan of a request: which tasks are scheduled, and in which order they run.
 pub use Rattle.gb_core.specs.Lists.{no_repeats}
 use Rattle.std.specs.Prelude.{ℕ, ◌≡◌, ◌<◌, Bool, true, false, not, ◌&&◌, ◌||◌, ◌==◌, ◌↔◌, List, [], ◌∷◌, ◌++◌}
 use Rattle.std.specs.Prelude.{map, if◌then◌else◌, bytes_eq, nat_lt, nat_eq, codes, Option, Some, None, Result}
@@ -33,7 +33,7 @@ paths_of registry = map (λ entry. entry.0) registry.tasks
 abbrev pub declaration_at : Registry → Path → Option (Result TaskDeclaration Fault)
 declaration_at registry path = find byte_order path registry.tasks
 
--- the names behind the colons
+-- the names after the colons
 abbrev pub names_of : Path → List Text
 names_of path = filter (λ name. not (is_empty name)) (slice_split (λ byte. byte == 58) path)
 
@@ -41,8 +41,9 @@ names_of path = filter (λ name. not (is_empty name)) (slice_split (λ byte. byt
 abbrev pub build_folder : Path → Place
 build_folder path = join_by (λ name. name) (codes "/") (names_of path ++ codes "build" ∷ [])
 
--- A task declared under a path: the path is its own, its project is registered and so is what it brings, and
--- its outputs are those of actions and lie beneath the build folder of its project.
+-- A task declared under a path: the path is its own, its project is registered and so are the tasks that it
+-- needs and its finalizers. It has outputs only with actions, and they lie under the build folder of its
+-- project.
 pub record IsDeclared (registry : Registry) (path : Path) (task : TaskDeclaration) : Type 0 where
   pub own_path : task.path ≡ path
   pub in_project : IsTrue (has_path registry.projects (project_of path))
@@ -51,25 +52,25 @@ pub record IsDeclared (registry : Registry) (path : Path) (task : TaskDeclaratio
   pub in_build_folder :
       IsTrue (list_all (λ place. is_beneath place (build_folder (project_of path))) (output_places task))
 
--- what scripts register: each path once, and each declaration in order
+-- what scripts register: each path once, and each declaration as `IsDeclared` requires
 pub record IsRegistry (registry : Registry) : Type 0 where
   pub once : no_repeats (paths_of registry) ≡ true
   pub declared : AllByRecursion (λ entry. IfOk entry.1 (IsDeclared registry entry.0)) registry.tasks
 
--- ---- Words
+-- ---- Requested names
 
--- the word with a colon in front
+-- the name with a colon in front
 abbrev pub absolute : Text → Path
 absolute word = if starts_with nat_eq word (codes ":") then word else codes ":" ++ word
 
--- A word without a colon selects all tasks of that name, one with a colon the task at that path.
+-- A name without a colon selects all tasks of that name, one with a colon the task at that path.
 abbrev pub selected_by : Registry → Text → List Path
 selected_by registry word =
     with_tasks []
     (if list_any (λ byte. byte == 58) word then filter (bytes_eq (absolute word)) (paths_of registry)
     else filter (λ path. bytes_eq (task_name path) word) (paths_of registry))
 
--- the words that count: those given, or else the default tasks
+-- the requested names: those given, or else the default tasks
 abbrev pub words_of : Registry → List Text → List Text
 words_of registry [] = registry.default_tasks
 words_of registry (word ∷ words) = word ∷ words
@@ -77,7 +78,7 @@ words_of registry (word ∷ words) = word ∷ words
 -- ---- Which tasks are scheduled
 
 -- What is reached from the starts by steps, without what is shut: the least set that holds the open starts
--- and is closed under open steps.
+-- and is closed under open steps. Open means: not shut.
 pub data Reached (starts : List Path) (steps : Path → List Path) (shut : Path → Bool) : Path → Type 0 where
   start : {path : Path} → IsTrue (has_path starts path) → shut path ≡ false → Reached starts steps shut path
   step : {from : Path} {path : Path} → Reached starts steps shut from → IsTrue (has_path (steps from) path)
@@ -93,7 +94,7 @@ brought_by None = []
 abbrev pub brings : Registry → Path → List Path
 brings registry path = with_tasks [] (brought_by (declaration_at registry path))
 
--- What was asked: the registry, the words that count, and the tasks that `-x` leaves out.
+-- A request: the registry, the requested names, and the tasks that `-x` leaves out.
 pub record Request : Type 0 where
   pub registry : Registry
   pub words : List Text
@@ -102,21 +103,21 @@ pub record Request : Type 0 where
 abbrev pub leaves_out : Request → Path → Bool
 leaves_out request path = has_path request.excluded path
 
--- what the words select, word by word
+-- what the requested names select, name by name
 abbrev pub selected : Request → List Path
 selected request = flat_map (selected_by request.registry) request.words
 
--- selected tasks, what they need and what finalizes them, again and again; no task that is left out
+-- the selected tasks, what they need and what finalizes them, transitively; no task that is left out
 abbrev pub IsScheduled : Request → Path → Type 0
 IsScheduled request path = Reached (selected request) (brings request.registry) (leaves_out request) path
 
--- the word of this index reaches the task through scheduled tasks
+-- the requested name of this index reaches the task through scheduled tasks
 abbrev pub WordReaches : Request → ℕ → Path → Type 0
 WordReaches request index path =
     (word : Text) × (slice_get request.words index ≡ Some word)
     × Reached (selected_by request.registry word) (brings request.registry) (leaves_out request) path
 
--- the first word that reaches it has this index
+-- the first requested name that reaches it has this index
 pub record IsFirstWord (request : Request) (path : Path) (index : ℕ) : Type 0 where
   pub reaches : WordReaches request index path
   pub none_before : (i : ℕ) → i < index → ¬ WordReaches request i path
@@ -133,7 +134,7 @@ order plan = map (λ planned. planned.task.path) plan
 abbrev pub is_scheduled_in : Plan → Path → Bool
 is_scheduled_in plan path = has_path (order plan) path
 
--- the tasks that a task needs, cut to the scheduled ones
+-- the tasks that a task needs, restricted to the scheduled ones
 abbrev pub needs_in : Plan → TaskDeclaration → List Path
 needs_in plan task = filter (is_scheduled_in plan) task.needs
 
@@ -141,7 +142,7 @@ needs_in plan task = filter (is_scheduled_in plan) task.needs
 abbrev pub finalized_by : Plan → Path → List Path
 finalized_by plan path = order (filter (λ planned. has_path planned.task.finalizers path) plan)
 
--- the tasks that a task must run after, cut to the scheduled ones
+-- the tasks that a task must run after, restricted to the scheduled ones
 abbrev pub orders_in : Plan → TaskDeclaration → List Path
 orders_in plan task = filter (is_scheduled_in plan) task.must_run_after
 
@@ -149,15 +150,15 @@ orders_in plan task = filter (is_scheduled_in plan) task.must_run_after
 abbrev pub after : Plan → TaskDeclaration → List Path
 after plan task = needs_in plan task ++ finalized_by plan task.path ++ orders_in plan task
 
--- all that a task comes after stands already
+-- all tasks that this one comes after are placed already
 abbrev pub is_ready : Plan → List Path → TaskDeclaration → Bool
 is_ready plan standing task = list_all (has_path standing) (after plan task)
 
--- by the index of the first word that reaches it, then by path
+-- by the index of the first requested name that reaches it, then by path
 abbrev pub precedes : Planned → Planned → Bool
 precedes a b = nat_lt a.word b.word || ((a.word == b.word) && is_lt (byte_order a.task.path b.task.path))
 
--- In order, as far as any task is ready: each is the least of the ready ones that do not stand yet.
+-- In order while some task is ready: each task is the least of the ready ones that are not placed yet.
 abbrev pub stands_in_order : Plan → List Path → List Planned → Bool
 stands_in_order plan standing [] = true
 stands_in_order plan standing (next ∷ rest) =
@@ -166,7 +167,7 @@ stands_in_order plan standing (next ∷ rest) =
     && stands_in_order plan (standing ++ next.task.path ∷ []) rest
     else list_all (λ other. not (is_ready plan standing other.task)) rest
 
--- the tasks that never get ready
+-- the tasks that never become ready
 abbrev pub stuck : Plan → List Path → List Planned → List Planned
 stuck plan standing [] = []
 stuck plan standing (next ∷ rest) =
@@ -177,7 +178,7 @@ stuck plan standing (next ∷ rest) =
 abbrev pub IsRegistered : Registry → TaskDeclaration → Type 0
 IsRegistered registry task = declaration_at registry task.path ≡ Some (Ok task)
 
--- The scheduled tasks of what was asked, in their order as far as there is one.
+-- The scheduled tasks of a request, in their order while some task is ready.
 pub record IsSchedule (request : Request) (plan : Plan) : Type 0 where
   pub scheduled : (path : Path) → IsTrue (is_scheduled_in plan path) ↔ IsScheduled request path
   pub declared : AllByRecursion (λ planned. IsRegistered request.registry planned.task) plan
@@ -219,12 +220,12 @@ pub record IsSound (plan : Plan) : Type 0 where
   pub outputs_apart : some_overlap (flat_map (λ planned. output_places planned.task) plan) ≡ false
   -- no task reads its own output
   pub inputs_apart : AllByRecursion (λ planned. reads_output_of planned.task planned.task ≡ false) plan
-  -- who reads an output comes after its task
+  -- a task that reads an output comes after the output's task
   pub declared :
       AllByRecursion
       (λ reader. AllByRecursion (λ writer. IsReadInOrder plan reader.task writer.task) plan) plan
 
--- the plan of what was asked: all scheduled tasks stand in it in order, and it is sound
+-- the plan of a request: it has all scheduled tasks, in order, and it is sound
 pub record IsPlan (request : Request) (plan : Plan) : Type 0 where
   pub schedule : IsSchedule request plan
   pub all_ready : stuck plan [] plan ≡ []

@@ -1,4 +1,4 @@
--- What is asked of a plan: which tasks it has, and what they need and finalize.
+-- Queries on a plan: which tasks it has, and what they need and finalize.
 use Rattle.std.specs.Prelude.{◌≡◌, ◌&&◌, Bool, List, map, bytes_eq, Contains}
 use Rattle.std.specs.List.{list_any, flat_map, filter}
 use Rattle.gb_plan.specs.declared.task.TaskDeclaration.{TaskDeclaration}
@@ -10,7 +10,7 @@ abbrev pub is_selected_in : Plan → Path → Bool
 is_selected_in plan path =
     list_any (λ planned. bytes_eq planned.task.path path && planned.is_selected) plan
 
--- what the tasks at a path need, cut to the scheduled ones
+-- what the tasks at a path need, restricted to the scheduled ones
 abbrev pub needs_at : Plan → Path → List Path
 needs_at plan path =
     flat_map (λ planned. needs_in plan planned.task)

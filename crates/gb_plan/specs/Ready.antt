@@ -1,4 +1,4 @@
--- A declared task is ready for a table of stored actions where each of its actions can be asked.
+-- A declared task is ready for a table of stored actions where each of its actions can be invoked.
 use Rattle.std.specs.Prelude.{ℕ, ◌≡◌, List, Some}
 use Rattle.std.specs.List.{AllByRecursion}
 use Rattle.std.specs.FinMap.Entries.{find}
@@ -15,7 +15,7 @@ abbrev pub Rows : Type 0 → Type 0
 Rows S = List (List ℕ × S)
 
 module _ {S : Type 0} (meanings : Meanings S) (rows : Rows S) where
-  -- An action of the name and the version is stored, and takes what it is given, by a task with these files
+  -- An action of the name and the version is stored, and accepts its arguments, for a task with these files
   -- and outputs.
   pub record IsReadyAction (task : TaskDeclaration) (action : Action) : Type 0 where
     pub stored : S
@@ -24,6 +24,6 @@ module _ {S : Type 0} (meanings : Meanings S) (rows : Rows S) where
     pub fits :
         fit (shape_of meanings stored) action.args (seen_files task.files) (seen_outputs task.outputs) ≡ Yes
 
-  -- each action of the task can be asked
+  -- each action of the task can be invoked
   abbrev pub IsReady : TaskDeclaration → Type 0
   IsReady task = AllByRecursion (IsReadyAction task) task.actions

@@ -1,4 +1,4 @@
--- Why what was asked is refused before its first task.
+-- Why a request is refused before its first task.
 use Rattle.std.specs.Prelude.{◌≡◌, Bool, true, false, not, ◌&&◌, ◌==◌, ◌⊎◌, List, [], ◌∷◌, ◌++◌, map}
 use Rattle.std.specs.Prelude.{if◌then◌else◌, bytes_eq, Some, None, Result, Ok, Err, Contains}
 use Rattle.std.specs.List.{list_any, list_all, flat_map, filter}
@@ -16,22 +16,21 @@ use Rattle.gb_plan.specs.Graph.{Registry, declaration_at, Request, Plan, order, 
 use Rattle.gb_plan.specs.Graph.{words_of, brings, leaves_out, selected, IsSchedule, after_at}
 use Rattle.gb_plan.specs.Graph.{stuck, IsAfter, no_repeats}
 
--- ---- Words
+-- ---- Requested names
 
--- the word has a colon, and names a project that there is not
+-- the name has a colon, and names a project that does not exist
 abbrev pub lacks_project : Registry → Text → Bool
 lacks_project registry word =
     list_any (λ byte. byte == 58) word && not (has_path registry.projects (project_of (absolute word)))
 
--- what is wrong with a word: it is no path, its project does not exist, or it selects no task
+-- the faults of a requested name: it is no path, its project does not exist, or it selects no task
 abbrev pub word_faults : Registry → Text → List Fault
 word_faults registry word =
     if not (is_task_path (absolute word)) then faults.BadName word ∷ []
     else if lacks_project registry word then faults.UnknownProject word ∷ []
     else if is_empty (selected_by registry word) then faults.TaskNotFound word ∷ [] else []
 
--- What is asked of a registry, or the first fault of the words: no word at all, then requested words, then
--- excluded ones.
+-- The request, or the first fault of the names: no name at all, then requested names, then excluded ones.
 abbrev pub request_of : Registry → List Text → List Text → Result Request Fault
 request_of registry requested excluded = checked (words_of registry requested)
   where
@@ -53,13 +52,13 @@ request_of registry requested excluded = checked (words_of registry requested)
 abbrev pub open_of : Request → List Path → List Path
 open_of request paths = filter (λ path. not (leaves_out request path)) paths
 
--- what the task at a path brings, and neither is done nor waits
+-- what the task at a path brings, and is neither done nor waiting
 abbrev pub newly_brought : Request → Path → List Path → List Path
 newly_brought request path known =
     filter (λ next. not (has_path known next)) (open_of request (brings request.registry path))
 
--- How far the queue of tasks has come: those that were looked at, and those that wait. It begins with the
--- selected ones; the first that waits is looked at, and what it newly brings waits behind the others.
+-- The states of the queue of tasks: those that are done, and those that wait. It begins with the selected
+-- ones; the first that waits is done next, and what it newly brings is appended to those that wait.
 pub data Queued (request : Request) : List Path → List Path → Type 0 where
   begins : Queued request [] (distinct (open_of request (selected request)))
   goes_on : {done : List Path} {path : Path} {waiting : List Path} {task : TaskDeclaration}
@@ -86,15 +85,15 @@ pub record IsLeastOf (paths : List Path) (path : Path) : Type 0 where
 abbrev pub IsLeastBefore : Plan → List Path → Path → Path → Type 0
 IsLeastBefore plan unplaced path before = IsLeastOf (filter (has_path unplaced) (after_at plan path)) before
 
--- by steps from one task to another, through these: the one, and all between the two
+-- by steps from one task to another, through these: the first, and all between the two
 pub data Leads (steps : Path → Path → Type 0) : Path → List Path → Path → Type 0 where
   is_there : {path : Path} → Leads steps path [] path
   goes : {from : Path} {next : Path} {passed : List Path} {to : Path} → steps from next
       → Leads steps next passed to → Leads steps from (from ∷ passed) to
 
--- The circle into which the way from the least unplaced task leads, each time to the least unplaced task that
--- the last one comes after: from its own least task on, each once. So each comes after the next, and the last
--- after the first.
+-- The cycle that the walk from the least unplaced task reaches. Each step of the walk leads to the least
+-- unplaced task that the last one comes after. The cycle begins at its own least task and has each task once.
+-- So each comes after the next, and the last after the first.
 pub record IsCircle (plan : Plan) (unplaced : List Path) (circle : List Path) : Type 0 where
   pub start : Path
   pub first : Path
@@ -107,7 +106,7 @@ pub record IsCircle (plan : Plan) (unplaced : List Path) (circle : List Path) : 
 
 -- ---- Unsound plans
 
--- Two tasks, and a place at which the first meets the second.
+-- A conflict: two tasks, and a place at which the first overlaps the second.
 pub record Meeting : Type 0 where
   pub task : Path
   pub other : Path
@@ -120,7 +119,7 @@ is_before a b =
     (ordering_then (byte_order a.task b.task)
     (ordering_then (byte_order a.other b.other) (byte_order a.place b.place)))
 
--- it is one of these meetings, and none of them comes before it
+-- it is one of these conflicts, and none of them comes before it
 pub record IsLeastMeeting (Meets : Meeting → Type 0) (meeting : Meeting) : Type 0 where
   pub meets : Meets meeting
   pub least : (other : Meeting) → Meets other → is_before other meeting ≡ false
@@ -165,21 +164,21 @@ pub record IsUndeclared (plan : Plan) (meeting : Meeting) : Type 0 where
 
 -- ---- The refusal
 
--- some tasks never get ready, and the fault tells their circle
+-- some tasks never become ready, and the fault names their cycle
 pub record IsCycleFault (plan : Plan) (fault : Fault) : Type 0 where
   pub some_stuck : is_empty (stuck plan [] plan) ≡ false
   pub circle : List Path
   pub is_circle : IsCircle plan (order (stuck plan [] plan)) circle
   pub told : fault ≡ faults.Cycle circle
 
--- all get ready, and outputs overlap
+-- all become ready, and outputs overlap
 pub record IsOverlapFault (plan : Plan) (fault : Fault) : Type 0 where
   pub all_ready : stuck plan [] plan ≡ []
   pub meeting : Meeting
   pub is_least : IsLeastMeeting (IsOverlap plan) meeting
   pub told : fault ≡ faults.OverlappingOutputs meeting.task meeting.other meeting.place
 
--- all get ready, no outputs overlap, and a task reads its own
+-- all become ready, no outputs overlap, and a task reads its own
 pub record IsOwnInputFault (plan : Plan) (fault : Fault) : Type 0 where
   pub all_ready : stuck plan [] plan ≡ []
   pub outputs_apart : (other : Meeting) → ¬ IsOverlap plan other
@@ -187,8 +186,8 @@ pub record IsOwnInputFault (plan : Plan) (fault : Fault) : Type 0 where
   pub is_least : IsLeastMeeting (IsOwnInput plan) meeting
   pub told : fault ≡ faults.OwnOutputAsInput meeting.task meeting.place
 
--- all get ready, no outputs overlap, none is read by its own task, and a task reads another's that it does
--- not come after
+-- all become ready, no outputs overlap, none is read by its own task, and a task reads another's that it
+-- does not come after
 pub record IsUndeclaredFault (plan : Plan) (fault : Fault) : Type 0 where
   pub all_ready : stuck plan [] plan ≡ []
   pub outputs_apart : (other : Meeting) → ¬ IsOverlap plan other
@@ -197,14 +196,14 @@ pub record IsUndeclaredFault (plan : Plan) (fault : Fault) : Type 0 where
   pub is_least : IsLeastMeeting (IsUndeclared plan) meeting
   pub told : fault ≡ faults.UndeclaredDependency meeting.task meeting.other meeting.place
 
--- what is wrong with a schedule of tasks that are declared
+-- the fault of a schedule of tasks that are declared
 pub data IsScheduleFault (plan : Plan) (fault : Fault) : Type 0 where
   has_cycle : IsCycleFault plan fault → IsScheduleFault plan fault
   has_overlap : IsOverlapFault plan fault → IsScheduleFault plan fault
   has_own_input : IsOwnInputFault plan fault → IsScheduleFault plan fault
   is_undeclared : IsUndeclaredFault plan fault → IsScheduleFault plan fault
 
--- What was asked is refused with this fault: of the first task at fault, or where none is, of the schedule.
+-- The request is refused with this fault: that of the first task at fault, or without one, of the schedule.
 abbrev pub IsRefused : Request → Fault → Type 0
 IsRefused request fault =
     IsTaskFault request fault ⊎ ((plan : Plan) × IsSchedule request plan × IsScheduleFault plan fault)

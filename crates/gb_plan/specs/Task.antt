@@ -1,4 +1,4 @@
--- What the parts of a declared task are called: its places, and what actions see of it.
+-- Terms for the parts of a declared task: its places, and what actions are given of it.
 pub use Rattle.gb_core.specs.Lists.{has_text as has_path}
 use Rattle.std.specs.Prelude.{ℕ, ◌≡◌, Bool, true, false, List, [], map}
 use Rattle.std.specs.List.{list_any, flat_map}
@@ -23,15 +23,15 @@ roots_of task = flat_map (λ property. property.roots) task.files
 abbrev pub output_places : TaskDeclaration → List Place
 output_places task = map (λ output. output.place) task.outputs
 
--- the place lies at or beneath an output of the task
+-- the place lies at or under an output of the task
 abbrev pub is_output_of : TaskDeclaration → Place → Bool
 is_output_of task place = list_any (λ output. is_under place output.place) task.outputs
 
--- the names of file properties, as actions see them
+-- the names of file properties, as actions are given them
 abbrev pub seen_files : List FileProperty → List (List ℕ)
 seen_files files = map (λ property. property.name) files
 
--- the names and forms of outputs, as actions see them
+-- the names and forms of outputs, as actions are given them
 abbrev pub seen_outputs : List Output → List (List ℕ × Form)
 seen_outputs outputs = map (λ output. (output.name, output.form)) outputs
 

@@ -1,4 +1,4 @@
-//! What a build is asked to run: tasks with all their expressions evaluated, and the plan of their order.
+//! What a build runs: tasks with all their expressions evaluated, and the plan of their order.
 #![tactic(auto)]
 
 pub mod laws;

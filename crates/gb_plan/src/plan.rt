@@ -60,8 +60,8 @@ impl Plan {
         self.tasks.as_slice()
     }
 
-    /// What the task at a path declares, if it is scheduled. Like all that follow, it looks through the
-    /// tasks, and takes no memory.
+    /// What the task at a path declares, if it is scheduled. Like all functions that follow, it
+    /// scans the tasks, and takes no memory.
     pub fn declaration(&self, path: &TaskPath) -> Option<&TaskDeclaration>
         ensures { MatchOption result (is_scheduled_in self.now path.now ≡ false)
             (λ task. IsDeclarationIn self.now path.now task.now) }
@@ -95,7 +95,7 @@ impl Plan {
         stands(self.as_slice(), other) && names(self.as_slice(), path, other)
     }
 
-    /// Whether the one task finalizes the other.
+    /// Whether the first task finalizes the second.
     pub fn is_finalizer_of(&self, finalizer: &TaskPath, task: &TaskPath) -> bool
         ensures { result ≡ has_path (finalized_by self.now finalizer.now) task.now }
     {
@@ -116,7 +116,7 @@ fn stands(tasks: &[Planned], path: &TaskPath) -> bool
     tasks.iter().any(|planned| *path == planned.task.path)
 }
 
-/// Whether the task at a path names another that it needs.
+/// Whether the task at a path lists the other one as needed.
 fn names(tasks: &[Planned], path: &TaskPath, other: &TaskPath) -> bool
     ensures { result ≡ list_any (λ planned.
         bytes_eq planned.task.path path.now && has_path planned.task.needs other.now) tasks.now }
@@ -124,7 +124,7 @@ fn names(tasks: &[Planned], path: &TaskPath, other: &TaskPath) -> bool
     tasks.iter().any(|planned| planned.task.path == *path && has_path(&planned.task.needs, other))
 }
 
-/// Whether a task is one of these, and names the other as what finalizes it.
+/// Whether a task is one of these, and lists the other as its finalizer.
 fn is_finalized(tasks: &[Planned], path: &TaskPath, finalizer: &TaskPath) -> bool
     ensures { result ≡ list_any (λ planned.
         bytes_eq path.now planned.task.path && has_path planned.task.finalizers finalizer.now) tasks.now }

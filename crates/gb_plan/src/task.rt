@@ -10,56 +10,56 @@ use gb_core::tasks::TaskPaths;
 use gb_tree::pattern::Pattern;
 use gb_tree::property::Naming;
 
-/// Places in a row.
+/// A list of places.
 pub type Places = Row<Place>;
 
-/// Patterns in a row.
+/// A list of patterns.
 pub type Patterns = Row<Pattern>;
 
-/// Files that a task reads: those beneath the roots that the patterns let in.
+/// Files that a task reads: those under the roots that the patterns let in.
 #[derive(Drop)]
 pub struct FileProperty {
     /// The name under which the actions read it.
     pub name: Name,
-    /// Whether actions hear what changed in it since the last run.
+    /// Whether actions are given what changed in it since the last run.
     pub incremental: bool,
     /// Whether the task has nothing to do where it has no file.
     pub skip_when_empty: bool,
-    /// Which path a file has in it.
+    /// How a file is named in it.
     pub naming: Naming,
     /// The places at which it looks for files, at least one.
     pub roots: Places,
     /// The patterns that let files in; where there is none, all are in.
     pub include: Patterns,
-    /// The patterns that keep files out, whatever lets them in.
+    /// The patterns that keep files out, also where another pattern lets them in.
     pub exclude: Patterns,
 }
 
 /// File properties in the order of their names.
 pub type FileProperties = Row<FileProperty>;
 
-/// A file, or all files beneath a place, that a task makes.
+/// A file, or all files under a place, that a task makes.
 #[derive(Drop)]
 pub struct Output {
     /// The name under which the actions write it.
     pub name: Name,
-    /// One file, or all files beneath its place.
+    /// One file, or all files under its place.
     pub form: Form,
-    /// Where it is made: beneath the build folder of its project.
+    /// Where it is made: under the build folder of its project.
     pub place: Place,
 }
 
 /// Outputs in the order of their names.
 pub type Outputs = Row<Output>;
 
-/// An action of a task: the name of its kind, the version of what is stored under it, and what it is given.
+/// An action of a task: the name of its kind, the version of the stored kind, and its arguments.
 #[derive(Drop)]
 pub struct Action {
-    /// The name by which the table of actions has it.
+    /// Its name in the table of actions.
     pub kind: Name,
-    /// It rises where the kind comes to make something else; at least 1.
+    /// The version. It grows when the kind starts to make something else; at least 1.
     pub version: u32,
-    /// What a script gives it, evaluated.
+    /// The arguments that a script gives it, evaluated.
     pub args: Arguments,
 }
 
@@ -68,7 +68,7 @@ pub struct Action {
 pub struct TaskDeclaration {
     /// The path of the task, which no other task has.
     pub path: TaskPath,
-    /// Neither is `enabled` false nor a test of `onlyIf`.
+    /// Neither `enabled` nor any test of `onlyIf` is false.
     pub runs: bool,
     /// A test of `upToDateWhen` is false.
     pub is_stale: bool,
@@ -78,12 +78,12 @@ pub struct TaskDeclaration {
     pub files: FileProperties,
     /// What it makes.
     pub outputs: Outputs,
-    /// In the order in which they act.
+    /// In the order in which they run.
     pub actions: ActionList<Action>,
     /// The tasks that it depends on, and those that produce what it reads.
     pub needs: TaskPaths,
-    /// Tasks that it comes after where they are in the plan too.
+    /// Tasks that run before it where they are in the plan too.
     pub must_run_after: TaskPaths,
-    /// Tasks that come after it, and are in each plan that it is in.
+    /// Tasks that run after it, and are in each plan that it is in.
     pub finalizers: TaskPaths,
 }

@@ -1,4 +1,4 @@
--- A report's text is its parts, and then the rest.
+-- The text of a report is its parts, and then the rest.
 use Rattle.std.proofs.Common.{◌≤◌, arith, length-append, ◌≡◌, ◌++◌, ℕ, Bool, true, false, cond, List, [], length, drop, ap, refl, ◌∙◌, append_assoc}
 use Rattle.std.proofs.Math.Seq.{drop-append_seam}
 use Rattle.std.specs.List.{flat_map}
@@ -7,7 +7,7 @@ use Rattle.gb_report.specs.Report.{dry_text, failure_text, refusal_text, report_
 use Rattle.gb_report.specs.declared.report.Report.{Report}
 use Rattle.gb_printer.specs.Printing.{parts_text, rest_text}
 
--- five texts, one behind another
+-- five texts, one after another
 five : (a b c d e : List ℕ) → ((((a ++ b) ++ c) ++ d) ++ e) ≡ a ++ (((b ++ c) ++ d) ++ e)
 five a b c d e =
     ap (λ (l : List ℕ). (l ++ d) ++ e) (append_assoc a b c)

@@ -1,4 +1,4 @@
--- Texts printed one behind another.
+-- Texts printed one after another.
 use Rattle.std.proofs.Common.{◌≡◌, ◌++◌, ℕ, Bool, true, false, List, [], refl, sym, ap, ◌∙◌, append_assoc, append-nil, subst}
 use Rattle.std.specs.Prelude.{Option}
 use Rattle.std.specs.Io.KnownBytes.{Appends, Keeps}
@@ -9,7 +9,7 @@ differ : false ≡ true → ⊥
 differ e = cc
 
 module _ {P : Type 0} (contents : P → Option (List ℕ)) (whole : P → Bool) where
-  -- nothing is printed of no text
+  -- an empty text prints nothing
   pub prints_nothing : (p : P) → Prints contents whole [] p p
   prints_nothing p = record {
     done = [];
@@ -31,7 +31,7 @@ module _ {P : Type 0} (contents : P → Option (List ℕ)) (whole : P → Bool) 
     no_more = λ _. refl;
   }
 
-  -- what is held back is let go, or cannot be
+  -- buffered text is flushed, or cannot be
   pub prints_flushed : (text : List ℕ) (old mid new : P) → Prints contents whole text old mid → Keeps (contents mid) (contents new) → (whole new ≡ true → whole mid ≡ true) → Prints contents whole text old new
   prints_flushed text old mid new a kept whole_before = record {
     done = a.done;
@@ -54,7 +54,7 @@ module _ {P : Type 0} (contents : P → Option (List ℕ)) (whole : P → Bool) 
       ap (λ (t : List ℕ). t ++ later) (is ∙ ap (λ (t : List ℕ). d ++ t) none ∙ append-nil d)
       ∙ ap (λ (t : List ℕ). d ++ t) then ∙ sym (append_assoc d e r)
 
-  -- a text and then another are both, one behind the other
+  -- a text and then another are both, one after the other
   pub prints_more : (first later : List ℕ) (old mid new : P) → Prints contents whole first old mid → Prints contents whole later mid new → Prints contents whole (first ++ later) old new
   prints_more first later old mid new a b =
       let both = Appends-trans (contents old) (contents mid) (contents new) a.done b.done a.appends b.appends in
@@ -77,7 +77,7 @@ module _ {P : Type 0} (contents : P → Option (List ℕ)) (whole : P → Bool) 
         }
       ] refl
 
-  -- where all that was given is printed, all of the text is
+  -- if everything that was given is printed, all of the text is
   pub all_printed : (text : List ℕ) (old new : P) → Prints contents whole text old new → whole new ≡ true → Appends (contents old) (contents new) text
   all_printed text old new a e =
       subst (λ (t : List ℕ). Appends (contents old) (contents new) t)

@@ -6,16 +6,17 @@ use gb_report::report::TaskReport;
 use std::alloc::Global;
 use std::mem;
 
-/// A printer that does not drop what a build needs no more. To drop all values of a large build takes a
-/// twentieth of its time, and the system takes the memory of a process back anyway. Only a program that ends
-/// after the build may use it: elsewhere each build would leak its plan, its records and its tasks.
+/// A printer that does not drop the values that a build no longer needs. Dropping all values of a
+/// large build takes a twentieth of its time, and the system reclaims the memory of a process
+/// anyway. Only a program that ends after the build may use it: elsewhere each build would leak its
+/// plan, its records and its tasks.
 #[derive(Drop)]
 pub struct Last<P> {
     printer: P,
 }
 
 impl<P> Last<P> {
-    /// Prints by this printer.
+    /// Prints with this printer.
     pub fn new(printer: P) -> Last<P>
         ensures { result.printer ≡ printer }
     {

@@ -1,7 +1,9 @@
-//! Who prints what becomes of a build, while it goes.
+//! Printers, which print the result of a build while it runs.
 //!
-//! What is printed of a report is the parts of its tasks and then the rest: a part as soon as the turn of
-//! its task has ended, the rest once the report is whole. A printer also says what becomes of values that a
+//! The printed text of a report is the parts of its tasks and then the rest: a part as soon as the
+//! execution of its task has ended, the rest once the report is complete. A printer also decides
+//! what happens to values that a build no longer needs: [`last::Last`], for a program that ends
+//! after the build, does not drop them.
 //! build needs no more: [`last::Last`], for a program that ends after the build, does not drop them.
 #![tactic(auto)]
 

@@ -10,7 +10,7 @@ use gb_report::report::{Outcome, TaskReport};
 use std::alloc::Global;
 use std::io::{ErrorKind, Write};
 
-/// What is written to a writer, up to the first text that it does not take.
+/// What is written to a writer, up to the first text that it does not accept.
 #[derive(Drop)]
 pub struct Page<W: Write + Drop> {
     writer: W,
@@ -18,7 +18,7 @@ pub struct Page<W: Write + Drop> {
 }
 
 impl<W: Write + Drop> Page<W> {
-    /// Nothing was written yet.
+    /// Nothing is written yet.
     pub fn new(writer: W) -> Page<W>
         ensures writer { result.writer ≡ writer }
         ensures whole { result.is_whole ≡ true }
@@ -29,7 +29,7 @@ impl<W: Write + Drop> Page<W> {
         }
     }
 
-    /// The writer. What it holds back is not flushed.
+    /// The writer. Text that it buffers is not flushed.
     pub fn into_writer(self) -> W
         ensures { result ≡ self.writer }
     {
@@ -70,7 +70,7 @@ impl<W: Write + Drop> Page<W> {
     }
 }
 
-/// Writes all of a text, or a beginning of it: whether it was all.
+/// Writes all of a text, or a beginning of it. Returns whether it was all.
 fn write<W: Write>(writer: &mut W, text: &[u8]) -> bool
     ensures { (done : List ℕ) × (left : List ℕ) × (text.now ≡ done ++ left)
         × Appends (W.contents writer.old) (W.contents writer.new) done
@@ -91,7 +91,7 @@ fn write<W: Write>(writer: &mut W, text: &[u8]) -> bool
     false
 }
 
-/// Whether a turn with this outcome may have taken long.
+/// Whether a task execution with this outcome may have taken long.
 fn may_be_long(outcome: &Outcome) -> bool {
     matches!(outcome, Outcome::Executed | Outcome::Failed(_))
 }

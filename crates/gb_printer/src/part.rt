@@ -1,4 +1,4 @@
-//! The text of a report in its parts.
+//! The parts of the text of a report.
 ghost use Rattle.std.specs.Prelude.{◌≡◌, IfOk};
 ghost use Rattle.gb_report.specs.Report.{task_text};
 ghost use Rattle.gb_printer.specs.Printing.{parts_text, rest_text};
@@ -8,7 +8,7 @@ use gb_report::report::{Report, TaskReport};
 use std::alloc::{AllocError, Global};
 use std::fmt::Write;
 
-/// What is printed of a task once its turn has ended.
+/// The printed text of a task whose execution has ended.
 pub fn part(alloc: Global, task: &TaskReport) -> Result<Vec<u8>, AllocError>
     ensures { IfOk result (λ text. text.items ≡ task_text task.now) }
 {
@@ -17,7 +17,7 @@ pub fn part(alloc: Global, task: &TaskReport) -> Result<Vec<u8>, AllocError>
     Ok(text.into_bytes())
 }
 
-/// What is printed of a report behind the parts of its tasks.
+/// The printed text of a report after the parts of its tasks.
 pub fn rest(alloc: Global, report: &Report) -> Result<Vec<u8>, AllocError>
     ensures { IfOk result (λ text. text.items ≡ rest_text report.now) }
 {

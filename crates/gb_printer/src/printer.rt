@@ -1,4 +1,4 @@
-//! What a printer is, and one that prints nothing.
+//! The trait of printers, and a printer that prints nothing.
 ghost use Rattle.std.specs.Prelude.{◌≡◌, [], Some, true, false};
 ghost use Rattle.std.specs.Io.KnownBytes.{Keeps};
 ghost use Rattle.gb_report.specs.Report.{task_text};
@@ -7,42 +7,42 @@ ghost use Rattle.gb_printer.specs.Printing.{Prints};
 use gb_report::report::TaskReport;
 use std::alloc::Global;
 
-/// One who prints. A text that cannot be printed stops nothing: the printer remembers it, and prints nothing
-/// behind it, so that what was printed is a beginning of what it was given.
+/// A printer. A text that cannot be printed stops nothing: the printer remembers it, and prints
+/// nothing after it, so that the printed text is a beginning of what it was given.
 pub trait Printer {
     ghost use Rattle.std.specs.Prelude.{Bool, List, Option, ℕ};
 
-    /// What stands on its page, where that is known.
+    /// The text on its page, where that is known.
     ghost contents: { Self → Option (List ℕ) };
 
-    /// Whether all that it was given is printed.
+    /// Whether everything that it was given is printed.
     ghost whole: { Self → Bool };
 
-    /// Prints a text, and lets all that was printed be seen.
+    /// Prints a text, and makes everything printed so far visible.
     fn print(&mut self, text: &[u8])
         ensures { Prints contents whole text.now self.old self.new };
 
-    /// Prints the part of a task, whose turn has ended. What was printed can be seen at once where the turn
-    /// may have taken long.
+    /// Prints the part of a task whose execution has ended. The printed text is visible at once if
+    /// the execution may have taken long.
     fn print_task(&mut self, alloc: Global, report: &TaskReport)
         ensures { Prints contents whole (task_text report.now) self.old self.new };
 
-    /// There is something that cannot be printed.
+    /// Records that some text cannot be printed.
     fn give_up(&mut self)
         ensures kept { Keeps (contents self.old) (contents self.new) }
         ensures broken { whole self.new ≡ false };
 
-    /// Whether all that it was given is printed.
+    /// Whether everything that it was given is printed.
     fn is_whole(&self) -> bool
         ensures { result ≡ whole self.now };
 
-    /// Takes a value that a build needs no more, and drops it.
+    /// Takes a value that a build no longer needs, and drops it.
     fn finish<T: Drop>(value: T) {
         drop(value);
     }
 }
 
-/// One who prints nothing, as if the first text could not be printed.
+/// A printer that prints nothing, as if the first text could not be printed.
 #[derive(Drop)]
 pub struct Silent;
 

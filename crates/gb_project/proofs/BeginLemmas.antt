@@ -1,4 +1,4 @@
--- What a registry of scripts without a fault begins with.
+-- The initial state for a registry of scripts without a fault.
 use Rattle.std.proofs.Common.{◌≡◌, ℕ, List, [], ◌∷◌, length, sym, ap, subst, ◌∙◌}
 use Rattle.std.proofs.lemmas.List.{append-nil}
 use Rattle.std.specs.Prelude.{IfOk, Ok, Err, Result, reverse}

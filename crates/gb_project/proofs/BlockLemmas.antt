@@ -21,7 +21,7 @@ pub or_nothing : (o : Option (Vec (Bor Clause) Global)) (v : Vec (Bor Clause) Gl
 or_nothing None v e = ap now_of e
 or_nothing (Some x) v e = refl
 
--- clauses are put behind those of a name
+-- clauses are appended to those of a name
 module _ (before taken after : Blocks) (name key : List ℕ) (clauses : Vec (Bor Clause) Global) (is : key ≡ name)
     (takes : (q : List ℕ) → get byte_order taken q ≡ cond (is_at (byte_order name) q) None (get byte_order before q))
     (puts : (q : List ℕ) → get byte_order after q ≡ cond (is_at (byte_order key) q) (Some clauses) (get byte_order taken q))

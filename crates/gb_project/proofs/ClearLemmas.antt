@@ -1,4 +1,4 @@
--- What a task declares is without faults: its expressions and its patterns.
+-- The declaration of a task has no faults in its expressions and its patterns.
 use Rattle.std.proofs.Common.{◌≡◌, ℕ, true, List, [], ◌∷◌, ◌++◌, map, refl, subst, Option, Some, None}
 use Rattle.std.specs.Prelude.{cond, filter_map, reverse}
 use Rattle.std.specs.List.{AllByRecursion, flat_map}
@@ -61,7 +61,7 @@ module _ {M F Z S A : Type 0} (tables : Tables M F Z S A) (scope : Scope) where
   call_clear call none =
       trees_clear call.arguments (nil_back (cond (is_some (find byte_order call.name tables.kinds)) [] (faults.UnknownAction call.name ∷ [])) (trees_faults tables scope call.arguments) none)
 
-  -- ---- What a clause says
+  -- ---- The contents of a clause
 
   abbrev AreFilesClear : InputFiles → Type 0
   AreFilesClear files = AreClear files.from × HasPatterns files
@@ -112,7 +112,7 @@ module _ {M F Z S A : Type 0} (tables : Tables M F Z S A) (scope : Scope) where
   enabled_judged (clauses.Enabled tree) fine y is = let same : tree ≡ y = cc in subst IsClear same fine
   enabled_judged other fine y is = absurd (cc)
 
-  -- ---- What all clauses say
+  -- ---- The contents of all clauses
 
   fine_clauses : (path : Path) (before after : List Clause) → clauses_faults tables scope path before after ≡ [] → AllByRecursion IsFine after
   fine_clauses path before [] none = tt
@@ -207,7 +207,7 @@ module _ {M F Z S A : Type 0} (tables : Tables M F Z S A) (scope : Scope) where
     pub patterns_clear : HavePatterns (joined task).files
     patterns_clear = All-from_recursion (λ (f : Named InputFiles). HasPatterns f.1) (joined task).files (patterns_of (joined task).files all_files)
 
-  -- what is without a fault is made without one
+  -- what has no fault is made without a fault
   pub row_good : (site : Site) → site.project ≡ scope.project → ((text : List ℕ) → scope.task_faults text ≡ [] → name_faults scope.project text ≡ []) → HasNodesOf site scope.properties
       → (row : List Tree) → AreClear row → found_in_all (root_faults site) (link_faults tables.means tables.functions) (trees_of row) ≡ []
   row_good site there tasks nodes [] clear = refl

@@ -12,7 +12,7 @@ use Rattle.gb_plan.proofs.Tests.{not_true}
 use Rattle.std.proofs.Common.{true≢false}
 
 module _ {X : Type 0} (made : Path → X) where
-  -- what is made of paths, each beside its path
+  -- what is made from paths, each with its path
   abbrev pub all_made : List Path → List (Path × X)
   all_made paths = map (λ path. (path, made path)) paths
 
@@ -20,7 +20,7 @@ module _ {X : Type 0} (made : Path → X) where
   paths_made [] = refl
   paths_made (path ∷ paths) = ap (λ l. path ∷ l) (paths_made paths)
 
-  -- at one of the paths stands what is made of it
+  -- at one of the paths is what is made from it
   pub find_made : (paths : List Path) (path : Path) → has_path paths path ≡ true → find byte_order path (all_made paths) ≡ Some (made path)
   find_made [] path there = not_true there
   find_made (x ∷ paths) path there =
@@ -33,7 +33,7 @@ module _ {X : Type 0} (made : Path → X) where
             ∙ find_made paths path there
       ] refl there
 
-  -- what is found at a path is what is made of it
+  -- what is found at a path is what is made from it
   pub found_made : (paths : List Path) (path : Path) (x : X) → find byte_order path (all_made paths) ≡ Some x → made path ≡ x
   found_made [] path x is = absurd (cc)
   found_made (p ∷ paths) path x is =

@@ -1,4 +1,4 @@
--- The build folder of a project, as plans and scripts say it.
+-- The build folder of a project, as defined by plans and by scripts.
 use Rattle.std.proofs.Common.{◌≡◌, ◌==◌, ℕ, Bool, true, false, not, cond, List, [], ◌∷◌, ◌++◌, filter, map, refl, sym, ap, subst, ◌∙◌, append_assoc, true≢false}
 use Rattle.std.proofs.lemmas.List.Concat.{flat_map-append}
 use Rattle.std.specs.Cmp.Lexicographic.{bytes_decides}
@@ -26,7 +26,7 @@ names_stay [] h = refl
 names_stay ([] ∷ names) h = absurd (true≢false (sym h))
 names_stay ((c ∷ name) ∷ names) h = ap (λ l. (c ∷ name) ∷ l) (names_stay names (right_of (is_name (c ∷ name)) (list_all is_name names) h))
 
--- a part in front, and a byte before the first part
+-- a part at the front, and a byte before the first part
 front_part : (parts : List (List ℕ)) (first : List ℕ) (rest : List (List ℕ)) → parts ≡ first ∷ rest → join ([] ∷ parts) ≡ 47 ∷ join parts
 front_part parts first rest is = ap (λ p. join ([] ∷ p)) is ∙ sym (ap (λ p. 47 ∷ join p) is)
 
@@ -42,7 +42,7 @@ slashes : (text : List ℕ) → join (parts_of text) ≡ map slashed text
 slashes [] = refl
 slashes (c ∷ text) = slash_at c text (c == 58) refl (slashes text)
 
--- one name more, behind a slash
+-- one more name, after a slash
 one_more : (first : List ℕ) (rest : List (List ℕ)) (last : List ℕ) → join (first ∷ rest ++ last ∷ []) ≡ join (first ∷ rest) ++ 47 ∷ last
 one_more first rest last =
     ap (λ l. first ++ l) (flat_map-append (λ name. 47 ∷ name) rest (last ∷ []) ∙ ap (λ l. flat_map (λ name. 47 ∷ name) rest ++ 47 ∷ l) (end last))
@@ -52,7 +52,7 @@ one_more first rest last =
     end [] = refl
     end (x ∷ xs) = ap (λ l. x ∷ l) (end xs)
 
--- the folder of the names of a text behind a colon
+-- the folder of the names of a text after a colon
 below : (text : List ℕ) → list_all is_name (parts_of text) ≡ true → build_folder (58 ∷ text) ≡ map slashed text ++ 47 ∷ codes "build"
 below text good =
     let parts = has_first 58 text in

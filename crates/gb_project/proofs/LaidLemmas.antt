@@ -31,7 +31,7 @@ Script = Path × List Statement
 abbrev pub script_in : Scripted → Script
 script_in scripted = (scripted.project, scripted.script)
 
--- what is left of scripts from one on
+-- the rest of the scripts from one on
 pub scripts_from : (scripts : List Scripted) (i : ℕ) (scripted : Scripted) → i < length scripts → scripted ≡ get_or scripts i scripted → scripts_in (drop i scripts) ≡ script_in scripted ∷ scripts_in (drop (i + 1) scripts)
 scripts_from scripts i scripted below is = ap scripts_in (left_from scripts i scripted below is)
 
@@ -97,7 +97,7 @@ module _ {M F Z S : Type 0} (functions table : Table M F Z S) (same : table ≡ 
         faults_here whole before ∙ ap (λ fs. fs ++ scripts_faults functions given means (made_by functions) (scripts_in (drop (i + 1) scripts))) clear
         ∙ ap (λ n. scripts_faults functions given means n (scripts_in (drop (i + 1) scripts))) (new_is made)
 
--- what is there stays there
+-- what is present stays present
 pub all_there : (sites : List Site) (n m : ℕ) → n ≤ m → AllByRecursion (λ site. AreThere site n) sites → AllByRecursion (λ site. AreThere site m) sites
 all_there [] n m le all = tt
 all_there (site ∷ sites) n m le all = (there_on site n m le all.0, all_there sites n m le all.1)
@@ -117,7 +117,7 @@ drop_front : (front rest : List Path) → drop (length front) (front ++ rest) �
 drop_front [] rest = refl
 drop_front (path ∷ front) rest = drop_front front rest
 
--- the paths behind those of some tasks
+-- the paths after those of some tasks
 pub begins_behind : (paths front back : List Path) (n m : ℕ) → m ≡ n + length front → Begins (front ++ back) (drop n paths) → Begins back (drop m paths)
 begins_behind paths front back n m more begins = (
   begins.0,

@@ -1,4 +1,4 @@
--- What holds of all of a list, and of what is picked from it.
+-- What holds for all of a list, and for what is picked from it.
 use Rattle.std.proofs.Common.{◌≡◌, ℕ, zero, suc, List, [], ◌∷◌, ◌++◌, map, refl, sym, subst, Option, Some, None}
 use Rattle.std.specs.Prelude.{filter_map, fold, reverse, slice_get}
 use Rattle.std.specs.List.{AllByRecursion, cons_option, flat_map, last_or}

@@ -21,7 +21,7 @@ abbrev AreNew : List Said → Type 0
 AreNew said = (front back : List Said) (s : Said) (path : Path) → said ≡ front ++ s ∷ back → registered_path s ≡ Some path → is_among (paths_of front) path ≡ false
 
 module _ (said : List Said) (new : AreNew said) where
-  -- of paths of which the one is among these and the other is not, the two differ
+  -- of two paths, one among these and the other not, the two differ
   apart : (paths : List Path) (path other : Path) → is_among paths path ≡ true → is_among paths other ≡ false → bytes_eq path other ≡ false
   apart paths path other there none =
       elim (bytes_eq path other) as (λ b. bytes_eq path other ≡ b → b ≡ false) [
@@ -29,7 +29,7 @@ module _ (said : List Said) (new : AreNew said) where
         | false ↦ λ _. refl
       ] refl
 
-  -- a path that is registered in front is none that is registered behind
+  -- a path that is registered in front is not one that is registered later
   later_at : (front mid rest : List Said) (s : Said) (path : Path) (found : Option Path) → registered_path s ≡ found → is_among (paths_of front) path ≡ true
       → said ≡ (front ++ mid) ++ s ∷ rest → has_path (paths_of rest) path ≡ false → has_path (cons_option found (paths_of rest)) path ≡ false
   later_at front mid rest s path None is there split behind = behind

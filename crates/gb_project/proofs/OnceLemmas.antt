@@ -1,4 +1,4 @@
--- Things of which no two have one key: tasks by their paths, outputs by their names.
+-- Elements of which no two have one key: tasks by their paths, outputs by their names.
 use Rattle.std.proofs.Common.{◌≡◌, ℕ, zero, suc, Bool, true, false, ◌||◌, ◌&&◌, cond, List, [], ◌∷◌, ◌++◌, map, refl, sym, ap, subst, ◌∙◌, Some, append_assoc}
 use Rattle.std.proofs.lemmas.List.{append-nil}
 use Rattle.std.proofs.lemmas.List.Elements.{filter_map-append}
@@ -48,7 +48,7 @@ is_less Equal p = absurd p
 is_less Greater p = absurd p
 
 module _ {X : Type 0} (key : X → List ℕ) where
-  -- none has a key that stands before
+  -- none has a key that is present before
   abbrev pub Apart : List (List ℕ) → List X → Type 0
   Apart before [] = Unit {0}
   Apart before (x ∷ xs) = (is_among before (key x) ≡ false) × Apart (before ++ key x ∷ []) xs
@@ -62,7 +62,7 @@ module _ {X : Type 0} (key : X → List ℕ) where
   clash before xs i x y apart is same =
       not_false (sym (among_itself before (key x)) ∙ ap (is_among (before ++ key x ∷ [])) same ∙ apart_new (before ++ key x ∷ []) xs i y apart is)
 
-  -- so those of one key are one
+  -- so the elements of one key are one
   pub apart_same : (before : List (List ℕ)) (xs : List X) (i j : ℕ) (x y : X) → Apart before xs → slice_get xs i ≡ Some x → slice_get xs j ≡ Some y → key x ≡ key y → x ≡ y
   apart_same before [] i j x y apart is_x is_y same = absurd (cc)
   apart_same before (z ∷ xs) zero zero x y apart is_x is_y same = cc
@@ -163,6 +163,6 @@ module _ {X : Type 0} where
   there_sorted there [] sorted = sorted
   there_sorted there (e ∷ entries) sorted = there_sorted (put byte_order e.0 e.1 there) entries (is_sorted-put byte_order nat_list_cmp_total e.0 e.1 there sorted)
 
-  -- each name stands once
+  -- each name occurs once
   pub names_apart : (entries : List (Named X)) → Apart name_in [] (by_name entries)
   names_apart entries = sorted_apart [] (by_name entries) tt (there_sorted [] entries tt)

@@ -39,7 +39,7 @@ use Rattle.gb_project.proofs.PlacedLemmas.{output_placed, output_there, task_amo
 use Rattle.gb_project.proofs.PlaceLemmas.{alone, output_itself, output_same, place_either, place_some, place_stays}
 use Rattle.gb_project.proofs.StageLemmas.{dropped_within, numbers_more, output_agrees, output_laid, output_numbers, row_known, row_laid, same_numbers, still_within, taken_within}
 
--- the spots of expressions, and of what is made behind them
+-- the spots of expressions, and of what is made after them
 module _ {M F Z S A : Type 0} (tables : Tables M F Z S A) (source : Source) where
   all_stand : (project : Path) (row : List Tree) → AllByRecursion (IsAmong (spots tables source)) (flat_map (parts project) row)
       → AllByRecursion (Stands tables source (spots tables source) (whole tables source)) (flat_map (parts project) row)
@@ -68,7 +68,7 @@ module _ {M F Z S A : Type 0} (tables : Tables M F Z S A) (source : Source) wher
   abbrev pub HasOutputs : List (Expression M F Z) → Registered → Type 0
   HasOutputs nodes at = (task : Joined) → result_of at ≡ Ok task → AllByRecursion (λ output. IsPlaced nodes (chosen_of at output)) task.outputs
 
-  -- ---- What is kept stays
+  -- ---- What is kept is unchanged
 
   abbrev pub Agree : (ℕ → ℕ) → (ℕ → ℕ) → List (Expression M F Z) → Type 0
   Agree number numbers nodes = (i : ℕ) → i < length nodes → numbers i ≡ number i
@@ -113,7 +113,7 @@ module _ {M F Z S A : Type 0} (tables : Tables M F Z S A) (source : Source) wher
     abbrev known_paths : List Path
     known_paths = map path_of done
 
-    -- outputs are those of tasks before, or those of the task that stand before
+    -- outputs are those of tasks before, or earlier ones of the task
     abbrev AreKnown : List (Expression M F Z) → List (Named tasks.Made) → Type 0
     AreKnown nodes front =
         (chosen : Chosen) (j : ℕ) → output_place nodes chosen ≡ Some j
@@ -152,7 +152,7 @@ module _ {M F Z S A : Type 0} (tables : Tables M F Z S A) (source : Source) wher
         let all = subst (AllByRecursion (IsAmong (spots tables source))) rows outputs_among in
         (back_all (IsAmong (spots tables source)) (map made front) (made output ∷ map made others) all).0
 
-    -- an output that does not stand there yet
+    -- an output that is not present yet
     module _ (number : ℕ → ℕ) (nodes : List (Expression M F Z)) (front others : List (Named tasks.Made)) (output : Named tasks.Made) (outputs_are : task.outputs ≡ front ++ output ∷ others)
         (laid : IsLaid number nodes) (known : AreKnown nodes front) (placed : AllByRecursion (λ o. IsPlaced nodes (chosen_of at o)) front)
         (place : ℕ) (below : place < length nodes) (for_it : number place ≡ place_in_whole tables source at.project output.1.1) where

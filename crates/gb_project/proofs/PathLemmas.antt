@@ -1,4 +1,4 @@
--- What scripts that are read give their tasks to begin with.
+-- The initial paths and nodes that scripts give to their tasks once they are read.
 use Rattle.std.proofs.Common.{◌≡◌, ℕ, List, [], ◌∷◌, ◌++◌, length, map, refl, sym, ap, ◌∙◌}
 use Rattle.std.proofs.lemmas.List.{append-nil, map-append}
 use Rattle.std.proofs.lemmas.List.Elements.{filter_map-append}
@@ -47,7 +47,7 @@ all_begin front paths same = ([], same ∙ sym (append-nil front))
 
 -- ---- The nodes of properties
 
--- where all sites are right the nodes of their properties are there
+-- where all sites are right the nodes of their properties exist
 pub right_there : {M F Z S A : Type 0} (tables : Tables M F Z S A) (source : Source) (all : List Spot) (whole : List (Expression M F Z)) (number : ℕ → ℕ) (nodes : List (Expression M F Z)) (sites : List Site)
     → AllByRecursion (IsRight tables source all whole number nodes) sites → AllByRecursion (λ site. AreThere site (length nodes)) sites
 right_there tables source all whole number nodes [] right = tt

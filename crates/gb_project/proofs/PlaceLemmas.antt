@@ -1,4 +1,4 @@
--- Where outputs stand in expressions that grow.
+-- The positions of outputs in expressions that grow.
 use Rattle.std.proofs.Common.{◌≡◌, ℕ, zero, suc, ◌+◌, ◌⊎◌, inl, inr, Bool, true, false, cond, List, [], ◌∷◌, ◌++◌, refl, sym, ap, ◌∙◌, Some, None}
 use Rattle.std.proofs.lemmas.Iterator.Adapters.{position_from-zero}
 use Rattle.std.specs.Cmp.Derive.{both_true}
@@ -23,7 +23,7 @@ module _ {X : Type 0} (p : X → Bool) where
         | false ↦ λ later. from_stays (i + 1) xs ys j later
       ] is
 
-  -- what passes stood before, or is one of those behind
+  -- an element that passes was present before, or is one of those after
   from_either : (i : ℕ) (xs ys : List X) (j : ℕ) → position_from p i (xs ++ ys) ≡ Some j
       → (position_from p i xs ≡ Some j) ⊎ ((k : ℕ) × (y : X) × (slice_get ys k ≡ Some y) × (p y ≡ true))
   from_either i [] [] j is = absurd (cc)
@@ -42,7 +42,7 @@ module _ {X : Type 0} (p : X → Bool) where
         | false ↦ λ later. from_either (i + 1) xs ys j later
       ] is
 
-  -- what passes and stands there has a place
+  -- an element that passes has a position
   from_some : (i : ℕ) (xs : List X) (k : ℕ) (x : X) → slice_get xs k ≡ Some x → p x ≡ true → (j : ℕ) × (position_from p i xs ≡ Some j)
   from_some i [] k x is passes = absurd (cc)
   from_some i (y ∷ xs) zero x is passes =

@@ -1,4 +1,4 @@
--- Where the outputs of tasks stand in the whole table.
+-- The positions of the outputs of tasks in the whole table.
 use Rattle.std.proofs.Common.{◌≡◌, ℕ, zero, suc, ◌⊎◌, inl, inr, Bool, true, false, ◌&&◌, cond, List, [], ◌∷◌, ◌++◌, length, map, get_or, refl, sym, ap, subst, ◌∙◌, Option, Some, None, Result, Ok, Err, append_assoc}
 use Rattle.std.proofs.lemmas.Bool.{lt-ltb}
 use Rattle.std.proofs.lemmas.Grind.{flat_map-append}
@@ -92,7 +92,7 @@ made_spot project task name tree (Made project' task' name' tree') is =
     let names : name ≡ name' = (bytes_decides name name').0 (right_of (bytes_eq task task') (bytes_eq name name') is) in
     (project', tree', ap (λ t. Made project' t name' tree') (sym tasks) ∙ ap (λ n. Made project' task n tree') (sym names))
 
--- ---- What stands in joined lists
+-- ---- The elements of joined lists
 
 pub at_either : {X : Type 0} (xs ys : List X) (k : ℕ) (z : X) → slice_get (xs ++ ys) k ≡ Some z
     → ((i : ℕ) × (slice_get xs i ≡ Some z)) ⊎ ((i : ℕ) × (slice_get ys i ≡ Some z))
@@ -201,7 +201,7 @@ module _ {M F Z S A : Type 0} (tables : Tables M F Z S A) (source : Source) wher
 
 -- ---- What is first
 
--- what passes stands in a list, so a first such is found
+-- an element that passes is in the list, so a first one is found
 found_by : {X : Type 0} (p : X → Bool) (y : X) (more : Option X) (b : Bool) → p y ≡ b → ((b ≡ false) → (z : X) × (more ≡ Some z) × (p z ≡ true)) → (z : X) × (cond b (Some y) more ≡ Some z) × (p z ≡ true)
 found_by p y more true is rest = (y, refl, is)
 found_by p y more false is rest = rest refl

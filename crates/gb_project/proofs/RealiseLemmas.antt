@@ -1,4 +1,4 @@
--- What a task comes to, as a plan asks for it.
+-- The result of a task in the form that a plan requests.
 use Rattle.std.proofs.Common.{◌≡◌, true, inl, inr, sym, ap, ◌∙◌}
 use Rattle.std.specs.Prelude.{◌⊎◌, IfErr, IfOk, Result, Ok, Err, Some}
 use Rattle.gb_plan.specs.Graph.{declaration_at, paths_of}
@@ -19,7 +19,7 @@ use Rattle.gb_project.proofs.SoundLemmas.{paths_said}
 use Rattle.gb_declare.specs.Registered.{DeclaredNamesRise, declaration_of, registry_said, settled}
 
 module _ {M F Z S A : Type 0} (tables : Tables M F Z S A) (source : Source) where
-  -- a trouble is told by the fault that it is settled as
+  -- a trouble is reported by the fault that `settled` gives
   settled_as : (trouble : Trouble) (fault : Fault) → IsTold tables source trouble fault → settled tables source (Err trouble) ≡ Err fault
   settled_as (Plain known) fault told = ap Err (sym told)
   settled_as (Endless entry) fault told = ap Err (sym (told_by_names tables source entry fault told))
@@ -42,7 +42,7 @@ module _ {M F Z S A : Type 0} (tables : Tables M F Z S A) (source : Source) wher
     is_at_fault (Err fault) (inr is) =
         inr (stands ∙ ap (λ r. Some (settled tables source r)) is.1 ∙ ap Some (settled_as is.0 fault is.2))
 
-  -- what is declared is what the task comes to
+  -- what is declared is the result of the task
   pub declared_realised : (path : Path) (task : TaskDeclaration) → declaration_at (registry_said tables source) path ≡ Some (Ok task) → realised tables source path ≡ Ok task
   declared_realised path task is =
       settled_ok (realised tables source path) (found_made (declaration_of tables source) (said.paths_of source.said) path (Ok task) is)

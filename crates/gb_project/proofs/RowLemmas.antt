@@ -1,4 +1,4 @@
--- The part of a row of nodes that outputs are made from.
+-- The part of a row of nodes for the places of outputs.
 use Rattle.std.proofs.Common.{◌≡◌, ℕ, List, ◌++◌, length, take, drop, sym, ap, ◌∙◌, arith, append_assoc, length-append}
 use Rattle.std.proofs.Math.Seq.{drop-append_seam, take-append_seam}
 use Rattle.std.proofs.lemmas.List.{length-map, map-append}

@@ -1,4 +1,4 @@
--- Statements stand in the scripts of projects.
+-- Statements are in the scripts of projects.
 use Rattle.std.proofs.Common.{◌≡◌, Bool, true, ◌&&◌, List, [], ◌∷◌, ◌++◌, refl, sym, ap, ◌∙◌}
 use Rattle.std.proofs.lemmas.List.Folds.{list_all-append}
 use Rattle.std.specs.List.{list_all}
@@ -11,7 +11,7 @@ use Rattle.gb_registry.specs.Source.{Source}
 use Rattle.gb_core.specs.Path.{is_project_path}
 use Rattle.gb_project.specs.Named.{is_named, registers_named}
 
--- it stands in the script of one of these projects
+-- it is in the script of one of these projects
 abbrev pub is_said_in : List Path → Said → Bool
 is_said_in projects s = is_among projects s.project
 
@@ -34,7 +34,7 @@ each_script all (project ∷ projects) (script ∷ scripts) there =
     (one_script all project script (left_of (is_among all project) (list_all (is_among all) projects) there))
     (each_script all projects scripts (right_of (is_among all project) (list_all (is_among all) projects) there))
 
--- what is read is said in the scripts of projects
+-- what is read is in the scripts of projects
 pub said_in_projects : (source : Source) (scripts : List (Path × List Statement)) → IsRead source scripts → list_all (is_said_in source.names.projects) source.said ≡ true
 said_in_projects source scripts read =
     ap (λ (s : Source). list_all (is_said_in s.names.projects) s.said) read.said

@@ -23,7 +23,7 @@ use Rattle.gb_project.specs.Tasks.{registered_in}
 
 -- ---- Registered tasks
 
--- what is so where a call succeeds
+-- what holds where a call succeeds
 pub on_ok : {T E : Type 0} (answer : Result T E) (before after : Type 0) → (before → after) → OnOk answer before → OnOk answer after
 on_ok (Ok x) before after then is = then is
 on_ok (Err e) before after then is = tt
@@ -37,7 +37,7 @@ same_task task project project' script r same is = let one : task ≡ task_with 
 
 -- ---- Paths
 
--- what is left behind the first of the paths from a number on
+-- the rest after the first of the paths from a number on
 drop_next : (paths : List Path) (n : ℕ) (path : Path) (rest : List Path) → drop n paths ≡ path ∷ rest → drop (suc n) paths ≡ rest
 drop_next [] zero path rest is = absurd (cc)
 drop_next [] (suc n) path rest is = absurd (cc)

@@ -45,9 +45,9 @@ use Rattle.gb_project.proofs.PlacedLemmas.{output_of_task}
 use Rattle.gb_project.proofs.StepLemmas.{IsStage, IsStepped, all_steps, is_at, next, task_in}
 use Rattle.gb_project.proofs.OneTaskLemmas.{HasOutputs, IsPlaced, chosen_of, result_of}
 
--- ---- What a project says stands in its own script
+-- ---- The statements of a project are in its own script
 
--- a project that has said something says nothing later
+-- a project with earlier statements has none later
 silent : (done : List Said) (project : Path) (s : Statement) (ss : List Statement) (rest : List (Path × List Statement)) → script_of done project ≡ s ∷ ss → AreNew done rest
     → script_of (flat_map said_by rest) project ≡ []
 silent done project s ss [] said new = refl
@@ -109,7 +109,7 @@ in_project project script (statements.DisallowChanges name ∷ rest) = in_projec
 in_project project script (statements.Named c ∷ rest) = in_project project script rest
 in_project project script (statements.Register r ∷ rest) = (refl, in_project project script rest)
 
--- names that stand once are all put
+-- names that occur once are all stored
 put_apart : (known names : List (List ℕ)) → apart.AreApart known names → with_paths known names ≡ known ++ names
 put_apart known [] once = sym (append-nil known)
 put_apart known (name ∷ names) once =
@@ -131,7 +131,7 @@ module _ {M F Z S A : Type 0} (tables : Tables M F Z S A) (source : Source) wher
       (subst (λ (t : Joined). AllByRecursion (IsClear tables scope) (trees_of t)) fault.1 (expressions_clear tables scope at fault.0))
 
   module _ (given : List (Named (List ℕ))) where
-    -- a task where its expressions are to stand
+    -- a task at the required position of its expressions
     record IsReady (site : Site) (script : List Statement) (at : Registered) : Type 0 where
       pub here : site.project ≡ at.project
       pub same : declared_in tables source.names script at ≡ result_of tables source at
@@ -173,7 +173,7 @@ module _ {M F Z S A : Type 0} (tables : Tables M F Z S A) (source : Source) wher
       script_ready : (filter_map (registered_by source.said) (said_by script) ≡ script_tasks script) × AllByRecursion (IsReady own_site script.1) (script_tasks script)
       script_ready = script_ready_by script.1 refl
 
-    -- tasks, each where its expressions are to stand
+    -- tasks, each at the required position of its expressions
     abbrev placed : List (Expression M F Z) → List (Path × List Statement) → List (Site × Registered)
     placed nodes [] = []
     placed nodes (script ∷ scripts) =

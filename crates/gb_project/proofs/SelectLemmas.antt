@@ -1,4 +1,4 @@
--- What words select, as plans and scripts say it.
+-- What arguments select, as defined by plans and by scripts.
 use Rattle.std.proofs.Common.{inl, inr, ◌≡◌, ◌==◌, ℕ, Bool, true, false, not, cond, ◌||◌, ◌&&◌, List, [], ◌∷◌, ◌++◌, filter, refl, sym, ap, subst, ◌∙◌, bytes_eq, rules}
 use Rattle.std.specs.Cmp.Lexicographic.{bytes_decides}
 use Rattle.std.specs.Prelude.{◌⊎◌, IfErr, IfOk, OnOk, Result, Ok, Err, Some, codes, if◌then◌else◌, nat_eq}
@@ -24,7 +24,7 @@ use Rattle.gb_report.specs.declared.fault.Fault.TheVariants as faults
 
 -- ---- Of one path
 
--- a path that stands alone stays so with more of its own
+-- a path that is alone stays alone with more copies of it
 still_alone : (path : Path) (paths : List Path) → with_tasks (path ∷ []) (filter (bytes_eq path) paths) ≡ path ∷ []
 still_alone path [] = refl
 still_alone path (x ∷ paths) =
@@ -35,7 +35,7 @@ still_alone path (x ∷ paths) =
       | false ↦ λ _. still_alone path paths
     ] refl
 
--- of paths that have it, it is selected alone
+-- from paths that include it, it alone is selected
 pub selects_one : (path : Path) (paths : List Path) → has_path paths path ≡ true → with_tasks [] (filter (bytes_eq path) paths) ≡ path ∷ []
 selects_one path [] there = not_true there
 selects_one path (x ∷ paths) there =
@@ -46,14 +46,14 @@ selects_one path (x ∷ paths) there =
       | false ↦ λ _ there. selects_one path paths there
     ] refl there
 
--- of paths that lack it, nothing is
+-- from paths that lack it, nothing is selected
 pub selects_none : (path : Path) (paths : List Path) → has_path paths path ≡ false → filter (bytes_eq path) paths ≡ []
 selects_none path [] none = refl
 selects_none path (x ∷ paths) none =
     ap (λ b. cond b (x ∷ filter (bytes_eq path) paths) (filter (bytes_eq path) paths)) (none_left (bytes_eq path x) (has_path paths path) none)
     ∙ selects_none path paths (none_right (bytes_eq path x) (has_path paths path) none)
 
--- ---- Of a word without a colon
+-- ---- An argument without a colon
 
 no_colon_first : (word : Text) → list_any (λ b. b == 58) word ≡ false → starts_with nat_eq word (codes ":") ≡ false
 no_colon_first [] none = refl
@@ -79,20 +79,20 @@ and_true false = refl
 name_is_path : (word : Text) → list_any (λ b. b == 58) word ≡ false → is_task_path (58 ∷ word) ≡ is_name word
 name_is_path word none = ap (list_all is_name) (one_part word none) ∙ and_true (is_name word)
 
--- ---- Of any word
+-- ---- Any argument
 
--- what a word selects of these paths, where it has a colon and where it has none
+-- what an argument selects from these paths, with a colon and without one
 abbrev chosen : Text → List Path → Bool → List Path
 chosen word paths colon = with_tasks [] (if colon then filter (bytes_eq (plans.absolute word)) paths else filter (λ path. bytes_eq (task_name path) word) paths)
 
--- what is wrong with it, where its path is one or is none
+-- its faults, where its path is valid and where it is not
 abbrev wrong : Text → List Path → List Path → Bool → Bool → List Fault
 wrong word projects paths colon good =
     if not good then faults.BadName word ∷ []
     else if colon && not (has_path projects (project_of (plans.absolute word))) then faults.UnknownProject word ∷ []
     else if is_empty (chosen word paths colon) then faults.TaskNotFound word ∷ [] else []
 
--- the path of a word is selected where it is among the paths
+-- the path of an argument is selected where it is among the paths
 empty_unless : (path : Path) (paths : List Path) (there : Bool) → has_path paths path ≡ there → is_empty (with_tasks [] (filter (bytes_eq path) paths)) ≡ not there
 empty_unless path paths true is = ap is_empty (selects_one path paths is)
 empty_unless path paths false is = ap (λ l. is_empty (with_tasks [] l)) (selects_none path paths is)
@@ -145,7 +145,7 @@ module _ (names : Names) (word : Text) where
   selected_by_colon false none = refl
 
   module _ (registry : Registry) (projects : registry.projects ≡ names.projects) (tasks : plans.paths_of registry ≡ names.tasks) where
-    -- the faults of a word are those that plans have of it
+    -- the faults of an argument are those that plans define
     pub same_faults : word_faults names word ≡ refusal.word_faults registry word
     same_faults =
         by_colon (is_path word) refl
@@ -156,7 +156,7 @@ module _ (names : Names) (word : Text) where
     pub same_selected : word_faults names word ≡ [] → selected names word ≡ plans.selected_by registry word
     same_selected none = selected_by_colon (is_path word) none ∙ ap (λ ts. chosen word ts (is_path word)) (sym tasks)
 
-    -- ---- What is answered
+    -- ---- The results
 
     pub selects : (answer : Result (List Path) Fault) → IfOk answer (λ found. found ≡ selected names word) → TellsFirst (word_faults names word) answer
         → IfOk answer (λ found. found ≡ plans.selected_by registry word)

@@ -61,7 +61,7 @@ stands projects said project (statements.Unset name) at is among named = absurd 
 stands projects said project (statements.DisallowChanges name) at is among named = absurd (cc)
 stands projects said project (statements.Named c) at is among named = absurd (cc)
 
--- the task that is found stands so, and has the path that it was looked up by
+-- the task that is found is such a task, and has the path by which it was looked up
 abbrev pub IsFound : List Path → Path → Registered → Type 0
 IsFound projects path at = (at.path ≡ path) × StandsIn projects at
 
@@ -91,7 +91,7 @@ all_of : {X : Type 0} (p : X → Bool) (xs : List X) → AllByRecursion (λ x. p
 all_of p [] h = refl
 all_of p (x ∷ xs) h = ap (λ b. b && list_all p xs) h.0 ∙ all_of p xs h.1
 
--- places of outputs that lie beneath a folder
+-- places of outputs that lie under a folder
 places_in : (folder other : List ℕ) → folder ≡ other → (outputs : List Output) → AllByRecursion (λ output. is_beneath output.place folder ≡ true) outputs
     → list_all (λ place. is_beneath place other) (map (λ (output : Output). output.place) outputs) ≡ true
 places_in folder other same [] h = refl

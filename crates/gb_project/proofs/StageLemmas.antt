@@ -1,4 +1,4 @@
--- Tasks that are declared one after another keep to the whole table.
+-- Tasks that are declared one after another agree with the whole table.
 use Rattle.std.proofs.Common.{◌≡◌, ℕ, zero, suc, ◌+◌, ◌<◌, ◌≤◌, ◌⊎◌, inl, inr, true, false, List, [], ◌∷◌, ◌++◌, length, map, get_or, refl, sym, ap, ◌∙◌, Option, Some, None, arith, append_assoc, length-append}
 use Rattle.std.proofs.Math.Seq.{drop-append_seam, take-append_seam}
 use Rattle.std.proofs.lemmas.Bool.{le-ltb, lt-ltb, ltb-false, ltb-true}
@@ -163,7 +163,7 @@ module _ {M F Z S A : Type 0} (tables : Tables M F Z S A) (source : Source) wher
       pub row_stays : (chosen : Chosen) (j : ℕ) → output_place nodes chosen ≡ Some j → output_place made.nodes chosen ≡ Some j
       row_stays chosen j is = ap (λ ns. output_place ns chosen) grown.front.1 ∙ place_stays (is_output chosen) nodes grown.front.0 j is
 
-    -- an output that does not stand there yet, declared as one of the expressions
+    -- an output that is not present yet, declared as one of the expressions
     module _ (chosen : Chosen) (place target stands_for : ℕ) (new : output_place nodes chosen ≡ None) (below : place < length nodes)
         (placed : output_place table chosen ≡ Some target) (there : slice_get table target ≡ Some (output_of chosen stands_for)) (for_it : number place ≡ stands_for) where
       abbrev more : List (Expression M F Z)
@@ -186,7 +186,7 @@ module _ {M F Z S A : Type 0} (tables : Tables M F Z S A) (source : Source) wher
           part_grows number nodes table laid.part (output_of chosen place) target below (there ∙ ap (λ n. Some (output_of chosen n)) (sym for_it))
           (λ other is. ap (output_place table) (sym (output_same M F Z chosen other place is)) ∙ placed)
 
-      -- nothing that stands there has its number
+      -- no expression that is present has its number
       not_before : (x : ℕ) (e : Expression M F Z) → slice_get nodes x ≡ Some e → number x ≡ target → ⊥
       not_before x e at same =
           let copy : Some (renamed number e) ≡ Some (output_of chosen stands_for) = sym (laid.part.copied x e at) ∙ ap (slice_get table) same ∙ there in

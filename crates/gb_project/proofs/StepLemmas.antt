@@ -45,7 +45,7 @@ abbrev pub task_in : Site × Registered → Registered
 task_in p = p.1
 
 module _ {M F Z S A : Type 0} (tables : Tables M F Z S A) (source : Source) where
-  -- what stands after some tasks
+  -- the state after some tasks
   pub record IsStage (done : List Registered) (number : ℕ → ℕ) (stage : Stage M F Z) : Type 0 where
     pub laid : IsLaidOut tables source number stage.nodes
     pub kept : AreKept tables source number stage.nodes done stage.faults stage.entries
@@ -58,7 +58,7 @@ module _ {M F Z S A : Type 0} (tables : Tables M F Z S A) (source : Source) wher
     pub agrees : Agree tables source number numbers old.nodes
     pub longer : length old.nodes ≤ length new.nodes
 
-  -- a task, and where its expressions stand
+  -- a task, and the site of its expressions
   pub record IsAt (number : ℕ → ℕ) (nodes : List (Expression M F Z)) (site : Site) (at : Registered) : Type 0 where
     pub right : IsRight tables source (spots tables source) (whole tables source) number nodes site
     pub here : site.project ≡ at.project
@@ -100,7 +100,7 @@ module _ {M F Z S A : Type 0} (tables : Tables M F Z S A) (source : Source) wher
         longer = omega arith;
       }
 
-      -- one that is declared
+      -- a task that is declared
       module _ (task : Joined) (is : result_of tables source at ≡ Ok task) where
         abbrev new : Stage M F Z
         new = with_declared tables.functions site at.path stage (Ok task)

@@ -43,7 +43,7 @@ row_count functions site nodes trees row is =
 
 -- ---- Outcomes
 
--- without a fault it is what it holds
+-- without a fault it is the value given
 pub unless_holds : {X : Type 0} (faults : List Fault) (x y : X) → faults ≡ [] → y ≡ x → unless faults x ≡ Ok y
 unless_holds faults x y none same = ap (λ fs. unless fs x) none ∙ ap Ok (sym same)
 

@@ -1,4 +1,4 @@
--- What a workspace keeps of a task.
+-- What a workspace keeps for a task.
 use Rattle.std.proofs.Common.{◌≡◌, ℕ, zero, suc, ◌<◌, Bool, cond, List, [], ◌∷◌, length, map, refl, sym, ap, subst, ◌∙◌, Option, Some, None, Result, Err}
 use Rattle.std.proofs.lemmas.List.{length-map}
 use Rattle.std.proofs.lemmas.List.Elements.{All-from_recursion}
@@ -58,7 +58,7 @@ module _ {M F Z S A : Type 0} (tables : Tables M F Z S A) (source : Source) (num
   faults_are (at ∷ ats) (f ∷ fs) [] kept = absurd kept
   faults_are (at ∷ ats) (f ∷ fs) (e ∷ es) kept = ap (λ x. x ∷ fs) (fault_as at f e kept.0) ∙ ap (λ xs. fault_of at ∷ xs) (faults_are ats fs es kept.1)
 
-  -- what is kept of one of them
+  -- what is kept for one of them
   pub record IsThere (at : Registered) (faults : List (Option Fault)) (entries : List (Option DeclaredTask)) (i : ℕ) : Type 0 where
     pub fault : Option Fault
     pub entry : Option DeclaredTask
@@ -122,7 +122,7 @@ numbers_twice number (node ∷ row) = ap (λ l. number node.number ∷ l) (numbe
 pub same_length : {X Y Z : Type 0} (f : X → Z) (g : Y → Z) (xs : List X) (ys : List Y) → map f xs ≡ map g ys → length xs ≡ length ys
 same_length f g xs ys same = sym (length-map xs f) ∙ ap length same ∙ length-map ys g
 
--- ---- What a workspace tells of a task
+-- ---- The result of a workspace for a task
 
 module _ {M F Z S A : Type 0} (tables : Tables M F Z S A) (source : Source) (nodes : List (Expression M F Z)) (all : Declared) (kept : IsKeptIn tables source (stage_of nodes all))
     (path : Path) (index : ℕ) (is : position (bytes_eq path) source.names.tasks ≡ Some index) where
@@ -184,7 +184,7 @@ module _ {M F Z S A : Type 0} (tables : Tables M F Z S A) (source : Source) (nod
         same_length (λ (node : Node). number node.number) (place_in_whole tables source it.at.project) entry.row.items (trees_of (joined_of entry.task))
         (sym (numbers_twice number entry.row.items) ∙ is_kept.numbers)
 
-    -- what the entry comes to is what the task does
+    -- the result of the entry is what the task declares
     pub entry_tells : (projects paths : List Path) (faults : List (Option Fault)) (r : Result TaskDeclaration Fault) → projects ≡ source.names.projects → paths ≡ source.names.tasks → faults ≡ all.faults.items
         → TellsOf tables (known_names projects paths) faults nodes (IsBuiltIn path entry.build) entry.row.items (trees_of (joined_of entry.task))
         (λ other at. evaluated tables other at (spots tables other) (whole tables other) (joined_of entry.task)) r
@@ -201,7 +201,7 @@ module _ {M F Z S A : Type 0} (tables : Tables M F Z S A) (source : Source) (nod
         subst (λ e. Tells tables source e r) (sym (realised_is ∙ ap (realised_at tables source it.at) is_kept.is_declared))
         (tells source number over it.at (it.its_path, sym is_kept.build) (sym (numbers_twice number entry.row.items) ∙ is_kept.numbers))
 
--- what is found has a place
+-- what is found has a position
 find_place : {X : Type 0} (p : X → Bool) (xs : List X) (x : X) → find p xs ≡ Some x → (k : ℕ) × (position p xs ≡ Some k)
 find_place p xs x is =
     (position_or_len p xs, ap (λ b. cond b (Some (position_or_len p xs)) None) (lt-ltb (position_or_len p xs) (length xs) (slice_get_within xs (position_or_len p xs) x (sym (find_at p xs) ∙ is))))

@@ -1,4 +1,4 @@
--- What stands under the names of tasks in a script.
+-- The clauses that a script adds to tasks, by the names of the tasks.
 use Rattle.std.specs.Prelude.{◌≡◌, ℕ, List, [], Option, Some, None}
 use Rattle.std.specs.BTreeMap.{BTreeMap, get}
 use Rattle.std.specs.Borrow.{Bor}
@@ -20,10 +20,10 @@ abbrev pub clauses_in : Option (Vec (Bor Clause) Global) → List Clause
 clauses_in None = []
 clauses_in (Some clauses) = now_of clauses.items
 
--- the clauses that stand under a name
+-- the clauses that are stored under a name
 abbrev pub clauses_under : Blocks → List ℕ → List Clause
 clauses_under blocks name = clauses_in (get byte_order blocks name)
 
--- under each name stands all that a script adds to the task of the name
+-- under each name is everything that a script adds to the task of the name
 abbrev pub AreBlocks : Blocks → List Statement → Type 0
 AreBlocks blocks script = (name : List ℕ) → clauses_under blocks name ≡ flat_map (added_clauses name) script

@@ -1,4 +1,4 @@
--- A script with what its tasks look up in it.
+-- A script with the tables in which its tasks look things up.
 use Rattle.std.specs.Prelude.{◌≡◌, [], filter_map}
 use Rattle.gb_registry.specs.Projects.{with_paths}
 use Rattle.gb_registry.specs.Said.{declared_property}

@@ -1,4 +1,4 @@
--- Whether statements stand in scripts of projects, and name what they register.
+-- Whether statements are in scripts of projects, and name what they register.
 use Rattle.std.specs.Prelude.{Bool, true, ◌&&◌}
 use Rattle.gb_core.specs.Name.{is_name}
 use Rattle.gb_core.specs.Path.{is_project_path}
@@ -11,6 +11,6 @@ abbrev pub registers_named : Statement → Bool
 registers_named (statements.Register r) = is_name r.name
 registers_named other = true
 
--- the statement stands in the script of a project, and a task that it registers has a name
+-- the statement is in the script of a project, and a task that it registers has a name
 abbrev pub is_named : Said → Bool
 is_named s = is_project_path s.project && registers_named s.statement

@@ -1,4 +1,4 @@
--- Facts that hold in one way at most, so ghost fields may say them.
+-- Facts that hold in at most one way, so ghost fields may state them.
 use Rattle.std.specs.Prelude.{Bool, List, ℕ, Result, Ok, Err, IfOk}
 use Rattle.std.specs.Coded.{Coded-set, Unit-prop, coded_bool, coded_list, coded_ℕ, codes}
 use Rattle.std.specs.List.{AllByRecursion-prop}

@@ -1,4 +1,4 @@
--- What scripts register, as a plan asks for it.
+-- The registered tasks of scripts in the form that a plan requests.
 use Rattle.gb_action.specs.Meanings as of_actions
 use Rattle.gb_declare.specs.Registered.{registry_said}
 use Rattle.gb_plan.specs.Graph.{Registry}

@@ -24,32 +24,32 @@ use Rattle.gb_script.specs.Tree.{trees_of}
 use Rattle.gb_script.specs.declared.script.Statement.{Statement}
 use Rattle.gb_project.specs.Tasks.{script_tasks}
 
--- A declared task: the folder of what its project builds, what its clauses say together, and the numbers of
--- its expressions, in the order in which they are evaluated.
+-- A declared task: the build folder of its project, its combined clauses, and the numbers of its expressions,
+-- in the order in which they are evaluated.
 pub record DeclaredTask : Type 0 where
   pub build : List ℕ
   pub task : Joined
   pub row : List ℕ
 
--- All expressions; and of each task so far why it is not declared, or what it declares.
+-- All expressions; and for each task so far its declaration, or why it is not declared.
 pub record Stage (M F Z : Type 0) : Type 0 where
   pub nodes : List (Expression M F Z)
   pub faults : List (Option Fault)
   pub entries : List (Option DeclaredTask)
 
--- no task yet
+-- no tasks yet
 abbrev pub begun : {M F Z : Type 0} → List (Expression M F Z) → Stage M F Z
 begun nodes = record { nodes = nodes; faults = []; entries = [] }
 
 -- ---- Outputs
 
--- how many expressions of a task stand before those of its outputs
+-- how many expressions of a task come before those of its outputs
 abbrev pub before_outputs : Joined → ℕ
 before_outputs task =
     length (option_to_list task.enabled) + length task.only_if + length task.up_to_date_when
     + length task.values + length (flat_map (λ files. files.1.from) task.files)
 
--- of the numbers of all expressions those of what its outputs are made from
+-- of the numbers of all expressions those of the places of outputs
 abbrev pub output_row : Joined → List ℕ → List ℕ
 output_row task row = take (length task.outputs) (drop (before_outputs task) row)
 
@@ -57,7 +57,7 @@ module _ {M F Z : Type 0} where
   abbrev pub output_of : Chosen → ℕ → Expression M F Z
   output_of chosen place = OfOutput (record { chosen = chosen; declared = Some place })
 
-  -- an output, in its place if it has one, or else behind the others
+  -- an output, at its position if it has one, or else after the others
   abbrev pub put_output : List (Expression M F Z) → Expression M F Z → Option ℕ → List (Expression M F Z)
   put_output nodes output None = nodes ++ output ∷ []
   put_output nodes output (Some place) = slice_set nodes place output
@@ -76,7 +76,7 @@ module _ {M F Z : Type 0} where
 -- ---- Tasks
 
 module _ {M F Z S : Type 0} (functions : Table M F Z S) (site : Site) where
-  -- the expressions of a task behind others
+  -- the expressions of a task after others
   abbrev pub row_made : List (Expression M F Z) → Joined → These M F Z (List ℕ)
   row_made nodes task =
       trees_made functions site (record { nodes = nodes; place = [] }) (trees_of (expressions_of task))
@@ -90,7 +90,7 @@ module _ {M F Z S : Type 0} (functions : Table M F Z S) (site : Site) where
         place = made.place;
       }
 
-  -- one task more, which is declared or at fault
+  -- one more task, which is declared or at fault
   abbrev pub with_declared : Path → Stage M F Z → Result Joined Fault → Stage M F Z
   with_declared path stage (Ok task) =
       let made = task_made path stage.nodes task in
@@ -124,26 +124,26 @@ module _ {M F Z S A : Type 0} (tables : Tables M F Z S A) (names : Names) where
   abbrev pub with_script : Site → Stage M F Z → Path × List Statement → Stage M F Z
   with_script site stage script = fold (with_task site script.1) stage (script_tasks script)
 
-  -- those of one script after another
+  -- the tasks of one script after another
   abbrev pub with_scripts : Stage M F Z → List Site → List (Path × List Statement) → Stage M F Z
   with_scripts stage [] scripts = stage
   with_scripts stage (site ∷ sites) [] = stage
   with_scripts stage (site ∷ sites) (script ∷ scripts) =
       with_scripts (with_script site stage script) sites scripts
 
-  -- nothing is wrong with the expressions of a task that is declared
+  -- the expressions of a task that is declared have no fault
   abbrev pub IsGood : Site → Result Joined Fault → Type 0
   IsGood site (Ok task) =
       found_in_all (root_faults site) (link_faults tables.means tables.functions)
       (trees_of (expressions_of task)) ≡ []
   IsGood site (Err fault) = Unit {0}
 
-  -- of the tasks of a script
+  -- the same for the tasks of a script
   abbrev pub AreGood : Site → Path × List Statement → Type 0
   AreGood site script =
       AllByRecursion (λ task. IsGood site (declared_in script.1 task)) (script_tasks script)
 
-  -- of those of one script after another
+  -- the same for the tasks of one script after another
   abbrev pub AreAllGood : List Site → List (Path × List Statement) → Type 0
   AreAllGood [] scripts = Unit {0}
   AreAllGood (site ∷ sites) [] = Unit {0}

@@ -17,7 +17,7 @@ use Rattle.gb_project.specs.Stage.{Stage, IsGood, declared_in, with_task}
 use Rattle.gb_project.specs.Views.{stage_of}
 use Rattle.gb_project.specs.declared.declared_task.Declared.{Declared}
 
--- where the expressions of each of these projects stand, once its script is laid
+-- the site of the expressions of each of these projects, once its script is laid
 abbrev pub laid_sites : List (Named (List ℕ)) → List (Path × List Statement) → List Laid → List Site
 laid_sites given [] laid = []
 laid_sites given (script ∷ scripts) [] = []
@@ -37,15 +37,15 @@ abbrev pub IsNext : List Path → Option Registered → Type 0
 IsNext paths None = Unit {0}
 IsNext paths (Some task) = Begins (task.path ∷ []) paths
 
--- what a call makes of providers and of what became of tasks: the table of functions stays, and all
--- expressions and tasks are these
+-- the effect of a call on providers and on the outcomes of tasks: the table of functions is unchanged, and
+-- all expressions and tasks are these
 pub record IsStaged {M F Z S : Type 0} (old new : Held M F Z S) (declared : Declared) (stage : Stage M F Z)
     : Type 0 where
   pub table : new.table ≡ old.table
   pub staged : stage_of new.nodes declared ≡ stage
   pub grown : length old.nodes ≤ length new.nodes
 
--- what a task declares where it stands, or its first fault
+-- what a task declares at its position, or its first fault
 abbrev pub declared_within : {M F Z S A : Type 0} → Tables M F Z S A → Scope → Registered
     → Result Joined Fault
 declared_within tables scope task = unless (faults_within tables scope task) (joined task)
@@ -57,7 +57,7 @@ module _ {M F Z S A : Type 0} (tables : Tables M F Z S A) (names : Names) (site 
   with_any stage None = stage
   with_any stage (Some task) = with_task tables names site script stage task
 
-  -- nothing is wrong with the expressions of the task, if there is one and it is declared
+  -- the expressions of the task, if there is one and it is declared, have no fault
   abbrev pub IsAnyGood : Option Registered → Type 0
   IsAnyGood None = Unit {0}
   IsAnyGood (Some task) = IsGood tables names site (declared_in tables names script task)

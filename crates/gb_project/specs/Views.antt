@@ -17,7 +17,7 @@ entry_of entry = record {
 abbrev pub entries_of : List (Option kept.DeclaredTask) → List (Option DeclaredTask)
 entries_of entries = map (option_map entry_of) entries
 
--- all expressions of providers, and what became of tasks
+-- all expressions of providers, and the outcomes of tasks
 abbrev pub stage_of : {M F Z : Type 0} → List (Expression M F Z) → Declared → Stage M F Z
 stage_of nodes declared = record {
   nodes = nodes;

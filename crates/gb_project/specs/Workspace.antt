@@ -1,4 +1,4 @@
--- A workspace: what scripts say, beside what they may name.
+-- A workspace: the contents of scripts, with the tables that they may name.
 use Rattle.std.specs.Prelude.{◌≡◌}
 use Rattle.gb_registry.specs.Said.{paths_of}
 use Rattle.gb_registry.specs.Source.{Source}
@@ -7,7 +7,7 @@ use Rattle.gb_registry.specs.declared.tables.Tables as handed
 use Rattle.gb_project.specs.Kept.{AreDeclared}
 use Rattle.gb_project.specs.Stage.{Stage}
 
--- What is handed in with what scripts say.
+-- The tables that are passed in, with the contents of scripts.
 pub record Space (N U A M F Z S : Type 0) : Type 0 where
   pub tables : handed.Tables N U A M F Z S
   pub source : Source

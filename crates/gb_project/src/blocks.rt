@@ -1,4 +1,4 @@
-//! What stands under the names of tasks in a script.
+//! The clauses that a script adds to tasks, by the names of the tasks.
 ghost use Rattle.std.specs.Prelude.{◌≡◌, ℕ, List, ◌++◌, [], IfOk, OnOk, bytes_eq, if◌then◌else◌};
 ghost use Rattle.gb_declare.specs.Borrowed.{now_of};
 ghost use Rattle.gb_registry.specs.Said.{added_clauses};
@@ -12,7 +12,7 @@ use std::collections::BTreeMap;
 /// The clauses that blocks add to the task of each name, in the order of the script.
 pub type Blocks<'a> = BTreeMap<Name, Vec<&'a Clause>>;
 
-/// Puts clauses behind others.
+/// Appends clauses.
 pub fn push_clauses<'a>(to: &mut Vec<&'a Clause>, clauses: &'a [Clause]) -> Result<(), AllocError>
     ensures { OnOk result (now_of to.new.items ≡ now_of to.old.items ++ clauses.now) }
 {
@@ -22,7 +22,7 @@ pub fn push_clauses<'a>(to: &mut Vec<&'a Clause>, clauses: &'a [Clause]) -> Resu
     Ok(())
 }
 
-/// Puts clauses behind those that stand under a name.
+/// Appends clauses to those under a name.
 fn add_block<'a>(
     alloc: Global,
     blocks: &mut Blocks<'a>,
@@ -38,7 +38,7 @@ fn add_block<'a>(
     Ok(())
 }
 
-/// Puts the clauses that a statement adds to a task behind those of the task.
+/// Appends the clauses that a statement adds to a task.
 fn add_statement<'a>(
     alloc: Global,
     blocks: &mut Blocks<'a>,
@@ -53,7 +53,8 @@ fn add_statement<'a>(
     }
 }
 
-/// What the statements of a script add to the task of each name. Takes n log n steps in what they say.
+/// What the statements of a script add to the task of each name. Takes n log n steps in the size of
+/// the statements.
 pub fn blocks_by_name<'a>(
     alloc: Global,
     statements: &'a [Statement],

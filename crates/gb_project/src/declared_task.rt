@@ -7,19 +7,19 @@ use gb_report::fault::Fault;
 /// A task that is declared.
 #[derive(Drop)]
 pub struct DeclaredTask<'a> {
-    /// The folder of what its project builds.
+    /// The build folder of its project.
     pub build: Place,
-    /// What its clauses say together.
+    /// Its combined clauses.
     pub task: Joined<'a>,
     /// The nodes of its expressions, in the order in which they are evaluated.
     pub row: Vec<Node>,
 }
 
-/// What became of tasks, in the order in which they are registered.
+/// The outcomes of tasks, in the order in which they are registered.
 #[derive(Drop)]
 pub struct Declared<'a> {
-    /// Of each why it is not declared.
+    /// For each task the fault that keeps it from being declared, if there is one.
     pub faults: Vec<Option<Fault>>,
-    /// Of each what it declares.
+    /// For each task its declaration, if there is one.
     pub entries: Vec<Option<DeclaredTask<'a>>>,
 }

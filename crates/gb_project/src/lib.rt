@@ -1,8 +1,8 @@
-//! All tasks that scripts register, declared at once, and realised as they are asked for.
+//! Declares all tasks that scripts register at once, and realises them on demand.
 //!
-//! A [`workspaces::Workspace`] has each task's clauses by its path, and the providers that they stand on. A
-//! task that no build asks for is never evaluated, so a fault in it concerns nobody.
-//! [`script_tasks::ScriptTasks`] is the same as a plan asks for it.
+//! A [`workspaces::Workspace`] has each task's clauses by its path, and the providers that they
+//! use. A task that no build requests is never evaluated, so a fault in it affects nobody.
+//! [`script_tasks::ScriptTasks`] is the same in the form that a plan requests.
 #![tactic(auto)]
 
 mod blocks;

@@ -8,7 +8,7 @@ ghost use Rattle.gb_project.specs.Named.{is_named, registers_named};
 use gb_registry::checking::Scripted;
 use gb_script::script::Statement;
 
-/// A task that is registered has a name, as reading the name ensures.
+/// A registered task has a name, because reading the name ensures it.
 fn read_name(statement: &Statement)
     ensures { IsTrue (registers_named statement.now) }
 {

@@ -33,8 +33,8 @@ fn declare_output<T: Transforms>(
     Ok(())
 }
 
-/// Declares the outputs of a task, by their names, as expressions in a row. An output for which there is none
-/// is not declared.
+/// Declares the outputs of a task, by their names, as expressions in a row. An output without an
+/// expression in the row is not declared.
 pub fn declare_outputs<T: Transforms>(
     alloc: Global,
     providers: &mut Providers<'_, T>,

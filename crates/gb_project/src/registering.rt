@@ -1,4 +1,4 @@
-//! Registered tasks, with all that their scripts say of them.
+//! Registered tasks, with everything that their scripts declare for them.
 ghost use Rattle.std.specs.Prelude.{◌≡◌, ◌++◌, List, Some, IfOk, OnOk};
 ghost use Rattle.gb_core.specs.Path.{task_in};
 ghost use Rattle.gb_declare.specs.Borrowed.{now_of};
@@ -15,7 +15,7 @@ use gb_declare::registered::Registered;
 use gb_script::script::{Clause, Registration};
 use std::alloc::{AllocError, Global};
 
-/// Puts clauses that are borrowed behind others.
+/// Appends borrowed clauses.
 fn push_each<'a>(to: &mut Vec<&'a Clause>, clauses: &[&'a Clause]) -> Result<(), AllocError>
     ensures { OnOk result (now_of to.new.items ≡ now_of to.old.items ++ now_of clauses.now) }
 {
@@ -25,7 +25,7 @@ fn push_each<'a>(to: &mut Vec<&'a Clause>, clauses: &[&'a Clause]) -> Result<(),
     Ok(())
 }
 
-/// Puts what stands under a name behind other clauses.
+/// Appends what is stored under a name to other clauses.
 fn push_added<'a>(
     to: &mut Vec<&'a Clause>,
     blocks: &Blocks<'a>,
@@ -40,7 +40,7 @@ fn push_added<'a>(
     }
 }
 
-/// A task with the clauses of its own block, and behind them those that its script adds to it.
+/// A task with the clauses of its own block, followed by those that its script adds to it.
 pub fn registered<'a>(
     alloc: Global,
     project: &'a ProjectPath,

@@ -1,4 +1,4 @@
-//! Tasks of scripts, as a plan asks for them.
+//! The tasks of scripts in the form that a plan requests.
 ghost use Rattle.std.specs.Prelude.{◌≡◌, IfOk};
 ghost use Rattle.gb_declare.specs.Registered.{registry_said};
 ghost use Rattle.gb_plan.specs.Graph.{IsRegistry};
@@ -22,7 +22,7 @@ use gb_registry::registry::Registry;
 use gb_report::fault::Fault;
 use std::alloc::{AllocError, Global};
 
-/// The tasks that the scripts of a registry declare. What they come to is found when it is asked for.
+/// The tasks that the scripts of a registry declare. They are evaluated on demand.
 #[derive(Drop)]
 pub struct ScriptTasks<'a, A: Actions, T: Transforms> {
     registry: &'a Registry,
@@ -35,7 +35,8 @@ pub struct ScriptTasks<'a, A: Actions, T: Transforms> {
 }
 
 impl<'a, A: Actions, T: Transforms> ScriptTasks<'a, A, T> {
-    /// All tasks that scripts without a fault register, each declared or at fault. Nothing is evaluated yet.
+    /// All tasks that scripts without a fault register, each declared or at fault. Nothing is
+    /// evaluated yet.
     pub fn declare(alloc: Global, configured: &'a Configured<'a, A, T>) -> Result<Self, AllocError>
         ensures registry { IfOk result (λ tasks. ⟦<ScriptTasks<'a, A, T> as Tasks>⟧.registry tasks
             ≡ registry_said (tables_of T.meanings A.meanings configured.now.tables.now)

@@ -37,20 +37,20 @@ use gb_script::script::{Registration, Statement};
 use std::alloc::{AllocError, Global};
 use std::collections::BTreeMap;
 
-/// A script, with what its tasks look up in it.
+/// A script, with the tables in which its tasks look things up.
 #[derive(Drop)]
 pub struct Indexed<'a> {
     /// The script, and its project.
     pub scripted: &'a Scripted,
     /// The properties that it declares.
     pub properties: TextSet,
-    /// What it adds to its tasks.
+    /// The clauses that it adds to its tasks.
     pub blocks: Blocks<'a>,
     /// The paths of all tasks of all scripts, in the order in which they are registered.
     pub paths: &'a [TaskPath],
 }
 
-/// A script with what its tasks look up in it.
+/// A script with the tables in which its tasks look things up.
 fn look_up<'a>(
     alloc: Global,
     scripted: &'a Scripted,
@@ -69,7 +69,7 @@ fn look_up<'a>(
     })
 }
 
-/// Declares the task that a registration registers, whose path is the next one.
+/// Declares the task of a registration, whose path is the next one.
 fn declare_registered<'a, A: Actions, T: Transforms>(
     alloc: Global,
     tables: &Tables<A, T>,
@@ -210,7 +210,7 @@ pub(crate) fn declare_script<'a, A: Actions, T: Transforms>(
     declare_each(alloc, tables, names, site, &script, providers, declared)
 }
 
-/// Declares all tasks of scripts that are laid, one script after another.
+/// Declares all tasks of scripts whose nodes exist, one script after another.
 pub(crate) fn declare_scripts<'a, A: Actions, T: Transforms>(
     alloc: Global,
     tables: &Tables<A, T>,

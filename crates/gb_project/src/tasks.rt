@@ -44,7 +44,7 @@ pub(crate) fn want_of_memory(fault: Fault) -> AllocError
     }
 }
 
-/// Adds the nodes of a task's expressions, with which nothing is wrong.
+/// Adds the nodes of a task's expressions, which have no fault.
 fn add_row<T: Transforms>(
     alloc: Global,
     providers: &mut Providers<'_, T>,
@@ -67,7 +67,7 @@ fn add_row<T: Transforms>(
     }
 }
 
-/// Declares the outputs of a task, the nodes of whose expressions these are.
+/// Declares the outputs of a task with these nodes of its expressions.
 fn add_outputs<T: Transforms>(
     alloc: Global,
     providers: &mut Providers<'_, T>,
@@ -84,7 +84,7 @@ fn add_outputs<T: Transforms>(
     declare_outputs(alloc, providers, path, &task.outputs, parts.outputs)
 }
 
-/// Adds the nodes of a task, its outputs among them, and keeps it as declared.
+/// Adds the nodes of a task, including its outputs, and keeps it as declared.
 fn add_declared<'a, T: Transforms>(
     alloc: Global,
     providers: &mut Providers<'_, T>,

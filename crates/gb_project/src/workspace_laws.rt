@@ -6,14 +6,14 @@ ghost use Rattle.gb_project.specs.Kept.{TasksAreGood, TasksStand};
 use gb_action::actions::Actions;
 use gb_provider::transforms::Transforms;
 
-/// Where no statement is at fault, the tasks that are declared one after another are all tasks of the
-/// scripts, and all that they declare stands in the whole table.
+/// Where no statement is at fault, the tasks that are declared one after another are all tasks of
+/// the scripts, and everything that they declare is in the whole table.
 pub fn tasks_stand<A: Actions, T: Transforms>()
     ensures { (tables : Tables T.Map T.FlatMap T.Zip T.Test A.Stored) (source : Source)
         → TasksStand tables source }
 {}
 
-/// Nothing is wrong with the expressions of a task that is declared.
+/// The expressions of a task that is declared have no fault.
 pub fn tasks_are_good<A: Actions, T: Transforms>()
     ensures { (tables : Tables T.Map T.FlatMap T.Zip T.Test A.Stored) (source : Source)
         → TasksAreGood tables source }

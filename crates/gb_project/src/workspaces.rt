@@ -1,4 +1,4 @@
-//! The tasks of a build, realised as they are asked for.
+//! The tasks of a build, realised on demand.
 ghost use Rattle.std.specs.Prelude.{◌≡◌, [], IfOk, Some, bytes_eq, length, position};
 ghost use Rattle.gb_declare.specs.Realised.{evaluated, first_or, realised};
 ghost use Rattle.gb_declare.specs.Views.{joined_of};
@@ -43,8 +43,8 @@ use std::alloc::{AllocError, Global};
 use std::collections::BTreeMap;
 use std::marker::Model;
 
-/// What scripts register, and what their tasks declare. Contracts see what is handed
-/// in with what scripts say.
+/// What scripts register, and what their tasks declare. Contracts see the tables that are passed in
+/// and the contents of the scripts.
 #[derive(Drop)]
 pub struct Workspace<'a, A: Actions, T: Transforms> {
     tables: &'a Tables<A, T>,
@@ -90,7 +90,7 @@ fn unknown(
     }
 }
 
-/// What a declared task comes to.
+/// The evaluated form of a declared task.
 fn evaluated_entry<A: Actions, T: Transforms>(
     alloc: Global,
     context: &Context<'_, A, T>,
@@ -121,7 +121,7 @@ fn evaluated_entry<A: Actions, T: Transforms>(
     )
 }
 
-/// What the task of a number comes to.
+/// The result for the task of a number.
 fn realised_at<A: Actions, T: Transforms>(
     alloc: Global,
     tables: &Tables<A, T>,
@@ -153,7 +153,7 @@ fn realised_at<A: Actions, T: Transforms>(
     evaluated_entry(alloc, &context, providers, path, entry)
 }
 
-/// What the task at a path comes to.
+/// The result for the task at a path.
 fn realised<A: Actions, T: Transforms>(
     alloc: Global,
     tables: &Tables<A, T>,
@@ -175,7 +175,7 @@ fn realised<A: Actions, T: Transforms>(
     realised_at(alloc, tables, registry, providers, declared, path, index)
 }
 
-/// Adds the nodes of scripts with which nothing is wrong.
+/// Adds the nodes of scripts without a fault.
 fn lay<T: Transforms>(
     alloc: Global,
     providers: &mut Providers<'_, T>,
@@ -240,9 +240,9 @@ impl<'a, A: Actions, T: Transforms> Workspace<'a, A, T> {
         })
     }
 
-    /// What the task at a path declares, its expressions evaluated; or its first fault: of what stands in the
-    /// script first, then of its values. A path under which no task is registered is 50 or 52. What was read
-    /// of values is remembered, and the workspace stays as it is seen.
+    /// What the task at a path declares, with its expressions evaluated; or its first fault: first
+    /// of the script, then of its values. A path under which no task is registered is 50 or 52.
+    /// Values that were read are cached; the workspace as contracts see it is unchanged.
     pub fn realise(&mut self, alloc: Global, path: &TaskPath) -> Result<TaskDeclaration, Fault>
         ensures told { let tables = tables_of T.meanings A.meanings self.old.tables in
             Tells tables self.old.source (realised tables self.old.source path.now) result }

@@ -1,4 +1,4 @@
--- A chooser that an answer names is an expression whose value never comes.
+-- A chooser that an answer names is an expression whose value never has an answer.
 use Rattle.std.proofs.Common.{◌≡◌, ◌<◌, ℕ, zero, suc, List, [], ◌∷◌, length, refl, sym, subst, ◌∙◌}
 use Rattle.std.specs.Prelude.{Option, Some, None, Result, Ok, Err, slice_get, option_map}
 use Rattle.std.proofs.lemmas.Option.{slice_get-map, slice_get_within, get_or_from_slice_get}
@@ -51,7 +51,7 @@ module _ {A : Type 0} (P : A → Type 0) where
     answers_kept (suc n) e a answered = round_kept n e a (answers_kept n) (slice_get rules e) refl answered
 
 module _ {M F Z S : Type 0} (meanings : Meanings M F Z S) (nodes : List (Expression M F Z)) where
-  -- an answer that names a chooser names one whose value never comes
+  -- an answer that names a chooser names one whose value never has an answer
   abbrev IsFit : Produced → Type 0
   IsFit (Tasks tasks) = Unit {0}
   IsFit (Refused fault) = Unit {0}
@@ -107,13 +107,13 @@ module _ {M F Z S : Type 0} (meanings : Meanings M F Z S) (nodes : List (Express
         let operands = subst (OperandsWithin (length nodes)) (get_or_from_slice_get nodes e node node is) (within e node (slice_get_within nodes e node is)) in
         subst (Keeps IsFit) same (carrier_fit node operands)
 
-    -- where the tasks of an expression wait for a value that never comes
+    -- if the tasks of an expression wait for a value that never has an answer
     pub endless_fit : (entry chooser : ℕ) → produced_by meanings nodes entry ≡ Some (Endless chooser) → (chooser < length nodes) × (value_of meanings nodes chooser ≡ None)
     endless_fit entry chooser is =
         answers_kept IsFit (carriers meanings nodes) (λ e rule there. rule_fit (slice_get nodes e) e rule refl (sym (slice_get-map (carrier meanings nodes) nodes e) ∙ there))
         (length (carriers meanings nodes)) entry (Endless chooser) is
 
-  -- what is answered of a value that never comes
+  -- the result for a value that never has an answer
   pub endless_told : (chooser : ℕ) → value_of meanings nodes chooser ≡ None → (fault : ProviderFault) → IsGot meanings nodes chooser (Err fault) → IsEndlessTold meanings nodes chooser fault
   endless_told chooser none (faults.Circular names) got = got
   endless_told chooser none (faults.Step fault) got = absurd got

@@ -1,4 +1,4 @@
--- What a look at an expression says of a search.
+-- What an evaluation step of an expression implies for a search.
 use Rattle.std.proofs.Common.{◌≡◌, ◌≢◌, ℕ, ◌<◌, List, length, refl, sym, ◌∙◌, ap, get_or}
 use Rattle.std.specs.Prelude.{Option, Some, None, slice_get, option_map}
 use Rattle.std.proofs.lemmas.Option.{slice_get-map, slice_get_read, slice_get-get_or}
@@ -30,7 +30,7 @@ module _ {A : Type 0} (states now : List (State A)) (same : now ≡ states) (fou
   waits_is operand is = reads_here ∙ is
 
 module _ {A : Type 0} (rules first : List (Rule A)) (kept : rules ≡ first) (states now : List (State A)) (same : now ≡ states) (at : ℕ) (found : Reading A) (look : IsLook rules (known now) at found) where
-  -- the rule that was looked at
+  -- the rule that was evaluated
   pub looked_there : slice_get first at ≡ Some look.0
   looked_there = ap (λ r. slice_get r at) (sym kept) ∙ look.1
 

@@ -40,7 +40,7 @@ module _ {A : Type 0} (old new : List (Rule A)) (same : length new ≡ length ol
         after_is operand (λ c. reading (answer_after new n) (next c)) (answer_after new n operand) (Some m) (before operand m k was is)
         ∙ ih m (subst (λ c. reading (known states) (next c) ≡ Settles b) equal e) d
 
-    -- a rule that settles on what is known settles alike
+    -- a rule that settles on known answers settles alike
     stays : (r : Rule A) (a b : A) → reading (known states) r ≡ Settles b → reading (answer_after old n) r ≡ Settles a → reading (answer_after new n) r ≡ Settles a
     stays (Answers c) a b e d = d
     stays (Reads operand next) a b e d = stays_at operand next a b (λ c. stays (next c) a b) (known states operand) (answer_after old n operand) refl refl e d
@@ -81,7 +81,8 @@ module _ {M F Z S : Type 0} (meanings : Meanings M F Z S) (nodes : List (Express
         λ f. same_rule meanings nodes (set nodes at node) same_place f found.0 ∙ ap (reading f) found.2,
       )
 
-  -- where the answer of an expression is forgotten with all others, or was not known, what is left is right once it is replaced
+  -- where the answer of an expression is forgotten with all others, or was not known, the rest is right
+  -- once it is replaced
   pub values_changed : (old new : List (State Outcome)) → IsRemembered (rules meanings nodes) old → IsForgotten at old new → IsRemembered (rules meanings (set nodes at node)) new
   values_changed old new was (inl none) = subst (IsRemembered (rules meanings (set nodes at node))) (sym none) (none_remembered (rules meanings (set nodes at node)))
   values_changed old new was (inr kept) =

@@ -91,12 +91,12 @@ slice_get_front [] y x i is = cc
 slice_get_front (z ∷ xs) y x zero is = is
 slice_get_front (z ∷ xs) y x (suc i) is = slice_get_front xs y x i is
 
--- what stands behind an entry of a mapped list
+-- the elements after an entry of a mapped list
 pub mapped_at : {X Y : Type 0} (h : X → Y) (xs : List X) (i : ℕ) (y : Y) (o : Option X) → slice_get xs i ≡ o → option_map h o ≡ Some y → (x : X) × (slice_get xs i ≡ Some x) × (h x ≡ y)
 mapped_at h xs i y None is found = cc
 mapped_at h xs i y (Some x) is found = (x, is, let same : h x ≡ y = cc in same)
 
--- two tables in which outputs stand at the same places
+-- two tables in which outputs have the same numbers
 module _ {M F Z S : Type 0} (meanings : Meanings M F Z S) (nodes new : List (Expression M F Z)) (same_place : (chosen : Chosen) → output_place new chosen ≡ output_place nodes chosen) where
   same_choice : (function : List ℕ) (reply : Result (Option Chosen) Refusal) → chosen_rule new function reply ≡ chosen_rule nodes function reply
   same_choice function (Ok (Some chosen)) = ap (output_rule chosen) (same_place chosen)
@@ -258,7 +258,7 @@ module _ {M F Z S : Type 0} (meanings : Meanings M F Z S) (nodes : List (Express
         let same : length nodes ≡ length (rules meanings nodes) = sym (length-map nodes (rule meanings nodes)) in
         same_answers (rules meanings nodes) (rules meanings (nodes ++ e ∷ [])) (longer_by (rule meanings nodes) (rule meanings (nodes ++ e ∷ []))) value_rule_within value_rule_alike i (omega (arith, below, same))
 
-    -- what is remembered of values stays right
+    -- cached values stay right
     pub values_remembered : (states : List (State Outcome)) → IsRemembered (rules meanings nodes) states → IsRemembered (rules meanings (nodes ++ e ∷ [])) states
     values_remembered states was =
         sound_grown (rules meanings nodes) (rules meanings (nodes ++ e ∷ [])) (longer_by (rule meanings nodes) (rule meanings (nodes ++ e ∷ []))) value_rule_within value_rule_alike states was.0 was.1
@@ -293,7 +293,7 @@ module _ {M F Z S : Type 0} (meanings : Meanings M F Z S) (nodes : List (Express
         let same : length nodes ≡ length (carriers meanings nodes) = sym (length-map nodes (carrier meanings nodes)) in
         same_answers (carriers meanings nodes) (carriers meanings (nodes ++ e ∷ [])) (longer_by (carrier meanings nodes) (carrier meanings (nodes ++ e ∷ []))) task_rule_within task_rule_alike i (omega (arith, below, same))
 
-    -- and so does what is remembered of tasks
+    -- and so do the cached tasks
     pub tasks_remembered : (states : List (State Produced)) → IsRemembered (carriers meanings nodes) states → IsRemembered (carriers meanings (nodes ++ e ∷ [])) states
     tasks_remembered states was =
         sound_grown (carriers meanings nodes) (carriers meanings (nodes ++ e ∷ [])) (longer_by (carrier meanings nodes) (carrier meanings (nodes ++ e ∷ []))) task_rule_within task_rule_alike states was.0 was.1

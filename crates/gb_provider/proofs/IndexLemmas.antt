@@ -1,4 +1,4 @@
--- Where outputs stand as the table grows and changes.
+-- The numbers of outputs as the table grows and changes.
 use Rattle.std.proofs.Common.{◌≡◌, ℕ, ◌+◌, ◌<◌, ◌≤◌, Bool, true, false, cond, nat_lt, List, [], ◌∷◌, ◌++◌, length, set, refl, sym, ap, subst, ◌∙◌, arith, inl, inr, length-append, length-set, get_or}
 use Rattle.std.specs.Prelude.{Option, Some, None, not, ◌&&◌, position, slice_get, Result, Ok, Err}
 use Rattle.std.specs.List.{position_or_len}
@@ -37,7 +37,7 @@ module _ {X : Type 0} (p : X → Bool) where
       ap (λ n. cond (nat_lt n (length (set xs at y))) (Some n) None) first
       ∙ ap (λ n. cond (nat_lt (position_or_len p xs) n) (Some (position_or_len p xs)) None) long
 
--- what is done with one more element, which passes or not
+-- the effect of one more element, which passes or not
 abbrev pub grown : Option ℕ → Bool → ℕ → Option ℕ
 grown (Some place) passes n = Some place
 grown None true n = Some n
@@ -84,7 +84,7 @@ module _ {X : Type 0} (p : X → Bool) (y : X) (xs : List X) where
         | inr past ↦ found_last (omega (arith, past, prefix_len-le-length (λ x. not (p x)) xs))
       ]
 
--- one output is another just where the orders of their tasks and names say so
+-- two outputs are the same exactly if their tasks and their names compare as equal
 then_is : (o r : Ordering) → is_eq (ordering_then o r) ≡ (is_eq o && is_eq r)
 then_is Less r = refl
 then_is Equal r = refl
@@ -107,7 +107,7 @@ module _ {M F Z : Type 0} where
   open_stands change (Some (Zipped left right call)) property is = cc
   open_stands change (Some (OrElse left right)) property is = cc
 
-  -- a change of a property leaves all outputs where they stand
+  -- a change of a property leaves the numbers of all outputs
   pub places_changed : (change : Change) (old new : List (Expression M F Z)) (at : ℕ) (result : Result (Unit {0}) Final) → AreChanged change old at new result → (chosen : Chosen) → output_place new chosen ≡ output_place old chosen
   places_changed change old new at (Ok done) made chosen =
       let stood = open_stands change (slice_get old at) made.0 made.1 in
@@ -135,7 +135,7 @@ module _ {M F Z : Type 0} (nodes : List (Expression M F Z)) (k : Chosen) (declar
   pushed_at q true is = let absent : output_place nodes q ≡ None = ap (output_place nodes) (sym (same_chosen q k is)) ∙ none in sym (ap (λ o. grown o true (length nodes)) absent)
   pushed_at q false is = sym (grown_kept (output_place nodes q) (length nodes))
 
-  -- where outputs stand with one more
+  -- the numbers of outputs with one more
   pub places_pushed : (order : Chosen → Chosen → Ordering) → ((a b : Chosen) → is_eq (order a b) ≡ is_chosen b a) → (old new : BTreeMap Chosen ℕ)
       → ((q : Chosen) → get order old q ≡ output_place nodes q) → ((q : Chosen) → get order new q ≡ cond (is_at (order k) q) (Some (length nodes)) (get order old q))
       → (q : Chosen) → get order new q ≡ output_place (nodes ++ OfOutput (record { chosen = k; declared = declared }) ∷ []) q
@@ -161,14 +161,14 @@ module _ {M F Z : Type 0} where
   output_stands chosen (Zipped left right call) is q = cc
   output_stands chosen (OrElse left right) is q = cc
 
-  -- where outputs stand once one is declared
+  -- the numbers of outputs after one is declared
   pub places_declared : (nodes : List (Expression M F Z)) (number : ℕ) (chosen : Chosen) (declared : Option ℕ) → output_place nodes chosen ≡ Some number
       → (q : Chosen) → output_place (set nodes number (OfOutput (record { chosen = chosen; declared = declared }))) q ≡ output_place nodes q
   places_declared nodes number chosen declared stands q =
       let found = found_at (is_output chosen) nodes number stands in
       position_set (is_output q) nodes number found.0 (OfOutput (record { chosen = chosen; declared = declared })) found.1 (output_stands chosen found.0 found.2 q)
 
--- where an output stands is within the table
+-- the number of an output is within the table
 pub place_within : {M F Z : Type 0} (nodes : List (Expression M F Z)) (chosen : Chosen) → PlaceWithin (length nodes) (output_place nodes chosen)
 place_within nodes chosen = by (output_place nodes chosen) refl
   where

@@ -31,7 +31,7 @@ module _ {A : Type 0} (f : ℕ → Option A) (operand : ℕ) where
   reads_wait (suc n) (Reads next_operand next) reads none =
       after_is next_operand (λ a. reading f (next a)) (f next_operand) (Some reads.0) reads.1 ∙ reads_wait n (next reads.0) reads.2 none
 
-  -- and the operands before that one need no other look
+  -- and the operands before that one need not be read again
   pub reads_past : (n : ℕ) (rule : Rule A) → ReadsAfter f operand n rule → IsPast f n rule
   reads_past zero rule reads = tt
   reads_past (suc n) rule reads = (operand, reads)
@@ -53,7 +53,7 @@ module _ (f : ℕ → Option Outcome) where
   given_of (Some (Refused fault)) is = cc
   given_of None is = cc
 
-  -- what is read behind an element, whatever value it is
+  -- the operands read after an element, whatever value it is
   reads_behind : (operand n : ℕ) (go_on : List ℕ → Rule Outcome) (other : Rule Outcome) → ((text : List ℕ) → ReadsAfter f operand n (go_on text)) → ReadsAfter f operand n other → (value : Value) → ReadsAfter f operand n (on_text go_on other value)
   reads_behind operand n go_on other all also (values.Text text) = all text
   reads_behind operand n go_on other all also (values.Flag flag) = also
@@ -61,7 +61,7 @@ module _ (f : ℕ → Option Outcome) where
   reads_behind operand n go_on other all also (values.Place place) = also
   reads_behind operand n go_on other all also (values.Task task) = also
 
-  -- behind elements that are values a list reads the next
+  -- after elements that are values a list reads the next
   pub texts_read : (operands : List ℕ) (is_wrong : Bool) (texts : List (List ℕ)) (n : ℕ) → AreBefore (λ o. is_given (f o)) operands n → n < length operands → ReadsAfter f (slice_index operands n) n (list_rule is_wrong texts operands)
   texts_read [] is_wrong texts n all below = absurd (omega arith)
   texts_read (operand ∷ operands) is_wrong texts zero all below = refl
@@ -87,7 +87,7 @@ module _ (f : ℕ → Option Outcome) where
         | Refused fault ↦ λ is rest. absurd (no_reads f operand n (Refused fault) rest)
       ]) reads.1 reads.2
 
-  -- the elements that need no other look are values
+  -- the elements that need not be read again are values
   pub past_texts : (operands : List ℕ) (n : ℕ) → IsPast f n (list_rule false [] operands) → AreBefore (λ o. is_given (f o)) operands n
   past_texts operands zero past = none_before (λ o. is_given (f o)) operands
   past_texts operands (suc n) past = reads_texts operands false [] past.0 (suc n) past.1
@@ -99,7 +99,7 @@ module _ (f : ℕ → Option Produced) where
   tasks_of (Some (produced.Endless chooser)) is = cc
   tasks_of None is = cc
 
-  -- behind operands whose tasks are known the next is read
+  -- after operands whose tasks are known the next is read
   pub tasks_read : (operands : List ℕ) (tasks : List (List ℕ)) (n : ℕ) → AreBefore (λ o. has_tasks (f o)) operands n → n < length operands → ReadsAfter f (slice_index operands n) n (carry_all tasks operands)
   tasks_read [] tasks n all below = absurd (omega arith)
   tasks_read (operand ∷ operands) tasks zero all below = refl

@@ -1,4 +1,4 @@
--- What a look at a node says of the rule of an entry.
+-- What an evaluation step of a node implies for the rule of an entry.
 use Rattle.std.proofs.Common.{◌≡◌, ℕ, ◌<◌, List, Option, Some, length, map, get_or, refl, sym, ◌∙◌, ap, subst}
 use Rattle.std.specs.Prelude.{slice_get, option_map}
 use Rattle.std.proofs.lemmas.Option.{slice_get-map, slice_get_read}
@@ -6,7 +6,7 @@ use Rattle.gb_provider.specs.declared.reading.Reading.{Reading}
 use Rattle.gb_provider.specs.Rounds.{Rule, reading}
 use Rattle.gb_provider.specs.Search.{IsLook, IsPast, IsPastAt}
 
--- each node has a rule, and the node that was looked at is the one of this number
+-- each node has a rule, and the node that was evaluated is the one of this number
 module _ {N A : Type 0} (rule_of : List N → N → Rule A) (here inside nodes : List N) (alike : here ≡ nodes) (same : inside ≡ nodes) (f : ℕ → Option A) (at : ℕ) (node : N) (below : at < length inside) (is : node ≡ get_or inside at node) where
   there : slice_get (map (rule_of nodes) nodes) at ≡ Some (rule_of here node)
   there =

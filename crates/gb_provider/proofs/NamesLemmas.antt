@@ -39,7 +39,7 @@ before_least a b c less least = by (names_order b c) refl
 least_itself : (a : List (List ℕ)) → names_order a a ≢ Greater
 least_itself a greater = let tied = tied_itself names_total a in cc
 
--- rounds by the places where they begin
+-- rotations by the positions where they begin
 module _ (round : ℕ → List (List ℕ)) (least i : ℕ) (so_far : (k : ℕ) → k < i → names_order (round least) (round k) ≢ Greater) where
   -- a round before the least one is the least one
   pub least_now : names_order (round i) (round least) ≡ Less → (k : ℕ) → k < i + 1 → names_order (round i) (round k) ≢ Greater
@@ -57,14 +57,14 @@ module _ (round : ℕ → List (List ℕ)) (least i : ℕ) (so_far : (k : ℕ) �
         | inr past ↦ let same : k ≡ i = omega arith in rw same other
       ]
 
--- names that stand twice hold each of their rounds
+-- names that occur twice in a row contain each of their rotations
 pub round_twice : (names : List (List ℕ)) (place : ℕ) → place ≤ length names → take (length names) (drop place (names ++ names)) ≡ round_from names place
 round_twice names place within =
     let count : length names ≡ length (drop place names) + place = omega (arith, within, length-drop place names) in
     ap (take (length names)) (drop-append-le place names names within)
     ∙ (ap (λ n. take n (drop place names ++ names)) count ∙ take-append-add (drop place names) names place)
 
--- of names that stand twice the least round is told
+-- of names that occur twice in a row the least rotation is returned
 pub told_round : (names : List (List ℕ)) (place : ℕ) (round : List (List ℕ)) → place ≤ length names → round ≡ take (length names) (drop place (names ++ names))
     → ((k : ℕ) → k < length names → names_order (take (length names) (drop place (names ++ names))) (take (length names) (drop k (names ++ names))) ≢ Greater) → IsLeastRound names round
 told_round names place round within is all = (

@@ -1,4 +1,4 @@
--- Operands that need no other look.
+-- Operands that need not be read again.
 use Rattle.std.proofs.Common.{◌≡◌, ℕ, zero, suc, List, [], ◌∷◌, ◌++◌, sym, ap, ◌∙◌, inl, inr, set}
 use Rattle.std.specs.Prelude.{Option, Some, None, slice_get}
 use Rattle.std.proofs.lemmas.Bool.{cases_eq}
@@ -25,7 +25,7 @@ module _ {A : Type 0} (f g : ℕ → Option A) (x : Extends f g) where
   pub past_at_kept : (rules : List (Rule A)) (entry n : ℕ) → IsPastAt rules f entry n → IsPastAt rules g entry n
   past_at_kept rules entry n past rule there = past_kept n rule (past rule there)
 
--- the operands along a path that need no other look
+-- the operands along a path that need not be read again
 abbrev pub ArePast : {A : Type 0} → List (Rule A) → (ℕ → Option A) → List ℕ → List ℕ → Type 0
 ArePast rules f [] [] = Unit {0}
 ArePast rules f [] (n ∷ pasts) = ⊥

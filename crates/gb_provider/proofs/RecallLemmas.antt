@@ -1,4 +1,4 @@
--- What is remembered of answers.
+-- Cached answers.
 use Rattle.std.proofs.Common.{◌≡◌, ◌≢◌, ℕ, zero, suc, List, [], ◌∷◌, ◌++◌, refl, sym, ◌∙◌, arith}
 use Rattle.std.specs.Prelude.{Option, Some, None, Result, Ok, Err, slice_get}
 use Rattle.gb_core.specs.declared.value.Value.{Value}
@@ -17,7 +17,7 @@ use Rattle.gb_provider.specs.Search.{IsSound, known}
 use Rattle.gb_provider.proofs.SearchLemmas.{still_settled}
 
 module _ {A : Type 0} where
-  -- one more new state says nothing
+  -- one more new state implies nothing
   pub known_more : (states : List (State A)) (e : ℕ) → known (states ++ New ∷ []) e ≡ known states e
   known_more [] zero = refl
   known_more [] (suc e) = refl
@@ -31,7 +31,7 @@ module _ {A : Type 0} where
   closed_more (state ∷ states) zero shut is = shut is
   closed_more (state ∷ states) (suc e) shut is = closed_more states e shut is
 
-  -- with nothing remembered, all of it is right
+  -- with no cached answers, all of them are right
   pub none_remembered : (table : List (Rule A)) → IsRemembered table []
   none_remembered table = (omega arith, record { right = λ e a is. cc; settled = λ e a is. cc; closed = λ e is. cc })
 
@@ -43,7 +43,7 @@ module _ {A : Type 0} where
     closed = λ e. shut e (sound.closed e);
   }
 
--- a known answer that is told is got
+-- a known answer that is returned is the result of `get`
 pub told_got : {M F Z S : Type 0} (meanings : Meanings M F Z S) (nodes : List (Expression M F Z)) (number : ℕ) (o : Option Outcome) → ((a : Outcome) → o ≡ Some a → answer (rules meanings nodes) number ≡ Some a)
     → (result : Result (Option Value) ProviderFault) → IsTold o result → IsGot meanings nodes number result
 told_got meanings nodes number o right (Ok (Some value)) told = right _ told

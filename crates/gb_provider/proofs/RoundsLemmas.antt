@@ -24,7 +24,7 @@ module _ {A : Type 0} (f g : ℕ → Option A) (x : Extends f g) where
   kept_at operand next a ih None was e = cc
   kept_at operand next a ih (Some b) was e = after_is operand (λ c. reading g (next c)) (g operand) (Some b) (x.keeps operand b was) ∙ ih b e
 
-  -- what settles goes on to settle
+  -- a rule that settles keeps settling
   pub reading_kept : (rule : Rule A) (a : A) → reading f rule ≡ Settles a → reading g rule ≡ Settles a
   reading_kept (Answers b) a e = e
   reading_kept (Reads operand next) a e = kept_at operand next a (λ b. reading_kept (next b) a) (f operand) refl e
@@ -35,7 +35,7 @@ module _ {A : Type 0} (f g : ℕ → Option A) (x : Extends f g) where
       after_is operand (λ c. reading g (next c)) (g operand) None (ap g same ∙ none) ∙ ap Waits same
   waits_at operand next s ih (Some b) was e none = after_is operand (λ c. reading g (next c)) (g operand) (Some b) (x.keeps operand b was) ∙ ih b e none
 
-  -- what waits goes on to wait for the same, while that has no answer
+  -- a rule that waits keeps waiting for the same operand, while that has no answer
   pub reading_waits : (rule : Rule A) (s : ℕ) → reading f rule ≡ Waits s → g s ≡ None → reading g rule ≡ Waits s
   reading_waits (Answers b) s e none = cc
   reading_waits (Reads operand next) s e none = waits_at operand next s (λ b. reading_waits (next b) s) (f operand) refl e none
@@ -52,7 +52,8 @@ module _ {A : Type 0} (f g h : ℕ → Option A) (x : Extends f h) (y : Extends 
       let same : b ≡ c = cc in
       ih c (subst (λ d. reading f (next d) ≡ Waits s) same e) none
 
-  -- of two tables of right answers, where a rule waits for s in one, it doesn't settle in the other while s has no answer there
+  -- of two tables of right answers: if a rule waits for s in one, it does not settle in the other while s has
+  -- no answer there
   pub reading_still_waits : (rule : Rule A) (s : ℕ) → reading f rule ≡ Waits s → g s ≡ None → settled (reading g rule) ≡ None
   reading_still_waits (Answers b) s e none = cc
   reading_still_waits (Reads operand next) s e none = still_at operand next s (λ b. reading_still_waits (next b) s) (f operand) (g operand) refl refl e none
@@ -178,7 +179,7 @@ module _ {A : Type 0} (rules : List (Rule A)) where
               record { keeps = λ entry a e. idle_next.keeps entry a (past.keeps entry a e) }
         ]
 
-  -- an answer that comes at all comes within as many rounds as the table has entries
+  -- an answer that exists at all exists within as many rounds as the table has entries
   pub answer_found : (n : ℕ) → Extends (answer_after rules n) (answer rules)
   answer_found n =
       elim (cases_lt (length rules) n) [

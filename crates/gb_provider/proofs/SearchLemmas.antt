@@ -157,7 +157,7 @@ module _ {A : Type 0} (rules : List (Rule A)) (entry : ℕ) (states : List (Stat
       listed = listed_then;
     }
 
-    -- and less is left to do
+    -- and less remains to do
     pub settled_less : left (set states at (Known o)) < left states
     settled_less =
         let was_open : get_or states at Open ≡ Open = get_or_from_slice_get states at Open Open top_open in
@@ -269,14 +269,14 @@ module _ {A : Type 0} (rules : List (Rule A)) (entry : ℕ) (states : List (Stat
         listed = listed_next;
       }
 
-      -- and less is left to do
+      -- and less remains to do
       pub opened_less : left (set states operand Open) < left states
       opened_less =
           let was : get_or states operand New ≡ New = get_or_from_slice_get states operand New New is_new in
           let sums : left (set states operand Open) + 2 ≡ left states + 1 = rw was at (sum_by-set left_at states operand Open New new_within) in
           omega arith
 
-    -- the operand stands on the path, at this place
+    -- the operand is on the path, at this position
     module _ (place : ℕ) (on_path : place < length (front ++ at ∷ [])) (found : get_or (front ++ at ∷ []) place 0 ≡ operand) where
       right_record : Extends (known states) (answer rules)
       right_record = record { keeps = search.right }
@@ -351,7 +351,7 @@ module _ {A : Type 0} (rules : List (Rule A)) (entry : ℕ) (states : List (Stat
         different = circle_different;
       }
 
--- the same answers rest on one another
+-- the same answers depend on one another
 pub still_settled : {A : Type 0} (rules : List (Rule A)) (old new : List (State A)) → ((e : ℕ) → known new e ≡ known old e) → AreSettled rules old → AreSettled rules new
 still_settled rules old new same settled e a now =
     let was = settled e a (sym (same e) ∙ now) in

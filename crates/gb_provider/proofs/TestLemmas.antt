@@ -1,4 +1,4 @@
--- What a test answers, from its parts.
+-- The result of a test, from its parts.
 use Rattle.std.proofs.Common.{◌≡◌, ℕ, List, length, refl}
 use Rattle.std.specs.Prelude.{Bool, false, Some, Result, Ok, Err}
 use Rattle.gb_core.specs.declared.value.Value.{Value}
@@ -9,7 +9,7 @@ use Rattle.gb_provider.specs.Answers.{Held, value_of, IsFault, IsAsked, IsTested
 use Rattle.gb_provider.specs.Meanings.{Meanings, meaning_of}
 
 module _ {M F Z S : Type 0} (meanings : Meanings M F Z S) (held : Held M F Z S) (entry : ℕ) (name : List ℕ) (arguments : List (List ℕ)) (test : S) (count : meanings.test.arity test ≡ length arguments) where
-  -- the test's own answer of a value
+  -- the test's own result on a value
   pub asked_tested : (value : Value) → value_of meanings held.nodes entry ≡ Some (Given value) → (result : Result Bool ProviderFault) → IsAsked (meaning_of meanings.test test) name arguments value result → IsTestedBy meanings held entry name arguments test result
   asked_tested value is (Ok truth) asked = (count, (Given value, is, asked))
   asked_tested value is (Err (faults.Circular names)) asked = absurd asked

@@ -67,7 +67,7 @@ pub numbers_within : (n : ℕ) (nodes : List Node) → All (λ node. node.number
 numbers_within n nodes all = All-map (λ number. number < n) (λ node. node.number) nodes all
 
 module _ {X : Type 0} where
-  -- the second of two writes to one place stands
+  -- the second of two writes to one place remains
   pub set_twice : (xs : List X) (at : ℕ) (x y : X) → set (set xs at x) at y ≡ set xs at y
   set_twice [] at x y = refl
   set_twice (z ∷ xs) zero x y = refl
@@ -82,7 +82,7 @@ taken_same found property true is = cc
 taken_same found property false is = cc
 
 module _ {M F Z : Type 0} (n : ℕ) (change : Change) where
-  -- the operands of a property that takes a change
+  -- the operands of a property that accepts a change
   pub open_within : (o : Option (Expression M F Z)) → ((node : Expression M F Z) → o ≡ Some node → OperandsWithin n node) → (property : Property) → open_property change o ≡ Some property → PropertyWithin n property
   open_within None all property is = cc
   open_within (Some (Constant value)) all property is = cc

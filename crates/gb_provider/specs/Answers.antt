@@ -1,4 +1,4 @@
--- What the questions to providers are answered.
+-- The results of the calls to providers.
 use Rattle.std.specs.Prelude.{◌≡◌, ◌≢◌, ℕ, Bool, false, List, length, Option, Some, None, Result, Ok, Err}
 use Rattle.gb_core.specs.declared.value.Value.{Value}
 use Rattle.gb_provider.specs.declared.fault.ProviderFault.{ProviderFault}
@@ -18,23 +18,23 @@ use Rattle.gb_provider.specs.Rules.{rules}
 use Rattle.gb_provider.specs.Table.{Table}
 use Rattle.gb_provider.specs.Names.{IsLeastRound, names_on}
 
--- What providers hold: the table of stored functions, and the expressions by number.
+-- The contents of providers: the table of stored functions, and the expressions by number.
 pub record Held (M F Z S : Type 0) : Type 0 where
   pub table : Table M F Z S
   pub nodes : List (Expression M F Z)
 
 module _ {M F Z S : Type 0} (meanings : Meanings M F Z S) (nodes : List (Expression M F Z)) (entry : ℕ) where
-  -- The value of an expression: the answer that the rounds come to.
+  -- The value of an expression: the answer that the rounds reach.
   abbrev pub value_of : Option Outcome
   value_of = answer (rules meanings nodes) entry
 
-  -- an expression without an answer runs into this circle, told by its names
+  -- an expression without an answer runs into this circle, which is reported with its names
   abbrev pub RunsInto : List (List ℕ) → Type 0
   RunsInto names =
       (circle : List ℕ) × IsCircle (rules meanings nodes) entry circle
       × IsLeastRound (names_on nodes circle) names
 
-  -- the fault that `get` answers
+  -- the fault that `get` returns
   abbrev pub IsFault : ProviderFault → Type 0
   IsFault (faults.Circular names) = (value_of ≡ None) × RunsInto names
   IsFault (faults.Step fault) = ⊥
@@ -59,20 +59,20 @@ module _ {M F Z S : Type 0} (meanings : Meanings M F Z S) (nodes : List (Express
 
 module _ (means : Value → List (List ℕ) → Result Bool Refusal) (name : List ℕ)
     (arguments : List (List ℕ)) where
-  -- what a test of a value answers; an absent one is false
+  -- the result of a test on a value; on an absent one it is false
   abbrev pub IsTruth : Outcome → Bool → Type 0
   IsTruth (Given value) truth = means value arguments ≡ Ok truth
   IsTruth Absent truth = truth ≡ false
   IsTruth (Refused fault) truth = ⊥
 
-  -- the fault of the value, or the test's own
+  -- the fault of the value, or that of the test
   abbrev pub IsTestFault : Outcome → ValueFault → Type 0
   IsTestFault (Given value) fault =
       (refusal : Refusal) × (means value arguments ≡ Err refusal) × (fault ≡ values.Refused name refusal)
   IsTestFault Absent fault = ⊥
   IsTestFault (Refused own) fault = fault ≡ own
 
-  -- what the stored test says of a value
+  -- the result of the stored test on a value
   abbrev pub IsAsked : Value → Result Bool ProviderFault → Type 0
   IsAsked value (Ok truth) = means value arguments ≡ Ok truth
   IsAsked value (Err (faults.Circular names)) = ⊥
@@ -83,7 +83,7 @@ module _ (means : Value → List (List ℕ) → Result Bool Refusal) (name : Lis
 
 module _ {M F Z S : Type 0} (meanings : Meanings M F Z S) (held : Held M F Z S) (entry : ℕ) (name : List ℕ)
     (arguments : List (List ℕ)) where
-  -- the answer of a test that was found
+  -- the result of a test that was found
   abbrev pub IsTestedBy : S → Result Bool ProviderFault → Type 0
   IsTestedBy test (Ok truth) =
       (meanings.test.arity test ≡ length arguments)
@@ -102,8 +102,8 @@ module _ {M F Z S : Type 0} (meanings : Meanings M F Z S) (held : Held M F Z S) 
       × IsTestFault (meaning_of meanings.test test) name arguments outcome fault)
   IsTestedBy test (Err faults.OutOfMemory) = Unit {0}
 
-  -- `test`: 31 where no test has the name, then 32 where its arguments are too many or
-  -- too few, then its answer
+  -- `test`: 31 if no test has the name, then 32 if its arguments are too many or
+  -- too few, then its result
   abbrev pub IsTested : Option S → Result Bool ProviderFault → Type 0
   IsTested (Some test) result = IsTestedBy test result
   IsTested None (Ok truth) = ⊥
@@ -115,7 +115,7 @@ module _ {M F Z S : Type 0} (meanings : Meanings M F Z S) (held : Held M F Z S) 
   IsTested None (Err (faults.Value fault)) = ⊥
   IsTested None (Err faults.OutOfMemory) = ⊥
 
--- whether a test takes so many arguments: 31 where there is none, then 32
+-- whether a test takes this many arguments: 31 if there is no test, then 32
 abbrev pub IsAccepted : {S X : Type 0} → (S → ℕ) → ℕ → Option S → Result X StepFault → Type 0
 IsAccepted arity count (Some test) (Ok x) = arity test ≡ count
 IsAccepted arity count (Some test) (Err steps.UnknownTransform) = ⊥

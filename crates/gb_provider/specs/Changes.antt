@@ -16,7 +16,7 @@ use Rattle.gb_provider.specs.declared.change.Change.TheVariants as changes
 use Rattle.gb_provider.specs.Answers as answers
 use Rattle.gb_provider.specs.Steps.{IsAdded}
 
--- a final property takes no change but to be made final
+-- a final property accepts no change except to be made final
 abbrev pub takes : Change → Bool → Bool
 takes (changes.Set value) is_final = not is_final
 takes (changes.SetFrom source) is_final = not is_final
@@ -29,7 +29,7 @@ if_taken property true = Some property
 if_taken property false = None
 
 module _ {M F Z : Type 0} (change : Change) where
-  -- the property at a place, if there is one that takes the change
+  -- the property with a number, if there is one that accepts the change
   abbrev pub open_property : Option (Expression M F Z) → Option Property
   open_property (Some (Constant value)) = None
   open_property (Some (OfProperty property)) = if_taken property (takes change property.is_final)
@@ -41,7 +41,7 @@ module _ {M F Z : Type 0} (change : Change) where
   open_property (Some (OrElse left right)) = None
   open_property None = None
 
--- What a change makes of a property.
+-- The property after a change.
 abbrev pub changed : Change → Property → Property
 changed (changes.Set value) property = record property { setting = Some (Held value) }
 changed (changes.SetFrom source) property = record property { setting = Some (Followed source) }
@@ -57,7 +57,7 @@ ChangeWithin n changes.Unset = Unit {0}
 ChangeWithin n (changes.Convention source) = source < n
 ChangeWithin n changes.Finalize = Unit {0}
 
--- A property that takes the change is changed, and nothing else; else the change is refused.
+-- A property that accepts the change is changed, and nothing else; else the change is refused.
 abbrev pub AreChanged : {M F Z : Type 0} → Change → List (Expression M F Z) → ℕ → List (Expression M F Z)
     → Result (Unit {0}) Final → Type 0
 AreChanged change old at new (Ok done) =
@@ -78,13 +78,13 @@ abbrev pub IsNodeDeclared : {M F Z : Type 0} → ℕ → Expression M F Z → Ex
 IsNodeDeclared source old new =
     (output : Output) → old ≡ OfOutput output → new ≡ OfOutput (record output { declared = Some source })
 
--- the same of all that providers hold: the table stays
+-- the same of the contents of providers: the table stays
 abbrev pub IsChanged : {M F Z S : Type 0} → Change → answers.Held M F Z S → ℕ → answers.Held M F Z S
     → Result (Unit {0}) Final → Type 0
 IsChanged change old at new result = AreChanged change old.nodes at new.nodes result × (new.table ≡ old.table)
 
 module _ {M F Z S : Type 0} (old : answers.Held M F Z S) (chosen : Chosen) where
-  -- the node of an output: where it stands, or one more
+  -- the node of an output: its number in the table, or that of one more
   abbrev pub IsOutput : Option ℕ → answers.Held M F Z S → Node → Type 0
   IsOutput (Some place) new node = (node.number ≡ place) × (new ≡ old)
   IsOutput None new node = IsAdded old (OfOutput (record { chosen = chosen; declared = None })) new node

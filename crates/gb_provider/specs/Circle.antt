@@ -3,12 +3,12 @@ use Rattle.std.specs.Prelude.{◌≡◌, ◌≢◌, ℕ, ◌+◌, ◌-◌, ◌<�
 use Rattle.std.proofs.Common.{zero, suc}
 use Rattle.gb_provider.specs.Rounds.{Rule, and_then, next_awaited}
 
--- The entry that one comes to in so many steps, each to the first operand that never has an answer.
+-- The entry that is reached in so many steps, each to the first operand that never has an answer.
 abbrev pub awaited_after : {A : Type 0} → List (Rule A) → ℕ → ℕ → Option ℕ
 awaited_after rules zero entry = Some entry
 awaited_after rules (suc steps) entry = and_then (next_awaited rules) (awaited_after rules steps entry)
 
--- The circle that one comes to from an entry: each of it awaits the next, and the last the first.
+-- The circle that is reached from an entry: each entry of it awaits the next, and the last the first.
 pub record IsCircle {A : Type 0} (rules : List (Rule A)) (entry : ℕ) (circle : List ℕ) : Type 0 where
   pub some : 0 < length circle
   pub reached : (steps : ℕ) × (awaited_after rules steps entry ≡ Some (slice_index circle 0))

@@ -1,4 +1,4 @@
--- The numbers under which faults are told to users.
+-- The numbers under which faults are reported to users.
 use Rattle.std.specs.Prelude.{ℕ}
 use Rattle.gb_provider.specs.declared.fault.Refusal.{Refusal}
 use Rattle.gb_provider.specs.declared.fault.Refusal.TheVariants as refusals

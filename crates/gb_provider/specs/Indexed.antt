@@ -1,4 +1,4 @@
--- Where outputs stand.
+-- The numbers of outputs.
 use Rattle.std.specs.Prelude.{◌≡◌, ℕ, List}
 use Rattle.std.specs.BTreeMap.{BTreeMap, get}
 use Rattle.std.specs.declared.cmp.Ordering.{Ordering}
@@ -11,7 +11,7 @@ use Rattle.std.specs.Ordering.{ordering_then}
 use Rattle.gb_provider.specs.Rules.{output_place}
 use Rattle.gb_core.specs.Lists.{byte_order}
 
--- outputs by their tasks, and by their names where the tasks are the same
+-- outputs ordered by their tasks, and by their names if the tasks are the same
 abbrev pub chosen_order : Chosen → Chosen → Ordering
 chosen_order a b = ordering_then (byte_order a.task b.task) (byte_order a.output b.output)
 
@@ -27,6 +27,6 @@ module _ {M F Z : Type 0} where
   IsNoOutput (Zipped left right call) = Unit {0}
   IsNoOutput (OrElse left right) = Unit {0}
 
-  -- the map tells where each output stands
+  -- the map has the number of each output
   abbrev pub IsIndexed : List (Expression M F Z) → BTreeMap Chosen ℕ → Type 0
   IsIndexed nodes outputs = (chosen : Chosen) → get chosen_order outputs chosen ≡ output_place nodes chosen

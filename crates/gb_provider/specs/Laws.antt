@@ -8,13 +8,13 @@ use Rattle.gb_provider.specs.Produced.{produced_by}
 use Rattle.gb_provider.specs.Remembered.{AreWithin}
 use Rattle.gb_provider.specs.Rounds.{Rule, answer_after}
 
--- an answer once reached stays
+-- an answer stays once it is reached
 abbrev pub AnswersStay : Type 0 → Type 0
 AnswersStay A =
     (rules : List (Rule A)) (m n entry : ℕ) (a : A) → m ≤ n → answer_after rules m entry ≡ Some a
     → answer_after rules n entry ≡ Some a
 
--- what has no answer after as many rounds as there are entries never has one
+-- an entry without an answer after as many rounds as there are entries never has one
 abbrev pub RoundsAreBounded : Type 0 → Type 0
 RoundsAreBounded A =
     (rules : List (Rule A)) (entry : ℕ) → answer_after rules (length rules) entry ≡ None → (n : ℕ)

@@ -34,21 +34,21 @@ module _ {M F Z : Type 0} where
   abbrev pub names_on : List (Expression M F Z) → List ℕ → List (List ℕ)
   names_on nodes circle = flat_map (λ number. names_of (slice_get nodes number)) circle
 
--- names one by one, each by its bytes
+-- names ordered one by one, each by its bytes
 abbrev pub names_order : List (List ℕ) → List (List ℕ) → Ordering
 names_order = slice_cmp byte_order
 
--- the same round, from a place on
+-- the same circle of names, rotated to begin at a position
 abbrev pub round_from : List (List ℕ) → ℕ → List (List ℕ)
 round_from names place = drop place names ++ take place names
 
--- of the rounds from each name on, the least in the order of names
+-- the least of the rotations, in the order of names
 abbrev pub IsLeastRound : List (List ℕ) → List (List ℕ) → Type 0
 IsLeastRound names round =
     ((place : ℕ) × (round ≡ round_from names place))
     × ((k : ℕ) → k < length names → names_order round (round_from names k) ≢ Greater)
 
--- a circle is told by its names, unless memory runs out
+-- a circle is reported with its names, unless memory runs out
 abbrev pub IsCircleTold : {M F Z : Type 0} → List (Expression M F Z) → List ℕ → ProviderFault → Type 0
 IsCircleTold nodes circle (faults.Circular names) = IsLeastRound (names_on nodes circle) names
 IsCircleTold nodes circle (faults.Step fault) = ⊥

@@ -1,4 +1,4 @@
--- Which tasks produce what an expression gives.
+-- Which tasks produce the value of an expression.
 use Rattle.std.specs.Prelude.{◌≡◌, ◌⊎◌, ℕ, List, [], ◌∷◌, Option, Some, None, Result, Ok, Err, map}
 use Rattle.gb_core.specs.declared.value.Value.{Value}
 use Rattle.gb_core.specs.declared.value.Value.TheVariants as values
@@ -28,7 +28,7 @@ use Rattle.gb_provider.specs.Rules.{rules}
 use Rattle.gb_provider.specs.declared.reading.State.{State}
 use Rattle.gb_core.specs.Tasks.{with_tasks}
 
--- a value that is a task is produced by it, and another by none
+-- a value that is a task has itself as its task, and another value has none
 abbrev pub tasks_of : Value → List (List ℕ)
 tasks_of (values.Text text) = []
 tasks_of (values.Flag flag) = []
@@ -36,42 +36,42 @@ tasks_of (values.List texts) = []
 tasks_of (values.Place place) = []
 tasks_of (values.Task task) = task ∷ []
 
--- what is absent is produced by none
+-- an absent value has no tasks
 abbrev pub constant_tasks : Option Value → List (List ℕ)
 constant_tasks (Some value) = tasks_of value
 constant_tasks None = []
 
--- those of another expression
+-- the tasks of another expression
 abbrev pub carry : ℕ → Rule Produced
 carry operand = Reads operand Answers
 
--- what follows where the operand has tasks; else the operand is the answer
+-- the rule that continues if the operand has tasks; else the operand is the answer
 abbrev pub on_tasks : (List (List ℕ) → Rule Produced) → Produced → Rule Produced
 on_tasks go_on (Tasks tasks) = go_on tasks
 on_tasks go_on (Refused fault) = Answers (Refused fault)
 on_tasks go_on (Endless chooser) = Answers (Endless chooser)
 
--- those of all operands, beside those already there
+-- the tasks of all operands, added to those already found
 abbrev pub carry_all : List (List ℕ) → List ℕ → Rule Produced
 carry_all tasks [] = Answers (Tasks tasks)
 carry_all tasks (operand ∷ operands) =
     Reads operand (on_tasks (λ more. carry_all (with_tasks tasks more) operands))
 
--- A property: those of what it is set to, else of its convention, else none.
+-- A property: the tasks of its setting, else of its convention, else none.
 abbrev pub carry_property : Option Setting → Option ℕ → Rule Produced
 carry_property (Some (Held value)) convention = Answers (Tasks (tasks_of value))
 carry_property (Some (Followed source)) convention = carry source
 carry_property None (Some source) = carry source
 carry_property None None = Answers (Tasks [])
 
--- `orElse`: those of the side that the value of the left takes
+-- `orElse`: the tasks of the side that the value of the left selects
 abbrev pub carry_side : ℕ → ℕ → Option Outcome → Rule Produced
 carry_side left right (Some (outcomes.Given value)) = carry left
 carry_side left right (Some outcomes.Absent) = carry right
 carry_side left right (Some (outcomes.Refused fault)) = Answers (Refused fault)
 carry_side left right None = Answers (Endless left)
 
--- the task of the chosen output; none where none is chosen
+-- the task of the chosen output; none if none is chosen
 abbrev pub chosen_tasks : List ℕ → Result (Option Chosen) Refusal → Produced
 chosen_tasks function (Ok (Some chosen)) = Tasks (chosen.task ∷ [])
 chosen_tasks function (Ok None) = Tasks []
@@ -87,7 +87,7 @@ module _ {M F Z S : Type 0} (meanings : Meanings M F Z S) where
   choose_tasks source call None = Endless source
 
   module _ (nodes : List (Expression M F Z)) where
-    -- From which expressions the tasks of one come. Values are read only where they choose.
+    -- From which expressions the tasks of one come. Values are read only if they choose.
     abbrev pub carrier : Expression M F Z → Rule Produced
     carrier (Constant value) = Answers (Tasks (constant_tasks value))
     carrier (OfProperty property) = carry_property property.setting property.convention
@@ -102,11 +102,11 @@ module _ {M F Z S : Type 0} (meanings : Meanings M F Z S) where
     carriers = map carrier nodes
 
     module _ (entry : ℕ) where
-      -- The tasks that produce what an expression gives.
+      -- The tasks that produce the value of an expression.
       abbrev pub produced_by : Option Produced
       produced_by = answer carriers entry
 
-      -- the expression has them from itself, or from one that is chosen by a value without end
+      -- finding the tasks runs into a circle, or the value of the expression that has to choose does
       abbrev pub IsEndless : List (List ℕ) → Type 0
       IsEndless names =
           ((produced_by ≡ None)
@@ -124,7 +124,7 @@ module _ {M F Z S : Type 0} (meanings : Meanings M F Z S) where
       AreProducers (Err (providers.Value fault)) = produced_by ≡ Some (Refused fault)
       AreProducers (Err providers.OutOfMemory) = Unit {0}
 
--- how it is told that the value of an expression never comes
+-- the fault that reports that the value of an expression never has an answer
 abbrev pub IsEndlessTold : {M F Z S : Type 0} → Meanings M F Z S → List (Expression M F Z) → ℕ → ProviderFault
     → Type 0
 IsEndlessTold meanings nodes chooser (providers.Circular names) =
@@ -134,7 +134,7 @@ IsEndlessTold meanings nodes chooser providers.NoValue = ⊥
 IsEndlessTold meanings nodes chooser (providers.Value fault) = ⊥
 IsEndlessTold meanings nodes chooser providers.OutOfMemory = Unit {0}
 
--- what providers hold: operands that are expressions of the table, and answers that are right
+-- the invariant of providers: operands are expressions of the table, and cached answers are right
 pub record AreKept {M F Z S : Type 0} (meanings : Meanings M F Z S) (nodes : List (Expression M F Z))
     (known_values : List (State Outcome)) (known_producers : List (State Produced)) : Type 0 where
   pub within : AreWithin nodes

@@ -1,4 +1,4 @@
--- What providers remember of the answers that they gave.
+-- The answers that providers cache.
 use Rattle.std.specs.Prelude.{◌≡◌, ◌≤◌, ◌⊎◌, ℕ, List, [], length, All, Option, Some, None, Result, Ok, Err}
 use Rattle.gb_core.specs.declared.value.Value.{Value}
 use Rattle.gb_provider.specs.declared.fault.ProviderFault.{ProviderFault}
@@ -23,7 +23,7 @@ IsRemembered rules states = (length states ≤ length rules) × IsSound rules st
 abbrev pub IsForgotten : {A : Type 0} → ℕ → List (State A) → List (State A) → Type 0
 IsForgotten entry old new = (new ≡ []) ⊎ ((new ≡ old) × (known old entry ≡ None))
 
--- how an answer is told
+-- how an answer is returned
 abbrev pub IsTold : Option Outcome → Result (Option Value) ProviderFault → Type 0
 IsTold answer (Ok (Some value)) = answer ≡ Some (Given value)
 IsTold answer (Ok None) = answer ≡ Some Absent

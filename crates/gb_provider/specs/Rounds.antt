@@ -1,10 +1,10 @@
--- Answers that rest on one another: each entry of a table has a rule, which reads other entries.
+-- Answers that depend on one another: each entry of a table has a rule, which reads other entries.
 use Rattle.std.specs.Prelude.{ℕ, List, length, Option, Some, None, slice_get}
 use Rattle.std.proofs.Common.{zero, suc}
 use Rattle.gb_provider.specs.declared.reading.Reading.{Reading}
 use Rattle.gb_provider.specs.declared.reading.Reading.TheVariants.{Settles, Waits}
 
--- The rule of an entry: an answer, or an operand to read first, whose answer says how to go on.
+-- The rule of an entry: an answer, or an operand to read first, whose answer decides how to continue.
 pub data Rule (A : Type 0) : Type 0 where
   Answers : A → Rule A
   Reads : ℕ → (A → Rule A) → Rule A
@@ -13,7 +13,7 @@ abbrev pub after_operand : {A : Type 0} → ℕ → (A → Reading A) → Option
 after_operand operand go_on None = Waits operand
 after_operand operand go_on (Some a) = go_on a
 
--- A rule where the operands have these answers; `None` is not yet.
+-- A rule, given these answers of the operands; `None` means not yet.
 abbrev pub reading : {A : Type 0} → (ℕ → Option A) → Rule A → Reading A
 reading answers (Answers a) = Settles a
 reading answers (Reads operand next) = after_operand operand (λ a. reading answers (next a)) (answers operand)
@@ -30,7 +30,7 @@ abbrev pub and_then : {A B : Type 0} → (A → Option B) → Option A → Optio
 and_then f None = None
 and_then f (Some a) = f a
 
--- The answer of an entry after n rounds: none at first, and each round takes the
+-- The answer of an entry after n rounds: there is none at first, and each round reads the
 -- operands as they were before it.
 abbrev pub answer_after : {A : Type 0} → List (Rule A) → ℕ → ℕ → Option A
 answer_after rules zero entry = None

@@ -45,13 +45,13 @@ constant None = Absent
 abbrev pub follow : ℕ → Rule Outcome
 follow operand = Reads operand Answers
 
--- what follows where the operand is a value; else the operand is the answer
+-- the rule that continues if the operand is a value; else the operand is the answer
 abbrev pub on_value : (Value → Rule Outcome) → Outcome → Rule Outcome
 on_value go_on (Given value) = go_on value
 on_value go_on Absent = Answers Absent
 on_value go_on (Refused fault) = Answers (Refused fault)
 
--- A property: what is set, else the convention, else absent.
+-- A property: its setting, else the convention, else absent.
 abbrev pub property_rule : Option Setting → Option ℕ → Rule Outcome
 property_rule (Some (Held value)) convention = Answers (Given value)
 property_rule (Some (Followed source)) convention = follow source
@@ -63,7 +63,7 @@ abbrev pub output_rule : Chosen → Option ℕ → Rule Outcome
 output_rule chosen (Some source) = follow source
 output_rule chosen None = Answers (Refused (faults.Unrealised chosen))
 
--- what follows where an element of a list is a text, and where it is another value
+-- the rule that continues if an element of a list is a text, and the other if it is another value
 abbrev pub on_text : (List ℕ → Rule Outcome) → Rule Outcome → Value → Rule Outcome
 on_text go_on other (values.Text text) = go_on text
 on_text go_on other (values.Flag flag) = other
@@ -71,12 +71,12 @@ on_text go_on other (values.List texts) = other
 on_text go_on other (values.Place place) = other
 on_text go_on other (values.Task task) = other
 
--- the list of the texts, unless an element was none
+-- the list of the texts, unless an element was no text
 abbrev pub listed : Bool → List (List ℕ) → Outcome
 listed false texts = Given (values.List texts)
 listed true texts = refused (codes "list") WrongValue
 
--- A list: each element is read, and the first that is no value decides; then 34 where one is no text.
+-- A list: each element is read, and the first that is no value decides; then 34 if one is no text.
 abbrev pub list_rule : Bool → List (List ℕ) → List ℕ → Rule Outcome
 list_rule is_wrong texts [] = Answers (listed is_wrong texts)
 list_rule is_wrong texts (operand ∷ operands) =
@@ -106,11 +106,11 @@ module _ {M F Z : Type 0} where
   is_output chosen (Zipped left right call) = false
   is_output chosen (OrElse left right) = false
 
-  -- where an output stands
+  -- the number of an output
   abbrev pub output_place : List (Expression M F Z) → Chosen → Option ℕ
   output_place nodes chosen = position (is_output chosen) nodes
 
-  -- `flatMap`: the chosen output; absent where none is chosen.
+  -- `flatMap`: the chosen output; absent if none is chosen.
   abbrev pub chosen_rule : List (Expression M F Z) → List ℕ → Result (Option Chosen) Refusal → Rule Outcome
   chosen_rule nodes function (Ok (Some chosen)) = output_rule chosen (output_place nodes chosen)
   chosen_rule nodes function (Ok None) = Answers Absent

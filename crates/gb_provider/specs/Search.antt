@@ -15,7 +15,7 @@ use Rattle.gb_provider.specs.declared.reading.Reading.TheVariants.{Settles, Wait
 use Rattle.std.proofs.Common.{zero, suc}
 use Rattle.gb_provider.specs.Rounds.{Rule, Answers, Reads, reading, answer, and_then}
 
--- the answer of an entry, where it is known
+-- the answer of an entry, if it is known
 abbrev pub known_answer : {A : Type 0} → State A → Option A
 known_answer New = None
 known_answer Open = None
@@ -24,7 +24,7 @@ known_answer (Known a) = Some a
 abbrev pub known : {A : Type 0} → List (State A) → ℕ → Option A
 known states entry = and_then known_answer (slice_get states entry)
 
--- what a look waits for is one of the first n
+-- an evaluation step waits for one of the first n
 abbrev pub WaitsWithin : {A : Type 0} → ℕ → Reading A → Type 0
 WaitsWithin n (Settles a) = Unit {0}
 WaitsWithin n (Waits operand) = operand < n
@@ -35,7 +35,7 @@ pub record WaitsFor {A : Type 0} (rules : List (Rule A)) (f : ℕ → Option A) 
   pub there : slice_get rules entry ≡ Some rule
   pub waits : reading f rule ≡ Waits operand
 
--- what one look at an entry comes to, with the answers f
+-- the result of one evaluation step of an entry, with the answers f
 abbrev pub IsLook : {A : Type 0} → List (Rule A) → (ℕ → Option A) → ℕ → Reading A → Type 0
 IsLook {A} rules f entry found =
     (rule : Rule A) × (slice_get rules entry ≡ Some rule) × (found ≡ reading f rule)
@@ -46,7 +46,7 @@ AreSettled {A} rules states =
     (e : ℕ) (a : A) → known states e ≡ Some a
     → (rule : Rule A) × (slice_get rules e ≡ Some rule) × (reading (known states) rule ≡ Settles a)
 
--- what is known is right and rests on what is known, and the open entries are a path on
+-- each known answer is right and is based on known answers, and the open entries are a path on
 -- which each waits for the next
 pub record IsSearch {A : Type 0} (rules : List (Rule A)) (entry : ℕ) (states : List (State A))
     (path : List ℕ) : Type 0 where
@@ -62,13 +62,13 @@ pub record IsSearch {A : Type 0} (rules : List (Rule A)) (entry : ℕ) (states :
   pub listed : (e : ℕ) → slice_get states e ≡ Some Open
       → (k : ℕ) × (k < length path) × (slice_index path k ≡ e)
 
--- what is known is right and rests on what is known, and no entry is being evaluated
+-- each known answer is right and is based on known answers, and no entry is being evaluated
 pub record IsSound {A : Type 0} (rules : List (Rule A)) (states : List (State A)) : Type 0 where
   pub right : (e : ℕ) (a : A) → known states e ≡ Some a → answer rules e ≡ Some a
   pub settled : AreSettled rules states
   pub closed : (e : ℕ) → slice_get states e ≢ Some Open
 
--- what an evaluation of an entry comes to: its answer is known, or it runs into a circle
+-- the result of an evaluation of an entry: its answer is known, or it runs into a circle
 abbrev pub IsEvaluated : {A : Type 0} → List (Rule A) → ℕ → List (State A)
     → Result (Option (Vec ℕ Global)) AllocError → Type 0
 IsEvaluated {A} rules entry states (Ok None) =
@@ -77,7 +77,7 @@ IsEvaluated rules entry states (Ok (Some circle)) =
     (answer rules entry ≡ None) × IsCircle rules entry circle.items
 IsEvaluated rules entry states (Err failed) = Unit {0}
 
--- the end of a path, from where it has the operand
+-- the end of a path, from the position of the operand on
 abbrev pub IsPathEnd : List ℕ → ℕ → Result (Option (Vec ℕ Global)) AllocError → Type 0
 IsPathEnd path operand (Ok (Some circle)) =
     (k : ℕ) × (k < length path) × (slice_index path k ≡ operand) × (circle.items ≡ drop k path)
@@ -100,7 +100,7 @@ ReadsAfter f operand zero (Reads next_operand next) = next_operand ≡ operand
 ReadsAfter {A} f operand (suc n) (Reads next_operand next) =
     (a : A) × (f next_operand ≡ Some a) × ReadsAfter f operand n (next a)
 
--- the first n operands of a rule are known, and say nothing yet
+-- the first n operands of a rule are known, and do not decide its answer yet
 abbrev pub IsPast : {A : Type 0} → (ℕ → Option A) → ℕ → Rule A → Type 0
 IsPast f zero rule = Unit {0}
 IsPast f (suc n) rule = (operand : ℕ) × ReadsAfter f operand (suc n) rule

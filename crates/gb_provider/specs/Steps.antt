@@ -13,7 +13,7 @@ module _ {M F Z S : Type 0} (old : Held M F Z S) where
   IsAdded expression new node =
       (node.number ≡ length old.nodes) × (new ≡ record old { nodes = old.nodes ++ expression ∷ [] })
 
-  -- a call is added where the function takes as many arguments; else 32
+  -- a call is added if the function takes this many arguments; else 32
   abbrev pub IsCalled : {X : Type 0} → (Called X → Expression M F Z) → (X → ℕ) → List ℕ → List (List ℕ)
       → Held M F Z S → Result Node StepFault → X → Type 0
   IsCalled step arity name arguments new (Ok node) function =
@@ -23,7 +23,7 @@ module _ {M F Z S : Type 0} (old : Held M F Z S) where
   IsCalled step arity name arguments new (Err steps.BadArguments) function = arity function ≢ length arguments
   IsCalled step arity name arguments new (Err steps.OutOfMemory) function = Unit {0}
 
-  -- a step by the function found under the name; 31 where none is found
+  -- a step with the function found under the name; 31 if none is found
   abbrev pub IsStep : {X : Type 0} → (Called X → Expression M F Z) → (X → ℕ) → Option X → List ℕ
       → List (List ℕ) → Held M F Z S → Result Node StepFault → Type 0
   IsStep step arity (Some function) name arguments new result =

@@ -1,4 +1,4 @@
--- Stored functions by name, in one space of names.
+-- Stored functions by name, in one namespace.
 use Rattle.std.specs.Prelude.{ℕ, List, Option, Some, None}
 use Rattle.std.specs.FinMap.Entries.{find}
 use Rattle.gb_core.specs.Lists.{byte_order}

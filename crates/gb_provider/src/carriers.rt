@@ -1,4 +1,4 @@
-//! Where the tasks of expressions come from.
+//! Which expressions carry the tasks of an expression.
 ghost use Rattle.std.specs.Prelude.{◌≡◌, ◌<◌, [], ◌∷◌, length, slice_index, false, IfOk, All};
 ghost use Rattle.gb_provider.specs.Answers.{value_of};
 ghost use Rattle.gb_provider.specs.Meanings.{meaning_of};
@@ -24,7 +24,7 @@ use gb_core::value::Value;
 use std::alloc::{AllocError, Global};
 use std::marker::Model;
 
-/// That an expression has these.
+/// The result that an expression has these tasks.
 fn settle(alloc: Global, found: Produced) -> Result<Reading<Shared<Produced>>, AllocError>
     ensures { IfOk result (λ settled. settled ≡ Reading.Settles found) }
 {
@@ -49,7 +49,7 @@ fn tasks_of(alloc: Global, value: &Value) -> Result<Produced, AllocError>
     }
 }
 
-/// Those of a constant.
+/// The tasks of a constant.
 fn carry_constant(
     alloc: Global,
     value: &Option<Value>,
@@ -69,7 +69,7 @@ fn carry_output(alloc: Global, task: &TaskPath) -> Result<Reading<Shared<Produce
     settle(alloc, one_task(alloc, task)?)
 }
 
-/// Those of another expression.
+/// The tasks of another expression.
 fn carry(
     states: &[State<Shared<Produced>>],
     operand: usize,
@@ -130,7 +130,7 @@ fn past_tasks(states: &[State<Shared<Produced>>], operands: &[usize], from: usiz
     at
 }
 
-/// One look at operands, the tasks of whose first ones are known.
+/// One evaluation step of operands, given that the tasks of the first ones are known.
 fn look_all(
     alloc: Global,
     states: &[State<Shared<Produced>>],
@@ -176,7 +176,7 @@ fn carry_property(
     }
 }
 
-/// Those of the side that the outcome of the left takes.
+/// The tasks of the side that the outcome of the left selects.
 fn carry_side(
     alloc: Global,
     states: &[State<Shared<Produced>>],
@@ -235,16 +235,16 @@ fn choose_tasks<T: Transforms>(
     }
 }
 
-/// Expressions, to be read for their tasks, with what is remembered of their values.
+/// Expressions, to be read for their tasks, with the cached values.
 #[derive(Drop)]
 pub(crate) struct TaskReader<'b, 'a, T: Transforms> {
-    /// Where the answers take their memory from.
+    /// The allocator of the answers.
     pub alloc: Global,
     /// The whole table, in which operands are named by number.
     pub nodes: &'b [Expression<'a, T::Map, T::FlatMap, T::Zip>],
-    /// Where each output stands in the table.
+    /// The number of each output in the table.
     pub outputs: &'b Outputs,
-    /// What is known of the value of each expression, one state for each.
+    /// The evaluation state of the value of each expression, one state for each.
     pub values: Vec<State<Shared<Outcome>>>,
 }
 
@@ -264,7 +264,7 @@ impl<'b, 'a, T: Transforms> Model for TaskReader<'b, 'a, T> {
 }
 
 impl<'b, 'a, T: Transforms> TaskReader<'b, 'a, T> {
-    /// What an expression comes to that has to choose; nothing where it runs into a circle.
+    /// The answer of an expression that has to choose; nothing if it runs into a circle.
     fn value_of(&mut self, at: usize) -> Result<Option<Shared<Outcome>>, AllocError>
         requires { at < length self.old }
         ensures value { IfOk result (λ found. found ≡ value_of T.meanings self.old at) }
@@ -274,7 +274,7 @@ impl<'b, 'a, T: Transforms> TaskReader<'b, 'a, T> {
         recall_outcome::<T>(self.alloc, nodes, self.outputs, &mut self.values, at)
     }
 
-    /// The tasks of what the value of a source chooses.
+    /// The tasks of the output that the value of a source chooses.
     fn read_choice(
         &mut self,
         source: usize,
@@ -293,7 +293,7 @@ impl<'b, 'a, T: Transforms> TaskReader<'b, 'a, T> {
         settle(alloc, found?)
     }
 
-    /// Those of the side that the value of the left takes.
+    /// The tasks of the side that the value of the left selects.
     fn read_side(
         &mut self,
         states: &[State<Shared<Produced>>],
@@ -313,7 +313,7 @@ impl<'b, 'a, T: Transforms> TaskReader<'b, 'a, T> {
         carry_side(alloc, states, left, right, &chooser)
     }
 
-    /// One look at an expression whose operands are not many.
+    /// One evaluation step of an expression with few operands.
     fn read(
         &mut self,
         states: &[State<Shared<Produced>>],
@@ -339,7 +339,7 @@ impl<'b, 'a, T: Transforms> TaskReader<'b, 'a, T> {
         }
     }
 
-    /// One look at an expression, from behind its first operands on.
+    /// One evaluation step of an expression, which continues after its first operands.
     fn look_at(
         &mut self,
         states: &[State<Shared<Produced>>],

@@ -11,17 +11,17 @@ use gb_core::value::Value;
 pub enum Change {
     /// It is set to this value.
     Set(Value),
-    /// It is set to what the expression of this number comes to as it is read.
+    /// It is set to the value that the expression of this number has when it is read.
     SetFrom(usize),
-    /// What was set is taken back; the convention holds again.
+    /// It is unset; the convention applies again.
     Unset,
-    /// The expression of this number holds while it is not set.
+    /// The expression of this number applies while it is not set.
     Convention(usize),
-    /// It is final: it takes no other change any more (35).
+    /// It is final: it accepts no other change any more (35).
     Finalize,
 }
 
-/// Replaces what a property is set to.
+/// Replaces the setting of a property.
 fn put(property: &mut Property, setting: Option<Setting>)
     ensures { property.new ≡ record property.old { setting = setting } }
 {
@@ -40,7 +40,7 @@ fn apply(change: Change, property: &mut Property)
     }
 }
 
-/// Whether a property takes a change: a final one only to be final.
+/// Whether a property accepts a change: a final one accepts only to be made final.
 fn takes(change: &Change, is_final: bool) -> bool
     ensures { result ≡ takes change.now is_final }
 {
@@ -50,7 +50,7 @@ fn takes(change: &Change, is_final: bool) -> bool
     }
 }
 
-/// Changes a property that takes the change.
+/// Changes a property that accepts the change.
 pub(crate) fn change_property<M, F, Z>(
     node: &mut Expression<M, F, Z>,
     change: Change,

@@ -1,4 +1,4 @@
-//! One look at an expression, where some answers are known.
+//! One evaluation step of an expression, given the answers that are known.
 ghost use Rattle.std.specs.Prelude.{◌≡◌, ◌<◌, ◌++◌, ◌∷◌, ℕ, [], length, slice_index, false, IfOk, OnOk};
 ghost use Rattle.std.specs.Prelude.{All, codes, Ok};
 ghost use Rattle.std.specs.Option.{option_copied};
@@ -24,7 +24,7 @@ use gb_core::value::Value;
 use std::alloc::{AllocError, Global};
 use std::marker::Model;
 
-/// The answer of an entry, to be shared, where it is known.
+/// The shared answer of an entry, if it is known.
 pub(crate) fn shared_at<A>(states: &[State<A>], at: usize) -> Option<&A>
     requires { at < length states.now }
     ensures { option_copied result ≡ known states.now at }
@@ -35,7 +35,7 @@ pub(crate) fn shared_at<A>(states: &[State<A>], at: usize) -> Option<&A>
     }
 }
 
-/// The answer of an entry, where it is known.
+/// The answer of an entry, if it is known.
 pub(crate) fn known_at<A: Drop>(states: &[State<Shared<A>>], at: usize) -> Option<&A>
     requires { at < length states.now }
     ensures { option_copied result ≡ known states.now at }
@@ -46,7 +46,7 @@ pub(crate) fn known_at<A: Drop>(states: &[State<Shared<A>>], at: usize) -> Optio
     }
 }
 
-/// That an expression comes to this.
+/// The result that an expression has this answer.
 fn settle(alloc: Global, outcome: Outcome) -> Result<Reading<Shared<Outcome>>, AllocError>
     ensures { IfOk result (λ found. found ≡ Reading.Settles outcome) }
 {
@@ -66,7 +66,7 @@ fn read_constant(
     }
 }
 
-/// What an operand gives.
+/// The answer of an operand.
 fn follow(
     states: &[State<Shared<Outcome>>],
     operand: usize,
@@ -119,7 +119,7 @@ fn read_property(
     }
 }
 
-/// What an output comes to that is declared as this expression, or is not declared.
+/// The answer of an output that is declared as this expression, or is not declared.
 fn read_output(
     alloc: Global,
     states: &[State<Shared<Outcome>>],
@@ -140,7 +140,7 @@ fn read_output(
     }
 }
 
-/// The fault of a function that refuses; or that memory ran out.
+/// The fault of a function that refuses, or of memory running out.
 pub(crate) fn refused_by(function: &Text, fault: TransformFault) -> Result<ValueFault, AllocError>
     ensures { IfOk result (λ refused. RefusedAs function.now fault refused) }
 {
@@ -226,7 +226,7 @@ fn read_zip<T: Transforms>(
     }
 }
 
-/// What an output comes to that was chosen, or that none was.
+/// The answer of an output that was chosen, or the absent value if none was.
 fn read_chosen<M, F, Z>(
     alloc: Global,
     nodes: &[Expression<M, F, Z>],
@@ -296,7 +296,7 @@ fn read_flat_map<T: Transforms>(
     }
 }
 
-/// That an element of a list is no text.
+/// The fault of a list with an element that is no text.
 fn refuse_element(alloc: Global) -> Result<Outcome, AllocError>
     ensures { IfOk result (λ outcome. outcome ≡ refused (codes "list") WrongValue) }
 {
@@ -304,7 +304,7 @@ fn refuse_element(alloc: Global) -> Result<Outcome, AllocError>
     Ok(Outcome::Refused(ValueFault::Refused(function, Refusal::WrongValue)))
 }
 
-/// Puts a copy of a text behind the others.
+/// Appends a copy of a text.
 fn push_copy(texts: &mut Texts, text: &Text) -> Result<(), AllocError>
     ensures { OnOk result (texts.new ≡ texts.old ++ text.now ∷ []) }
 {
@@ -312,7 +312,7 @@ fn push_copy(texts: &mut Texts, text: &Text) -> Result<(), AllocError>
     Ok(())
 }
 
-/// That a list is made of these texts, unless an element was none.
+/// The list of these texts, unless an element was no text.
 fn settle_list(
     alloc: Global,
     texts: Texts,
@@ -376,7 +376,7 @@ fn past_texts(states: &[State<Shared<Outcome>>], operands: &[usize], from: usize
     at
 }
 
-/// One look at a list, whose first elements are known to be values.
+/// One evaluation step of a list whose first elements are known to be values.
 fn look_list(
     alloc: Global,
     states: &[State<Shared<Outcome>>],
@@ -402,7 +402,7 @@ fn look_list(
     Ok(Look::whole(read_list(alloc, states, operands)?))
 }
 
-/// One look at an expression, from behind its first operands on.
+/// One evaluation step of an expression, which continues after its first operands.
 fn look_at<T: Transforms>(
     alloc: Global,
     nodes: &[Expression<T::Map, T::FlatMap, T::Zip>],
@@ -430,11 +430,11 @@ fn look_at<T: Transforms>(
 /// Expressions, to be read for their values.
 #[derive(Drop)]
 pub(crate) struct ValueReader<'b, 'a, T: Transforms> {
-    /// Where the answers take their memory from.
+    /// The allocator of the answers.
     pub alloc: Global,
     /// The whole table, in which operands are named by number.
     pub nodes: &'b [Expression<'a, T::Map, T::FlatMap, T::Zip>],
-    /// Where each output stands in the table.
+    /// The number of each output in the table.
     pub outputs: &'b Outputs,
 }
 
@@ -469,7 +469,7 @@ impl<'b, 'a, T: Transforms> Entries for ValueReader<'b, 'a, T> {
     }
 }
 
-/// One look at an expression.
+/// One evaluation step of an expression.
 fn read<T: Transforms>(
     alloc: Global,
     nodes: &[Expression<T::Map, T::FlatMap, T::Zip>],

@@ -1,4 +1,4 @@
-//! Expressions, whose operands are named by their places in the table.
+//! Expressions, which name their operands by their numbers in the table.
 ghost use Rattle.std.specs.Prelude.{◌≡◌, [], ◌∷◌, ◌++◌, ◌<◌, ◌≤◌, length, OnOk, OnErr, IfOk, map};
 
 use crate::fault::{Chosen, ValueFault};
@@ -9,14 +9,14 @@ use gb_core::value::Value;
 use std::alloc::{AllocError, Global};
 use std::marker::Model;
 
-/// A stored function under its name, with its arguments.
+/// A stored function with its name and its arguments.
 #[derive(Drop)]
 pub struct Call<'a, S> {
-    /// The name under which the table of functions has it.
+    /// Its name in the table of functions.
     pub name: Text,
     /// The function itself, as the program stored it.
     pub function: &'a S,
-    /// What a script gives it in brackets; none where no bracket is.
+    /// Its arguments in the brackets of a script; none if there is no bracket.
     pub arguments: Texts,
 }
 
@@ -29,7 +29,7 @@ impl<'a, S> Model for Call<'a, S> {
 }
 
 impl<'a, S> Call<'a, S> {
-    /// A call of this function under this name.
+    /// A call of this function with this name.
     pub fn of(
         alloc: Global,
         name: &str,
@@ -48,14 +48,14 @@ impl<'a, S> Call<'a, S> {
     }
 }
 
-/// A provider, by its place in the table.
+/// A provider, by its number in the table.
 #[derive(Clone, Copy, Debug, PartialEq, Eq)]
 pub struct Node {
-    /// Its place in the table, counted from 0.
+    /// Its number in the table, counted from 0.
     pub number: usize,
 }
 
-/// Operands in a row.
+/// A sequence of operands.
 #[derive(Drop)]
 pub struct Operands {
     numbers: Vec<usize>,
@@ -72,7 +72,7 @@ impl Model for Operands {
 impl Operands {
     ghost use Rattle.gb_provider.specs.Rules.{numbers_of};
 
-    /// The places of these nodes.
+    /// The numbers of these nodes.
     pub fn of(alloc: Global, nodes: &[Node]) -> Result<Operands, AllocError>
         ensures { IfOk result (λ operands. operands ≡ numbers_of nodes.now) }
     {
@@ -83,7 +83,7 @@ impl Operands {
         Ok(Operands { numbers })
     }
 
-    /// The places in the table, in the order of the nodes.
+    /// The numbers in the table, in the order of the nodes.
     pub fn as_slice(&self) -> &[usize]
         ensures { result.now ≡ self.now }
     {
@@ -91,12 +91,12 @@ impl Operands {
     }
 }
 
-/// What a property is set to.
+/// The setting of a property.
 #[derive(Drop)]
 pub enum Setting {
     /// This value.
     Held(Value),
-    /// What the expression of this number comes to.
+    /// The value of the expression of this number.
     Followed(usize),
 }
 
@@ -107,11 +107,11 @@ pub struct Property {
     pub project: ProjectPath,
     /// Its name in that project.
     pub name: Name,
-    /// What it is set to, or nothing where it is not set.
+    /// Its setting, or nothing if it is not set.
     pub setting: Option<Setting>,
-    /// The expression that counts where it is not set.
+    /// The expression that counts if it is not set.
     pub convention: Option<usize>,
-    /// Whether it takes no change any more (35).
+    /// Whether it accepts no more changes (35).
     pub is_final: bool,
 }
 
@@ -120,7 +120,7 @@ pub struct Property {
 pub struct Output {
     /// The task, and the name of the output in it.
     pub chosen: Chosen,
-    /// The expression of its place, or nothing where the task is not realised yet.
+    /// The expression of its place, or nothing if the task is not realised yet.
     pub declared: Option<usize>,
 }
 
@@ -129,29 +129,29 @@ pub struct Output {
 pub enum Expression<'a, M, F, Z> {
     /// A value, or nothing.
     Constant(Option<Value>),
-    /// What a property is set to, or its convention.
+    /// A property: its setting, or its convention.
     OfProperty(Property),
     /// The place that an output of a task is declared as.
     OfOutput(Output),
-    /// The list of what its operands come to, each a text.
+    /// The list of the values of its operands, each a text.
     Listed(Operands),
-    /// What a function makes of the value of the operand.
+    /// The result of a function on the value of the operand.
     Mapped(usize, Call<'a, M>),
     /// The output that a function chooses by the value of the operand.
     FlatMapped(usize, Call<'a, F>),
-    /// What a function makes of the values of two operands.
+    /// The result of a function on the values of two operands.
     Zipped(usize, usize, Call<'a, Z>),
-    /// The first operand, or the second where the first is absent.
+    /// The first operand, or the second if the first is absent.
     OrElse(usize, usize),
 }
 
-/// What an expression comes to.
+/// The result of an expression.
 #[derive(Drop)]
 pub enum Outcome {
     /// A value.
     Given(Value),
-    /// No value, as of a property that is not set.
+    /// No value, as for a property that is not set.
     Absent,
-    /// The fault that it came to, its own or one of its operands.
+    /// Its fault, its own or that of one of its operands.
     Refused(ValueFault),
 }

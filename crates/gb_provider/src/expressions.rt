@@ -1,4 +1,4 @@
-//! All expressions by number, and where each output stands.
+//! All expressions by number, and the number of each output.
 ghost use Rattle.std.specs.BTreeMap.{get, is_at};
 ghost use Rattle.std.specs.Prelude.{◌≡◌, ◌<◌, ◌++◌, [], ◌∷◌, cond, length, None, Some, OnErr, OnOk, Ok};
 ghost use Rattle.std.specs.Prelude.{slice_get, slice_set, vec_capacity, vec_len};
@@ -13,10 +13,10 @@ use std::alloc::{AllocError, Global};
 use std::collections::BTreeMap;
 use std::marker::Model;
 
-/// Where each output stands.
+/// The number of each output.
 pub(crate) type Outputs = BTreeMap<Chosen, usize>;
 
-/// Where an output stands among these expressions.
+/// The number of an output among these expressions.
 pub(crate) fn place_of<M, F, Z>(
     nodes: &[Expression<M, F, Z>],
     outputs: &Outputs,
@@ -30,7 +30,7 @@ pub(crate) fn place_of<M, F, Z>(
     outputs.get(chosen).copied()
 }
 
-/// Tells where an output stands.
+/// Records the number of an output.
 fn index_output(outputs: &mut Outputs, chosen: &Chosen, number: usize) -> Result<(), AllocError>
     ensures ok { OnOk result ((key : Chosen)
         → get chosen_order outputs.new key
@@ -43,7 +43,7 @@ fn index_output(outputs: &mut Outputs, chosen: &Chosen, number: usize) -> Result
     Ok(())
 }
 
-/// Makes room for one more expression, and tells that an output stands there.
+/// Makes room for one more expression, and records that an output has its number.
 fn make_room<'a, M: Drop, F: Drop, Z: Drop>(
     nodes: &mut Vec<Expression<'a, M, F, Z>>,
     outputs: &mut Outputs,
@@ -63,7 +63,7 @@ fn make_room<'a, M: Drop, F: Drop, Z: Drop>(
     index_output(outputs, chosen, number)
 }
 
-/// Puts an expression behind the others, for which there is room.
+/// Appends an expression, for which there is room.
 fn push_reserved<'a, M: Drop, F: Drop, Z: Drop>(
     nodes: &mut Vec<Expression<'a, M, F, Z>>,
     node: Expression<'a, M, F, Z>,
@@ -121,14 +121,14 @@ impl<'a, M, F, Z> Expressions<'a, M, F, Z> {
         self.nodes.as_slice()
     }
 
-    /// Where each output stands.
+    /// The number of each output.
     pub fn outputs(&self) -> &Outputs
         ensures { IsIndexed self.now result.now }
     {
         &self.outputs
     }
 
-    /// Where an output stands.
+    /// The number of an output.
     pub fn place(&self, chosen: &Chosen) -> Option<usize>
         ensures place { result ≡ output_place self.now chosen.now }
         ensures within { PlaceWithin (length self.now) result }
@@ -138,7 +138,7 @@ impl<'a, M, F, Z> Expressions<'a, M, F, Z> {
 }
 
 impl<'a, M: Drop, F: Drop, Z: Drop> Expressions<'a, M, F, Z> {
-    /// Puts an expression that is no output behind the others.
+    /// Appends an expression that is no output.
     pub fn push(&mut self, expression: Expression<'a, M, F, Z>) -> Result<(), AllocError>
         requires { IsNoOutput expression }
         ensures ok { OnOk result (self.new ≡ self.old ++ expression.entry ∷ []) }
@@ -148,7 +148,7 @@ impl<'a, M: Drop, F: Drop, Z: Drop> Expressions<'a, M, F, Z> {
         Ok(())
     }
 
-    /// Puts an output that does not stand yet behind the others.
+    /// Appends an output that is not in the table yet.
     pub fn push_output(&mut self, chosen: Chosen, declared: Option<usize>) -> Result<(), AllocError>
         requires { output_place self.old chosen ≡ None }
         ensures ok { OnOk result (self.new
@@ -169,7 +169,7 @@ impl<'a, M: Drop, F: Drop, Z: Drop> Expressions<'a, M, F, Z> {
         Ok(())
     }
 
-    /// Declares the output that stands here as an expression.
+    /// Declares the output with this number as an expression.
     pub fn declare(&mut self, number: usize, chosen: &Chosen, source: usize)
         requires within { number < length self.old }
         requires stands { output_place self.old chosen.now ≡ Some number }
@@ -180,7 +180,7 @@ impl<'a, M: Drop, F: Drop, Z: Drop> Expressions<'a, M, F, Z> {
         declare(&mut self.nodes[number], source);
     }
 
-    /// Changes a property that takes the change.
+    /// Changes a property that accepts the change.
     pub fn change(&mut self, number: usize, change: Change) -> Result<(), Final>
         requires { number < length self.old }
         ensures { AreChanged change self.old number self.new result }

@@ -1,4 +1,4 @@
-//! Why a function, a provider or a table refuses.
+//! Faults of functions, providers and tables.
 ghost use Rattle.std.specs.Prelude.{◌≡◌, IfOk};
 
 use gb_core::path::TaskPath;
@@ -10,10 +10,10 @@ use thiserror::Error;
 /// Why a stored function gives no answer.
 #[derive(Clone, Copy, Debug, PartialEq, Eq, Error)]
 pub enum Refusal {
-    /// Its arguments are none that it takes.
+    /// It does not take these arguments.
     #[error("bad arguments")]
     BadArguments,
-    /// It takes no such value.
+    /// It does not take such a value.
     #[error("wrong value")]
     WrongValue,
 }
@@ -21,7 +21,7 @@ pub enum Refusal {
 impl Refusal {
     ghost use Rattle.gb_provider.specs.Faults.{refusal_number};
 
-    /// The number under which the fault is told to users.
+    /// The number under which the fault is reported to users.
     pub fn number(self) -> u16
         ensures { result ≡ refusal_number self }
     {
@@ -32,13 +32,13 @@ impl Refusal {
     }
 }
 
-/// What a stored function may answer in place of a value.
+/// The faults that a stored function may return in place of a value.
 #[derive(Clone, Copy, Debug, PartialEq, Eq, Error)]
 pub enum TransformFault {
-    /// Its arguments or its value are none that it takes (32, 34).
+    /// It does not take its arguments or its value (32, 34).
     #[error("{0}")]
     Refused(Refusal),
-    /// No memory for its answer; 3.
+    /// Out of memory for its result; 3.
     #[error("out of memory")]
     OutOfMemory,
 }
@@ -73,10 +73,10 @@ impl Chosen {
     }
 }
 
-/// The fault that an expression comes to.
+/// The fault of an expression.
 #[derive(Debug, Drop)]
 pub enum ValueFault {
-    /// The function of this name refuses; of a list with an element that is no text, `list` does.
+    /// The function of this name refuses; for a list with an element that is no text, `list` does.
     Refused(Text, Refusal),
     /// The output is not declared yet.
     Unrealised(Chosen),
@@ -85,7 +85,7 @@ pub enum ValueFault {
 impl ValueFault {
     ghost use Rattle.gb_provider.specs.Faults.{value_fault_number};
 
-    /// The number under which the fault is told to users.
+    /// The number under which the fault is reported to users.
     pub fn number(&self) -> u16
         ensures { result ≡ value_fault_number self.now }
     {
@@ -114,10 +114,10 @@ pub enum StepFault {
     /// No function of that use has the name.
     #[error("unknown transform")]
     UnknownTransform,
-    /// The function takes another count of arguments.
+    /// The function takes another number of arguments.
     #[error("bad arguments")]
     BadArguments,
-    /// No memory for the step; 3.
+    /// Out of memory for the step; 3.
     #[error("out of memory")]
     OutOfMemory,
 }
@@ -125,7 +125,7 @@ pub enum StepFault {
 impl StepFault {
     ghost use Rattle.gb_provider.specs.Faults.{step_fault_number};
 
-    /// The number under which the fault is told to users.
+    /// The number under which the fault is reported to users.
     pub fn number(self) -> u16
         ensures { result ≡ step_fault_number self }
     {
@@ -147,26 +147,26 @@ impl From<AllocError> for StepFault {
     }
 }
 
-/// Why a provider gives no answer.
+/// Why a provider has no value.
 #[derive(Debug, Drop)]
 pub enum ProviderFault {
-    /// It needs itself: the properties and outputs on the circle, each reading the next, the last
-    /// the first; of the rounds from each of them on the least, name by name, by bytes.
+    /// It needs itself: the properties and outputs on the circle, each reads the next, the last
+    /// the first; the least of the rotations of the circle, compared name by name, by bytes.
     Circular(Texts),
-    /// The test is none.
+    /// The test cannot be used, for this reason.
     Step(StepFault),
     /// It is absent.
     NoValue,
-    /// It comes to this fault.
+    /// It has this fault.
     Value(ValueFault),
-    /// No memory to read it; 3.
+    /// Out of memory while it is read; 3.
     OutOfMemory,
 }
 
 impl ProviderFault {
     ghost use Rattle.gb_provider.specs.Faults.{provider_fault_number};
 
-    /// The number under which the fault is told to users.
+    /// The number under which the fault is reported to users.
     pub fn number(&self) -> u16
         ensures { result ≡ provider_fault_number self.now }
     {
@@ -196,7 +196,7 @@ impl From<AllocError> for ProviderFault {
 pub struct Final;
 
 impl Final {
-    /// The number under which the fault is told to users.
+    /// The number under which the fault is reported to users.
     pub fn number(self) -> u16
         ensures { result ≡ 35 }
     {
@@ -210,7 +210,7 @@ pub enum TableFault {
     /// The name is taken.
     #[error("duplicate transform")]
     DuplicateTransform,
-    /// No memory for the entry: the table is as it was; 3.
+    /// Out of memory for the entry; the table is unchanged; 3.
     #[error("out of memory")]
     OutOfMemory,
 }
@@ -218,7 +218,7 @@ pub enum TableFault {
 impl TableFault {
     ghost use Rattle.gb_provider.specs.Faults.{table_fault_number};
 
-    /// The number under which the fault is told to users.
+    /// The number under which the fault is reported to users.
     pub fn number(self) -> u16
         ensures { result ≡ table_fault_number self }
     {

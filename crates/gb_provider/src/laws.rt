@@ -5,19 +5,19 @@ ghost use Rattle.gb_provider.specs.declared.produced.Produced.{Produced};
 
 use crate::transforms::Transforms;
 
-/// An answer that an expression has after some rounds it has after all later ones.
+/// An answer that an expression has after some rounds is its answer after all later rounds.
 pub fn answers_stay()
     ensures values { AnswersStay Outcome }
     ensures producers { AnswersStay Produced }
 {}
 
-/// An expression that has no answer after as many rounds as there are expressions never has one.
+/// An expression without an answer after as many rounds as there are expressions never has one.
 pub fn rounds_are_bounded()
     ensures values { RoundsAreBounded Outcome }
     ensures producers { RoundsAreBounded Produced }
 {}
 
-/// An expression that is no output, put behind the others, changes none of their answers.
+/// Appending an expression that is no output changes none of the other answers.
 pub fn plain_ones_keep_answers<T: Transforms>()
     ensures { PlainOnesKeepAnswers T.meanings }
 {}

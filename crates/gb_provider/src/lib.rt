@@ -1,4 +1,4 @@
-//! Lazy values: properties, outputs of tasks, and what is made of them.
+//! Lazy values: properties, outputs of tasks, and values computed from them.
 #![tactic(auto)]
 
 mod carriers;

@@ -19,7 +19,7 @@ fn label(alloc: Global, owner: &str, name: &str) -> Result<Text, AllocError>
     Text::new(text)
 }
 
-/// Puts the label of a name behind the others.
+/// Appends the label of a name.
 fn push_label(alloc: Global, owner: &str, name: &str, names: &mut Texts) -> Result<(), AllocError>
     ensures { IfOk result (λ _. names.new ≡ names.old ++ label owner.now name.now ∷ []) }
 {
@@ -27,7 +27,7 @@ fn push_label(alloc: Global, owner: &str, name: &str, names: &mut Texts) -> Resu
     Ok(())
 }
 
-/// Puts the name of a property or an output behind the others.
+/// Appends the name of a property or an output.
 fn push_name<M, F, Z>(
     alloc: Global,
     node: &Expression<M, F, Z>,
@@ -87,7 +87,7 @@ fn names_on<M, F, Z>(
     Ok(names)
 }
 
-/// Whether the round of so many names from one place on comes before that from another.
+/// Whether the rotation of `count` names at one position precedes that at another.
 fn is_before(names: &[Text], count: usize, place: usize, other: usize) -> bool
     requires place { place + count ≤ length names.now }
     requires other { other + count ≤ length names.now }
@@ -104,7 +104,7 @@ fn is_before(names: &[Text], count: usize, place: usize, other: usize) -> bool
     }
 }
 
-/// Where the least round of so many names begins, which stand twice.
+/// The position of the least rotation of `count` names, which the list contains twice in a row.
 fn least_place(names: &[Text], count: usize) -> usize
     requires { count + count ≡ length names.now }
     ensures within { result ≤ count }
@@ -120,7 +120,7 @@ fn least_place(names: &[Text], count: usize) -> usize
     least
 }
 
-/// Copies of texts, behind others.
+/// Appends copies of texts.
 fn push_copies(texts: &[Text], to: &mut Texts) -> Result<(), AllocError>
     ensures { IfOk result (λ _. to.new ≡ to.old ++ texts.now) }
 {
@@ -130,7 +130,7 @@ fn push_copies(texts: &[Text], to: &mut Texts) -> Result<(), AllocError>
     Ok(())
 }
 
-/// The least round of names.
+/// The least rotation of names.
 fn least_round(alloc: Global, names: Texts) -> Result<Texts, AllocError>
     ensures { IfOk result (λ round. IsLeastRound names round) }
 {
@@ -143,7 +143,7 @@ fn least_round(alloc: Global, names: Texts) -> Result<Texts, AllocError>
     Ok(round)
 }
 
-/// The names on a circle: of the rounds from each of them on, the least in their order by bytes.
+/// The names on a circle: the least of their rotations, in the order by bytes.
 pub(crate) fn circle_names<M, F, Z>(
     alloc: Global,
     nodes: &[Expression<M, F, Z>],

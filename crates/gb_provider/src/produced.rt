@@ -1,15 +1,15 @@
-//! Tasks that produce what expressions give.
+//! The tasks that produce the values of expressions.
 
 use crate::fault::ValueFault;
 use gb_core::tasks::TaskPaths;
 
-/// What is found of the tasks that produce an expression.
+/// The result of finding the tasks that produce an expression.
 #[derive(Drop)]
 pub enum Produced {
     /// The tasks that produce it, perhaps none.
     Tasks(TaskPaths),
     /// The fault of a value that has to choose.
     Refused(ValueFault),
-    /// The value of this expression has to choose, and never comes.
+    /// The value of this expression has to choose, and never has an answer.
     Endless(usize),
 }

@@ -1,4 +1,4 @@
-//! Tasks that produce what an expression gives, which are remembered.
+//! Finds the tasks that produce the value of an expression, and caches them.
 ghost use Rattle.std.specs.Prelude.{◌≡◌, ◌≢◌, ◌<◌, None, length};
 ghost use Rattle.gb_provider.specs.Answers.{value_of};
 ghost use Rattle.gb_provider.specs.Produced.{AreProducers, IsEndlessTold, carriers};
@@ -22,7 +22,7 @@ use gb_core::tasks::TaskPaths;
 use std::alloc::{AllocError, Global};
 use std::mem;
 
-/// Looks for the tasks of an expression: afterwards they are known, unless it runs into a circle.
+/// Finds the tasks of an expression: afterwards they are known, unless it runs into a circle.
 fn evaluate_producers<T: Transforms>(
     alloc: Global,
     nodes: &[Expression<T::Map, T::FlatMap, T::Zip>],
@@ -53,7 +53,7 @@ fn evaluate_producers<T: Transforms>(
     found
 }
 
-/// Tells that the value of an expression, which has to choose, never comes.
+/// The fault of an expression whose value has to choose but never has an answer.
 fn tell_endless<T: Transforms>(
     alloc: Global,
     nodes: &[Expression<T::Map, T::FlatMap, T::Zip>],
@@ -75,7 +75,7 @@ fn tell_endless<T: Transforms>(
     }
 }
 
-/// Tells the tasks that are known.
+/// Returns the tasks that are known.
 fn tell_producers<T: Transforms>(
     alloc: Global,
     nodes: &[Expression<T::Map, T::FlatMap, T::Zip>],
@@ -103,7 +103,7 @@ fn tell_producers<T: Transforms>(
     }
 }
 
-/// The tasks that produce what an expression gives.
+/// The tasks that produce the value of an expression.
 pub(crate) fn recall_producers<T: Transforms>(
     alloc: Global,
     nodes: &[Expression<T::Map, T::FlatMap, T::Zip>],

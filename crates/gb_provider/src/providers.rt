@@ -1,4 +1,4 @@
-//! Providers.
+//! The table of providers: adds, changes and reads lazy values.
 ghost use Rattle.std.specs.Prelude.{◌≡◌, ◌↔◌, ◌<◌, ◌++◌, [], ◌∷◌, length, All, IfOk, IsTrue, OnErr};
 ghost use Rattle.std.specs.Prelude.{None, Some, false, slice_set};
 ghost use Rattle.gb_provider.specs.Answers.{IsAccepted, IsAsked, IsGot, IsRequired, IsTested, IsTestedBy};
@@ -29,8 +29,8 @@ use gb_core::value::Value;
 use std::alloc::{AllocError, Global};
 use std::marker::Model;
 
-/// A table of providers, over a table of stored functions. What was read once is remembered until
-/// a property or an output changes that was read as well.
+/// A table of providers, based on a table of stored functions. Values that were read are cached
+/// until a property or an output changes that was read as well.
 #[derive(Drop)]
 pub struct Providers<'a, T: Transforms> {
     alloc: Global,
@@ -68,14 +68,14 @@ impl<'a, T: Transforms> Providers<'a, T> {
         }
     }
 
-    /// Whether a node is one of these providers, as each call that takes one asks.
+    /// Whether a node is one of these providers, which each call with a node requires.
     pub fn has(&self, node: Node) -> bool
         ensures { IsTrue result ↔ (node.number < length self.now.nodes) }
     {
         node.number < self.nodes.len()
     }
 
-    /// Puts an expression that is no output behind the others. What is remembered stays right.
+    /// Appends an expression that is no output. Cached answers stay right.
     fn add(
         &mut self,
         expression: Expression<'a, T::Map, T::FlatMap, T::Zip>,
@@ -106,7 +106,7 @@ impl<'a, T: Transforms> Providers<'a, T> {
         self.add(Expression::Constant(None))
     }
 
-    /// A property of a project that nothing sets yet. On a circle it is told by this path and name.
+    /// A property of a project, not set yet. A circle is reported with this path and name.
     pub fn property(&mut self, project: ProjectPath, name: Name) -> Result<Node, AllocError>
         ensures ok { IfOk result (λ node.
             IsAdded self.old
@@ -129,8 +129,8 @@ impl<'a, T: Transforms> Providers<'a, T> {
         }))
     }
 
-    /// The list of the texts that these give. The first from the left that is no value decides;
-    /// where all are values, 34 if one is no text.
+    /// The list of the texts of these operands. The first from the left that is no value decides;
+    /// if all are values, 34 if one is no text.
     pub fn list(&mut self, elements: &[Node]) -> Result<Node, AllocError>
         requires { All (λ element. element.number < length self.old.nodes) elements.now }
         ensures ok { IfOk result (λ node.
@@ -141,7 +141,7 @@ impl<'a, T: Transforms> Providers<'a, T> {
         self.add(Expression::Listed(operands))
     }
 
-    /// The left where it is present, else the right.
+    /// The left if it is present, else the right.
     pub fn or_else(&mut self, left: Node, right: Node) -> Result<Node, AllocError>
         requires left { left.number < length self.old.nodes }
         requires right { right.number < length self.old.nodes }
@@ -152,7 +152,7 @@ impl<'a, T: Transforms> Providers<'a, T> {
         self.add(Expression::OrElse(left.number, right.number))
     }
 
-    /// Puts an output that does not stand yet behind the others. Nothing is remembered after it.
+    /// Appends an output that is not in the table yet. Nothing is cached after it.
     fn add_output(&mut self, chosen: Chosen, declared: Option<usize>) -> Result<Node, AllocError>
         requires within { PlaceWithin (length self.old.nodes) declared }
         requires new { output_place self.old.nodes chosen ≡ None }
@@ -168,7 +168,7 @@ impl<'a, T: Transforms> Providers<'a, T> {
         Ok(Node { number })
     }
 
-    /// Where an output stands.
+    /// The number of an output.
     fn place(&self, chosen: &Chosen) -> Option<usize>
         ensures place { result ≡ output_place self.now.nodes chosen.now }
         ensures within { PlaceWithin (length self.now.nodes) result }
@@ -176,7 +176,7 @@ impl<'a, T: Transforms> Providers<'a, T> {
         self.nodes.place(chosen)
     }
 
-    /// Declares the output that stands here as an expression.
+    /// Declares the output with this number as an expression.
     fn declare(&mut self, number: usize, chosen: &Chosen, source: usize)
         requires within { number < length self.old.nodes }
         requires stands { output_place self.old.nodes chosen.now ≡ Some number }
@@ -193,7 +193,7 @@ impl<'a, T: Transforms> Providers<'a, T> {
         self.producers.clear();
     }
 
-    /// The output of a task, which stands once; 36 until it is declared.
+    /// The output of a task, which is in the table once; 36 until it is declared.
     pub fn output(&mut self, task: TaskPath, name: Text) -> Result<Node, AllocError>
         ensures ok { IfOk result (λ node.
             IsOutput self.old (record { task = task; output = name })
@@ -207,7 +207,7 @@ impl<'a, T: Transforms> Providers<'a, T> {
         }
     }
 
-    /// Declares the output of a task as an expression, in place of an earlier one.
+    /// Declares the output of a task as an expression, which replaces an earlier one.
     pub fn declare_output(
         &mut self,
         task: TaskPath,
@@ -232,7 +232,7 @@ impl<'a, T: Transforms> Providers<'a, T> {
         }
     }
 
-    /// What a function of `map` makes of a value: absent where that is, or where it gives nothing.
+    /// The result of a `map` function on a value: absent if the value or the result is absent.
     pub fn map(&mut self, source: Node, name: &str, arguments: Texts) -> Result<Node, StepFault>
         requires { source.number < length self.old.nodes }
         ensures step { IsStep self.old (Expression.Mapped source.number)
@@ -251,7 +251,7 @@ impl<'a, T: Transforms> Providers<'a, T> {
         }
     }
 
-    /// Adds a `map` by this function.
+    /// Adds a `map` with this function.
     fn add_map(
         &mut self,
         source: Node,
@@ -270,7 +270,7 @@ impl<'a, T: Transforms> Providers<'a, T> {
         self.add(Expression::Mapped(source.number, call))
     }
 
-    /// The output that a function of `flatMap` chooses by a value; absent where it chooses none.
+    /// The output that a `flatMap` function chooses by a value; absent if it chooses none.
     pub fn flat_map(
         &mut self,
         source: Node,
@@ -295,7 +295,7 @@ impl<'a, T: Transforms> Providers<'a, T> {
         }
     }
 
-    /// Adds a `flatMap` by this function.
+    /// Adds a `flatMap` with this function.
     fn add_flat_map(
         &mut self,
         source: Node,
@@ -314,7 +314,7 @@ impl<'a, T: Transforms> Providers<'a, T> {
         self.add(Expression::FlatMapped(source.number, call))
     }
 
-    /// What a function of `zip` makes of two values: absent where one is.
+    /// The result of a `zip` function on two values: absent if one of them is.
     pub fn zip(
         &mut self,
         left: Node,
@@ -340,7 +340,7 @@ impl<'a, T: Transforms> Providers<'a, T> {
         }
     }
 
-    /// Adds a `zip` by this function.
+    /// Adds a `zip` with this function.
     fn add_zip(
         &mut self,
         left: Node,
@@ -361,7 +361,8 @@ impl<'a, T: Transforms> Providers<'a, T> {
         self.add(Expression::Zipped(left.number, right.number, call))
     }
 
-    /// Changes a property. Values stay remembered if it was not read since they were last forgotten.
+    /// Changes a property. Values stay cached if the property was not read since they were last
+    /// forgotten.
     fn change(&mut self, node: Node, change: Change) -> Result<(), Final>
         requires node { node.number < length self.old.nodes }
         requires change { ChangeWithin (length self.old.nodes) change }
@@ -373,7 +374,7 @@ impl<'a, T: Transforms> Providers<'a, T> {
         Ok(())
     }
 
-    /// Sets a property. 35 where it is final, or where the node is no property. Takes no memory.
+    /// Sets a property. 35 if it is final, or if the node is no property. Allocates nothing.
     pub fn set(&mut self, node: Node, value: Value) -> Result<(), Final>
         requires { node.number < length self.old.nodes }
         ensures { IsChanged (Change.Set value) self.old node.number self.new result }
@@ -381,8 +382,8 @@ impl<'a, T: Transforms> Providers<'a, T> {
         self.change(node, Change::Set(value))
     }
 
-    /// Lets a property follow an expression, and be absent where that is, convention or not. 35 as
-    /// in `set`. Takes no memory.
+    /// Makes a property follow an expression, and be absent if that is, with or without a
+    /// convention. 35 as in `set`. Allocates nothing.
     pub fn set_from(&mut self, node: Node, source: Node) -> Result<(), Final>
         requires node { node.number < length self.old.nodes }
         requires source { source.number < length self.old.nodes }
@@ -391,7 +392,7 @@ impl<'a, T: Transforms> Providers<'a, T> {
         self.change(node, Change::SetFrom(source.number))
     }
 
-    /// Takes back what a property was set to. 35 as in `set`. Takes no memory.
+    /// Unsets a property. 35 as in `set`. Allocates nothing.
     pub fn unset(&mut self, node: Node) -> Result<(), Final>
         requires { node.number < length self.old.nodes }
         ensures { IsChanged Change.Unset self.old node.number self.new result }
@@ -399,7 +400,8 @@ impl<'a, T: Transforms> Providers<'a, T> {
         self.change(node, Change::Unset)
     }
 
-    /// What a property follows where it is not set. 35 as in `set`. Takes no memory.
+    /// Sets the expression that a property follows while it is not set. 35 as in `set`. Allocates
+    /// nothing.
     pub fn convention(&mut self, node: Node, source: Node) -> Result<(), Final>
         requires node { node.number < length self.old.nodes }
         requires source { source.number < length self.old.nodes }
@@ -408,7 +410,7 @@ impl<'a, T: Transforms> Providers<'a, T> {
         self.change(node, Change::Convention(source.number))
     }
 
-    /// Makes a property final, if it is not yet. 35 where the node is no property. Takes no memory.
+    /// Makes a property final, if it is not yet. 35 if the node is no property. Allocates nothing.
     pub fn disallow_changes(&mut self, node: Node) -> Result<(), Final>
         requires { node.number < length self.old.nodes }
         ensures { IsChanged Change.Finalize self.old node.number self.new result }
@@ -416,7 +418,7 @@ impl<'a, T: Transforms> Providers<'a, T> {
         self.change(node, Change::Finalize)
     }
 
-    /// The value of an expression, or nothing where it is absent.
+    /// The value of an expression, or nothing if it is absent.
     pub fn get(&mut self, node: Node) -> Result<Option<Value>, ProviderFault>
         requires { node.number < length self.old.nodes }
         ensures got { IsGot T.meanings self.old.nodes node.number result }
@@ -431,7 +433,7 @@ impl<'a, T: Transforms> Providers<'a, T> {
         )
     }
 
-    /// The value of an expression; 33 where it is absent.
+    /// The value of an expression; 33 if it is absent.
     pub fn require(&mut self, node: Node) -> Result<Value, ProviderFault>
         requires { node.number < length self.old.nodes }
         ensures required { IsRequired T.meanings self.old.nodes node.number result }
@@ -444,9 +446,9 @@ impl<'a, T: Transforms> Providers<'a, T> {
         }
     }
 
-    /// The tasks that produce what an expression gives, each once, in the order of their paths by
-    /// bytes: those of the values that it is made of, and of an output its own task. Values are
-    /// read only where they choose; their faults are those of `get`.
+    /// The tasks that produce the value of an expression, each once, ordered by the bytes of their
+    /// paths: the tasks of its operands, and for an output its own task. Values are read only if
+    /// they choose; their faults are those of `get`.
     pub fn producers(&mut self, node: Node) -> Result<TaskPaths, ProviderFault>
         requires { node.number < length self.old.nodes }
         ensures producers { AreProducers T.meanings self.old.nodes node.number result }
@@ -462,7 +464,7 @@ impl<'a, T: Transforms> Providers<'a, T> {
         )
     }
 
-    /// Whether a test passes of the value of an expression: never where it is absent.
+    /// Whether the value of an expression passes a test; an absent value never does.
     pub fn test(
         &mut self,
         node: Node,
@@ -481,7 +483,7 @@ impl<'a, T: Transforms> Providers<'a, T> {
         }
     }
 
-    /// The answer of a test that takes as many arguments.
+    /// The result of a test that takes this many arguments.
     fn test_by(
         &mut self,
         node: Node,
@@ -502,7 +504,7 @@ impl<'a, T: Transforms> Providers<'a, T> {
     }
 }
 
-/// The function of `map` of a name, if it takes so many arguments.
+/// The `map` function with this name, if it takes this many arguments.
 fn accepted_map<'a, T: Transforms>(
     table: &'a TransformTable<T::Map, T::FlatMap, T::Zip, T::Test>,
     name: &str,
@@ -520,7 +522,7 @@ fn accepted_map<'a, T: Transforms>(
     Ok(function)
 }
 
-/// The function of `flatMap` of a name, if it takes so many arguments.
+/// The `flatMap` function with this name, if it takes this many arguments.
 fn accepted_flat_map<'a, T: Transforms>(
     table: &'a TransformTable<T::Map, T::FlatMap, T::Zip, T::Test>,
     name: &str,
@@ -538,7 +540,7 @@ fn accepted_flat_map<'a, T: Transforms>(
     Ok(function)
 }
 
-/// The function of `zip` of a name, if it takes so many arguments.
+/// The `zip` function with this name, if it takes this many arguments.
 fn accepted_zip<'a, T: Transforms>(
     table: &'a TransformTable<T::Map, T::FlatMap, T::Zip, T::Test>,
     name: &str,
@@ -556,7 +558,7 @@ fn accepted_zip<'a, T: Transforms>(
     Ok(function)
 }
 
-/// The test of a name, if it takes so many arguments.
+/// The test with this name, if it takes this many arguments.
 fn accepted_test<'a, T: Transforms>(
     table: &'a TransformTable<T::Map, T::FlatMap, T::Zip, T::Test>,
     name: &str,
@@ -574,7 +576,7 @@ fn accepted_test<'a, T: Transforms>(
     Ok(test)
 }
 
-/// Asks a test of a value.
+/// Runs a test on a value.
 fn ask<T: Transforms>(
     alloc: Global,
     test: &T::Test,
@@ -594,7 +596,7 @@ fn ask<T: Transforms>(
     }
 }
 
-/// The same of a value that nobody needs any more.
+/// Runs a test on a value, and drops the value.
 fn ask_once<T: Transforms>(
     alloc: Global,
     test: &T::Test,

@@ -1,10 +1,10 @@
-//! What is known of expressions as one is evaluated.
+//! The evaluation state of expressions, and the result of one evaluation step.
 ghost use Rattle.std.specs.Prelude.{◌≡◌};
 
-/// What is known of an expression.
+/// The evaluation state of an expression.
 #[derive(Drop)]
 pub enum State<A> {
-    /// It was not looked at yet.
+    /// It was not evaluated yet.
     New,
     /// It is being evaluated.
     Open,
@@ -12,26 +12,26 @@ pub enum State<A> {
     Known(A),
 }
 
-/// What one look at an expression comes to: an answer, or the operand to be read first.
+/// The result of one evaluation step: an answer, or the operand to be read first.
 #[derive(Drop)]
 pub enum Reading<A> {
     /// Its answer.
     Settles(A),
-    /// The number of the operand, of which no answer is known yet.
+    /// The number of an operand whose answer is not known yet.
     Waits(usize),
 }
 
-/// What one look at an expression finds.
+/// One evaluation step of an expression.
 #[derive(Drop)]
 pub struct Look<A> {
     /// The answer, or the operand that it waits for.
     pub reading: Reading<A>,
-    /// How many operands need no other look, where it waits for one behind them.
+    /// How many operands need not be read again, if it waits for one after them.
     pub past: usize,
 }
 
 impl<A: Drop> Look<A> {
-    /// A look that begins with the first operand whenever it is repeated.
+    /// A step that begins with the first operand whenever it is repeated.
     pub fn whole(reading: Reading<A>) -> Look<A>
         ensures reading { result.reading ≡ reading }
         ensures past { result.past ≡ 0 }

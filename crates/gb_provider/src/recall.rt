@@ -1,4 +1,4 @@
-//! Answers that are remembered.
+//! Caches answers.
 ghost use Rattle.std.specs.Prelude.{◌≡◌, ◌≢◌, ◌<◌, ◌≤◌, ℕ, length, IfOk, OnOk, None, Some, slice_get};
 ghost use Rattle.std.specs.Bool.{OnFalse};
 ghost use Rattle.gb_provider.specs.Answers.{IsGot, value_of};
@@ -36,7 +36,7 @@ pub(crate) fn extend<A: Drop>(states: &mut Vec<State<A>>, count: usize) -> Resul
     Ok(())
 }
 
-/// Forgets all answers, unless that of this expression is not known: no other rests on it then.
+/// Forgets all answers, unless that of this expression is not known: then no other is based on it.
 pub(crate) fn forget<A: Drop>(states: &mut Vec<State<A>>, number: usize)
     ensures { IsForgotten number states.old.items states.new.items }
 {
@@ -55,7 +55,7 @@ fn is_known_at<A>(states: &[State<A>], number: usize) -> bool
     }
 }
 
-/// Tells the answer that is known.
+/// Returns the answer that is known.
 fn tell(
     alloc: Global,
     states: &[State<Shared<Outcome>>],
@@ -96,7 +96,7 @@ fn evaluate_value<T: Transforms>(
     evaluate(alloc, &mut reader, states, number)
 }
 
-/// Tells a circle by its names.
+/// The fault of a circle, with its names.
 pub(crate) fn tell_circle<M, F, Z>(
     alloc: Global,
     nodes: &[Expression<M, F, Z>],
@@ -110,7 +110,7 @@ pub(crate) fn tell_circle<M, F, Z>(
     }
 }
 
-/// The value of an expression, which is remembered.
+/// The value of an expression, which is cached.
 pub(crate) fn recall<T: Transforms>(
     alloc: Global,
     nodes: &[Expression<T::Map, T::FlatMap, T::Zip>],
@@ -138,7 +138,7 @@ pub(crate) fn recall<T: Transforms>(
     }
 }
 
-/// The answer that is known, to be shared.
+/// The shared answer that is known.
 fn share_known(
     states: &[State<Shared<Outcome>>],
     number: usize,
@@ -153,7 +153,7 @@ fn share_known(
     }
 }
 
-/// What an expression comes to, which is remembered; nothing where it runs into a circle.
+/// The answer of an expression, which is cached; nothing if it runs into a circle.
 pub(crate) fn recall_outcome<T: Transforms>(
     alloc: Global,
     nodes: &[Expression<T::Map, T::FlatMap, T::Zip>],

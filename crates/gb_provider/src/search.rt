@@ -1,4 +1,4 @@
-//! The search for the answer of one expression: a work list, so that no chain is too long.
+//! Evaluates one expression with a work list instead of recursion, so that no chain is too long.
 ghost use Rattle.std.specs.Prelude.{◌≡◌, ◌<◌, [], ◌∷◌, ◌++◌, ℕ, List, length, IfOk, OnOk, Some, None};
 ghost use Rattle.std.specs.Prelude.{slice_index, slice_set, slice_get, ◌≢◌};
 ghost use Rattle.std.specs.Bool.{OnTrue, OnFalse};
@@ -9,13 +9,14 @@ ghost use Rattle.gb_provider.specs.Search.{known};
 use crate::reading::{Look, Reading, State};
 use std::alloc::{AllocError, Global};
 
-/// Entries of which each has a rule that reads others.
+/// Entries, each with a rule that reads others.
 pub(crate) trait Entries {
     type Answer: Drop;
 
     ghost rules: { Self → List (Rule Self.Answer) };
 
-    /// One look at an entry, where some answers are known, from behind its first operands on.
+    /// One evaluation step of an entry, given the known answers, which continues after its first
+    /// operands.
     fn look(
         &mut self,
         states: &[State<Self::Answer>],
@@ -31,7 +32,7 @@ pub(crate) trait Entries {
         ensures kept { self.new ≡ self.old };
 }
 
-/// The end of a path, from an entry of it on, which is a circle.
+/// The end of a path from an entry of it on, which is a circle.
 fn circle_from(
     alloc: Global,
     path: &[usize],
@@ -49,7 +50,7 @@ fn circle_from(
     unreachable!()
 }
 
-/// Puts an entry back at the end of a path, with how many of its operands need no other look.
+/// Puts an entry back at the end of a path, with how many of its operands need not be read again.
 fn keep(
     path: &mut Vec<usize>,
     pasts: &mut Vec<usize>,
@@ -133,8 +134,8 @@ pub(crate) fn evaluate<E: Entries>(
     evaluate_along(alloc, entries, states, entry, &mut path, &mut pasts)
 }
 
-/// Evaluates an entry that is not known, over two lists of the open entries: their numbers, and how many
-/// operands of each need no other look.
+/// Evaluates an entry that is not known, with two lists of the open entries: their numbers, and how
+/// many operands of each need not be read again.
 fn evaluate_along<E: Entries>(
     alloc: Global,
     entries: &mut E,

@@ -28,7 +28,7 @@ impl<A: Drop> Shared<A> {
         }
     }
 
-    /// One more owner.
+    /// One more owner of the value.
     pub fn share(&self) -> Result<Shared<A>, AllocError>
         ensures { IfOk result (λ shared. shared ≡ self.now) }
     {

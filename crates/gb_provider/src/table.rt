@@ -11,7 +11,7 @@ use gb_table::table::NamedTable;
 use std::alloc::Global;
 use std::marker::Model;
 
-/// A stored function, by its use.
+/// A stored function, by the step that uses it.
 #[derive(Drop)]
 pub enum Transform<M, F, Z, S> {
     /// For `map`: a value to a value.
@@ -24,7 +24,7 @@ pub enum Transform<M, F, Z, S> {
     Test(S),
 }
 
-/// Stored functions by name, as they were added. All uses share one space of names.
+/// Stored functions by name, as they were added. All uses share one namespace.
 #[derive(Drop)]
 pub struct TransformTable<M, F, Z, S> {
     entries: NamedTable<Transform<M, F, Z, S>>,
@@ -104,7 +104,7 @@ impl<M: Drop, F: Drop, Z: Drop, S: Drop> TransformTable<M, F, Z, S> {
         Ok(())
     }
 
-    /// The function of `map` of the name. Takes no memory.
+    /// The `map` function with this name. Allocates nothing.
     pub fn find_map(&self, name: &str) -> Option<&M>
         ensures { option_copied result ≡ map_named self.now name.now }
     {
@@ -114,7 +114,7 @@ impl<M: Drop, F: Drop, Z: Drop, S: Drop> TransformTable<M, F, Z, S> {
         }
     }
 
-    /// The function of `flatMap` of the name. Takes no memory.
+    /// The `flatMap` function with this name. Allocates nothing.
     pub fn find_flat(&self, name: &str) -> Option<&F>
         ensures { option_copied result ≡ flat_map_named self.now name.now }
     {
@@ -124,7 +124,7 @@ impl<M: Drop, F: Drop, Z: Drop, S: Drop> TransformTable<M, F, Z, S> {
         }
     }
 
-    /// The function of `zip` of the name. Takes no memory.
+    /// The `zip` function with this name. Allocates nothing.
     pub fn find_zip(&self, name: &str) -> Option<&Z>
         ensures { option_copied result ≡ zip_named self.now name.now }
     {
@@ -134,7 +134,7 @@ impl<M: Drop, F: Drop, Z: Drop, S: Drop> TransformTable<M, F, Z, S> {
         }
     }
 
-    /// The test of the name. Takes no memory.
+    /// The test with this name. Allocates nothing.
     pub fn find_test(&self, name: &str) -> Option<&S>
         ensures { option_copied result ≡ test_named self.now name.now }
     {

@@ -1,4 +1,4 @@
-//! The naming trait of functions.
+//! The trait that defines the stored functions of a program.
 ghost use Rattle.std.specs.Prelude.{◌≡◌};
 ghost use Rattle.gb_provider.specs.Meanings.{Meanings, IsReply, meaning_of};
 
@@ -7,9 +7,9 @@ use gb_core::text::Text;
 use gb_core::value::Value;
 use std::alloc::Global;
 
-/// What a program's stored functions are, and what each kind of them means.
+/// The types of a program's stored functions, and the meaning of each kind.
 pub trait Transforms {
-    /// A function of `map`: a closure, beside its kind and the count of its arguments.
+    /// A function of `map`: a closure, with its kind and the number of its arguments.
     type Map: Drop;
     /// A function of `flatMap`.
     type FlatMap: Drop;
@@ -18,26 +18,26 @@ pub trait Transforms {
     /// A test.
     type Test: Drop;
 
-    /// What each kind answers, and how many arguments each function takes.
+    /// The result of each kind, and how many arguments each function takes.
     ghost meanings: { Meanings Self.Map Self.FlatMap Self.Zip Self.Test };
 
-    /// The count of its arguments.
+    /// The number of its arguments.
     fn map_arity(stored: &Self::Map) -> u8
         ensures { result ≡ meanings.map.arity stored.now };
 
-    /// The count of its arguments.
+    /// The number of its arguments.
     fn flat_map_arity(stored: &Self::FlatMap) -> u8
         ensures { result ≡ meanings.flat_map.arity stored.now };
 
-    /// The count of its arguments.
+    /// The number of its arguments.
     fn zip_arity(stored: &Self::Zip) -> u8
         ensures { result ≡ meanings.zip.arity stored.now };
 
-    /// The count of its arguments.
+    /// The number of its arguments.
     fn test_arity(stored: &Self::Test) -> u8
         ensures { result ≡ meanings.test.arity stored.now };
 
-    /// Asks a function of `map`: a value, or nothing.
+    /// Calls a function of `map`: a value, or nothing.
     fn map(
         stored: &Self::Map,
         alloc: Global,
@@ -46,7 +46,7 @@ pub trait Transforms {
     ) -> Result<Option<Value>, TransformFault>
         ensures { IsReply result (meaning_of meanings.map stored.now value.now arguments.now) };
 
-    /// Asks a function of `flatMap`: an output, or none.
+    /// Calls a function of `flatMap`: an output, or none.
     fn flat_map(
         stored: &Self::FlatMap,
         alloc: Global,
@@ -55,7 +55,7 @@ pub trait Transforms {
     ) -> Result<Option<Chosen>, TransformFault>
         ensures { IsReply result (meaning_of meanings.flat_map stored.now value.now arguments.now) };
 
-    /// Asks a function of `zip`.
+    /// Calls a function of `zip`.
     fn zip(
         stored: &Self::Zip,
         alloc: Global,
@@ -65,7 +65,7 @@ pub trait Transforms {
     ) -> Result<Value, TransformFault>
         ensures { IsReply result (meaning_of meanings.zip stored.now left.now right.now arguments.now) };
 
-    /// Asks a test.
+    /// Calls a test.
     fn test(
         stored: &Self::Test,
         alloc: Global,

@@ -1,4 +1,4 @@
--- The path of a task is what its record's place says once slashes are colons.
+-- The path of a task is the middle of its record's place, with slashes replaced by colons.
 use Rattle.std.proofs.Common.{◌≡◌, ◌≢◌, ℕ, Bool, true, false, cond, eqb, List, [], ◌∷◌, refl, ap, ap₂, sym, arith}
 use Rattle.std.specs.Prelude.{◌==◌, if◌then◌else◌}
 use Rattle.std.specs.List.{AllByRecursion, list_all, slice_split, onto_first}

@@ -6,18 +6,18 @@ use Rattle.serde_json.specs.View.{items_of}
 use Rattle.gb_picture.specs.Graph.{name_at}
 use Rattle.gb_picture.specs.declared.graph.Node.{Node}
 
--- an edge of this sort to the task that runs later
+-- an edge of this kind to the task that runs later
 abbrev pub edge_object : List ℕ → List ℕ → List ℕ → Data
 edge_object sort from to =
     object (member (codes "from") (string from)
     (member (codes "sort") (string sort)
     (member (codes "to") (string to) no_members)))
 
--- the edges of this sort from these to the one of this name
+-- the edges of this kind from these to the one with this name
 abbrev pub edges_to : List Node → List ℕ → List ℕ → List ℕ → List Data
 edges_to nodes sort to numbers = map (λ number. edge_object sort (name_at nodes number) to) numbers
 
--- the edges from the one of this name to those that finalize it
+-- the edges from the one with this name to those that finalize it
 abbrev pub edges_from : List Node → List ℕ → List ℕ → List Data
 edges_from nodes from numbers =
     map (λ number. edge_object (codes "finalizedBy") from (name_at nodes number)) numbers

@@ -16,8 +16,8 @@ use Rattle.gb_query.specs.declared.inventory.Entry.TheVariants as entries
 abbrev pub HasRecord : Files → Path → Type 0
 HasRecord files path = (run : Record) × IsReadAt files path (Some run)
 
--- A file is the record of a registered task or of one that is not registered, it is no record though that of
--- a task belongs there, or it is at the place of no record.
+-- A file is the record of a registered task or of one that is not registered; or it is no record, at a place
+-- where the record of a task belongs; or it is at a place where no record belongs.
 abbrev pub IsEntryOf : Files → List Path → Place → Entry → Type 0
 IsEntryOf files registered place (entries.Record path) =
     IsOwner place (Some path) × HasRecord files path × IsTrue (has_path registered path)
@@ -32,7 +32,7 @@ AreEntriesOf files registered found =
     AllZip (IsEntryOf files registered) (places_under files (codes ".gb")) found
 
 -- Why the files of `.gb` cannot be listed or read: memory ran out, the device failed between these counts, or
--- a file there has a name that no place has.
+-- a file there has a name that is no place's.
 abbrev pub IsUnlisted : Contents → ℕ → ℕ → Fault → Type 0
 IsUnlisted contents before after fault =
     IsOfMachine before after fault

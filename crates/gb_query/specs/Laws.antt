@@ -6,7 +6,7 @@ use Rattle.gb_tree.specs.Property.{entries_of}
 use Rattle.gb_tree.specs.Tree.{is_among}
 use Rattle.gb_query.specs.Membership.{takes_in}
 
--- In whatever files, a property reads exactly the files whose places it takes in.
+-- Whatever the files, a property reads exactly the files whose places it includes.
 abbrev pub FilesAreTakenIn : Type 0
 FilesAreTakenIn =
     (property : FileProperty) (files : Files) (place : Place)

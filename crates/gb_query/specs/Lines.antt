@@ -1,4 +1,4 @@
--- What is printed of a query.
+-- The printed answers to queries.
 use Rattle.std.specs.Prelude.{ℕ, List, ◌++◌, codes}
 use Rattle.std.specs.List.{flat_map}
 use Rattle.gb_picture.specs.Shown.{shown_text}
@@ -25,7 +25,7 @@ activity_text activities.Idle = codes "no build runs"
 activity_text activities.Builds = codes "a build runs"
 activity_text activities.Unknown = codes "not known whether a build runs"
 
--- what a file of `.gb` is
+-- the kind of a file of `.gb`
 abbrev pub entry_text : Entry → List ℕ
 entry_text (entries.Record path) = path ++ codes " record"
 entry_text (entries.Damaged path) = path ++ codes " damaged record"

@@ -1,4 +1,4 @@
--- What is printed of registered tasks, as lines and as JSON.
+-- The printed form of registered tasks, as lines and as JSON.
 use Rattle.std.specs.Prelude.{ℕ, ◌==◌, ◌||◌, Bool, List, [], ◌++◌, Option, Some, None, Result, Ok, Err}
 use Rattle.std.specs.Prelude.{bytes_eq, codes, if◌then◌else◌, map}
 use Rattle.std.specs.List.{flat_map, list_any}
@@ -22,7 +22,7 @@ has_colon word = list_any (λ byte. byte == 58) word
 abbrev pub is_path_of : Text → Path → Bool
 is_path_of word path = bytes_eq word path || bytes_eq path (codes ":" ++ word)
 
--- A word with a colon selects the task at its path, one without all of that name.
+-- A word with a colon selects the task at its path; one without a colon selects all tasks with that name.
 abbrev pub selects : Text → Path → Bool
 selects word path = if has_colon word then is_path_of word path else bytes_eq word (task_name path)
 
@@ -60,7 +60,7 @@ kinds_data actions = array (items_of (map (λ action. string action.kind) action
 abbrev pub places_data : List Output → Data
 places_data outputs = array (items_of (map (λ output. string output.place) outputs))
 
--- of a task that has these actions and outputs
+-- for a task with these actions and outputs
 abbrev pub made_object : Path → Bool → Data → Data → Data
 made_object path default actions outputs =
     object (member (codes "actions") actions
@@ -68,14 +68,14 @@ made_object path default actions outputs =
     (member (codes "outputs") outputs
     (member (codes "task") (string path) no_members))))
 
--- of a task that cannot be read
+-- for a task that cannot be read
 abbrev pub fault_object : Path → Bool → List ℕ → Data
 fault_object path default text =
     object (member (codes "default") (boolean default)
     (member (codes "fault") (string text)
     (member (codes "task") (string path) no_members)))
 
--- of a task: the kinds of its actions and the places that it makes, or its fault
+-- for a task: the kinds of its actions and the places that it makes, or its fault
 abbrev pub declared_object : Path → Bool → Option (Result TaskDeclaration Fault) → Data
 declared_object path default (Some (Ok task)) =
     made_object path default (kinds_data task.actions) (places_data task.outputs)

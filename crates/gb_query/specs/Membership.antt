@@ -1,4 +1,4 @@
--- Which places a file property takes in, by the rule by which builds read its files.
+-- Which places a file property includes, by the rule by which builds read its files.
 use Rattle.std.specs.Prelude.{◌&&◌, Bool}
 use Rattle.std.specs.List.{list_any}
 use Rattle.gb_core.specs.Place.{is_under}

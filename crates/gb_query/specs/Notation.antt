@@ -19,17 +19,17 @@ abbrev pub IsTasksText : Notation → Registry → List ℕ → Type 0
 IsTasksText notations.Lines registry text = text ≡ tasks_text registry
 IsTasksText notations.Json registry text = IsJsonOf (tasks_data registry) text
 
--- the text of what a search found
+-- the text of the findings of a search
 abbrev pub IsFoundText : Notation → Relation → List Found → List ℕ → Type 0
 IsFoundText notations.Lines relation found text = text ≡ found_text found
 IsFoundText notations.Json relation found text = IsJsonOf (found_data relation found) text
 
--- the text of what a folder has
+-- the text of the entries of a folder
 abbrev pub IsStatusText : Notation → Activity → List Entry → List ℕ → Type 0
 IsStatusText notations.Lines activity found text = text ≡ status_text activity found
 IsStatusText notations.Json activity found text = IsJsonOf (status_data activity found) text
 
--- the text of some entries; where contents are known, exactly those of the folder's files
+-- the text of some entries; if contents are known, exactly those of the folder's files
 abbrev pub IsStatusOf : Bool → Notation → Activity → Files → List Path → List ℕ → Type 0
 IsStatusOf tells notation activity files registered text =
     (found : List Entry) × (IsTrue tells → AreEntriesOf files registered found)

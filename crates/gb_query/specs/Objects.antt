@@ -23,7 +23,7 @@ abbrev pub pair : List ℕ → List ℕ → List ℕ → List ℕ → Data
 pair key text other_key other_text =
     object (member key (string text) (member other_key (string other_text) no_members))
 
--- ---- Of a search
+-- ---- The answer to a search
 
 -- the key of the name
 abbrev pub relation_key : Relation → List ℕ
@@ -38,7 +38,7 @@ found_object relation (founds.Unreadable path fault) =
 abbrev pub found_data : Relation → List Found → Data
 found_data relation found = array (items_of (map (found_object relation) found))
 
--- ---- Of a folder
+-- ---- The answer about a folder
 
 -- whether a build runs
 abbrev pub activity_word : Activity → List ℕ
@@ -46,7 +46,7 @@ activity_word activities.Idle = codes "none"
 activity_word activities.Builds = codes "runs"
 activity_word activities.Unknown = codes "unknown"
 
--- what a file of `.gb` is, and its task, or its place where it belongs to none
+-- the kind of a file of `.gb`, and its task, or its place if it belongs to no task
 abbrev pub entry_object : Entry → Data
 entry_object (entries.Record path) = pair (codes "kind") (codes "record") (codes "task") path
 entry_object (entries.Damaged path) = pair (codes "kind") (codes "damaged") (codes "task") path

@@ -15,7 +15,7 @@ use Rattle.gb_query.specs.declared.search.Found.TheVariants as founds
 use Rattle.gb_query.specs.declared.search.Relation.{Relation}
 use Rattle.gb_query.specs.declared.search.Relation.TheVariants as relations
 
--- a property of the task that takes the place in
+-- a property of the task that includes the place
 abbrev pub reader_in : Path → Place → FileProperty → List Found
 reader_in path place property = if takes_in property place then founds.Related path property.name ∷ [] else []
 
@@ -24,18 +24,18 @@ abbrev pub maker_in : Path → Place → Output → List Found
 maker_in path place output =
     if is_under place output.place then founds.Related path output.name ∷ [] else []
 
--- all of a task, in the order in which it declares them
+-- all findings for a task, in the order in which it declares them
 abbrev pub found_of : Relation → Place → Path → TaskDeclaration → List Found
 found_of relations.Reads place path task = flat_map (reader_in path place) task.files
 found_of relations.Makes place path task = flat_map (maker_in path place) task.outputs
 
--- of what is registered at a path: a task that has a fault is found with it, whatever the place
+-- for the task registered at a path: a task that has a fault is found with its fault, whatever the place
 abbrev pub found_at : Relation → Place → Path → Option (Result TaskDeclaration Fault) → List Found
 found_at relation place path (Some (Ok task)) = found_of relation place path task
 found_at relation place path (Some (Err fault)) = founds.Unreadable path fault ∷ []
 found_at relation place path None = []
 
--- of all registered tasks, in the order of registration
+-- for all registered tasks, in the order of registration
 abbrev pub found_in : Relation → Place → Registry → List Found
 found_in relation place registry =
     flat_map (λ path. found_at relation place path (declaration_at registry path)) (paths_of registry)

@@ -19,7 +19,7 @@ use gb_graph::tasks::Tasks;
 use gb_report::fault::Fault;
 use std::alloc::{AllocError, Global};
 
-/// The text of all registered tasks, whose paths these are.
+/// The text of all registered tasks; these are their paths.
 pub fn list_text<Ts: Tasks>(
     alloc: Global,
     notation: Notation,
@@ -36,7 +36,7 @@ pub fn list_text<Ts: Tasks>(
     }
 }
 
-/// The text of what is found of all registered tasks, whose paths these are.
+/// The text of the findings for all registered tasks; these are their paths.
 pub fn search_text<Ts: Tasks>(
     alloc: Global,
     notation: Notation,
@@ -55,9 +55,9 @@ pub fn search_text<Ts: Tasks>(
     text
 }
 
-/// Whether a build runs, and what each file of `.gb` is, where these tasks are registered. An error is that
-/// memory ran out, that the device failed (`Device`), or that `.gb` has a file that no place names
-/// (`BadFileName`).
+/// Whether a build runs, and what each file of `.gb` is, if these tasks are registered. An error
+/// means that memory ran out, that the device failed (`Device`), or that `.gb` has a file whose
+/// name is no place's (`BadFileName`).
 pub fn inventory_text<F: Folder>(
     alloc: Global,
     notation: Notation,

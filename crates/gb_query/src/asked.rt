@@ -1,4 +1,4 @@
-//! The place that a query asks about.
+//! The place of a query.
 ghost use Rattle.std.specs.Prelude.{◌≡◌, ◌⊎◌, [], ◌∷◌, Err};
 ghost use Rattle.gb_query.specs.Asked.{asked_place};
 
@@ -7,7 +7,7 @@ use gb_core::text::Text;
 use gb_report::fault::Fault;
 use std::alloc::Global;
 
-/// The place that these texts name, of which there must be one.
+/// The place that these texts name. There must be exactly one text.
 pub fn asked_place(alloc: Global, texts: &[Text]) -> Result<Place, Fault>
     ensures { (result ≡ asked_place texts.now) ⊎ (result ≡ Err Fault.OutOfMemory) }
 {

@@ -85,7 +85,7 @@ fn push_edges(
     push_from(alloc, values, nodes, name, node.finalizers.as_slice())
 }
 
-/// Adds the edges of a sort from these nodes to one.
+/// Adds the edges of a kind from these nodes to one.
 fn push_to(
     alloc: Global,
     values: &mut Vec<Value>,
@@ -126,7 +126,7 @@ fn edge_object(alloc: Global, sort: &str, from: &str, to: &str) -> Result<Value,
     json!(in alloc; {"from": from, "sort": sort, "to": to})
 }
 
-/// The name of the node of a number: nothing where there is none.
+/// The name of the node with a number; empty if there is none.
 fn name_at(nodes: &[Node], number: usize) -> &str
     ensures { result.now ≡ name_at nodes.now number }
 {

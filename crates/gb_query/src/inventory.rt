@@ -19,12 +19,12 @@ use gb_report::fault::Fault;
 use gb_store::listing::listed_at;
 use std::alloc::{AllocError, Global};
 
-/// What a file of `.gb` is.
+/// The kind of a file of `.gb`.
 #[derive(Drop)]
 pub enum Entry {
     /// The record of a registered task.
     Record(TaskPath),
-    /// No record, where that of this task belongs.
+    /// No record, at the place where the record of this task belongs.
     Damaged(TaskPath),
     /// The record of a task that is not registered.
     Unregistered(TaskPath),
@@ -32,9 +32,9 @@ pub enum Entry {
     Foreign(Place),
 }
 
-/// What the files of `.gb` are, in the order of their places, where these tasks are registered. An error is
-/// that memory ran out, that the device failed (`Device`), or that `.gb` has a file that no place names
-/// (`BadFileName`).
+/// What the files of `.gb` are, in the order of their places, if these tasks are registered. An
+/// error means that memory ran out, that the device failed (`Device`), or that `.gb` has a file
+/// whose name is no place's (`BadFileName`).
 pub fn inventory<F: Folder>(
     alloc: Global,
     folder: &mut F,
@@ -63,7 +63,7 @@ fn own_folder(alloc: Global) -> Result<Place, AllocError>
     }
 }
 
-/// What the files at these places are.
+/// The kinds of the files at these places.
 fn entries_of<F: Folder>(
     alloc: Global,
     folder: &mut F,
@@ -83,7 +83,7 @@ fn entries_of<F: Folder>(
     Ok(entries)
 }
 
-/// What the file at a place is.
+/// The kind of the file at a place.
 fn entry_of<F: Folder>(
     alloc: Global,
     folder: &mut F,
@@ -102,7 +102,7 @@ fn entry_of<F: Folder>(
     }
 }
 
-/// What the file is where the record of this task belongs.
+/// The kind of the file at the place where the record of this task belongs.
 fn record_entry<F: Folder>(
     alloc: Global,
     folder: &mut F,
@@ -121,7 +121,7 @@ fn record_entry<F: Folder>(
     Ok(class_of(registered, path, has_record))
 }
 
-/// The entry of a task whose file is a record or is none.
+/// The entry of a task whose file is a record or is not one.
 fn class_of(registered: &[TaskPath], path: TaskPath, has_record: bool) -> Entry
     ensures { result ≡ (if not has_record then Entry.Damaged path
         else if has_path registered.now path then Entry.Record path else Entry.Unregistered path) }

@@ -1,7 +1,7 @@
 //! What follows from the definitions alone.
 ghost use Rattle.gb_query.specs.Laws.{FilesAreTakenIn};
 
-/// In whatever files, a property reads exactly the files whose places it takes in.
+/// Whatever the files, a property reads exactly the files whose places it includes.
 pub fn files_are_taken_in()
     ensures { FilesAreTakenIn }
 {}

@@ -1,4 +1,4 @@
-//! What is printed of a query.
+//! The printed answers to queries.
 ghost use Rattle.std.specs.Prelude.{◌≡◌, ◌++◌, IfOk, OnOk, string_bytes};
 ghost use Rattle.gb_report.specs.Report.{line};
 ghost use Rattle.gb_query.specs.Lines.{activity_text, entry_text, found_line, found_text, status_text};
@@ -37,7 +37,7 @@ pub enum Activity {
     Idle,
     /// One runs.
     Builds,
-    /// The system gives no lock, so it is not known.
+    /// The system provides no lock, so it is not known.
     Unknown,
 }
 

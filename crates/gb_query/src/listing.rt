@@ -12,7 +12,7 @@ pub(crate) fn is_default(words: &[Text], path: &TaskPath) -> bool
     words.iter().any(|word| selects(word.as_str(), path))
 }
 
-/// Whether a word selects the task: by its path where it has a colon, and else by its name.
+/// Whether a word selects the task: by its path if it has a colon, and otherwise by its name.
 fn selects(word: &str, path: &TaskPath) -> bool
     ensures { result ≡ selects word.now path.now }
 {

@@ -16,8 +16,8 @@ use gb_report::fault::Fault;
 use std::alloc::{AllocError, Global};
 use std::fmt::Write;
 
-/// One line for each registered task; these are their paths. A task at fault has a line with its fault, so
-/// that the only error is that memory ran out.
+/// One line for each registered task; these are their paths. A task with a fault has a line with
+/// its fault, so that the only error is lack of memory.
 pub fn tasks_text<Ts: Tasks>(
     alloc: Global,
     tasks: &mut Ts,
@@ -89,7 +89,7 @@ fn push_task_made(alloc: Global, text: &mut String, task: TaskDeclaration) -> Re
     pushed
 }
 
-/// Adds the fault of a task, but that memory ran out: that is handed on.
+/// Adds the fault of a task. A fault for lack of memory is returned instead.
 fn push_fault(text: &mut String, fault: Fault) -> Result<(), AllocError>
     ensures fault { OnOk result (fault ≢ Fault.OutOfMemory) }
     ensures made { OnOk result

@@ -18,8 +18,8 @@ use serde_json::{Value, json};
 use std::alloc::{AllocError, Global};
 use std::fmt::Write;
 
-/// A line of JSON: an array with an object for each registered task; these are their paths. A task at fault
-/// has an object with its fault, so that the only error is that memory ran out.
+/// A line of JSON: an array with an object for each registered task; these are their paths. A task
+/// with a fault has an object with its fault, so that the only error is lack of memory.
 pub fn tasks_json<Ts: Tasks>(
     alloc: Global,
     tasks: &mut Ts,
@@ -79,7 +79,7 @@ fn task_made(
     value
 }
 
-/// The object of a task at fault. That memory ran out is handed on.
+/// The object of a task with a fault. A fault for lack of memory is returned instead.
 fn task_at_fault(
     alloc: Global,
     path: &str,
@@ -118,7 +118,7 @@ fn declared_object(
     value
 }
 
-/// The object of a task that has these actions.
+/// The object of a task with these actions.
 fn with_actions(
     alloc: Global,
     path: &str,

@@ -1,4 +1,4 @@
-//! Whether a file property takes a place in.
+//! Whether a file property includes a place.
 ghost use Rattle.std.specs.Prelude.{◌≡◌, ◌⊎◌, IfOk, IsTrue, false};
 ghost use Rattle.gb_core.specs.Place.{is_place, is_under};
 ghost use Rattle.gb_tree.specs.Property.{is_in, last_segment, lets_in, matches_any, seen_from};
@@ -64,7 +64,7 @@ fn is_in(
     Ok(lets_in(include, exclude, &path))
 }
 
-/// Whether the patterns let a file in that has this path from a root.
+/// Whether the patterns include a file with this path from a root.
 fn lets_in(include: &[Pattern], exclude: &[Pattern], path: &Place) -> bool
     ensures { result ≡ lets_in include.now exclude.now path.now }
 {
@@ -77,7 +77,8 @@ fn matches_any(patterns: &[Pattern], path: &Place) -> bool
     patterns.iter().any(|pattern| pattern.matches(path))
 }
 
-/// The path of a place from a root, as patterns match it: the name of a file that is the root itself.
+/// The path of a place from a root, as patterns match it: for the root itself, the name of the
+/// file.
 fn seen_from(alloc: Global, root: &Place, place: &Place) -> Result<Place, AllocError>
     requires { IsTrue (is_under place.now root.now) }
     ensures { IfOk result (λ path. path ≡ seen_from root.now place.now) }

@@ -11,13 +11,13 @@ use std::alloc::{AllocError, Global};
 /// How an answer is written.
 #[derive(Clone, Copy, Debug, PartialEq, Eq)]
 pub enum Notation {
-    /// One line for each thing that is found.
+    /// One line for each finding.
     Lines,
     /// One value in JSON, on one line.
     Json,
 }
 
-/// The text of what a search found.
+/// The text of the findings of a search.
 pub fn write_found(
     alloc: Global,
     notation: Notation,
@@ -32,7 +32,7 @@ pub fn write_found(
     }
 }
 
-/// The text of what a folder has.
+/// The text of the entries of a folder.
 pub fn write_status(
     alloc: Global,
     notation: Notation,

@@ -23,7 +23,7 @@ pub fn found_json(alloc: Global, relation: Relation, found: &[Found]) -> Result<
     json_line(alloc, Value::Array(values))
 }
 
-/// The line of a value that nests less deep than `serde_json` reads.
+/// The line of a value that nests less deep than the limit of `serde_json`.
 pub fn json_line(alloc: Global, value: Value) -> Result<String, AllocError>
     requires { depth (view value) ≤ max_depth }
     ensures { IfOk result (λ text. IsJsonOf (view value) (string_bytes text)) }

@@ -59,7 +59,7 @@ fn candidate(alloc: Global, place: &[u8]) -> Result<Option<TaskPath>, AllocError
     }
 }
 
-/// What is left between the folder of records and their ending.
+/// The text between the folder of records and their ending.
 fn middle(place: &[u8]) -> Option<&[u8]>
     ensures { (path : List ℕ) → record_place path ≡ place.now
         → IsSomeAnd result (λ text. text.now ≡ slashed path) }
@@ -67,7 +67,7 @@ fn middle(place: &[u8]) -> Option<&[u8]>
     place.strip_prefix(b".gb/tasks")?.strip_suffix(b".record")
 }
 
-/// The path that this text is once its slashes are colons, if it is one.
+/// The path that this text becomes when its slashes are replaced by colons, if it is one.
 fn path_of(alloc: Global, text: &[u8]) -> Result<Option<TaskPath>, AllocError>
     ensures { (path : List ℕ) → IsTrue (is_task_path path) → text.now ≡ slashed path
         → IfOk result (λ found. found ≡ Some path) }
@@ -79,7 +79,7 @@ fn path_of(alloc: Global, text: &[u8]) -> Result<Option<TaskPath>, AllocError>
     }
 }
 
-/// The text with each slash as a colon.
+/// The text with each slash replaced by a colon.
 fn coloned(alloc: Global, text: &[u8]) -> Result<Vec<u8>, AllocError>
     ensures { IfOk result (λ bytes. bytes.items ≡ coloned text.now) }
 {

@@ -14,7 +14,7 @@ use gb_plan::task::{FileProperty, Output, TaskDeclaration};
 use gb_report::fault::Fault;
 use std::alloc::{AllocError, Global};
 
-/// What tasks are searched for.
+/// The relation by which tasks are searched.
 #[derive(Clone, Copy, Debug, PartialEq, Eq)]
 pub enum Relation {
     /// Those that read a place.
@@ -23,17 +23,17 @@ pub enum Relation {
     Makes,
 }
 
-/// What is found of a task.
+/// The findings for a task.
 #[derive(Drop)]
 pub enum Found {
-    /// The task, and its file property or output at which the place lies.
+    /// The task, and its file property or output that includes the place.
     Related(TaskPath, Name),
     /// The task, and why its declaration cannot be read.
     Unreadable(TaskPath, Fault),
 }
 
-/// What is found of all registered tasks, whose paths these are. A task at fault is found with its fault, so
-/// that the only error is that memory ran out.
+/// The findings for all registered tasks; these are their paths. A task with a fault is found with
+/// its fault, so that the only error is lack of memory.
 pub fn search<Ts: Tasks>(
     alloc: Global,
     relation: Relation,
@@ -51,7 +51,7 @@ pub fn search<Ts: Tasks>(
     Ok(found)
 }
 
-/// Adds what is found of one task.
+/// Adds the findings for one task.
 fn search_task<Ts: Tasks>(
     alloc: Global,
     found: &mut Vec<Found>,
@@ -71,7 +71,7 @@ fn search_task<Ts: Tasks>(
     }
 }
 
-/// Adds what is found of a declared task, and drops it.
+/// Adds the findings for a declared task, and drops it.
 fn push_found(
     alloc: Global,
     found: &mut Vec<Found>,
@@ -88,7 +88,7 @@ fn push_found(
     pushed
 }
 
-/// Adds that a task cannot be read. That memory ran out is handed on.
+/// Adds that a task cannot be read. A fault for lack of memory is returned instead.
 fn push_unreadable(found: &mut Vec<Found>, path: &TaskPath, fault: Fault) -> Result<(), AllocError>
     ensures fault { OnOk result (fault ≢ Fault.OutOfMemory) }
     ensures found { OnOk result (found.new.items
@@ -132,7 +132,7 @@ fn push_related(
     }
 }
 
-/// Adds the file properties that take the place in.
+/// Adds the file properties that include the place.
 fn push_readers(
     alloc: Global,
     found: &mut Vec<Found>,

@@ -69,7 +69,7 @@ action_none action =
     ((unsigned_Decides action.version action.version).1 refl) ((unsigned_Decides (length action.args) (length action.args)).1 refl)
     ∙ arguments_none action.kind 1 action.args
 
--- the argument of which a reason speaks
+-- the argument that a reason is about
 pub record Differs (kind : List ℕ) (first : ℕ) (xs ys : List Value) (reason : Reason) : Type 0 where
   pub number : ℕ
   pub was : Value
@@ -124,7 +124,7 @@ module _ (kind : List ℕ) (xs ys : List Value) (reason : Reason) (found : Diffe
   pub argument_is : IsArgument ys (1 + found.number) found.is
   argument_is = (found.in_new.0, found.in_new.1, found.in_new.2, next found.number (length found.in_new.0) found.in_new.3)
 
--- ---- Kinds of which the others have none
+-- ---- Kinds that the others do not have
 
 one_like : (action : Action) (others : List Action) → Contains (map kind_of others) action.kind → list_any (has_kind action) others ≡ true
 one_like action [] h = absurd (contains_none action.kind h)

@@ -1,4 +1,4 @@
--- What is the same, and what changed, of the parts of a record.
+-- The parts of a record that are the same, and those that changed.
 use Rattle.std.proofs.Common.{◌≡◌, ◌≢◌, ◌↔◌, ℕ, Bool, T, true, false, true≢false, ◌&&◌, cond, List, [], ◌∷◌, map, Option, Some, None, refl, sym, ap, ap₂, subst, ◌∙◌, bytes_eq}
 use Rattle.std.proofs.lemmas.Bool.{and_parts}
 use Rattle.std.specs.Prelude.{IsTrue, is_some}
@@ -57,9 +57,9 @@ value_own (values.List a) = own_pairs bytes_eq bytes_own a
 value_own (values.Place a) = bytes_own a
 value_own (values.Task a) = bytes_own a
 
--- ---- What a test of sameness answers
+-- ---- The result of a test of sameness
 
--- it answers as another one does that tells the same
+-- it has the same result as another test of the same
 tested : {X : Type 0} {x y : X} (b c : Bool) → (IsTrue b ↔ (x ≡ y)) → (c ≡ true → x ≡ y) → (x ≡ y → c ≡ true) → b ≡ c
 tested true c says back own = sym (own (says.0 refl))
 tested false true says back own = says.1 (back refl)
@@ -80,7 +80,7 @@ form_own forms.Dir = refl
 
 -- ---- Changes
 
--- a list of changes that tells none
+-- a list of changes without a change
 module _ (old new : Tree) (none : changes_between old new ≡ []) where
   no_change : (change : Change) → IsChange old new change → ⊥
   no_change change is = none_of (changes_between old new) change none (is_change-told old new change is)
@@ -151,7 +151,7 @@ name_alike old new e = (bytes_decides old.0 new.0).1 e
 
 -- ---- Outputs
 
--- how one output stands in relation to another that is declared as it is
+-- how one output relates to another that is declared as it is
 pub record AreOne (old new : OutputRecord) : Type 0 where
   pub name : old.prints.0 ≡ new.prints.0
   pub form : old.form ≡ new.form

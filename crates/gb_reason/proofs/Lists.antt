@@ -1,4 +1,4 @@
--- Elements of what is told of pairs.
+-- Elements of the reasons of pairs.
 use Rattle.std.proofs.Common.{◌≡◌, Bool, true, true≢false, ◌&&◌, inl, inr, List, [], ◌∷◌, ◌++◌, map, refl, sym, ap₂, subst, arith}
 use Rattle.std.proofs.lemmas.Bool.{and_parts}
 use Rattle.std.proofs.lemmas.List.Elements.{Contains-append_left, Contains-append_right, Contains-append_cases, Contains-push, Contains-push_cases}
@@ -21,7 +21,7 @@ contains_later y xs x h = Contains-append_right (y ∷ []) xs x h
 pub none_of : {X : Type 0} (xs : List X) (x : X) → xs ≡ [] → Contains xs x → ⊥
 none_of xs x e h = contains_none x (subst (λ (l : List _). Contains l x) e h)
 
--- two lists of which nothing is told
+-- two lists that are empty together
 pub both_none : {X : Type 0} (xs ys : List X) → xs ++ ys ≡ [] → (xs ≡ []) × (ys ≡ [])
 both_none [] ys e = (refl, e)
 both_none (x ∷ xs) ys e = absurd (cc)
@@ -45,7 +45,7 @@ from_map f (x ∷ xs) y h = elim (Contains-append_cases (f x ∷ []) (map f xs) 
       record { from = m.from; in_list = contains_later x xs m.from m.in_list; is = m.is }
 ]
 
--- the pair of which an element is told
+-- the pair that an element comes from
 pub record Told {X Y : Type 0} (E : X → X → Bool) (f : X × X → List Y) (xs ys : List X) (y : Y) : Type 0 where
   pub old : X
   pub new : X
@@ -75,7 +75,7 @@ from_pairs E f (a ∷ xs) (b ∷ ys) y e h =
           }
     ]
 
--- lists of which nothing is told are the same
+-- lists without a reason are the same
 pub same_pairs : {X Y : Type 0} (E : X → X → Bool) (f : X × X → List Y) (G : X → Type 0)
     → ((x y : X) → G x → G y → E x y ≡ true → f (x, y) ≡ [] → x ≡ y) → (xs ys : List X)
     → AllByRecursion G xs → AllByRecursion G ys → pointwise E xs ys ≡ true → flat_map f (zip xs ys) ≡ [] → xs ≡ ys
@@ -87,7 +87,7 @@ same_pairs E f G same (a ∷ xs) (b ∷ ys) p q e none =
     let nones = both_none (f (a, b)) (flat_map f (zip xs ys)) none in
     ap₂ (λ x (l : List _). x ∷ l) (same a b p.0 q.0 parts.0 nones.0) (same_pairs E f G same xs ys p.1 q.1 parts.1 nones.1)
 
--- of the same lists nothing is told
+-- the same lists give no reason
 pub none_of_same : {X Y : Type 0} (f : X × X → List Y) → ((x : X) → f (x, x) ≡ []) → (xs : List X) → flat_map f (zip xs xs) ≡ []
 none_of_same f none [] = refl
 none_of_same f none (x ∷ xs) = ap₂ (λ (a b : List _). a ++ b) (none x) (none_of_same f none xs)

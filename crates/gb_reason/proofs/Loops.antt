@@ -1,4 +1,4 @@
--- Two lists gone through together.
+-- Two lists traversed together.
 use Rattle.std.proofs.Common.{◌≡◌, ◌≢◌, ℕ, suc, ◌+◌, ◌<◌, Bool, true, false, ◌&&◌, List, [], ◌∷◌, ◌++◌, length, get_or, drop, refl, sym, ap, ap₂, subst, ◌∙◌, arith, add-one, append_assoc}
 use Rattle.std.proofs.Math.Seq.{drop-cons}
 use Rattle.std.proofs.lemmas.List.{drop_all}
@@ -24,7 +24,7 @@ module _ {X : Type 0} (E : X → X → Bool) (xs ys : List X) (i : ℕ) (x y : X
   pub one_fails : (all : Bool) → all ≡ pointwise E (drop i xs) (drop i ys) → E x y ≡ false → all ≡ false
   one_fails all so_far here = so_far ∙ one_tested ∙ ap (λ b. b && pointwise E (drop (i + 1) xs) (drop (i + 1) ys)) here
 
-  -- one pair is told
+  -- one pair gives its reasons
   pub one_told : {Y : Type 0} (f : X × X → List Y) (all out more : List Y) → out ++ flat_map f (zip (drop i xs) (drop i ys)) ≡ all → more ≡ out ++ f (x, y)
       → more ++ flat_map f (zip (drop (i + 1) xs) (drop (i + 1) ys)) ≡ all
   one_told f all out more so_far here =
@@ -32,7 +32,7 @@ module _ {X : Type 0} (E : X → X → Bool) (xs ys : List X) (i : ℕ) (x y : X
       ap (λ l. l ++ later) here ∙ append_assoc out (f (x, y)) later
       ∙ ap₂ (λ a b. out ++ flat_map f (zip a b)) (sym (rest xs i x low at)) (sym (rest ys i y high to)) ∙ so_far
 
--- lists of other lengths are not the same
+-- lists of different lengths are not the same
 pub other_lengths : {X : Type 0} (E : X → X → Bool) (xs ys : List X) → length xs ≢ length ys → pointwise E xs ys ≡ false
 other_lengths E [] [] h = absurd (h refl)
 other_lengths E [] (y ∷ ys) h = refl

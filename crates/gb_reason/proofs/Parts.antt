@@ -1,4 +1,4 @@
--- What is told of a part of two records, and that nothing is where it is the same.
+-- The reasons of a part of two records; there is none if the part is the same.
 use Rattle.std.proofs.Common.{◌≡◌, ◌⊎◌, Bool, true, false, cond, inl, inr, List, [], ◌∷◌, refl, ap, ◌∙◌}
 use Rattle.std.specs.Cmp.Lexicographic.{pointwise}
 use Rattle.std.specs.List.{AllByRecursion, Contains, flat_map, zip}
@@ -7,7 +7,7 @@ use Rattle.gb_reason.specs.declared.reason.Reason.{Reason}
 use Rattle.gb_reason.proofs.Lists.{Told, contains_one, from_pairs, none_of_same, own_pairs, same_pairs}
 
 module _ {X : Type 0} (E : X → X → Bool) (f : X × X → List Reason) (otherwise : Reason) where
-  -- a part of which nothing is told is the same
+  -- a part without a reason is the same
   pub part_same : (G : X → Type 0) → ((x y : X) → G x → G y → E x y ≡ true → f (x, y) ≡ [] → x ≡ y) → (xs ys : List X)
       → AllByRecursion G xs → AllByRecursion G ys → part E f otherwise xs ys ≡ [] → xs ≡ ys
   part_same G same xs ys p q none = by (pointwise E xs ys) refl none
@@ -16,12 +16,12 @@ module _ {X : Type 0} (E : X → X → Bool) (f : X × X → List Reason) (other
       by true e n = same_pairs E f G same xs ys p q e n
       by false e n = absurd (cc)
 
-  -- of the same nothing is told
+  -- the same part gives no reason
   pub part_none : ((x : X) → E x x ≡ true) → ((x : X) → f (x, x) ≡ []) → (xs : List X) → part E f otherwise xs xs ≡ []
   part_none own none xs =
       ap (λ b. cond b (flat_map f (zip xs xs)) (otherwise ∷ [])) (own_pairs E own xs) ∙ none_of_same f none xs
 
-  -- what is told: that they are declared otherwise, or what is told of a pair
+  -- the reasons: that they are declared differently, or the reasons of a pair
   pub part_told : (xs ys : List X) (reason : Reason) → Contains (part E f otherwise xs ys) reason
       → ((otherwise ≡ reason) × (pointwise E xs ys ≡ false)) ⊎ Told E f xs ys reason
   part_told xs ys reason h = by (pointwise E xs ys) refl h

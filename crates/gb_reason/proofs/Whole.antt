@@ -1,4 +1,4 @@
--- All reasons: each is true, and there is none exactly where a task is up to date.
+-- All reasons: each is true, and there is none exactly if a task is up to date.
 use Rattle.std.proofs.Common.{◌≡◌, ◌==◌, ℕ, Bool, true, false, true≢false, not, cond, inl, inr, List, [], ◌∷◌, ◌++◌, length, Option, Some, None, refl, sym, ap, ap₂, subst, ◌∙◌}
 use Rattle.std.proofs.lemmas.List.Elements.{Contains-append_cases}
 use Rattle.std.specs.Cmp.{unsigned_Decides}
@@ -48,7 +48,7 @@ abbrev of_inputs : Record → Record → List Reason
 of_inputs old new = part has_name of_files reasons.FileNames old.inputs new.inputs
 
 module _ (old new : Record) where
-  -- runs of which no difference is told are the same
+  -- runs without a reported difference are the same
   pub no_difference : HasPathsInOrder old → HasPathsInOrder new → differences old new ≡ [] → old ≡ new
   no_difference p q none =
       let front = both_none ((of_actions old new ++ of_values old new) ++ of_outputs old new) (of_inputs old new) none in

@@ -1,4 +1,4 @@
--- What a reason says, and what follows from the definition of reasons.
+-- What a reason means, and what follows from the definition of reasons.
 use Rattle.std.specs.Prelude.{◌≡◌, ◌≢◌, ◌↔◌, ◌+◌, ℕ, true, false, List, [], ◌∷◌, ◌++◌, map, length, Option, Some}
 use Rattle.std.specs.Prelude.{None, IsTrue, Contains}
 use Rattle.std.specs.List.{AllByRecursion}
@@ -106,14 +106,14 @@ pub record HasPathsInOrder (run : Record) : Type 0 where
   pub inputs : AllByRecursion (λ prints. IsTrue (is_sorted byte_order prints.1)) run.inputs
   pub outputs : AllByRecursion (λ prints. IsTrue (is_sorted byte_order prints.1)) (prints_in run.outputs)
 
--- there is none exactly where the task is up to date
+-- there is none exactly if the task is up to date
 abbrev pub NoneIsUpToDate : Type 0
 NoneIsUpToDate =
     (old : Option Record) (present : Present) (decision : Decision)
     → ((run : Record) → old ≡ Some run → HasPathsInOrder run) → HasPathsInOrder present.now
     → Decides old present decision → (reasons_of old present ≡ []) ↔ (decision ≡ decisions.UpToDate)
 
--- where a task with outputs may run incrementally, the reasons are just the changes
+-- if a task with outputs may run incrementally, the reasons are just the changes
 abbrev pub ChangesAreReasons : Type 0
 ChangesAreReasons =
     (run : Record) (present : Present) → IsSince run present → is_empty present.now.outputs ≡ false

@@ -1,4 +1,4 @@
--- Why a task runs, in their order: its record against what it has now.
+-- Why a task runs, as reasons in their order: its record against what it has now.
 use Rattle.std.specs.Prelude.{ℕ, ◌&&◌, ◌==◌, ◌+◌, Bool, not, List, [], ◌∷◌, ◌++◌, map, length, find}
 use Rattle.std.specs.Prelude.{Option, Some, None, option_map, if◌then◌else◌, bytes_eq}
 use Rattle.std.specs.Cmp.Lexicographic.{pointwise}
@@ -15,7 +15,7 @@ use Rattle.gb_reason.specs.Same.{is_value}
 use Rattle.gb_reason.specs.declared.reason.Reason.{Reason}
 use Rattle.gb_reason.specs.declared.reason.Reason.TheVariants as reasons
 
--- One reason where the two differ as they are declared, and else those of each pair.
+-- One reason if the two are declared differently, and else those of each pair.
 abbrev pub part : {X : Type 0} → (X → X → Bool) → (X × X → List Reason) → Reason → List X → List X
     → List Reason
 part is_declared told otherwise old new =
@@ -43,7 +43,7 @@ of_files pair = map (reasons.File pair.0.0) (changes_between pair.0.1 pair.1.1)
 abbrev pub has_kind : Action → Action → Bool
 has_kind old new = bytes_eq old.kind new.kind
 
--- the arguments that differ, the first of which has this number
+-- the arguments that differ, if the first argument has this number
 abbrev pub of_arguments : List ℕ → ℕ → List Value → List Value → List Reason
 of_arguments kind number [] new = []
 of_arguments kind number (was ∷ old) [] = []
@@ -57,7 +57,7 @@ of_action pair =
     else if not (length pair.0.args == length pair.1.args) then reasons.ArgumentCount pair.0.kind ∷ []
     else of_arguments pair.0.kind 1 pair.0.args pair.1.args
 
--- the kind of the first of the actions of whose kind none of the others is
+-- the kind of the first action whose kind none of the others has
 abbrev pub first_other : List Action → List Action → Option (List ℕ)
 first_other others actions =
     option_map (λ action. action.kind)
@@ -69,7 +69,7 @@ kind_by (Some kind) left = reasons.ActionAdded kind
 kind_by None (Some kind) = reasons.ActionRemoved kind
 kind_by None None = reasons.ActionOrder
 
--- how actions differ that are not of the same kinds in order
+-- how actions differ if they are not of the same kinds in order
 abbrev pub kind_reason : List Action → List Action → Reason
 kind_reason old new = kind_by (first_other old new) (first_other new old)
 
@@ -81,12 +81,12 @@ differences old new =
     ++ part is_output of_output reasons.OutputNames old.outputs new.outputs
     ++ part has_name of_files reasons.FileNames old.inputs new.inputs
 
--- A task without outputs runs whenever it is asked for: that is its reason.
+-- A task without outputs runs whenever it is requested: that is its reason.
 abbrev pub reason_without : Present → Reason
 reason_without present =
     if is_empty present.now.outputs then reasons.NoOutputs else reasons.NoRecord
 
--- Where a task runs whatever its record says, that is the one reason; and else how it differs.
+-- If a task runs whatever its record says, that is the one reason; else how it differs.
 abbrev pub reasons_from : Record → Present → List Reason
 reasons_from run present =
     if present.rerun then reasons.Rerun ∷ []

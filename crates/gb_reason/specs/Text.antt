@@ -14,7 +14,7 @@ use Rattle.gb_reason.specs.declared.reason.Reason.TheVariants as reasons
 abbrev pub quoted : List ℕ → List ℕ
 quoted text = 34 ∷ shown text ++ 34 ∷ []
 
--- a value as it is told
+-- a value as it is printed
 abbrev pub value_text : Value → List ℕ
 value_text (values.Text text) = quoted text
 value_text (values.Flag flag) = if flag then codes "true" else codes "false"
@@ -22,13 +22,13 @@ value_text (values.List texts) = codes "[" ++ flat_map (λ text. codes " " ++ qu
 value_text (values.Place place) = codes "file " ++ place
 value_text (values.Task path) = codes "task " ++ path
 
--- a file at or beneath an output, and what became of it
+-- a file at or under an output, and what happened to it
 abbrev pub output_text : List ℕ → Change → List ℕ
 output_text place (Added path) = codes "output " ++ beneath place path ++ codes " was added"
 output_text place (Modified path) = codes "output " ++ beneath place path ++ codes " was modified"
 output_text place (Removed path) = codes "output " ++ beneath place path ++ codes " was removed"
 
--- a file of a property, as lists of changes tell it
+-- a file of a property, as lists of changes print it
 abbrev pub file_text : List ℕ → Change → List ℕ
 file_text name (Added path) = name ++ codes " ADDED " ++ path
 file_text name (Modified path) = name ++ codes " MODIFIED " ++ path

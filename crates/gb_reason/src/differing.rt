@@ -15,7 +15,7 @@ use gb_tree::changes::compare;
 use gb_tree::prints::Prints;
 use std::alloc::{AllocError, Global};
 
-/// What a run has by name, and another has too.
+/// A named part of a run that another run has too.
 pub(crate) trait Part {
     ghost use Rattle.std.specs.Prelude.{◌≡◌, ◌++◌, Bool, List, OnOk};
     ghost use Rattle.gb_reason.specs.declared.reason.Reason.{Reason as Told};
@@ -24,16 +24,16 @@ pub(crate) trait Part {
 
     ghost told: { Self × Self → List Told };
 
-    /// Whether the other is declared as it is.
+    /// Whether the other is declared in the same way.
     fn is_declared_as(&self, other: &Self) -> bool
         ensures { result ≡ is_declared self.now other.now };
 
-    /// Tells how the other differs.
+    /// Adds how the other differs.
     fn tell(&self, other: &Self, alloc: Global, reasons: &mut Vec<Reason>) -> Result<(), AllocError>
         ensures { OnOk result (reasons.new.items ≡ reasons.old.items ++ told (self.now, other.now)) };
 }
 
-/// Whether as many are declared, each as the other's at its place.
+/// Whether both lists declare equally many, each as the one at the same index.
 fn are_declared_as<T: Part>(old: &[T], new: &[T]) -> bool
     ensures { result ≡ pointwise T.is_declared old.now new.now }
 {
@@ -48,7 +48,7 @@ fn are_declared_as<T: Part>(old: &[T], new: &[T]) -> bool
     true
 }
 
-/// Tells how each differs from the other's at its place.
+/// Adds how each differs from the one at the same index.
 fn tell_each<T: Part>(
     alloc: Global,
     old: &[T],
@@ -64,7 +64,7 @@ fn tell_each<T: Part>(
     Ok(())
 }
 
-/// Tells the one reason where the two are declared otherwise, and else how each differs.
+/// Adds the one reason if the two are declared differently, and else how each differs.
 pub(crate) fn tell_part<T: Part>(
     alloc: Global,
     old: &[T],
@@ -82,7 +82,8 @@ pub(crate) fn tell_part<T: Part>(
     Ok(())
 }
 
-/// Tells how actions differ: one by one where they are of the same kinds in order, and else by their kinds.
+/// Adds how actions differ: one by one if they are of the same kinds in order, and else by their
+/// kinds.
 pub(crate) fn tell_actions(
     alloc: Global,
     old: &[Action],
@@ -99,7 +100,7 @@ pub(crate) fn tell_actions(
     Ok(())
 }
 
-/// How actions differ of which not all are of the same kinds in order.
+/// How actions differ if they are not all of the same kinds in order.
 fn kind_reason(old: &[Action], new: &[Action]) -> Result<Reason, AllocError>
     ensures { IfOk result (λ reason. reason ≡ kind_reason old.now new.now) }
 {
@@ -112,7 +113,7 @@ fn kind_reason(old: &[Action], new: &[Action]) -> Result<Reason, AllocError>
     })
 }
 
-/// The kind of the first of the actions of whose kind none of the others is.
+/// The kind of the first action whose kind none of the others has.
 fn first_other(others: &[Action], actions: &[Action]) -> Result<Option<Name>, AllocError>
     ensures { IfOk result (λ found. found ≡ first_other others.now actions.now) }
 {
@@ -131,7 +132,7 @@ fn has_one_like(actions: &[Action], action: &Action) -> bool
     actions.iter().any(|other| action.kind == other.kind)
 }
 
-/// Tells which arguments differ.
+/// Adds the arguments that differ.
 fn tell_arguments(
     alloc: Global,
     kind: &Name,
@@ -149,7 +150,7 @@ fn tell_arguments(
     Ok(())
 }
 
-/// Tells an argument, if it differs.
+/// Adds an argument, if it differs.
 fn tell_argument(
     alloc: Global,
     kind: &Name,

@@ -18,7 +18,7 @@ use gb_history::record::{OutputRecord, Record};
 use gb_tree::prints::Prints;
 use std::alloc::{AllocError, Global};
 
-/// All reasons why a task runs that has this record, in their order.
+/// All reasons why a task with this record runs, in their order.
 pub fn explain(
     alloc: Global,
     old: Option<&Record>,
@@ -26,7 +26,7 @@ pub fn explain(
 ) -> Result<Vec<Reason>, AllocError>
     ensures told { IfOk result (λ found.
         found.items ≡ reasons_of (option_copied old.entry) present.entry.now) }
-    // There is none exactly where it is decided that the task is up to date.
+    // There is none exactly if the decision is that the task is up to date.
     ensures none { IfOk result (λ found. (decision : Decision)
         → Decides (option_copied old.entry) present.entry.now decision
         → (found.items ≡ []) ↔ (decision ≡ Decision.UpToDate)) }
@@ -42,7 +42,7 @@ pub fn explain(
     }
 }
 
-/// The reason why a task runs that has no record.
+/// The reason why a task without a record runs.
 fn reason_without(present: &Present) -> Reason
     ensures { result ≡ reason_without present.entry.now }
 {
@@ -53,7 +53,7 @@ fn reason_without(present: &Present) -> Reason
     }
 }
 
-/// Nothing; it shows that the paths of a record rise.
+/// Does nothing; it shows that the paths of a record rise.
 fn paths_rise(run: &Record)
     ensures { HasPathsInOrder run.now }
 {
@@ -61,7 +61,7 @@ fn paths_rise(run: &Record)
     outputs_rise(run.outputs());
 }
 
-/// The same of file properties.
+/// The same for file properties.
 fn inputs_rise(inputs: &[Prints])
     ensures { AllByRecursion (λ prints. IsTrue (is_sorted byte_order prints.1)) inputs.now }
 {
@@ -70,7 +70,7 @@ fn inputs_rise(inputs: &[Prints])
     }
 }
 
-/// The same of outputs.
+/// The same for outputs.
 fn outputs_rise(outputs: &[OutputRecord])
     ensures { AllByRecursion (λ prints. IsTrue (is_sorted byte_order prints.1)) (prints_in outputs.now) }
 {

@@ -28,7 +28,8 @@ pub enum Reason {
     ActionVersion(Name),
     /// An action of this kind has more or fewer arguments.
     ArgumentCount(Name),
-    /// An argument differs: the kind of the action, the argument's number from 1, its old and its new value.
+    /// An argument differs: the kind of the action, the argument's number from 1, its old and its
+    /// new value.
     Argument(Name, usize, Value, Value),
     /// Its input values have other names.
     ValueNames,
@@ -36,7 +37,7 @@ pub enum Reason {
     Value(Name, Value, Value),
     /// Its outputs have other names, forms or places.
     OutputNames,
-    /// A file at or beneath the output of this place is not as it was left.
+    /// A file at or under the output of this place is not as it was left.
     Output(Place, Change),
     /// Its file properties have other names.
     FileNames,

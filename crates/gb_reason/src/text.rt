@@ -16,7 +16,7 @@ use gb_report::fault::shown_character;
 use std::alloc::AllocError;
 use std::fmt::Write;
 
-/// Puts the text of a reason behind another, on one line.
+/// Appends the text of a reason to another text, on one line.
 pub fn push_reason(text: &mut String, reason: &Reason) -> Result<(), AllocError>
     ensures { OnOk result (string_bytes text.new ≡ string_bytes text.old ++ reason_text reason.now) }
 {
@@ -118,7 +118,7 @@ fn push_shown(text: &mut String, told: &Text) -> Result<(), AllocError>
     Ok(())
 }
 
-/// What became of a file at or beneath an output.
+/// What happened to a file at or under an output.
 fn push_output(text: &mut String, place: &Place, change: &Change) -> Result<(), AllocError>
     ensures { OnOk result (string_bytes text.new
         ≡ string_bytes text.old ++ output_text place.now change.now) }
@@ -140,7 +140,7 @@ fn push_output(text: &mut String, place: &Place, change: &Change) -> Result<(), 
     }
 }
 
-/// The place of a path beneath a root.
+/// The place of a path under a root.
 fn push_beneath(text: &mut String, root: &Place, path: &RelPath) -> Result<(), AllocError>
     ensures { OnOk result (string_bytes text.new ≡ string_bytes text.old ++ beneath root.now path.now) }
 {
@@ -151,7 +151,7 @@ fn push_beneath(text: &mut String, root: &Place, path: &RelPath) -> Result<(), A
     write!(text, "/{path}")
 }
 
-/// What became of a file of a property.
+/// What happened to a file of a property.
 fn push_file(text: &mut String, name: &Name, change: &Change) -> Result<(), AllocError>
     ensures { OnOk result (string_bytes text.new ≡ string_bytes text.old ++ file_text name.now change.now) }
 {

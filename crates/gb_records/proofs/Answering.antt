@@ -19,13 +19,13 @@ use Rattle.gb_records.specs.Answered.{WasAnswered}
 use Rattle.gb_records.specs.Faults.{none_for}
 use Rattle.gb_records.specs.Said.{IsReadAs, IsText}
 
--- where there is no place for a record, none was answered
+-- if there is no place for a record, none was answered
 pub none_placed : {F : Type 0} (failures : F → ℕ) (may_leave : F → Tearing) (asked : F → Call → F → Type 0) (old new : F) (path : Path) (fault : PlaceFault) (result : Result (Option Record) Fault) → (fault ≡ places.BadPlace → result ≡ Ok None)
     → (fault ≡ places.OutOfMemory → result ≡ Err faults.OutOfMemory) → IfOk result (WasAnswered failures may_leave asked old new path)
 none_placed failures may_leave asked old new path places.BadPlace result bad out = subst (λ (r : Result (Option Record) Fault). IfOk r (WasAnswered failures may_leave asked old new path)) (sym (bad refl)) tt
 none_placed failures may_leave asked old new path places.OutOfMemory result bad out = subst (λ (r : Result (Option Record) Fault). IfOk r (WasAnswered failures may_leave asked old new path)) (sym (out refl)) tt
 
--- nor where none stands
+-- nor if there is none
 pub none_stood : {F : Type 0} (failures : F → ℕ) (may_leave : F → Tearing) (asked : F → Call → F → Type 0) (old new : F) (path : Path) (place : Place) (fault : FolderFault) → IfOk (none_for place fault) (WasAnswered failures may_leave asked old new path)
 none_stood failures may_leave asked old new path place folders.OutOfMemory = tt
 none_stood failures may_leave asked old new path place folders.Device = tt

@@ -1,4 +1,4 @@
--- What digests tell of contents, where no two contents share one.
+-- What digests imply for contents, if no two contents share one.
 use Rattle.std.specs.Prelude.{◌≡◌, ℕ, Bool, true, false, cond, List, [], ◌∷◌, map, Option, Some, None, is_some, unwrap_or, IsTrue}
 use Rattle.std.specs.List.{AllByRecursion}
 use Rattle.std.specs.Option.{option_map}
@@ -111,7 +111,7 @@ module _ (P : Bytes → Type 0) where
         | false ↦ entries_seen files all root files (found_all files)
       ]
 
--- ---- what stands at an output, by its path from there
+-- ---- what is at an output, by its path from there
 
 path_tie : (root q p : Place) → IsTrue (is_under q root) → IsTrue (is_under p root) → is_place q ≡ true → is_place p ≡ true → path_from root q ≡ path_from root p → q ≡ p
 path_tie root q p uq up good_q good_p e = by (byte_order q p) refl

@@ -1,4 +1,4 @@
--- What is asked at the place of a record.
+-- The calls at the place of a record.
 use Rattle.std.proofs.Common.{◌≡◌, ℕ, List, Some, ap, refl}
 use Rattle.gb_folder.specs.Calls.{Asks, Call, put_at, taken_at}
 use Rattle.gb_folder.specs.Files.{Tearing}

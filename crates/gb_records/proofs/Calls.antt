@@ -1,4 +1,4 @@
--- What a folder's answer at a record's place comes to.
+-- What follows from a folder's answer at a record's place.
 use Rattle.std.proofs.Common.{◌≡◌, ◌≢◌, ◌⊎◌, ◌≤◌, ◌<◌, ◌||◌, ℕ, Bool, true, false, not, cond, IsTrue, List, [], ◌∷◌, ◌++◌, ◌+◌, get_or, take, length, Option, Some, None, Result, Ok, Err, refl, sym, ap, subst, inl, inr, true≢false, arith, ◌∙◌}
 use Rattle.std.specs.Prelude.{IfOk, IfErr, IsSomeAnd, OnOk}
 use Rattle.std.specs.Ordering.{eq_by_cmp}
@@ -96,7 +96,7 @@ stands_out may_leave path old new folders.BadFileName memory good sound same mis
 
 -- ---- a write
 
--- the text that is written of a record says it
+-- the text that is written for a record says it
 pub text_said : (path : Path) (run : Record) → IsUtf8 path → IsWellFormed run → length (record_text path run) ≤ max_record
     → IsText path run (record_text path run)
 text_said path run utf8 held short = record {
@@ -131,7 +131,7 @@ stands_in may_leave path old new folders.BadFileName memory entry run good same 
 
 -- ---- a read
 
--- nothing stands at what is no place
+-- there is nothing at what is no place
 pub unplaced : (files : Files) (place : Place) → are_placed files ≡ true → is_place place ≡ false → file_at files place ≡ None
 unplaced [] place all bad = refl
 unplaced (file ∷ files) place all bad =
@@ -141,7 +141,7 @@ unplaced (file ∷ files) place all bad =
       | false ↦ λ _. unplaced files place parts.1 bad
     ] refl
 
--- where nothing stands there is no record
+-- if there is nothing, there is no record
 pub none_read : (files : Files) (path : Path) → file_at files (record_place path) ≡ None → IsReadAt files path None
 none_read files path none = subst (SaysNoRecord IsText path) (sym none) tt
 

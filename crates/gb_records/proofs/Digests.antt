@@ -1,4 +1,4 @@
--- Equal digests are equal contents, where no two contents share one.
+-- Equal digests mean equal contents, if no two contents share one.
 use Rattle.std.specs.Prelude.{◌≡◌, ◌||◌, ◌<◌, ℕ, zero, suc, Bool, true, false, cond, List, [], ◌∷◌, ◌++◌, map, length, Some, None, Contains}
 use Rattle.std.specs.List.{AllByRecursion, list_any}
 use Rattle.std.specs.FinMap.Entries.{find, is_sorted}
@@ -32,7 +32,7 @@ use Rattle.gb_records.proofs.Calls.{unplaced}
 use Rattle.gb_records.proofs.Placed.{made_placed}
 use Rattle.gb_records.proofs.Outputs.{output_trees, prints_told, same_outputs}
 
--- ---- the files at the outputs, told by their trees
+-- ---- the files at the outputs, by their trees
 
 at_outputs : (a b : Files) → are_placed a ≡ true → are_placed b ≡ true → (outputs : List Output) → list_any (λ (output : Output). is_own output.place) outputs ≡ false
     → output_trees a outputs ≡ output_trees b outputs → (q : Place) → is_place q ≡ true → list_any (λ (output : Output). is_under q output.place) outputs ≡ true
@@ -70,7 +70,7 @@ same_by_outputs outputs a b right_a right_b placed_a placed_b own e =
     by q true false good is = right_a.beside q is ∙ sym (right_b.beside q is)
     by q true true good is = at_outputs a b placed_a placed_b outputs own e q good is
 
--- ---- all contents that an entry speaks of
+-- ---- all contents of an entry
 
 abbrev pub InAll : List Bytes → Tree → Type 0
 InAll all tree = AllByRecursion (λ (file : Place × Bytes). Contains all file.1) tree
@@ -124,7 +124,7 @@ inputs_in all entry h = trees_in all entry.inputs (λ x c. h x (Contains-append_
 files_in : (all : List Bytes) (entry : Entry) → ((x : Bytes) → Contains (contents_of entry) x → Contains all x) → InAll all entry.files
 files_in all entry h = tree_in all entry.files (λ x c. h x (Contains-append_right (contents_in entry.inputs) (map (λ file. file.1) entry.files) x c))
 
--- the files at the outputs, where their records are the same
+-- the files at the outputs, if their records are the same
 pub files_told : (kinds : Kinds) (task : Task) (files : Files) (entry : Entry) → IsClearTo kinds task files entry
     → (record_of sha256 entry).outputs ≡ (record_of sha256 (entry_of task files)).outputs → entry.files ≡ output_files task files
 files_told kinds task files entry clear e =

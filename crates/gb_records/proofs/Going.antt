@@ -1,4 +1,4 @@
--- Going on by changes, by digests and by whole contents.
+-- Incremental execution, by digests and by whole contents.
 use Rattle.std.specs.Prelude.{◌≡◌, ◌++◌, ℕ, true, not, List, map, IsTrue}
 use Rattle.std.specs.List.{AllByRecursion, AllZip, filter, flat_map, zip}
 use Rattle.std.specs.FinMap.Entries.{is_sorted}

@@ -1,4 +1,4 @@
--- What the records of outputs tell of the outputs and of their files.
+-- What the records of outputs imply for the outputs and their files.
 use Rattle.std.specs.Prelude.{◌≡◌, ℕ, List, [], ◌∷◌, map}
 use Rattle.std.proofs.Common.{refl, sym, ap, ◌∙◌}
 use Rattle.sha2.specs.Sha256.{sha256}

@@ -1,4 +1,4 @@
--- What actions make stands at places.
+-- What actions make is at places.
 use Rattle.std.specs.Prelude.{◌≡◌, ◌&&◌, ◌++◌, ℕ, Bool, true, false, not, cond, List, [], ◌∷◌, length, nat_lt, Result, Ok, Err, ⊤}
 use Rattle.std.specs.List.{flat_map, fold, list_all}
 use Rattle.std.proofs.Common.{refl, sym, subst, ◌∙◌}
@@ -24,14 +24,14 @@ stand files = list_all (λ (file : Place × Bytes). is_place file.0) files
 both : (a b : Bool) → a ≡ true → b ≡ true → (a && b) ≡ true
 both a b p q = rw (p, q) refl
 
--- files put over others stand at places where both do
+-- files put over others are at places if both are
 put_stands : (held : Files) (files : List (Place × Bytes)) → stand files ≡ true → are_placed held ≡ true → are_placed (put_over held files) ≡ true
 put_stands held [] all placed = placed
 put_stands held (file ∷ files) all at =
     let parts = and_parts (is_place file.0) (stand files) all in
     put_stands (with_file held file.0 file.1) files parts.1 (all_put is_place file.0 file.1 held ∙ both (is_place file.0) (are_placed held) parts.0 at)
 
--- and only there
+-- and only then
 held_stands : (held : Files) (files : List (Place × Bytes)) → are_placed (put_over held files) ≡ true → are_placed held ≡ true
 held_stands held [] at = at
 held_stands held (file ∷ files) at =
@@ -44,7 +44,7 @@ new_stand held (file ∷ files) at =
     let more : (is_place file.0 && are_placed held) ≡ true = sym (all_put is_place file.0 file.1 held) ∙ held_stands (with_file held file.0 file.1) files at in
     both (is_place file.0) (stand files) (and_parts (is_place file.0) (are_placed held) more).0 (new_stand (with_file held file.0 file.1) files at)
 
--- what hinders no file of a list
+-- parts of a list without a fault have none
 none_before : (faults more : List Fault) → is_empty (faults ++ more) ≡ true → is_empty more ≡ true
 none_before [] more e = e
 none_before (fault ∷ faults) more e = absurd (true≢false (sym e))
@@ -88,7 +88,7 @@ module _ (kinds : Kinds) (outputs : List Output) (values : Values) (trees : Tree
   fold_at_places [] held at = at
   fold_at_places (action ∷ actions) held at = fold_at_places actions (act kinds outputs values trees held action) (act_at_places held at action)
 
--- what actions make stands at places
+-- what actions make is at places
 pub made_placed : (kinds : Kinds) (outputs : List Output) (values : Values) (trees : Trees) (actions : List Action) (new : Files)
     → made_of kinds actions values trees outputs ≡ Ok new → are_placed new ≡ true
 made_placed kinds outputs values trees actions new e = subst AreAtPlaces e (fold_at_places kinds outputs values trees actions (Ok []) refl)

@@ -1,4 +1,4 @@
--- What differs in incremental properties alone does so by whole contents, where no two contents share a digest.
+-- What differs in incremental properties alone does so by whole contents, if no two contents share a digest.
 use Rattle.std.specs.Prelude.{◌≡◌, ◌&&◌, ◌||◌, ℕ, Bool, true, false, not, cond, List, [], ◌∷◌, ◌++◌, map, Some, unwrap_or, Contains, bytes_eq}
 use Rattle.std.specs.List.{AllByRecursion, AllZip, filter, flat_map, zip}
 use Rattle.std.specs.FinMap.Entries.{below_all, find, is_sorted}
@@ -28,7 +28,7 @@ use Rattle.gb_records.proofs.Apart.{tree_back}
 abbrev pub named_trees : Files → List FileProperty → Trees
 named_trees files properties = map (λ (property : FileProperty). let tree : List ℕ × Tree = (property.name, tree_of property files) in tree) properties
 
--- digests stand by the same names
+-- digests have the same names
 pub sorted_prints : (trees : Trees) → is_sorted byte_order (prints_of sha256 trees) ≡ is_sorted byte_order trees
 sorted_prints [] = refl
 sorted_prints (tree ∷ trees) = ap₂ (λ (a b : Bool). a && b) (below tree.0 trees) (sorted_prints trees)

@@ -1,4 +1,4 @@
--- Which records stand after a file at a record's place is changed.
+-- Which records exist after a file at a record's place is changed.
 use Rattle.std.proofs.Common.{◌≡◌, ◌⊎◌, ℕ, Bool, true, false, not, cond, IsTrue, List, [], ◌∷◌, Option, Some, None, refl, sym, ap, subst, inl, inr, true≢false, ◌∙◌}
 use Rattle.std.specs.Prelude.{bytes_eq}
 use Rattle.std.specs.declared.cmp.Ordering.TheVariants.{Less, Equal, Greater}
@@ -52,7 +52,7 @@ of_tasks-forget memory path all = filter_each (λ (e : Path × Entry). not (byte
 
 -- ---- a change at one record's place
 
--- two tasks' records do not stand at one place
+-- two tasks' records are not at one place
 other_place : (path other : Path) → IsTrue (is_task_path path) → IsTrue (is_task_path other) → bytes_eq other path ≡ false
     → bytes_eq (record_place other) (record_place path) ≡ false
 other_place path other good fine different = by (bytes_eq (record_place other) (record_place path)) refl
@@ -61,7 +61,7 @@ other_place path other good fine different = by (bytes_eq (record_place other) (
     by true e = absurd (true≢false (sym ((bytes_decides other path).1 (apart other path fine good ((bytes_decides (record_place other) (record_place path)).0 e))) ∙ different))
     by false e = refl
 
--- the files agree but at the task's record
+-- the files agree except at the task's record
 abbrev pub SameElsewhere : Path → Files → Files → Type 0
 SameElsewhere path old new = (place : Place) → bytes_eq place (record_place path) ≡ false → file_at new place ≡ file_at old place
 
@@ -116,7 +116,7 @@ not_there files memory path good stood none =
     forgotten files files memory path good stood (λ place e. refl)
     (subst (Stores sha256 IsText path (file_at files (record_place path))) none (stood.records path good))
 
--- ---- what stands after a write or a removal
+-- ---- what is there after a write or a removal
 
 pub at_left : (files : Files) (place : Place) (left : Option Bytes) → file_at (with_left files place left) place ≡ left
 at_left files place None = file_at-without files place place ∙ ap (λ b. cond (not b) (file_at files place) None) (itself place)
@@ -126,7 +126,7 @@ pub elsewhere_left : (files : Files) (path : Path) (left : Option Bytes) → Sam
 elsewhere_left files path None place e = file_at-without files (record_place path) place ∙ ap (λ b. cond (not b) (file_at files place) None) e
 elsewhere_left files path (Some bytes) place e = file_at-with_file files (record_place path) bytes place ∙ ap (λ b. cond b (Some bytes) (file_at files place)) e
 
--- what was left is what stood
+-- what was left is what was there
 pub as_it_stood : (files : Files) (place : Place) (left : Option Bytes) → left ≡ file_at files place → (other : Place) → file_at (with_left files place left) other ≡ file_at files other
 as_it_stood files place left same other = by (bytes_eq other place) refl
   where
@@ -139,7 +139,7 @@ as_it_stood files place left same other = by (bytes_eq other place) refl
     by true e = at left true e ∙ same ∙ ap (file_at files) (sym ((bytes_decides other place).0 e))
     by false e = at left false e
 
--- Where a stopped removal is seen for what it is, the record stands still, or is gone.
+-- If a stopped removal is recognized for what it is, the record is still there, or is gone.
 pub torn_out : (may_leave : Tearing) (files : Files) (memory : Memory) (path : Path) (left : Option Bytes) → IsTrue (is_task_path path)
     → TearsAreSeen IsText record_place may_leave → may_leave (record_place path) (file_at files (record_place path)) None left
     → Standing files memory
@@ -156,7 +156,7 @@ torn_out may_leave files memory path left good seen torn stood =
     no_record : SaysNoRecord IsText path left → Standing (with_left files (record_place path) left) (forget memory path)
     no_record none = forgotten files _ memory path good stood (elsewhere_left files path left) (subst (SaysNoRecord IsText path) (sym (at_left files (record_place path) left)) none)
 
--- Where a stopped write is seen for what it is, the old record stands, or the new one, or none.
+-- If a stopped write is recognized for what it is, the old record is there, or the new one, or none.
 pub torn_in : (may_leave : Tearing) (files : Files) (memory : Memory) (path : Path) (entry : Entry) (bytes : Bytes) (left : Option Bytes)
     → IsTrue (is_task_path path) → TearsAreSeen IsText record_place may_leave → IsText path (record_of sha256 entry) bytes
     → may_leave (record_place path) (file_at files (record_place path)) (Some bytes) left → Standing files memory

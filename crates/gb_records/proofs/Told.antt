@@ -1,4 +1,4 @@
--- Texts, places and readings of records are as builds are to have them.
+-- Texts, places and readings of records are as builds require.
 use Rattle.std.proofs.Common.{◌≡◌, true, not, cond, None, refl, sym, ap, ◌∙◌}
 use Rattle.gb_folder.specs.Files.{Files, file_at, files_where, is_own}
 use Rattle.gb_folder.proofs.Changes.{file_at-files_where}

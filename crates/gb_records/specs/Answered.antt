@@ -1,4 +1,4 @@
--- What was answered of a record, over any folder.
+-- What calls answered of a record, over any folder.
 use Rattle.std.specs.Prelude.{ℕ, Option, Some, None, Ok, ⊤}
 use Rattle.gb_folder.specs.Answers.{IsOnWay}
 use Rattle.gb_folder.specs.Calls.{Call, Reads}
@@ -9,7 +9,7 @@ use Rattle.gb_meaning.specs.Events.{max_record}
 use Rattle.gb_plan.specs.Task.{Path}
 use Rattle.gb_records.specs.Said.{IsText}
 
--- a text of the record was answered, as its place was read on the way
+-- a read of the record's place on the way returned a text of the record
 abbrev pub WasAnswered : {F : Type 0} → (F → ℕ) → (F → Tearing) → (F → Call → F → Type 0) → F → F → Path
     → Option Record → Type 0
 WasAnswered failures may_leave asked old new path None = ⊤

@@ -1,4 +1,4 @@
--- What digests tell of whole contents.
+-- What digests imply for whole contents.
 use Rattle.std.specs.Prelude.{◌≡◌, ◌↔◌, ◌++◌, false, map, Some, IsTrue}
 use Rattle.std.specs.List.{filter, list_any}
 use Rattle.sha2.specs.Sha256.{sha256}
@@ -14,7 +14,7 @@ use Rattle.gb_meaning.specs.Memory.{Entry, World, entry_of, recalled}
 use Rattle.gb_meaning.specs.TrueRecord.{AreApart, IsMade, contents_of, record_of}
 use Rattle.gb_records.specs.Said.{IsSaidOf}
 
--- The entry is true, the folder's files stand at places, no output is the tool's own, and no two contents of
+-- The entry is true, the folder's files are at places, no output is the tool's own, and no two contents of
 -- the entry and of what the task has now share a digest.
 pub record IsClearTo (kinds : Kinds) (task : Task) (files : Files) (entry : Entry) : Type 0 where
   pub is_made : IsMade kinds entry
@@ -23,13 +23,13 @@ pub record IsClearTo (kinds : Kinds) (task : Task) (files : Files) (entry : Entr
   pub not_own : list_any (λ output. is_own output.place) task.outputs ≡ false
   pub apart : AreApart sha256 (contents_of entry ++ contents_of (entry_of task files))
 
--- equal digests are equal contents
+-- equal digests mean equal contents
 abbrev pub RecordsTellEntries : Type 0
 RecordsTellEntries =
     (kinds : Kinds) (task : Task) (files : Files) (entry : Entry) → IsClearTo kinds task files entry
     → record_of sha256 entry ≡ record_of sha256 (entry_of task files) → entry ≡ entry_of task files
 
--- What a task has now, by digests, and what is asked of it.
+-- What a task has now, by digests, and what is requested of it.
 pub record IsPresent (options : Options) (task : Task) (files : Files) (present : Present) : Type 0 where
   pub now : IsSaidOf present.now (entry_of task files)
   pub in_order : AreInOrder present.now
@@ -38,7 +38,7 @@ pub record IsPresent (options : Options) (task : Task) (files : Files) (present 
   pub rerun : present.rerun ≡ options.rerun
   pub stale : present.is_stale ≡ task.is_stale
 
--- a task is up to date by its record exactly where it is by whole contents
+-- a task is up to date by its record exactly if it is by whole contents
 abbrev pub UpToDateIsCurrent : Type 0
 UpToDateIsCurrent =
     (kinds : Kinds) (options : Options) (task : Task) (world : World) (entry : Entry) (run : Record)
@@ -46,7 +46,7 @@ UpToDateIsCurrent =
     → IsPresent options task world.folder.files present → IsClearTo kinds task world.folder.files entry
     → IsUpToDate run present ↔ IsCurrent options task world
 
--- it goes on by changes exactly where it does by whole contents, and one action writes
+-- by its record it may execute incrementally, and one action writes, exactly if it does by whole contents
 abbrev pub SinceIsIncremental : Type 0
 SinceIsIncremental =
     (kinds : Kinds) (options : Options) (task : Task) (world : World) (entry : Entry) (run : Record)

@@ -1,4 +1,4 @@
--- The faults of records, and what they are told as.
+-- The faults of records, and how they are reported.
 use Rattle.std.specs.Prelude.{ℕ, Option, None, Result, Ok, Err}
 use Rattle.gb_folder.specs.Files.{Place}
 use Rattle.gb_folder.specs.declared.folder.FolderFault.{FolderFault}
@@ -13,12 +13,12 @@ abbrev pub unwritten_number : Unwritten → ℕ
 unwritten_number unwritten.OutOfMemory = 3
 unwritten_number unwritten.NotWritten = 90
 
--- the fault as a build tells it
+-- the fault as a build reports it
 abbrev pub told_of : Unwritten → Fault
 told_of unwritten.OutOfMemory = faults.OutOfMemory
 told_of unwritten.NotWritten = faults.HistoryNotWritten
 
--- what a folder's fault at a record's place comes to
+-- the result of a folder's fault at a record's place
 abbrev pub unwritten_for : FolderFault → Unwritten
 unwritten_for folders.OutOfMemory = unwritten.OutOfMemory
 unwritten_for folders.Device = unwritten.NotWritten
@@ -27,7 +27,7 @@ unwritten_for folders.Blocked = unwritten.NotWritten
 unwritten_for folders.TooLarge = unwritten.NotWritten
 unwritten_for folders.BadFileName = unwritten.NotWritten
 
--- what it means for a read: no record, but where memory or the device failed
+-- the result for a read: no record, unless memory or the device failed
 abbrev pub none_for : Place → FolderFault → Result (Option Record) Fault
 none_for place folders.OutOfMemory = Err faults.OutOfMemory
 none_for place folders.Device = Err (faults.Device place)
@@ -36,7 +36,7 @@ none_for place folders.Blocked = Ok None
 none_for place folders.TooLarge = Ok None
 none_for place folders.BadFileName = Ok None
 
--- what it means for a removal: where nothing stands, nothing has to be removed
+-- the result for a removal: if nothing is there, nothing has to be removed
 abbrev pub removed_by : FolderFault → Result (Unit {0}) Unwritten
 removed_by folders.OutOfMemory = Err unwritten.OutOfMemory
 removed_by folders.Device = Err unwritten.NotWritten

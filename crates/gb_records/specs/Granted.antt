@@ -1,4 +1,4 @@
--- What a build is promised under: beside a folder that tells what it holds.
+-- What a build assumes, besides a folder whose contents are known.
 use Rattle.gb_action.specs.Meanings.{Meanings}
 use Rattle.gb_folder.specs.Files.{Tearing}
 use Rattle.gb_history.specs.Places.{record_place}
@@ -8,7 +8,7 @@ use Rattle.gb_plan.specs.Ready.{Rows}
 use Rattle.gb_records.specs.Said.{IsText}
 
 -- The kinds say of each action of the table what its meaning does, and a record that a stopped write left is
--- seen for what it is.
+-- recognized for what it is.
 pub record IsGranted {S : Type 0} (meanings : Meanings S) (rows : Rows S) (kinds : Kinds)
     (may_leave : Tearing) : Type 0 where
   pub agrees : Agrees meanings rows kinds

@@ -1,4 +1,4 @@
--- What whole builds may take for granted of records and of where they stand.
+-- What whole builds may assume of records and of their places.
 use Rattle.std.specs.Prelude.{◌≡◌, ◌≤◌, not, length, IsTrue}
 use Rattle.std.specs.List.{AllByRecursion}
 use Rattle.sha2.specs.Sha256.{sha256}
@@ -16,7 +16,7 @@ use Rattle.gb_meaning.specs.TrueRecord.{RecordTexts, StandsFor, IsMade}
 use Rattle.gb_records.specs.Said.{IsText}
 use Rattle.gb_records.specs.Standing.{Standing}
 
--- How records read, where each stands, and which text is written of one, as builds are to have it.
+-- How records read, where each is, and which text is written for one, as builds require.
 pub record AreRecords (says : RecordTexts) (stands_at : Path → Place)
     (written : Path → Record → Bytes) : Type 0 where
   -- a text says one record of a task at most
@@ -24,12 +24,12 @@ pub record AreRecords (says : RecordTexts) (stands_at : Path → Place)
       → one ≡ other
   -- none is above 64 MiB
   pub short : (path : Path) (run : Record) (bytes : Bytes) → says path run bytes → length bytes ≤ max_record
-  -- what is written of a record says it
+  -- the text that is written for a record says it
   pub back : (path : Path) (run : Record) → IsTrue (is_task_path path) → IsWellFormed run
       → length (written path run) ≤ max_record → says path run (written path run)
-  -- records stand where the tool keeps its own
+  -- records are where the tool keeps its own
   pub own : (path : Path) → IsTrue (is_own (stands_at path))
-  -- two tasks' records do not stand at one place, nor one beneath another
+  -- two tasks' records are not at one place, nor is one under another
   pub apart : (one other : Path) → IsTrue (is_task_path one) → IsTrue (is_task_path other)
       → stands_at one ≡ stands_at other → one ≡ other
   pub none_beneath : (one other : Path) → IsTrue (is_task_path one) → IsTrue (is_task_path other)
@@ -38,13 +38,13 @@ pub record AreRecords (says : RecordTexts) (stands_at : Path → Place)
 abbrev pub TextsAreRecords : Type 0
 TextsAreRecords = AreRecords IsText record_place record_text
 
--- where files differ outside of the tool's own alone, the same records stand
+-- if files differ outside of the tool's own alone, they have the same records
 abbrev pub StandsElsewhere : Type 0
 StandsElsewhere =
     (old new : Files) (memory : Memory) → DiffersOnlyAt (λ place. not (is_own place)) old new
     → Standing old memory → Standing new memory
 
--- a folder whose files hold the records of a memory that is true stands for it
+-- a folder whose files hold the records of a memory that is true represents it
 abbrev pub StandsForMemory : Type 0
 StandsForMemory =
     (kinds : Kinds) (folder : Contents) (memory : Memory) → IsFolder folder.files

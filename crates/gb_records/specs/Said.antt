@@ -1,4 +1,4 @@
--- What the text of a record says, in the words of builds.
+-- What the text of a record says, in the terms of builds.
 use Rattle.std.specs.Prelude.{◌≡◌, ◌≤◌, length, Option, Some, None}
 use Rattle.std.specs.Str.{IsUtf8}
 use Rattle.sha2.specs.Sha256.{sha256}
@@ -18,7 +18,7 @@ pub record IsText (path : Path) (run : Record) (bytes : Bytes) : Type 0 where
   pub text : IsTextOf path run bytes
   pub short : length bytes ≤ max_record
 
--- what is read of a task where this stands: the record whose text it is, or none where it is the text of none
+-- what is read of a task with this content: the record whose text it is, or none if it is the text of none
 abbrev pub IsReadAs : Path → Option Bytes → Option Record → Type 0
 IsReadAs path left None = SaysNoRecord IsText path left
 IsReadAs path left (Some run) = (bytes : Bytes) × (left ≡ Some bytes) × IsText path run bytes

@@ -1,4 +1,4 @@
--- What a build is about, with records as they stand in a folder.
+-- The setting of a build, with records as files in a folder.
 use Rattle.sha2.specs.Sha256.{sha256}
 use Rattle.gb_folder.specs.Files.{Tearing}
 use Rattle.gb_history.specs.Places.{record_place}

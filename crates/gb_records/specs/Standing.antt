@@ -1,4 +1,4 @@
--- Which records stand in a folder, and what calls do to them.
+-- Which records exist in a folder, and what calls do to them.
 use Rattle.std.specs.Prelude.{ℕ, ◌≡◌, ◌⊎◌, Bool, false, not, ◌||◌, length, nat_lt, if◌then◌else◌, Option}
 use Rattle.std.specs.Prelude.{Some, None, Result, Ok, Err, IsTrue}
 use Rattle.std.specs.List.{AllByRecursion}
@@ -29,7 +29,7 @@ pub record Standing (files : Files) (memory : Memory) : Type 0 where
 
 -- ---- What calls leave
 
--- the folder without the task's record, where one was read
+-- the folder without the task's record, if one was read
 abbrev pub taken_out : Bool → Path → Contents → Contents
 taken_out was_read path folder =
     if was_read then record folder { files = without folder.files (record_place path) } else folder
@@ -43,14 +43,14 @@ abbrev pub is_too_long : Option Bytes → Bool
 is_too_long None = false
 is_too_long (Some bytes) = nat_lt max_record (length bytes)
 
--- no file can stand at the record's place, or its text is too long
+-- no file can be at the record's place, or its text is too long
 abbrev pub CannotStand : Files → Path → Option Bytes → Type 0
 CannotStand files path next =
     IsTrue (not (is_place (record_place path)) || is_blocked files (record_place path))
     ⊎ IsTrue (is_too_long next)
 
--- A call that was to leave this at a record's place came to nothing: nothing changed, as memory ran out or
--- the record cannot stand; or the device stopped it, and left what it may.
+-- A call that was to leave this at a record's place failed. Either nothing changed, as memory ran out or the
+-- record cannot be there; or the device stopped the call, and left what it may.
 abbrev pub ComesToNothing : Tearing → Path → Option Bytes → ℕ → ℕ → Contents → Unwritten → Contents
     → Type 0
 ComesToNothing may_leave path next before after old unwritten.OutOfMemory new = new ≡ old
@@ -59,16 +59,16 @@ ComesToNothing may_leave path next before after old unwritten.NotWritten new =
     ⊎ (HasRisen before after × IsTrue (not (is_too_long next))
     × IsTorn may_leave (record_place path) next old new)
 
--- ---- Which records stand after a call
+-- ---- Which records exist after a call
 
--- the task's record is gone; where that failed it may be there still
+-- the task's record is gone; if the call failed it may still be there
 abbrev pub StandsWithout : Path → Memory → Result (Unit {0}) Unwritten → Files → Type 0
 StandsWithout path memory (Ok done) files = Standing files (forget memory path)
 StandsWithout path memory (Err unwritten.OutOfMemory) files = Standing files memory
 StandsWithout path memory (Err unwritten.NotWritten) files =
     Standing files memory ⊎ Standing files (forget memory path)
 
--- the task's record is the new one; where that failed it may be the old one, the new one, or none
+-- the task's record is the new one; if the call failed it may be the old one, the new one, or none
 abbrev pub StandsWith : Path → Entry → Memory → Result (Unit {0}) Unwritten → Files → Type 0
 StandsWith path entry memory (Ok done) files = Standing files (remember memory path entry)
 StandsWith path entry memory (Err unwritten.OutOfMemory) files = Standing files memory

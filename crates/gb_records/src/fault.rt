@@ -1,4 +1,4 @@
-//! Why a record was not written or taken out.
+//! Why a record was not written or deleted.
 ghost use Rattle.std.specs.Prelude.{◌≡◌};
 ghost use Rattle.gb_records.specs.Faults.{told_of, unwritten_for, unwritten_number};
 ghost use Rattle.gb_records.specs.declared.fault.Unwritten.TheVariants.{OutOfMemory};
@@ -8,19 +8,19 @@ use gb_report::fault::Fault;
 use std::alloc::AllocError;
 use thiserror::Error;
 
-/// Why a record was not written or taken out.
+/// Why a record was not written or deleted.
 #[derive(Clone, Copy, Debug, PartialEq, Eq, Error)]
 pub enum Unwritten {
     /// No memory for its text; 3.
     #[error("out of memory")]
     OutOfMemory,
-    /// The device failed, no file can stand at its place, or its text is too long.
+    /// The device failed, no file can be at its place, or its text is too long.
     #[error("history not written")]
     NotWritten,
 }
 
 impl Unwritten {
-    /// The number under which the fault is told to users.
+    /// The number under which the fault is reported to users.
     pub fn number(self) -> u16
         ensures { result ≡ unwritten_number self }
     {
@@ -30,7 +30,7 @@ impl Unwritten {
         }
     }
 
-    /// The fault as a build tells it.
+    /// The fault as a build reports it.
     pub fn fault(self) -> Fault
         ensures { result ≡ told_of self }
     {

@@ -1,4 +1,4 @@
-//! Records taken out and put in.
+//! Stores and deletes records.
 ghost use Rattle.std.specs.Prelude.{◌≡◌, ◌∷◌, [], ℕ, List, Some, None, Ok, false, length, IsTrue, IfOk};
 ghost use Rattle.std.specs.Prelude.{IfErr, IsErrOf, OnOk};
 ghost use Rattle.gb_core.specs.Path.{is_task_path};
@@ -24,7 +24,7 @@ use gb_history::record::Record;
 use gb_history::text::record_text;
 use std::alloc::Global;
 
-/// Takes the record of a task away, where one was read.
+/// Deletes the record of a task, if one was read.
 pub fn take_out<F: Folder>(
     alloc: Global,
     folder: &mut F,
@@ -39,13 +39,13 @@ pub fn take_out<F: Folder>(
     ensures err { IsTrue F.tells → IfErr result (λ fault. ComesToNothing (F.may_leave folder.old)
         path.now None (F.failures folder.old) (F.failures folder.new) (F.contents folder.old) fault
         (F.contents folder.new)) }
-    // Which records stand then.
+    // Which records exist then.
     ensures stands { IsTrue F.tells → TearsAreSeen IsText record_place (F.may_leave folder.old)
         → (memory : Memory) → Standing (F.contents folder.old).files memory
         → (was_read ≡ false → recalled memory path.now ≡ None)
         → StandsWithout path.now memory result (F.contents folder.new).files }
 {
-    // Of paths of tasks alone something is said, which this shows to be one.
+    // The contract is about paths of tasks alone. This shows that the path is one.
     let _path = path.as_str();
     if !was_read {
         return Ok(());
@@ -57,7 +57,7 @@ pub fn take_out<F: Folder>(
     }
 }
 
-/// Why nothing was taken out, unless nothing stood there.
+/// Why nothing was deleted, unless nothing was there.
 fn unless_missing(fault: FolderFault) -> Result<(), Unwritten>
     ensures { result ≡ removed_by fault }
 {
@@ -67,7 +67,7 @@ fn unless_missing(fault: FolderFault) -> Result<(), Unwritten>
     }
 }
 
-/// Puts the record of a task in its place, over another.
+/// Stores the record of a task at its place. It replaces the one that is there, if any.
 pub fn put_in<F: Folder>(
     alloc: Global,
     folder: &mut F,
@@ -85,7 +85,7 @@ pub fn put_in<F: Folder>(
     ensures err { IsTrue F.tells → IfErr result (λ fault. ComesToNothing (F.may_leave folder.old) path.now
         (Some (record_text path.now run.now)) (F.failures folder.old) (F.failures folder.new)
         (F.contents folder.old) fault (F.contents folder.new)) }
-    // Which records stand then.
+    // Which records exist then.
     ensures stands { IsTrue F.tells → TearsAreSeen IsText record_place (F.may_leave folder.old)
         → (memory : Memory) (entry : Entry) → Standing (F.contents folder.old).files memory
         → IsSaidOf run.now entry
@@ -102,7 +102,7 @@ pub fn put_in<F: Folder>(
     }
 }
 
-/// Where the record of a task stands.
+/// The place of a task's record.
 fn place_of(alloc: Global, path: &TaskPath) -> Result<Place, Unwritten>
     ensures place { IfOk result (λ place. place ≡ record_place path.now) }
     ensures path { OnOk result (IsTrue (is_task_path path.now)) }

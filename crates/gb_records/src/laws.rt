@@ -3,32 +3,33 @@ ghost use Rattle.gb_records.specs.Digests.{ChangesAreOfContents, RecordsTellEntr
 ghost use Rattle.gb_records.specs.Digests.{UpToDateIsCurrent};
 ghost use Rattle.gb_records.specs.Laws.{StandsElsewhere, StandsForMemory, TextsAreRecords};
 
-/// Texts, places and readings of records are as builds are to have them.
+/// Texts, places and readings of records are as builds require.
 pub fn texts_are_records()
     ensures { TextsAreRecords }
 {}
 
-/// What changes outside of the tool's own leaves the records.
+/// A change outside of the tool's own leaves the records as they are.
 pub fn stands_elsewhere()
     ensures { StandsElsewhere }
 {}
 
-/// Records that stand, of true entries, are what a folder stands for.
+/// A folder with the records of true entries represents them as its memory.
 pub fn stands_for_memory()
     ensures { StandsForMemory }
 {}
 
-/// Where no two contents share a digest, equal records are of equal contents.
+/// If no two contents share a digest, equal records are of equal contents.
 pub fn records_tell_entries()
     ensures { RecordsTellEntries }
 {}
 
-/// A task is up to date by its record exactly where it is by whole contents.
+/// A task is up to date by its record exactly if it is by whole contents.
 pub fn up_to_date_is_current()
     ensures { UpToDateIsCurrent }
 {}
 
-/// A task goes on by changes exactly where it does so by whole contents, and one action writes.
+/// By its record a task may execute incrementally, and one action writes, exactly if it executes
+/// incrementally by whole contents.
 pub fn since_is_incremental()
     ensures { SinceIsIncremental }
 {}

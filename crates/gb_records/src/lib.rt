@@ -1,8 +1,8 @@
-//! The records of tasks where they stand in a folder: read before a build, taken out as a task's run begins,
-//! and put in as it ends.
+//! The records of tasks as files in a folder: read before a build, deleted as a task's run begins,
+//! and stored as it ends.
 //!
-//! Where the folder tells what it holds, it is said which records stand after each call, also after one that
-//! was stopped, if what a stopped call leaves is seen for what it is.
+//! If the folder's contents are known, the contracts say which records exist after each call. This
+//! includes a call that was stopped, if what it leaves is recognized for what it is.
 #![tactic(auto)]
 
 pub mod fault;

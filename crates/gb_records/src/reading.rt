@@ -1,4 +1,4 @@
-//! Records read.
+//! Reads records.
 ghost use Rattle.std.specs.Prelude.{◌≡◌, ◌≤◌, Option, Some, None, Ok, Err, length, IsTrue, IfOk, IfErr};
 ghost use Rattle.std.specs.List.{AllZip, list_any};
 ghost use Rattle.gb_folder.specs.Calls.{Asks, no_change};
@@ -23,8 +23,8 @@ use std::alloc::Global;
 /// The most bytes that a record's text may have: 64 MiB.
 pub(crate) const MAX_RECORD: u64 = 64 * 1024 * 1024;
 
-/// The records of these tasks as they stand, in the order of the tasks. Where no text of a record of a task
-/// stands, there is none.
+/// The records of these tasks as they are, in the order of the tasks. A task has none if no text of
+/// a record of it is there.
 pub fn read_records<F: Folder>(
     alloc: Global,
     folder: &mut F,
@@ -49,7 +49,7 @@ pub fn read_records<F: Folder>(
     Ok(records)
 }
 
-/// The record of a task as it stands.
+/// The record of a task as it is.
 fn read_at<F: Folder>(
     alloc: Global,
     folder: &mut F,
@@ -74,7 +74,7 @@ fn read_at<F: Folder>(
     }
 }
 
-/// No record, where there is no place for one.
+/// No record, if there is no place for one.
 fn placeless(fault: PlaceFault) -> Result<Option<Record>, Fault>
     ensures bad { fault ≡ PlaceFault.BadPlace → result ≡ Ok None }
     ensures out { fault ≡ PlaceFault.OutOfMemory → result ≡ Err Fault.OutOfMemory }
@@ -85,7 +85,7 @@ fn placeless(fault: PlaceFault) -> Result<Option<Record>, Fault>
     }
 }
 
-/// No record, where no file of at most 64 MiB stands.
+/// No record, if there is no file of at most 64 MiB.
 fn unless_none(fault: FolderFault, place: Place) -> Result<Option<Record>, Fault>
     ensures { result ≡ none_for place fault }
 {
@@ -99,7 +99,7 @@ fn unless_none(fault: FolderFault, place: Place) -> Result<Option<Record>, Fault
     }
 }
 
-/// The record that these bytes say of a task.
+/// The record of a task that has these bytes as its text.
 fn record_in(alloc: Global, path: &TaskPath, bytes: &[u8]) -> Result<Option<Record>, Fault>
     requires { length bytes.now ≤ max_record }
     ensures read { IfOk result (IsReadAs path.now (Some bytes.now)) }

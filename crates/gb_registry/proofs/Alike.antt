@@ -1,4 +1,4 @@
--- Scripts that are checked one after another tell the first of all their faults.
+-- Scripts that are checked one after another report the first of all their faults.
 use Rattle.std.proofs.Common.{◌≡◌, ◌⊎◌, inl, inr, List, [], ◌∷◌, ◌++◌, append_assoc, refl, sym, ap, subst, ◌∙◌, Some}
 use Rattle.std.specs.Prelude.{filter_map}
 use Rattle.std.specs.List.{flat_map, list_any}
@@ -17,7 +17,7 @@ use Rattle.gb_registry.specs.Tables.{Tables}
 use Rattle.gb_registry.proofs.Firsts.{first-append}
 use Rattle.gb_registry.proofs.Judged.{IsSeen, count_of, goes_on, judged}
 
--- the same first fault, or no fault in both and more besides
+-- the same first fault, or no fault in both and also `More`
 abbrev pub Alike : List Fault → List Fault → Type 0 → Type 0
 Alike xs ys More = ((fault : Fault) × (first_of xs ≡ Some fault) × (first_of ys ≡ Some fault)) ⊎ ((xs ≡ []) × (ys ≡ []) × More)
 
@@ -28,7 +28,7 @@ pub more_if_none : (xs ys : List Fault) {More : Type 0} → Alike xs ys More →
 more_if_none xs ys (inl (fault, here, there)) none = absurd (none_first xs fault none here)
 more_if_none xs ys (inr (here, there, more)) none = more
 
--- two lists alike, with more behind them
+-- two lists alike, each followed by more
 both_alike : (xs ys : List Fault) (More : Type 0) (xs' ys' : List Fault) (More' : Type 0) → Alike xs ys More → (More → Alike xs' ys' More') → Alike (xs ++ xs') (ys ++ ys') More'
 both_alike xs ys More xs' ys' More' (inl (fault, here, there)) next = inl (fault, first-append xs xs' fault here, first-append ys ys' fault there)
 both_alike xs ys More xs' ys' More' (inr (here, there, more)) next =

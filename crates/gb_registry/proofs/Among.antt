@@ -6,7 +6,7 @@ use Rattle.std.proofs.lemmas.List.{length-map}
 use Rattle.indexmap.specs.IndexSet.{insert_key}
 use Rattle.gb_registry.specs.Projects.{is_among, with_path}
 
--- ---- By what is seen of them
+-- ---- By their contents
 
 module _ {X Y : Type 0} (f : X → Y) where
   pub list_any-map : (test : Y → Bool) (xs : List X) → list_any test (map f xs) ≡ list_any (λ x. test (f x)) xs

@@ -1,4 +1,4 @@
--- The projects of settings stand once each, so no script finds that its project said anything before.
+-- The projects of settings occur once each, so no script has earlier statements of its project.
 use Rattle.std.proofs.Common.{◌≡◌, Bool, true, false, not, cond, ◌&&◌, ◌||◌, List, [], ◌∷◌, ◌++◌, refl, sym, ap, ◌∙◌, true≢false}
 use Rattle.std.specs.Prelude.{bytes_eq, zip}
 use Rattle.std.specs.List.{flat_map}
@@ -12,7 +12,7 @@ use Rattle.gb_registry.specs.Projects.{Path, included, is_among, lineage_of, pro
 use Rattle.gb_registry.specs.Said.{Said, said_by, script_of}
 use Rattle.gb_registry.proofs.Own.{own_script, script_of-append}
 
--- each stands once
+-- each occurs once
 abbrev stand_once : List Path → Bool
 stand_once [] = true
 stand_once (path ∷ paths) = not (is_among paths path) && stand_once paths
@@ -52,7 +52,7 @@ once_with_all : (there paths : List Path) → stand_once there ≡ true → stan
 once_with_all there [] once = once
 once_with_all there (path ∷ paths) once = once_with_all (with_path there path) paths (once_with there path once)
 
--- none of the projects said anything before
+-- none of the projects has a statement before
 abbrev AreSilent : List Said → List Path → Type 0
 AreSilent before paths = (path : Path) → is_among paths path ≡ true → script_of before path ≡ []
 

@@ -1,4 +1,4 @@
--- The first of several faults, handed on.
+-- The first of several faults, passed on.
 use Rattle.std.proofs.Common.{◌≡◌, inl, inr, ℕ, suc, ◌+◌, ◌<◌, List, [], ◌∷◌, ◌++◌, length, get_or, drop, add-one, Some, Ok, Err, Result, sym, ap, subst, ◌∙◌}
 use Rattle.std.proofs.Math.Seq.{drop-cons}
 use Rattle.std.specs.Result.{IsErrAnd}
@@ -10,12 +10,12 @@ pub first-append : {X : Type 0} (xs more : List X) (x : X) → first_of xs ≡ S
 first-append [] more x e = absurd (cc)
 first-append (first ∷ xs) more x e = e
 
--- the first of some is that of some with more behind them
+-- the first of some faults is the first of these faults followed by more
 pub first_among : (faults more whole : List Fault) (fault : Fault) → whole ≡ faults ++ more → IsFirstFault faults fault → IsFirstFault whole fault
 first_among faults more whole fault same (inl memory) = inl memory
 first_among faults more whole fault same (inr first) = inr (ap first_of same ∙ first-append faults more fault first)
 
--- a fault that is handed on is told
+-- a fault that is passed on is reported
 pub told_on : {T : Type 0} (faults : List Fault) (answer : Result T Fault) (fault : Fault) → IsErrAnd answer (λ handed. handed ≡ fault) → IsFirstFault faults fault → TellsFirst faults answer
 told_on faults (Ok x) fault handed first = absurd handed
 told_on faults (Err told) fault handed first = subst (IsFirstFault faults) (sym handed) first

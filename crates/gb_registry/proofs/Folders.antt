@@ -87,7 +87,7 @@ path_bytes (c ∷ text) h = by (c == 58) refl h (λ good. path_bytes text good)
         (ap (λ b. b || (c == 58)) (first_of_bytes c (parts_of text) g))
         (rest (rest_of_bytes c (parts_of text) g))
 
--- the names behind the colons are the segments between the slashes
+-- the names after the colons are the segments between the slashes
 segments_are_names : (text : List ℕ) → list_all is_path_byte text ≡ true → slice_split (λ b. b == 47) (map slashed text) ≡ parts_of text
 segments_are_names [] h = refl
 segments_are_names (c ∷ text) h =

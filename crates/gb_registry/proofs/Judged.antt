@@ -1,4 +1,4 @@
--- A statement is judged by what is seen of those before it as by those before it themselves.
+-- A statement is checked by the state after the statements before it as by these statements themselves.
 use Rattle.std.proofs.Common.{◌≡◌, ℕ, ◌+◌, Bool, true, false, cond, ◌||◌, List, [], ◌∷◌, ◌++◌, length, map, filter, refl, sym, ap, subst, ◌∙◌, arith, length-append}
 use Rattle.std.specs.Prelude.{filter_map, if◌then◌else◌, nat_le, bytes_eq}
 use Rattle.std.specs.List.{list_any}
@@ -27,7 +27,7 @@ use Rattle.gb_registry.specs.Wrong.{property_faults, tree_faults}
 abbrev pub count_of : List Said → ℕ
 count_of before = length (filter_map (λ s. declared_property s.statement) before)
 
--- what is seen of these statements, from a script of the project
+-- the state after these statements, in a script of the project
 pub record IsSeen (before : List Said) (project : Path) (seen : Seen) : Type 0 where
   pub tasks : seen.tasks ≡ paths_of before
   pub properties : seen.properties ≡ properties_of before project

@@ -1,4 +1,4 @@
--- Tasks that are not there.
+-- Tasks that do not exist.
 use Rattle.std.proofs.Common.{◌≡◌, inr, Bool, true, false, List, ℕ, [], ◌∷◌, Some, sym, ap, ◌∙◌}
 use Rattle.std.specs.Prelude.{if◌then◌else◌}
 use Rattle.gb_report.specs.declared.fault.Fault.TheVariants as faults

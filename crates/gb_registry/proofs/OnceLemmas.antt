@@ -25,7 +25,7 @@ one_more : {X : Type 0} (xs ys : List X) (x : X) → (xs ++ x ∷ []) ++ ys ≡ 
 one_more [] ys x = refl
 one_more (z ∷ xs) ys x = ap (λ l. z ∷ l) (one_more xs ys x)
 
--- nothing is found at any of them
+-- none of them has a fault
 nothing_at : {A B : Type 0} (f : List A → A → List B) (before front back : List A) (x : A) → each_after f before (front ++ x ∷ back) ≡ [] → f (before ++ front) x ≡ []
 nothing_at f before [] back x e = ap (λ l. f l x) (right_end before) ∙ none_before (f before x) (each_after f (before ++ x ∷ []) back) e
   where

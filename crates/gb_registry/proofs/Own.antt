@@ -1,4 +1,4 @@
--- What scripts say, project by project.
+-- The statements of scripts, project by project.
 use Rattle.std.proofs.Common.{◌≡◌, ℕ, ◌+◌, ◌<◌, Bool, true, false, cond, List, [], ◌∷◌, ◌++◌, length, get_or, drop, map, filter, refl, ap, ◌∙◌}
 use Rattle.std.specs.Prelude.{bytes_eq}
 use Rattle.std.proofs.lemmas.List.{map-append}
@@ -26,7 +26,7 @@ own_script project other false is (statement ∷ script) =
     ap (λ b. map (λ s. s.statement) (cond b (record { project = project; statement = statement } ∷ filter (λ s. bytes_eq s.project other) (said_by (project, script))) (filter (λ s. bytes_eq s.project other) (said_by (project, script))))) is
     ∙ own_script project other false is script
 
--- the next script, and then those behind it
+-- the next script, and then those after it
 pub script_next : (scripts : List Scripted) (i : ℕ) (scripted : Scripted) (project : Path) (b : Bool) → i < length scripts → scripted ≡ get_or scripts i scripted
     → bytes_eq scripted.project project ≡ b
     → script_of (said_in (drop i scripts)) project ≡ cond b scripted.script [] ++ script_of (said_in (drop (i + 1) scripts)) project

@@ -1,4 +1,4 @@
--- Scripts beside their projects.
+-- Scripts with their projects.
 use Rattle.std.proofs.Common.{◌≡◌, ℕ, zero, suc, ◌+◌, ◌<◌, List, [], ◌∷◌, ◌++◌, append_assoc, length, get_or, drop, refl, sym, ap, ◌∙◌, arith, Option}
 use Rattle.std.specs.Prelude.{zip}
 use Rattle.std.specs.List.{flat_map}
@@ -12,7 +12,7 @@ use Rattle.gb_registry.specs.References.{Names}
 use Rattle.gb_registry.specs.Said.{said_by}
 use Rattle.gb_registry.specs.Seen.{scripts_in}
 
--- a project with its folder, and those behind it
+-- a project with its folder, and those after it
 pub folder_at : (projects : List Path) (i : ℕ) (place : Path × Option (List ℕ)) → i < length projects → place ≡ get_or (with_folders projects) i place
     → (place.1 ≡ folder_of place.0) × (drop i projects ≡ place.0 ∷ drop (i + 1) projects)
 folder_at [] i place within is = absurd (omega (arith, within))
@@ -41,7 +41,7 @@ placed_more made made' one project script others whole added same_project same_s
     ∙ ap (λ l. l ++ others) (sym (map-append (λ scripted. (scripted.project, scripted.script)) made (one ∷ [])))
     ∙ ap (λ m. scripts_in m ++ others) (sym added)
 
--- what scripts name and is not there, statement by statement
+-- the missing tasks that scripts name, statement by statement
 said_missing : (names : Names) (project : Path) (script : List Statement) → flat_map (missing_tasks names) (said_by (project, script)) ≡ flat_map (statement_missing names project) script
 said_missing names project [] = refl
 said_missing names project (statement ∷ script) = ap (λ l. statement_missing names project statement ++ l) (said_missing names project script)

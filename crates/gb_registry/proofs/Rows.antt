@@ -1,4 +1,4 @@
--- Worked rows, by computation: projects, the registry and words.
+-- Worked rows, by computation: projects, the registry and arguments.
 use Rattle.std.proofs.Common.{◌≡◌, ℕ, List, [], ◌∷◌, ◌++◌, None, Some, refl}
 use Rattle.std.specs.Prelude.{codes}
 use Rattle.gb_script.specs.declared.script.Statement.{Statement}
@@ -56,7 +56,7 @@ unknown_property = refl
 pub declared_later : faults_of (statements.Property a ∷ set a (property b) ∷ statements.Property b ∷ []) ≡ faults.UnknownProperty b ∷ []
 declared_later = refl
 
--- a final property that is set again: that it is final counts before the expression
+-- a final property that is set again: that it is final is reported before the faults of the expression
 pub final_property : faults_of (statements.Property a ∷ statements.DisallowChanges a ∷ set a (Chain (PropertyOf a) (links_of (MapBy (call_of (codes "nope") []) ∷ []))) ∷ [])
     ≡ faults.Final a ∷ faults.UnknownTransform (codes "nope") ∷ []
 final_property = refl
@@ -64,7 +64,7 @@ final_property = refl
 pub named_without_task : faults_of (named a [] ∷ register a [] ∷ []) ≡ faults.TaskNotFound a ∷ []
 named_without_task = refl
 
--- tasks of statements are looked up behind all others, and found where they are registered later
+-- tasks of statements are looked up after all other checks, and found where they are registered later
 pub tasks_later : faults_of (statements.Property a ∷ set a (task (codes "no")) ∷ set a (task (codes "late")) ∷ set a (task (codes ":lib:x")) ∷ set a (task (codes "1x")) ∷ set b (text a) ∷ register (codes "late") [] ∷ [])
     ≡ faults.BadName (codes "1x") ∷ faults.UnknownProperty b ∷ faults.TaskNotFound (codes "no") ∷ faults.UnknownProject (codes ":lib:x") ∷ faults.TaskNotFound (codes "1x") ∷ []
 tasks_later = refl
@@ -105,6 +105,6 @@ no_task = refl
 pub no_word : word_faults eighteen.names (codes "1a") ++ word_faults eighteen.names (codes "") ++ word_faults eighteen.names (codes ":") ≡ faults.BadName (codes "1a") ∷ faults.BadName (codes "") ∷ faults.BadName (codes ":") ∷ []
 no_word = refl
 
--- the last `defaultTasks` of the root counts
+-- the last `defaultTasks` of the root applies
 pub defaults : default_tasks (source_of ((codes "lib" ∷ []) ∷ []) (root_script ∷ (statements.DefaultTasks (a ∷ []) ∷ []) ∷ []) []).said ≡ b ∷ codes "gen" ∷ []
 defaults = refl

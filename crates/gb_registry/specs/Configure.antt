@@ -16,7 +16,7 @@ use Rattle.gb_registry.specs.Source.{Source}
 use Rattle.gb_registry.specs.Tables.{Tables}
 use Rattle.gb_registry.specs.Wrong.{Scope, tree_faults, property_faults, found_in}
 
--- what is found at each of a row, where each sees those before it
+-- what is found at each of a row, given the ones before it
 abbrev pub each_after : {A B : Type 0} → (List A → A → List B) → List A → List A → List B
 each_after f before [] = []
 each_after f before (x ∷ xs) = f before x ++ each_after f (before ++ x ∷ []) xs
@@ -26,14 +26,13 @@ abbrev pub finalizes : List ℕ → Statement → Bool
 finalizes name (statements.DisallowChanges w) = bytes_eq name w
 finalizes name other = false
 
--- `set`, `convention` and `unset` want a property declared earlier, that is not final
+-- `set`, `convention` and `unset` require a property that is declared earlier and is not final
 abbrev pub change_faults : List Statement → List ℕ → List Fault
 change_faults before name =
     property_faults (filter_map declared_property before) name
     ++ (if list_any (finalizes name) before then faults.Final name ∷ [] else [])
 
--- in a statement a property is known where it was declared earlier, and whether a task is there is asked
--- later
+-- in a statement a property is known where it was declared earlier; whether a task exists is checked later
 abbrev pub statement_scope : List Said → Path → Scope
 statement_scope before project =
     record { project = project; properties = properties_of before project; task_faults = name_faults project }
@@ -51,7 +50,7 @@ new_task_faults before path =
     else (if nat_le 4096 (length (paths_of before)) then faults.TooMany limited.Tasks ∷ [] else [])
 
 module _ {M F Z S A : Type 0} (tables : Tables M F Z S A) where
-  -- what is wrong with a statement, where these stand before it
+  -- the faults of a statement after these statements
   abbrev pub statement_faults : List Said → Said → List Fault
   statement_faults before s = in_statement s.statement
     where
@@ -79,7 +78,7 @@ values_of (statements.Set a) = a.value ∷ []
 values_of (statements.Convention a) = a.value ∷ []
 values_of other = []
 
--- the task that is not there, if a source names one
+-- the missing task, if a source names one
 abbrev pub missing_at_root : Names → Path → Root → List Fault
 missing_at_root names project (TaskOf text) = lookup_faults names project text
 missing_at_root names project other = []
@@ -94,11 +93,11 @@ statement_missing names project statement =
 abbrev pub script_missing : Names → Path × List Statement → List Fault
 script_missing names script = flat_map (statement_missing names script.0) script.1
 
--- the tasks that are not there, of those that a statement names: looked up after all scripts
+-- the missing tasks that a statement names: they are looked up after all scripts
 abbrev pub missing_tasks : Names → Said → List Fault
 missing_tasks names s = statement_missing names s.project s.statement
 
--- all faults of scripts, in the order in which they count
+-- all faults of scripts, in the order in which they are reported
 abbrev pub configure_faults : {M F Z S A : Type 0} → Tables M F Z S A → Source → List Fault
 configure_faults tables source =
     each_after (statement_faults tables) [] source.said ++ flat_map (missing_tasks source.names) source.said

@@ -1,10 +1,10 @@
--- Scripts of projects that have said nothing before.
+-- Scripts of projects without earlier statements.
 use Rattle.std.specs.Prelude.{◌≡◌, List, [], ◌∷◌, ◌++◌}
 use Rattle.gb_script.specs.declared.script.Statement.{Statement}
 use Rattle.gb_registry.specs.Projects.{Path}
 use Rattle.gb_registry.specs.Said.{Said, said_by, script_of}
 
--- none of the projects has said anything before its script
+-- none of the projects has a statement before its script
 abbrev pub AreNew : List Said → List (Path × List Statement) → Type 0
 AreNew before [] = Unit {0}
 AreNew before (script ∷ scripts) =

@@ -6,7 +6,7 @@ use Rattle.gb_registry.specs.Said.{Said, paths_of, registered_path}
 use Rattle.gb_registry.specs.Source.{Source}
 use Rattle.gb_registry.specs.Tables.{Tables}
 
--- a path that a statement registers is none of those registered before it
+-- a path that a statement registers is not registered before it
 abbrev pub PathsAreNew : {M F Z S A : Type 0} → Tables M F Z S A → Source → Type 0
 PathsAreNew tables source =
     configure_faults tables source ≡ [] → (front back : List Said) (s : Said) (path : Path) →

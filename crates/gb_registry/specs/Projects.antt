@@ -19,7 +19,7 @@ is_among texts text = list_any (bytes_eq text) texts
 abbrev pub root_path : Path
 root_path = codes ":"
 
--- a text as a path: one that does not begin with a colon is seen from the project
+-- a text as a path: one that does not begin with a colon is relative to the project
 abbrev pub absolute : Path → List ℕ → Path
 absolute project text = if starts_with nat_eq text (codes ":") then text else task_in project text
 
@@ -28,7 +28,7 @@ abbrev pub lineage_from : Path → List (List ℕ) → List Path
 lineage_from front [] = []
 lineage_from front (name ∷ names) = (front ++ 58 ∷ name) ∷ lineage_from (front ++ 58 ∷ name) names
 
--- of names with colons between them
+-- the same for names with colons between them
 abbrev pub lineage_of_names : List ℕ → List Path
 lineage_of_names names = lineage_from [] (slice_split (λ b. b == 58) names)
 
@@ -47,7 +47,7 @@ folder_of path = if bytes_eq path root_path then None else Some (folder_text pat
 
 -- ---- What settings add to the projects
 
--- these, and each path that is not there yet
+-- these, and each path that is not present yet
 abbrev pub with_path : List Path → Path → List Path
 with_path there path = if is_among there path then there else there ++ path ∷ []
 
@@ -55,7 +55,7 @@ abbrev pub with_paths : List Path → List Path → List Path
 with_paths there [] = there
 with_paths there (path ∷ paths) = with_paths (with_path there path) paths
 
--- what a text adds: its project, behind its parents
+-- what a text adds: its project, after its parents
 abbrev pub lineage_of : List ℕ → List Path
 lineage_of text = lineage (absolute root_path text)
 
@@ -86,7 +86,7 @@ place_faults path =
 abbrev pub crowd_faults : List Path → List Fault
 crowd_faults there = if nat_le 256 (length there) then faults.TooMany limited.Projects ∷ [] else []
 
--- what is wrong with a path that is to stand beside these
+-- the faults of a path that is to be added to these
 abbrev pub path_faults : List Path → Path → List Fault
 path_faults there path = if is_among there path then [] else place_faults path ++ crowd_faults there
 

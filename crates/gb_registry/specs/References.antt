@@ -1,4 +1,4 @@
--- Tasks that scripts and words name.
+-- Tasks that scripts and arguments name.
 use Rattle.std.specs.Prelude.{ℕ, List, [], ◌∷◌, if◌then◌else◌}
 use Rattle.gb_core.specs.Path.{is_task_path, project_of}
 use Rattle.gb_report.specs.declared.fault.Fault.{Fault}

@@ -1,4 +1,4 @@
--- What scripts say, and what they register.
+-- The statements of scripts, and what they register.
 use Rattle.std.specs.Prelude.{ℕ, List, [], ◌++◌, map, filter, filter_map, zip, find, if◌then◌else◌, Option}
 use Rattle.std.specs.Prelude.{Some, None, bytes_eq}
 use Rattle.std.specs.List.{flat_map}
@@ -10,7 +10,7 @@ use Rattle.gb_script.specs.declared.script.Statement.TheVariants as statements
 use Rattle.gb_registry.specs.Projects.{Path}
 use Rattle.gb_core.specs.Path.{task_in}
 
--- a statement, and the project in whose script it stands
+-- a statement, and the project whose script contains it
 pub record Said : Type 0 where
   pub project : Path
   pub statement : Statement
@@ -37,20 +37,20 @@ declared_property other = None
 abbrev pub properties_of : List Said → Path → List (List ℕ)
 properties_of said project = filter_map declared_property (script_of said project)
 
--- what a property is set to after a statement, and before it
+-- the value that a property is set to after a statement, given the one before it
 abbrev pub set_after : List ℕ → Option Tree → Statement → Option Tree
 set_after name before (statements.Set a) = if bytes_eq a.name name then Some a.value else before
 set_after name before (statements.Unset w) = if bytes_eq w name then None else before
 set_after name before other = before
 
--- its convention after a statement, and before it
+-- its convention after a statement, given the one before it
 abbrev pub convention_after : List ℕ → Option Tree → Statement → Option Tree
 convention_after name before (statements.Convention a) = if bytes_eq a.name name then Some a.value else before
 convention_after name before other = before
 
 -- ---- Tasks
 
--- A registered task: its path, the call behind the colon, and the clauses of all its blocks, in the order of
+-- A registered task: its path, the call after the colon, and the clauses of all its blocks, in the order of
 -- the script.
 pub record Registered : Type 0 where
   pub project : Path

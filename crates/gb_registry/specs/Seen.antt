@@ -1,4 +1,4 @@
--- What a statement is judged by: the tasks that stand before it, and the properties of its own script.
+-- The state by which a statement is checked: the tasks before it, and the properties of its own script.
 use Rattle.std.specs.Prelude.{ℕ, ◌+◌, List, [], ◌∷◌, ◌++◌, if◌then◌else◌, None, map, length, nat_le}
 use Rattle.std.specs.List.{flat_map}
 use Rattle.gb_core.specs.Path.{task_in}
@@ -21,11 +21,11 @@ use Rattle.gb_registry.specs.Wrong.{property_faults, task_faults_in, tree_faults
 abbrev pub scripts_in : List Scripted → List (Path × List Statement)
 scripts_in scripts = map (λ scripted. (scripted.project, scripted.script)) scripts
 
--- what they say
+-- their statements
 abbrev pub said_in : List Scripted → List Said
 said_in scripts = flat_map said_by (scripts_in scripts)
 
--- what scripts of these projects say, with nothing given
+-- the statements of scripts of these projects, with no values given
 abbrev pub source_in : List Path → List Scripted → Source
 source_in projects scripts =
     record {
@@ -34,7 +34,7 @@ source_in projects scripts =
       given = [];
     }
 
--- the next script knows no properties of others
+-- the next script does not know the properties of others
 abbrev pub begun : Seen → Seen
 begun seen = record seen { properties = []; finals = [] }
 
@@ -66,7 +66,7 @@ module _ {M F Z S A : Type 0} (tables : Tables M F Z S A) (project : Path) where
   abbrev pub seen_assignment_faults : Seen → Assignment → List Fault
   seen_assignment_faults seen a = seen_change_faults seen a.name ++ seen_value_faults seen a.value
 
-  -- what is wrong with a statement
+  -- the faults of a statement
   abbrev pub seen_faults : Seen → Statement → List Fault
   seen_faults seen (statements.DefaultTasks texts) = []
   seen_faults seen (statements.Property name) = seen_property_faults seen name
@@ -77,7 +77,7 @@ module _ {M F Z S A : Type 0} (tables : Tables M F Z S A) (project : Path) where
   seen_faults seen (statements.Register r) = seen_task_faults seen (task_in project r.name)
   seen_faults seen (statements.Named c) = seen_named_faults seen project c.name
 
--- what is seen behind a statement
+-- the state after a statement
 abbrev pub seen_after : Path → Seen → Statement → Seen
 seen_after project seen (statements.DefaultTasks texts) = seen
 seen_after project seen (statements.Property name) =

@@ -1,4 +1,5 @@
--- What is read: settings, one script for each project, and what the command line gives.
+-- The source of a registry: settings, one script for each project, and the values that the command line
+-- gives.
 use Rattle.std.specs.Prelude.{ℕ, List}
 use Rattle.gb_script.specs.declared.script.Statement.{Statement}
 use Rattle.gb_registry.specs.Projects.{project_paths}

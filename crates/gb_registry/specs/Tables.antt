@@ -5,14 +5,14 @@ use Rattle.gb_provider.specs.Meanings as of_functions
 use Rattle.gb_provider.specs.Table.{Table}
 use Rattle.gb_registry.specs.declared.tables.Tables as handed
 
--- stored functions and actions by name, and what they mean
+-- stored functions and actions by name, and their meanings
 pub record Tables (M F Z S A : Type 0) : Type 0 where
   pub functions : Table M F Z S
   pub means : of_functions.Meanings M F Z S
   pub kinds : List (List ℕ × A)
   pub shapes : of_actions.Meanings A
 
--- those that a program hands in
+-- those that a program passes in
 abbrev pub tables_of : {N U M F Z S A : Type 0} → of_functions.Meanings M F Z S → of_actions.Meanings A
     → handed.Tables N U A M F Z S → Tables M F Z S A
 tables_of means shapes tables =

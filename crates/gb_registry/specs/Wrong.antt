@@ -1,4 +1,4 @@
--- What is wrong with an expression, before its value is asked.
+-- The faults of an expression before its value is computed.
 use Rattle.std.specs.Prelude.{ℕ, ◌==◌, List, [], ◌∷◌, ◌++◌, length, if◌then◌else◌, Option, Some, None}
 use Rattle.std.specs.Prelude.{option_map}
 use Rattle.gb_core.specs.Place.{is_place, joined}
@@ -48,13 +48,13 @@ module _ {X : Type 0} (at_root : Root → List X) (at_link : Link → List X) wh
 
 -- ---- Faults
 
--- what an expression may name where it stands: the properties of the project's script, and tasks
+-- what an expression may name at its position: the properties of the project's script, and tasks
 pub record Scope : Type 0 where
   pub project : Path
   pub properties : List (List ℕ)
   pub task_faults : List ℕ → List Fault
 
--- of a task that a text names: no path, or where all tasks are known also none that is there
+-- of a task that a text names: the text is no path or, where all tasks are known, there is no such task
 abbrev pub task_faults_in : Option Names → Path → List ℕ → List Fault
 task_faults_in None project = name_faults project
 task_faults_in (Some names) project = reference_faults names project

@@ -1,4 +1,4 @@
-//! Scripts checked statement by statement.
+//! Checks scripts statement by statement.
 ghost use Rattle.std.specs.Prelude.{◌≡◌, OnOk};
 ghost use Rattle.std.specs.List.{flat_map};
 ghost use Rattle.gb_registry.specs.Configure.{script_missing, statement_missing};
@@ -27,7 +27,7 @@ use std::alloc::Global;
 pub struct Scripted {
     /// The project, with its folder.
     pub project: Project,
-    /// What its `build.gb` says.
+    /// The contents of its `build.gb`.
     pub script: Script,
 }
 
@@ -131,7 +131,7 @@ pub(crate) fn check_scripts<A: Actions, T: Transforms>(
     Ok(())
 }
 
-/// The first task that scripts name in values, and that is not there.
+/// The first missing task that scripts name in values.
 pub(crate) fn check_missing<'s>(
     alloc: Global,
     names: &'s Names<'s>,

@@ -1,4 +1,4 @@
-//! How a registry is made of what was read.
+//! How a registry is made from what was read.
 ghost use Rattle.std.specs.Prelude.{◌≡◌, ◌≤◌, [], ◌++◌, zip, length, IfOk};
 ghost use Rattle.std.specs.List.{flat_map};
 ghost use Rattle.gb_registry.specs.Configure.{configure_faults, each_after, missing_tasks, statement_faults};
@@ -63,8 +63,8 @@ fn copy_folder(folder: &Option<Place>) -> Result<Option<Place>, AllocError>
     }
 }
 
-/// Checks scripts statement by statement, and then looks up the tasks that their values name: the tasks
-/// that they register.
+/// Checks scripts statement by statement. Then it looks up the tasks that their values name among
+/// the tasks that they register.
 pub fn checked<A: Actions, T: Transforms>(
     alloc: Global,
     tables: &Tables<A, T>,

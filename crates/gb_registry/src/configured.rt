@@ -1,4 +1,4 @@
-//! A registry with which nothing is wrong, and the tables that it was judged by.
+//! A registry without faults, and the tables by which it was checked.
 ghost use Rattle.std.specs.Prelude.{◌≡◌, []};
 ghost use Rattle.gb_registry.specs.Configure.{configure_faults};
 ghost use Rattle.gb_registry.specs.Tables.{tables_of};
@@ -13,7 +13,7 @@ use gb_provider::transforms::Transforms;
 pub struct Configured<'a, A: Actions, T: Transforms> {
     /// The actions and functions that they may name.
     pub tables: &'a Tables<A, T>,
-    /// What they register.
+    /// The registry that they configure.
     pub registry: Registry,
     // They have no fault by these tables.
     pub ghost good: { configure_faults (tables_of T.meanings A.meanings tables.now) registry ≡ [] },

@@ -1,4 +1,5 @@
-//! What the scripts of a build register: projects, properties and tasks, their expressions not yet evaluated.
+//! What the scripts of a build register: projects, properties and tasks. Their expressions are not
+//! yet evaluated.
 #![tactic(auto)]
 
 pub mod checking;

@@ -1,4 +1,4 @@
-//! Tasks that expressions name, and that are not there.
+//! Tasks that expressions name and that do not exist.
 use crate::names::Names;
 use crate::project::Project;
 use crate::walk::Look;
@@ -9,9 +9,9 @@ use std::alloc::Global;
 /// Looks up the tasks that an expression of a project names.
 #[derive(Drop)]
 pub struct Missing<'a> {
-    /// The projects and tasks that there are.
+    /// The existing projects and tasks.
     pub names: &'a Names<'a>,
-    /// The project from which a text without a first colon goes.
+    /// The project relative to which a text without a leading colon is resolved.
     pub project: &'a Project,
 }
 

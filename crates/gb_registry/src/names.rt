@@ -1,4 +1,4 @@
-//! Tasks that scripts and words name.
+//! Tasks that scripts and arguments name.
 ghost use Rattle.std.specs.Prelude.{◌≡◌};
 ghost use Rattle.gb_core.specs.Path.{project_of, root_if_empty};
 ghost use Rattle.gb_registry.specs.Faults.{TellsFirst};
@@ -66,7 +66,7 @@ pub fn check_name(alloc: Global, project: &str, text: &Text) -> Result<(), Fault
     }
 }
 
-/// The path of the project in which a task's path lies.
+/// The path of the project that contains a task.
 fn project_of(path: &str) -> &str
     ensures { result.now ≡ project_of path.now }
 {

@@ -26,7 +26,7 @@ pub fn path_in(alloc: Global, project: &str, name: &str) -> Result<String, Alloc
     Ok(path)
 }
 
-/// A text as a path: one that does not begin with a colon is seen from the project.
+/// A text as a path: one that does not begin with a colon is relative to the project.
 pub fn absolute(alloc: Global, project: &str, text: &str) -> Result<String, AllocError>
     ensures { IfOk result (λ path. string_bytes path ≡ absolute project.now text.now) }
 {
@@ -37,7 +37,7 @@ pub fn absolute(alloc: Global, project: &str, text: &str) -> Result<String, Allo
     }
 }
 
-/// The path of a project that a text is.
+/// The project path that a text denotes.
 pub(crate) fn project_path(alloc: Global, text: &str) -> Result<ProjectPath, Fault>
     requires { IsTrue (is_project_path text.now) }
     ensures path { IfOk result (λ path. path ≡ text.now) }

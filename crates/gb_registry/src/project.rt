@@ -47,7 +47,7 @@ impl Project {
         &self.path
     }
 
-    /// Its folder, which the root has not.
+    /// Its folder; the root has none.
     pub fn folder(&self) -> Option<&Place>
         ensures { option_copied result ≡ folder_of self.now }
     {

@@ -26,7 +26,7 @@ const MOST_PROJECTS: usize = 256;
 /// The most bytes in the place of a project's folder.
 const LONGEST_FOLDER: usize = 896;
 
-/// ProjectSet, each once, with their folders.
+/// Projects, each once, with their folders.
 #[derive(Drop)]
 pub struct ProjectSet {
     alloc: Global,
@@ -89,7 +89,7 @@ impl ProjectSet {
         self.places
     }
 
-    /// Adds the project of a text, behind its parents.
+    /// Adds the project of a text, after its parents.
     fn include(&mut self, text: &Text) -> Result<(), Fault>
         ensures ok { OnOk result (self.new ≡ with_paths self.old (lineage_of text.now)) }
         ensures faults { TellsFirst (text_faults self.old text.now) result }
@@ -101,7 +101,7 @@ impl ProjectSet {
         self.add_lineage(path.as_str())
     }
 
-    /// Adds a project behind its parents.
+    /// Adds a project after its parents.
     fn add_lineage(&mut self, path: &str) -> Result<(), Fault>
         requires { IsTrue (is_project_path path.now) }
         ensures ok { OnOk result (self.new ≡ with_paths self.old (lineage path.now)) }
@@ -113,7 +113,7 @@ impl ProjectSet {
         }
     }
 
-    /// Adds the project of these names, with colons between them, behind its parents.
+    /// Adds the project of these names, with colons between them, after its parents.
     fn add_names(&mut self, names: &str) -> Result<(), Fault>
         requires { IsTrue (list_all is_project_path (lineage_of_names names.now)) }
         ensures ok { OnOk result (self.new ≡ with_paths self.old (lineage_of_names names.now)) }
@@ -128,7 +128,7 @@ impl ProjectSet {
         Ok(())
     }
 
-    /// Adds a project, unless it is there.
+    /// Adds a project, unless it is already present.
     fn add(&mut self, path: &str) -> Result<(), Fault>
         requires { IsTrue (is_project_path path.now) }
         ensures ok { OnOk result (self.new ≡ with_path self.old path.now) }
@@ -144,7 +144,7 @@ impl ProjectSet {
         Ok(())
     }
 
-    /// Whether a project may stand beside these.
+    /// Checks whether a project may be added to these.
     fn check_room(&self, path: &ProjectPath) -> Result<(), Fault>
         ensures faults { TellsFirst (place_faults path.now ++ crowd_faults self.now) result }
         ensures short { OnOk result (length (folder_text path.now) ≤ 896) }
@@ -195,9 +195,10 @@ fn name_of(path: &str) -> &str
     }
 }
 
-/// The projects, each with its folder, which the root has not: the root, and then what the settings
-/// include, in their order, each behind its parents. Refused, in the order of the text: a text that is no
-/// path (1), a project named `build` or with a folder of more than 896 bytes (57), and the 257th (58).
+/// The projects, each with its folder (the root has none): the root, and then what the settings
+/// include, in their order, each after its parents.
+/// Refused, in the order of the text: a text that is no path (1), a project named `build` or with a
+/// folder of more than 896 bytes (57), and the 257th project (58).
 pub fn projects(
     alloc: Global,
     settings: &Settings,

@@ -1,4 +1,4 @@
-//! What settings, scripts and a command line say, where nothing is wrong with it.
+//! The contents of settings, scripts and a command line, if they have no fault.
 ghost use Rattle.std.specs.Prelude.{◌≡◌, [], ◌∷◌, ◌==◌, ◌||◌, filter, bytes_eq, fold, option_copied, IfOk};
 ghost use Rattle.std.specs.Prelude.{IfErr, IsTrue, length, zip};
 ghost use Rattle.std.specs.List.{list_any};
@@ -36,8 +36,8 @@ use gb_script::script::{Script, Settings, Statement};
 use std::alloc::{AllocError, Global};
 use std::marker::Model;
 
-/// What scripts register. Contracts see what was read: names, statements, and values that a command line
-/// gives.
+/// What scripts register. Contracts see what was read: names, statements, and the values that a
+/// command line gives.
 #[derive(Drop)]
 pub struct Registry {
     projects: ProjectSet,
@@ -71,13 +71,14 @@ impl Model for Registry {
 }
 
 impl Registry {
-    /// Takes the statements of the scripts in their order, one script for each project of the settings.
-    /// Refused with the first fault of a statement, in the order of projects and texts: a property that the
-    /// script does not declare earlier (54) or that is final (35), a second property of a name (53) or task
-    /// at a path (51), a task that is not registered earlier in the script (52), more than 1,024 properties
-    /// or 4,096 tasks (58), and in a value a bad place (2) or path (1), and a function that there is not (31)
-    /// or that takes other arguments (32). That a task which a value names is not there (50, 52) counts
-    /// behind all others.
+    /// Takes the statements of the scripts in their order, one script for each project of the
+    /// settings.
+    /// Refused with the first fault of a statement, in the order of projects and texts: a property
+    /// that the script does not declare earlier (54) or that is final (35), a second property of a
+    /// name (53) or task at a path (51), a task that is not registered earlier in the script (52),
+    /// more than 1,024 properties or 4,096 tasks (58), and in a value a bad place (2) or path (1),
+    /// and a function that does not exist (31) or that takes other arguments (32). A missing task
+    /// that a value names (50, 52) ranks after all others.
     pub fn configure<'a, A: Actions, T: Transforms>(
         alloc: Global,
         settings: &Settings,
@@ -111,7 +112,7 @@ impl Registry {
         }
     }
 
-    /// The projects in the order in which they are included, the root in front.
+    /// The projects in the order in which they are included, the root first.
     pub fn projects(&self) -> &ProjectSet
         ensures { result.now ≡ self.now.names.projects }
     {
@@ -148,8 +149,9 @@ impl Registry {
         copy_paths(alloc, self.tasks.as_slice())
     }
 
-    /// The tasks that a word selects: one with a colon one task, one without all of that name. Refused where
-    /// it is no path or name (1), or there is no such project (50) or task (52).
+    /// The tasks that an argument selects: with a colon one task, without a colon all tasks of that
+    /// name. Refused where it is no path or name (1), or there is no such project (50) or task
+    /// (52).
     pub fn select(&self, alloc: Global, word: &Text) -> Result<TaskPaths, Fault>
         ensures tasks { IfOk result (λ tasks. tasks ≡ selected self.now.names word.now) }
         ensures faults { TellsFirst (word_faults self.now.names word.now) result }
@@ -196,7 +198,8 @@ impl Registry {
         Ok(tasks)
     }
 
-    /// The texts of the last `defaultTasks` of the root's script; none where there is none.
+    /// The texts of the last `defaultTasks` of the root's script; none where there is no
+    /// `defaultTasks`.
     pub fn default_tasks(&self, alloc: Global) -> Result<Texts, AllocError>
         ensures { IfOk result (λ texts. texts ≡ default_tasks self.now.said) }
     {
@@ -253,7 +256,7 @@ fn has_colon(word: &str) -> bool
     word.as_bytes().iter().any(|byte| *byte == b':')
 }
 
-/// A word as the path of a task, seen from the root. Refused where it is none (1).
+/// An argument as the path of a task, relative to the root. Refused where it is no path (1).
 fn path_of(alloc: Global, word: &Text) -> Result<TaskPath, Fault>
     ensures path { IfOk result (λ path. path ≡ absolute root_path word.now) }
     ensures faults { TellsFirst (name_faults root_path word.now) result }
@@ -266,7 +269,7 @@ fn path_of(alloc: Global, word: &Text) -> Result<TaskPath, Fault>
     }
 }
 
-/// The tasks of a name, in whatever project.
+/// The tasks of a name, in any project.
 fn named(alloc: Global, tasks: &[TaskPath], name: &str) -> Result<TaskPaths, AllocError>
     ensures { IfOk result (λ found.
         found ≡ with_tasks [] (filter (λ path. bytes_eq (task_name path) name.now) tasks.now)) }
@@ -293,7 +296,7 @@ fn last_defaults(scripts: &[Scripted]) -> Option<&Texts>
     last
 }
 
-/// The texts of the last `defaultTasks` of these statements, or else those before them.
+/// The texts of the last `defaultTasks` of these statements, or else the earlier ones.
 fn later_defaults<'s>(before: Option<&'s Texts>, statements: &'s [Statement]) -> Option<&'s Texts>
     ensures { texts_or_none (option_copied result)
         ≡ fold defaults_after (texts_or_none (option_copied before.entry)) statements.now }

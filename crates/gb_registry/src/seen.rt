@@ -1,4 +1,4 @@
-//! What a statement is judged by.
+//! The state by which a statement is checked.
 ghost use Rattle.std.specs.Prelude.{◌≡◌, ◌+◌, [], ◌∷◌, ◌++◌, IfOk, IfErr, OnOk, OnErr, IsTrue, string_bytes};
 ghost use Rattle.gb_core.specs.Path.{is_task_path, task_in};
 ghost use Rattle.gb_report.specs.declared.fault.Fault.TheVariants.{OutOfMemory};
@@ -19,28 +19,28 @@ use gb_core::text::Text;
 use gb_report::fault::{Fault, Limited};
 use std::alloc::{AllocError, Global};
 
-/// At most so many properties.
+/// The most properties.
 const MOST_PROPERTIES: usize = 1024;
 
-/// At most so many tasks.
+/// The most tasks.
 const MOST_TASKS: usize = 4096;
 
-/// What the statements before one leave: all tasks, the properties of its own script, those of them that
-/// are final, and the count of all properties.
+/// The state after the statements before one: all tasks, the properties of its own script, the
+/// final ones among them, and the count of all properties.
 #[derive(Drop)]
 pub struct Seen {
     /// The tasks of all scripts so far.
     pub tasks: Tasks,
     /// The properties that this script has declared.
     pub properties: TextSet,
-    /// Those of them that take no change any more.
+    /// Those of them that accept no more changes.
     pub finals: TextSet,
     /// How many properties all scripts have declared.
     pub count: usize,
 }
 
 impl Seen {
-    /// Nothing yet.
+    /// The empty state.
     pub fn new(alloc: Global) -> Seen
         ensures { result ≡ record { tasks = []; properties = []; finals = []; count = 0 } }
     {
@@ -52,7 +52,7 @@ impl Seen {
         }
     }
 
-    /// The tasks of all scripts so far, of which none is copied.
+    /// The tasks of all scripts so far. None is copied.
     pub fn into_tasks(self) -> Tasks
         ensures { result ≡ self.tasks }
     {
@@ -79,7 +79,8 @@ impl Seen {
         }
     }
 
-    /// Declares a property: the script's first of the name (53), and one of 1,024 in all (58).
+    /// Declares a property: it is the script's first of the name (53), and at most the 1,024th of
+    /// all (58).
     pub fn declare(&mut self, name: &Name) -> Result<(), Fault>
         ensures ok { OnOk result
             (self.new ≡ record self.old {
@@ -112,7 +113,7 @@ impl Seen {
         Ok(())
     }
 
-    /// Registers a task: the first at its path (51), and one of 4,096 (58).
+    /// Registers a task: it is the first at its path (51), and at most the 4,096th (58).
     pub fn register(&mut self, alloc: Global, project: &Project, name: &Name) -> Result<(), Fault>
         ensures ok { OnOk result
             (self.new ≡ record self.old { tasks = self.old.tasks ++ task_in project.now name.now ∷ [] }) }
@@ -130,7 +131,7 @@ impl Seen {
         Ok(())
     }
 
-    /// Refused where no task of the name was registered in the project before (52).
+    /// Refused where no task of the name was registered earlier in the project (52).
     pub fn check_registered(
         &self,
         alloc: Global,

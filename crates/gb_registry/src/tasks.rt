@@ -25,7 +25,7 @@ impl Model for Tasks {
 }
 
 impl Tasks {
-    /// No task yet.
+    /// No tasks yet.
     pub fn new(alloc: Global) -> Tasks
         ensures { result ≡ [] }
     {
@@ -35,14 +35,14 @@ impl Tasks {
         }
     }
 
-    /// Whether the task is there. Takes no memory.
+    /// Whether the task is present. Takes no memory.
     pub fn contains(&self, path: &str) -> bool
         ensures { result ≡ is_among self.now path.now }
     {
         self.paths.contains(path)
     }
 
-    /// How many tasks were registered before it, if it is there. Takes no memory.
+    /// How many tasks were registered before it, if it is present. Takes no memory.
     pub fn position(&self, path: &str) -> Option<usize>
         ensures { result ≡ position (bytes_eq path.now) self.now }
     {
@@ -70,7 +70,7 @@ impl Tasks {
         &self.paths
     }
 
-    /// Adds a task that is not there.
+    /// Adds a task that is not present.
     pub fn add(&mut self, path: TaskPath) -> Result<(), AllocError>
         requires { is_among self.old path ≡ false }
         ensures ok { OnOk result (self.new ≡ self.old ++ path ∷ []) }

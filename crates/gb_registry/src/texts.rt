@@ -22,7 +22,7 @@ impl Model for TextSet {
 }
 
 impl TextSet {
-    /// No text yet.
+    /// No texts yet.
     pub fn new(alloc: Global) -> TextSet
         ensures { result ≡ [] }
     {
@@ -32,7 +32,7 @@ impl TextSet {
         }
     }
 
-    /// Adds a text behind the others, unless it is there.
+    /// Appends a text, unless it is present.
     pub fn insert(&mut self, text: &str) -> Result<(), AllocError>
         ensures ok { OnOk result (self.new ≡ with_path self.old text.now) }
         ensures err { OnErr result (self.new ≡ self.old) }
@@ -42,14 +42,14 @@ impl TextSet {
         Ok(())
     }
 
-    /// Whether the text is there. Takes no memory.
+    /// Whether the text is present. Takes no memory.
     pub fn contains(&self, text: &str) -> bool
         ensures { result ≡ is_among self.now text.now }
     {
         self.texts.contains(text)
     }
 
-    /// How many texts stand before it, if it is there. Takes no memory.
+    /// How many texts are before it, if it is present. Takes no memory.
     pub fn position(&self, text: &str) -> Option<usize>
         ensures { result ≡ position (bytes_eq text.now) self.now }
     {

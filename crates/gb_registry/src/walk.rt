@@ -1,4 +1,4 @@
-//! A walk along an expression, from its left to its right.
+//! Walks an expression from left to right.
 ghost use Rattle.std.specs.Prelude.{map};
 ghost use Rattle.gb_script.specs.Tree.{links_of, trees_of};
 ghost use Rattle.gb_script.specs.View.{link_of, root_of};
@@ -9,28 +9,28 @@ use gb_report::fault::Fault;
 use gb_script::expression::{Expression, Source, Step};
 use std::alloc::Global;
 
-/// What is looked for at the sources and the steps of expressions.
+/// The checks at the sources and the steps of expressions.
 pub trait Look {
     ghost use Rattle.std.specs.Prelude.{List};
     ghost use Rattle.gb_report.specs.declared.fault.Fault.{Fault};
     ghost use Rattle.gb_script.specs.Tree.{Link, Root};
 
-    /// All faults at a source, the first in front.
+    /// All faults at a source, the first one first.
     ghost at_root: { Self → Root → List Fault };
 
-    /// All faults at a step, apart from its operand, the first in front.
+    /// All faults at a step without those of its operand, the first one first.
     ghost at_link: { Self → Link → List Fault };
 
-    /// What is wrong with a source other than a list.
+    /// The fault of a source other than a list.
     fn source(&self, alloc: Global, source: &Source) -> Result<(), Fault>
         ensures { TellsFirst (at_root self.now (root_of source.now)) result };
 
-    /// What is wrong with a step, apart from its operand.
+    /// The fault of a step, without those of its operand.
     fn step(&self, alloc: Global, step: &Step) -> Result<(), Fault>
         ensures { TellsFirst (at_link self.now (link_of step.now)) result };
 }
 
-/// The first fault that is found along an expression; the operand of a step comes before its function.
+/// The first fault along an expression; the operand of a step comes before its function.
 #[cycle(walk)]
 pub fn look_along<L: Look>(alloc: Global, look: &L, tree: &Expression) -> Result<(), Fault>
     ensures { TellsFirst (found_in (L.at_root look.now) (L.at_link look.now) tree.now) result }

@@ -1,4 +1,4 @@
-//! What is wrong with an expression, before its value is asked.
+//! The faults of an expression before its value is computed.
 ghost use Rattle.std.specs.Prelude.{◌≡◌};
 ghost use Rattle.std.specs.Option.{option_copied};
 ghost use Rattle.gb_registry.specs.Faults.{TellsFirst};
@@ -18,16 +18,16 @@ use gb_script::expression::{Source, Step};
 use gb_script::function::Function;
 use std::alloc::Global;
 
-/// Where an expression stands, and what it may name there: functions, properties and tasks.
+/// The position of an expression, and what it may name there: functions, properties and tasks.
 #[derive(Drop)]
 pub struct Scope<'a, A: Actions, T: Transforms> {
     /// The actions and functions that may be named.
     pub tables: &'a Tables<A, T>,
-    /// The project that its places lie in, and its tasks are named from.
+    /// The project that contains its places, and relative to which its tasks are named.
     pub project: &'a Project,
-    /// The properties that are declared above it.
+    /// The properties that are declared before it.
     pub properties: &'a TextSet,
-    /// Where all tasks are known.
+    /// All names, where all tasks are known.
     pub names: Option<&'a Names<'a>>,
 }
 

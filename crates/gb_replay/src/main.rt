@@ -1,7 +1,7 @@
 //! Replays lines of edits and builds over a folder in memory.
 //!
-//! It reads its whole standard input, takes the lines in their order and prints what becomes of
-//! them, all of it by `gb_lines`.
+//! It reads its whole standard input, processes the lines in their order and prints their results,
+//! all of it by `gb_lines`.
 #![tactic(auto)]
 
 use gb_action::table::ActionTable;

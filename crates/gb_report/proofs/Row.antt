@@ -1,4 +1,4 @@
--- Names in a row, one more at a time.
+-- Names in a list, one more at a time.
 use Rattle.std.proofs.Common.{◌≡◌, ◌<◌, ◌≤◌, ℕ, List, ◌∷◌, ◌++◌, ◌+◌, take, suc, sym, ap, ◌∙◌, append-nil, arith}
 use Rattle.std.specs.Prelude.{codes, get_or, length}
 use Rattle.std.specs.List.{flat_map}
@@ -7,7 +7,7 @@ use Rattle.std.proofs.lemmas.Grind.{flat_map-append}
 use Rattle.std.proofs.lemmas.List.{take_all}
 use Rattle.gb_report.specs.Fault.{row_text}
 
--- a name behind a comma
+-- a name after a comma
 abbrev pub behind : List ℕ → List ℕ
 behind name = codes ", " ++ name
 

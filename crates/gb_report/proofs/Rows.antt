@@ -13,7 +13,7 @@ use Rattle.gb_report.specs.declared.report.Report.{Report}
 use Rattle.gb_report.specs.Fault.{fault_text, shown}
 use Rattle.gb_report.specs.Report.{line, report_text}
 
--- what became of a task with an action
+-- the report of a task with an action
 abbrev ran : List ℕ → Outcome → List (List ℕ) → TaskReport
 ran path outcome lines = record { path = path; outcome = outcome; has_actions = true; lines = lines }
 

@@ -10,7 +10,7 @@ use Rattle.gb_report.specs.declared.fault.Fault.TheVariants as faults
 use Rattle.gb_report.specs.declared.fault.Limited.{Limited}
 use Rattle.gb_report.specs.declared.fault.Limited.TheVariants as limited
 
--- the number under which a fault is told to users
+-- the fault number that is reported to users
 abbrev pub fault_number : Fault → ℕ
 fault_number (faults.BadName text) = 1
 fault_number (faults.BadPlace text) = 2
@@ -56,15 +56,15 @@ fault_number (faults.OwnState place) = 94
 fault_number (faults.BadLine line) = 95
 fault_number faults.Usage = 96
 
--- a control character is told as '?'
+-- a control character is printed as '?'
 abbrev pub shown_character : ℕ → ℕ
 shown_character c = if nat_lt c 32 || (c == 127) then 63 else c
 
--- what is told of a text from outside: its first 80 characters
+-- the printed part of a text from outside: its first 80 characters
 abbrev pub shown : List ℕ → List ℕ
 shown text = encode_utf8_all (map shown_character (take 80 (chars text)))
 
--- what there is too much of
+-- what exceeds a limit
 abbrev pub limited_text : Limited → List ℕ
 limited_text limited.Projects = codes "projects"
 limited_text limited.Tasks = codes "tasks"
@@ -126,7 +126,7 @@ fault_text (faults.OwnState place) = codes "94 own state " ++ place
 fault_text (faults.BadLine line) = codes "95 bad line " ++ decimal line
 fault_text faults.Usage = codes "96 usage"
 
--- what a fault is about, as it is told behind its words
+-- what a fault is about, as it is printed after its words
 abbrev pub about_text : About → List ℕ
 about_text abouts.Nothing = []
 about_text (abouts.Place place) = place.now

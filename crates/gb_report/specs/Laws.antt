@@ -1,4 +1,4 @@
--- Laws of the texts, as statements.
+-- Theorems about the texts, as statements.
 use Rattle.std.specs.Prelude.{◌≡◌, List, ℕ, ◌∷◌, ◌++◌, decimal}
 use Rattle.gb_report.specs.declared.fault.Fault.{Fault}
 use Rattle.gb_report.specs.Fault.{fault_number, fault_text}

@@ -1,4 +1,4 @@
--- What became of a task, and how it counts.
+-- The outcome of a task, and how it counts.
 use Rattle.std.specs.Prelude.{Bool, true, false, not, ◌&&◌, ◌||◌}
 use Rattle.std.specs.List.{list_any}
 use Rattle.gb_report.specs.declared.report.Outcome.{Outcome}
@@ -15,7 +15,7 @@ is_executed outcomes.NoSource = false
 is_executed (outcomes.Failed fault) = false
 is_executed outcomes.NotRun = false
 
--- nothing was to be done
+-- nothing had to be done
 abbrev pub is_up_to_date : Outcome → Bool
 is_up_to_date outcomes.Executed = false
 is_up_to_date outcomes.UpToDate = true
@@ -33,7 +33,7 @@ is_failed outcomes.NoSource = false
 is_failed (outcomes.Failed fault) = true
 is_failed outcomes.NotRun = false
 
--- its turn came: every outcome but `NotRun`
+-- the task started: every outcome but `NotRun`
 abbrev pub is_started : Outcome → Bool
 is_started outcomes.Executed = true
 is_started outcomes.UpToDate = true
@@ -42,11 +42,11 @@ is_started outcomes.NoSource = true
 is_started (outcomes.Failed fault) = true
 is_started outcomes.NotRun = false
 
--- a task with an action that ran, to its end or not
+-- a task with an action that ran, to completion or not
 abbrev pub counts_as_executed : TaskReport → Bool
 counts_as_executed task = task.has_actions && (is_executed task.outcome || is_failed task.outcome)
 
--- a task with an action that needed no run
+-- a task with an action that did not need to run
 abbrev pub counts_as_up_to_date : TaskReport → Bool
 counts_as_up_to_date task = task.has_actions && is_up_to_date task.outcome
 

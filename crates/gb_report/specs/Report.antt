@@ -13,7 +13,7 @@ use Rattle.gb_report.specs.Outcome.{counts_as_up_to_date}
 abbrev pub line : List ℕ → List ℕ
 line text = text ++ 10 ∷ []
 
--- what stands behind the path of a started task
+-- the outcome label after the path of a started task
 abbrev pub label : Outcome → List ℕ
 label outcomes.Executed = []
 label outcomes.UpToDate = codes " UP-TO-DATE"
@@ -41,7 +41,7 @@ failure_text path outcomes.NotRun = []
 abbrev pub refusal_text : Bool → List ℕ
 refusal_text refused = if refused then line (codes "FAILED listener: 91 listener refused") else []
 
--- the line that tells whether all went well
+-- the line that reports whether the build was successful
 abbrev pub result_text : Bool → List ℕ
 result_text successful = line (if successful then codes "BUILD SUCCESSFUL" else codes "BUILD FAILED")
 
@@ -60,7 +60,7 @@ abbrev pub actionable : ℕ → List ℕ
 actionable count =
     decimal count ++ (if count == 1 then codes " actionable task: " else codes " actionable tasks: ")
 
--- the last line, where some task is actionable
+-- the last line, if some task is actionable
 abbrev pub summary : List TaskReport → List ℕ
 summary tasks =
     if count_by is_actionable tasks == 0 then []

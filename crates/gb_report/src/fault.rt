@@ -1,4 +1,4 @@
-//! Why something is refused, or a task failed.
+//! Faults: why something is refused, or why a task failed.
 ghost use Rattle.std.specs.Prelude.{◌≡◌, ◌<◌, ◌≤◌, ◌++◌, IfOk};
 ghost use Rattle.gb_report.specs.Fault.{about_text, fault_number, fault_text, shown_character};
 
@@ -11,14 +11,14 @@ use std::alloc::{AllocError, AllocFailed, Global};
 use std::fmt;
 use thiserror::Error;
 
-/// What there is too much of.
+/// What exceeds a limit.
 #[derive(Clone, Copy, Debug)]
 pub enum Limited {
-    /// Projects, the root among them: more than 256.
+    /// Projects, including the root: more than 256.
     Projects,
-    /// Tasks that are registered: more than 4,096.
+    /// Registered tasks: more than 4,096.
     Tasks,
-    /// Properties that are declared: more than 1,024.
+    /// Declared properties: more than 1,024.
     Properties,
     /// Values that an invocation gives: more than 256.
     Values,
@@ -40,53 +40,53 @@ impl fmt::Display for Limited {
     }
 }
 
-/// Why something is refused, or a task failed. Its `Display` is the text that users read.
+/// Why something is refused, or why a task failed. Its `Display` is the text that users read.
 #[derive(Drop, Error)]
 pub enum Fault {
-    /// A text that is no name, or no path of names; 1.
+    /// A text that is neither a name nor a path of names; 1.
     BadName(Text),
-    /// A text that is no place; 2.
+    /// A text that is not a place; 2.
     BadPlace(Text),
     /// The system gave no more memory; 3.
     OutOfMemory,
     /// The device failed at the place.
     Device(Place),
-    /// No file stands at the place; 11.
+    /// No file exists at the place; 11.
     Missing(Place),
-    /// A file stands at a folder of the place, or beneath it.
+    /// A file is at an ancestor folder of the place, or under it.
     Blocked(Place),
     /// The file at the place has more than 8 MiB; 13.
     TooLarge(Place),
-    /// The root that was listed: beneath it stands what no place can name, or what is neither a file
-    /// nor a folder.
+    /// The root that was listed: under it is a name that no place can have, or an entry that is
+    /// neither a file nor a folder.
     BadFileName(Place),
     /// The script, and the line.
     Syntax(Place, u64),
     /// The script, of more than 1 MiB; 21.
     TooLong(Place),
-    /// The script, and the line of a bracket inside of 64 others or of a step behind 64 others.
+    /// The script, and the line of a bracket inside 64 others or of a step after 64 others.
     TooDeep(Place, u64),
-    /// The script, whose bytes are no UTF-8; 23.
+    /// The script, whose bytes are not UTF-8; 23.
     NotUtf8(Place),
-    /// Properties and outputs that read one another, from the least name on.
+    /// Properties and outputs that read one another, starting at the least name.
     Circular(Texts),
     /// No function of that use has the name; 31.
     UnknownTransform(Name),
-    /// The function of this name does not take what it is given.
+    /// The function of this name does not accept its arguments.
     BadArguments(Text),
     /// An input, an output or `enabled` of the task.
     NoValue(TaskPath, Name),
     /// Of a function, an input, an output, `enabled` or `list`.
     WrongValue(Text),
-    /// A property that takes no other value any more.
+    /// A property that accepts no other value any more.
     Final(Name),
     /// No kind of actions has the name; 40.
     UnknownAction(Name),
-    /// The action failed by itself, with this text.
+    /// The action itself failed, with this text.
     ActionFailed(Text),
-    /// The task, and the kind that does not take its arguments; 43.
+    /// The task, and the kind that does not accept its arguments; 43.
     BadArgument(TaskPath, Name),
-    /// The text, which names a task of a project that there is not; 50.
+    /// The text, which names a task of a project that does not exist; 50.
     UnknownProject(Text),
     /// The path, which one script registers twice; 51.
     DuplicateTask(TaskPath),
@@ -98,42 +98,43 @@ pub enum Fault {
     UnknownProperty(Name),
     /// The task, whose inputs, outputs and actions do not fit together; 55.
     BadShape(TaskPath),
-    /// The task, and an output that is not beneath the build folder of its project; 56.
+    /// The task, and an output that is not under the build folder of its project; 56.
     OutputOutsideBuild(TaskPath, Place),
     /// A project named `build`, or with a folder of more than 896 bytes; 57.
     BadProjectPlace(ProjectPath),
-    /// More of these than there may be; 58.
+    /// More of these than are allowed; 58.
     TooMany(Limited),
     /// The task, and a text that names none of its outputs.
     UnknownOutput(TaskPath, Text),
-    /// Each task comes after the next, and the last after the first.
+    /// Each task has to run after the next one, and the last after the first.
     Cycle(TaskList),
-    /// Outputs of two tasks meet at the place, which is one of the first.
+    /// Outputs of two tasks overlap at the place, which is an output of the first.
     OverlappingOutputs(TaskPath, TaskPath, Place),
-    /// The first task reads at the place what the second makes, and does not come after it.
+    /// At the place, the first task reads what the second produces, without being ordered after it.
     UndeclaredDependency(TaskPath, TaskPath, Place),
-    /// The task reads at the place what it makes itself.
+    /// At the place, the task reads what it produces itself.
     OwnOutputAsInput(TaskPath, Place),
     /// Neither a name nor the root script says what runs; 64.
     NoTasks,
-    /// A text that is no pattern of paths; 70.
+    /// A text that is not a pattern of paths; 70.
     BadPattern(Text),
-    /// Two files of the property stand at one path, or one at a folder of the other: the greater path.
+    /// Two files of the property are at one path, or one is at an ancestor folder of the other: the
+    /// greater path.
     DuplicateInput(Name, RelPath),
     /// The property or output, with more than 65,536 files; 72.
     TooManyFiles(Name),
-    /// The record of a task was not written; 90. The next build runs the task again.
+    /// The record of a task was not written; 90. The next build executes the task again.
     HistoryNotWritten,
     /// A place among the records of builds.
     OwnState(Place),
-    /// The line of a replay that is none, counted from 1; 95.
+    /// The number, counted from 1, of a line that is not a valid line of a replay; 95.
     BadLine(u64),
-    /// The words of a command are none that are known.
+    /// The arguments of a command are not known.
     Usage,
 }
 
 impl Fault {
-    /// The number under which the fault is told to users.
+    /// The fault number that is reported to users.
     pub fn number(&self) -> u16
         ensures { result ≡ fault_number self.now }
     {
@@ -334,14 +335,14 @@ impl fmt::Display for Fault {
     }
 }
 
-/// Told as it is shown.
+/// Formatted as by `Display`.
 impl fmt::Debug for Fault {
     fn fmt<W: fmt::Write>(&self, f: &mut fmt::Formatter<W>) -> fmt::Result {
         fmt::Display::fmt(self, f)
     }
 }
 
-/// What a fault is about, as it is told behind its words.
+/// What a fault is about, as it is printed after its words.
 #[derive(Clone, Copy)]
 enum About<'a> {
     Nothing,
@@ -497,7 +498,7 @@ impl<T: Drop> From<AllocFailed<T>> for Fault {
     }
 }
 
-/// A text from outside, as a fault tells it: its beginning, with no control character.
+/// A text from outside, as a fault prints it: its beginning, without control characters.
 #[derive(Clone, Copy)]
 struct Shown<'a> {
     text: &'a Text,
@@ -517,7 +518,7 @@ impl<'a> fmt::Display for Shown<'a> {
     }
 }
 
-/// Names as a fault tells them, with a comma between each two.
+/// Names as a fault prints them, with a comma between each two.
 #[derive(Clone, Copy)]
 struct Names<'a> {
     names: &'a Texts,
@@ -541,7 +542,7 @@ impl<'a> fmt::Display for Names<'a> {
     }
 }
 
-/// Tasks as a fault tells them, with a comma between each two.
+/// Tasks as a fault prints them, with a comma between each two.
 #[derive(Clone, Copy)]
 struct Tasks<'a> {
     tasks: &'a TaskList,
@@ -565,7 +566,7 @@ impl<'a> fmt::Display for Tasks<'a> {
     }
 }
 
-/// How a fault tells a character: `?` in place of a control character.
+/// How a fault prints a character: `?` in place of a control character.
 pub fn shown_character(character: char) -> char
     ensures { result ≡ shown_character character }
 {

@@ -1,11 +1,11 @@
-//! What a build answers, and the text that it prints.
+//! The report that a build returns, and the text that is printed for it.
 //!
-//! A build answers with a report: what became of each task, in the order of their turns. A refusal,
-//! or the failure of a task, is a fault. The one contract is that of `render`: its bytes are
-//! `report_text`, whole, so that nothing is left open in what is printed; `render_fault` likewise.
+//! A build returns a report: the outcome of each task, in the order of execution. A refusal, or the
+//! failure of a task, is a fault. The one contract is that of `render`: its bytes are exactly
+//! `report_text`, so that nothing about the printed text is left open; `render_fault` likewise.
 //!
-//! Set aside: numbers of faults as values of their own, since each fault tells what it is about; and
-//! lines that are printed as the build goes, since a text that is made at the end can be compared.
+//! Out of scope: fault numbers as values of their own, since each fault says what it is about; and
+//! lines that are printed while the build runs, since a text made at the end can be compared.
 #![tactic(auto)]
 
 pub mod fault;

@@ -1,4 +1,4 @@
-//! The text that is printed of a report and of a fault.
+//! The printed text of a report and of a fault.
 ghost use Rattle.std.specs.Prelude.{◌≡◌, ◌++◌, IfOk, OnOk, string_bytes};
 ghost use Rattle.std.specs.List.{count_by, flat_map};
 ghost use Rattle.gb_report.specs.Fault.{fault_text};
@@ -12,7 +12,7 @@ use gb_core::text::Text;
 use std::alloc::{AllocError, Global};
 use std::fmt::Write;
 
-/// What is printed of a report, in UTF-8; each line ends in a line feed.
+/// The printed text of a report, in UTF-8; each line ends in a line feed.
 pub fn render(alloc: Global, report: &Report) -> Result<Vec<u8>, AllocError>
     ensures { IfOk result (λ bytes. bytes.items ≡ report_text report.now) }
 {
@@ -25,7 +25,7 @@ pub fn render(alloc: Global, report: &Report) -> Result<Vec<u8>, AllocError>
     Ok(text.into_bytes())
 }
 
-/// What is printed of a fault, in UTF-8, with no line feed.
+/// The printed text of a fault, in UTF-8, without a line feed.
 pub fn render_fault(alloc: Global, fault: &Fault) -> Result<Vec<u8>, AllocError>
     ensures { IfOk result (λ bytes. bytes.items ≡ fault_text fault.now) }
 {
@@ -53,7 +53,7 @@ fn push_run(text: &mut String, report: &Report) -> Result<(), AllocError>
     push_summary(text, tasks)
 }
 
-/// Adds what is printed of each of these tasks.
+/// Appends the printed text of each of these tasks.
 pub fn push_tasks(text: &mut String, tasks: &[TaskReport]) -> Result<(), AllocError>
     ensures { OnOk result
         (string_bytes text.new ≡ string_bytes text.old ++ flat_map task_text tasks.now) }
@@ -64,7 +64,7 @@ pub fn push_tasks(text: &mut String, tasks: &[TaskReport]) -> Result<(), AllocEr
     Ok(())
 }
 
-/// Adds what is printed of a task: nothing, if it did not start.
+/// Appends the printed text of a task: nothing, if it did not start.
 pub fn push_task(text: &mut String, task: &TaskReport) -> Result<(), AllocError>
     ensures { OnOk result (string_bytes text.new ≡ string_bytes text.old ++ task_text task.now) }
 {
@@ -77,7 +77,7 @@ pub fn push_task(text: &mut String, task: &TaskReport) -> Result<(), AllocError>
     push_lines(text, task.lines.as_slice())
 }
 
-/// What stands behind the path of a started task.
+/// The outcome label after the path of a started task.
 fn label(outcome: &Outcome) -> &'static str
     ensures { result.now ≡ label outcome.now }
 {
@@ -90,7 +90,7 @@ fn label(outcome: &Outcome) -> &'static str
     }
 }
 
-/// Adds these lines, each with its line feed.
+/// Appends these lines, each with its line feed.
 fn push_lines(text: &mut String, lines: &[Text]) -> Result<(), AllocError>
     ensures { OnOk result
         (string_bytes text.new ≡ string_bytes text.old ++ flat_map line lines.now) }
@@ -143,7 +143,7 @@ fn push_result(text: &mut String, successful: bool) -> Result<(), AllocError>
     }
 }
 
-/// How many tasks were executed and how many were up to date, where some task is actionable.
+/// Appends how many tasks were executed and how many were up to date, if some task is actionable.
 fn push_summary(text: &mut String, tasks: &[TaskReport]) -> Result<(), AllocError>
     ensures { OnOk result (string_bytes text.new ≡ string_bytes text.old ++ summary tasks.now) }
 {

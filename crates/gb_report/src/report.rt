@@ -1,4 +1,4 @@
-//! What became of each task of a build.
+//! The outcome of each task of a build.
 ghost use Rattle.std.specs.Prelude.{◌≡◌, IfOk};
 ghost use Rattle.std.specs.List.{list_any};
 ghost use Rattle.gb_report.specs.Outcome.{is_failed};
@@ -9,20 +9,20 @@ use gb_core::row::Row;
 use gb_core::text::Texts;
 use std::alloc::{AllocError, Global};
 
-/// What became of a task.
+/// The outcome of a task.
 #[derive(Drop)]
 pub enum Outcome {
-    /// Its actions ran to their end.
+    /// Its actions ran to completion.
     Executed,
-    /// Nothing was to be done.
+    /// Nothing had to be done.
     UpToDate,
-    /// A test of its own said no, or the build is a dry run.
+    /// A test of its own was false, or the build is a dry run.
     Skipped,
-    /// The files that it works on are none.
+    /// There are no files for it to work on.
     NoSource,
-    /// The first fault of its turn. What was written before it stays.
+    /// The first fault of its execution. What was written before the fault stays.
     Failed(Fault),
-    /// Its turn did not come.
+    /// The task did not start.
     NotRun,
 }
 
@@ -43,28 +43,28 @@ impl Outcome {
         })
     }
 
-    /// Whether its actions ran to their end.
+    /// Whether its actions ran to completion.
     pub fn is_executed(&self) -> bool
         ensures { result ≡ is_executed self.now }
     {
         matches!(self, Outcome::Executed)
     }
 
-    /// Whether nothing was to be done, so that none of its actions ran.
+    /// Whether nothing had to be done, so that none of its actions ran.
     pub fn is_up_to_date(&self) -> bool
         ensures { result ≡ is_up_to_date self.now }
     {
         matches!(self, Outcome::UpToDate)
     }
 
-    /// Whether its turn ended in a fault.
+    /// Whether its execution ended in a fault.
     pub fn is_failed(&self) -> bool
         ensures { result ≡ is_failed self.now }
     {
         matches!(self, Outcome::Failed(_))
     }
 
-    /// Whether the task's turn came.
+    /// Whether the task started.
     pub fn is_started(&self) -> bool
         ensures { result ≡ is_started self.now }
     {
@@ -72,32 +72,32 @@ impl Outcome {
     }
 }
 
-/// What those who listen to a build are told of a task's turn.
+/// A notification to the listeners of a build about the execution of a task.
 #[derive(Drop)]
 pub enum Heard {
-    /// The turn of the task begins.
+    /// The execution of the task starts.
     Start(TaskPath),
-    /// The turn of the task has ended, with this outcome.
+    /// The execution of the task has ended, with this outcome.
     End(TaskPath, Outcome),
 }
 
-/// How a build is to be done.
+/// How a build is to be executed.
 #[derive(Clone, Copy)]
 pub struct Options {
     /// Tasks that do not need a failed one still run.
     pub keep_going: bool,
-    /// What was done before is done again.
+    /// Work that was done before is done again.
     pub rerun: bool,
-    /// Nothing runs: the tasks that would are told.
+    /// Nothing runs: the tasks that would run are reported.
     pub dry_run: bool,
 }
 
-/// What became of one task, and the lines that it printed.
+/// The outcome of one task, and the lines that it printed.
 #[derive(Drop)]
 pub struct TaskReport {
-    /// The task of which this is told.
+    /// The path of the task.
     pub path: TaskPath,
-    /// What became of it.
+    /// Its outcome.
     pub outcome: Outcome,
     /// A task without actions is not counted in the last line.
     pub has_actions: bool,
@@ -108,14 +108,14 @@ pub struct TaskReport {
 impl TaskReport {
     ghost use Rattle.gb_report.specs.Outcome.{counts_as_executed, counts_as_up_to_date, is_actionable};
 
-    /// Whether an action of it ran, to its end or not.
+    /// Whether one of its actions ran, to completion or not.
     pub fn counts_as_executed(&self) -> bool
         ensures { result ≡ counts_as_executed self.now }
     {
         self.has_actions && (self.outcome.is_executed() || self.outcome.is_failed())
     }
 
-    /// Whether it has actions and needed no run.
+    /// Whether it has actions and did not need to run.
     pub fn counts_as_up_to_date(&self) -> bool
         ensures { result ≡ counts_as_up_to_date self.now }
     {
@@ -130,17 +130,17 @@ impl TaskReport {
     }
 }
 
-/// The tasks of a build, in the order of their turns.
+/// The tasks of a build, in the order of execution.
 pub type TaskReports = Row<TaskReport>;
 
-/// What a build answers.
+/// The report that a build returns.
 #[derive(Drop)]
 pub struct Report {
-    /// All tasks of the plan, also those whose turn did not come.
+    /// All tasks of the plan, including those that did not start.
     pub tasks: TaskReports,
-    /// Nothing ran: the tasks are those that would.
+    /// Nothing ran: the tasks are those that would run.
     pub dry_run: bool,
-    /// One who hears of the tasks' turns gave up.
+    /// A listener to the task executions gave up.
     pub listener_refused: bool,
 }
 

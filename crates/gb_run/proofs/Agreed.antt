@@ -1,4 +1,4 @@
--- What is stored under the name of an action means what the kinds say.
+-- The table entry under the name of an action means what the kinds say.
 use Rattle.std.proofs.Common.{◌≡◌, ℕ, cond, List, [], ◌∷◌, Some, refl, sym, ap, subst, ◌∙◌}
 use Rattle.std.specs.FinMap.Entries.{find}
 use Rattle.std.specs.Ordering.{is_eq}

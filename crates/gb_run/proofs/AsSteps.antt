@@ -16,7 +16,7 @@ pub after_put : (old : Files) (files : List (Place × Bytes)) → after_steps ol
 after_put old [] = refl
 after_put old (file ∷ files) = after_put (with_file old file.0 file.1) files
 
--- where each had room as it was put, all have room
+-- if each had room as it was put, all have room
 pub room_of : (old : Files) (files : List (Place × Bytes)) → HasRoom old (put files) → has_room old files
 room_of old [] room = refl
 room_of old (file ∷ files) room =

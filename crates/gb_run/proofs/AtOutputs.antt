@@ -1,4 +1,4 @@
--- The files of an action lie at the outputs of its task, and what hinders them is no failure of the device.
+-- The files of an action are at the outputs of its task, and none of their faults is a failure of the device.
 use Rattle.std.proofs.Common.{◌≡◌, ℕ, Bool, true, false, cond, not, ◌||◌, List, [], ◌∷◌, ◌++◌, map, length, Option, Some, None, refl, ap, subst, ◌∙◌}
 use Rattle.std.proofs.lemmas.Bool.{and_from, and_parts}
 use Rattle.std.specs.List.{AllByRecursion, list_all, list_any, flat_map}
@@ -23,7 +23,7 @@ use Rattle.gb_tree.proofs.Holding.{all_append}
 abbrev pub is_at : List Output → Place → Bool
 is_at outputs place = list_any (λ output. is_under place output.place) outputs
 
--- a place at or beneath the output of a name
+-- a place at or under the output of a name
 at_named : (outputs : List Output) (name : List ℕ) (file : Written) → AllByRecursion (λ (f : Place × Bytes). is_at outputs f.0 ≡ true) (placed_in (output_named outputs name) file)
 at_named [] name file = tt
 at_named (output ∷ outputs) name file =
@@ -58,7 +58,7 @@ pub placed_at_these : (outputs these : List Output) (written : List Written) →
 placed_at_these outputs these written same =
     subst (λ (os : List Output). AllByRecursion (λ (f : Place × Bytes). is_at os f.0 ≡ true) (put_over [] (placed outputs written))) same (placed_at_outputs outputs written)
 
--- ---- the device has no part in what hinders files
+-- ---- the faults of files do not depend on the device
 
 abbrev pub BlamesNone : Fault → Type 0
 BlamesNone fault = (place : Place) → fault ≡ faults.Device place → ⊥
@@ -87,7 +87,7 @@ first_blames_none : (faults : List Fault) (fault : Fault) → AllByRecursion Bla
 first_blames_none [] fault all e = absurd (cc)
 first_blames_none (first ∷ faults) fault all e = λ place is. let same : first ≡ fault = cc in all.0 place (same ∙ is)
 
--- files that hinder one another blame no device
+-- faults of files that conflict are not attributed to the device
 pub placing_blames_none : (outputs : List Output) (taken files : Files) (fault : Fault) (place : Place) → first_of (faults_beside outputs taken files) ≡ Some fault → fault ≡ faults.Device place → ⊥
 placing_blames_none outputs taken files fault place e is =
     let all = put_over taken (blank files) in

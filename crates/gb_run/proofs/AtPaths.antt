@@ -1,4 +1,4 @@
--- What files and steps say of the paths of an output.
+-- Files and steps at the paths of an output.
 use Rattle.std.specs.Prelude.{ℕ, ◌≡◌, ◌≢◌, ◌++◌, ◌&&◌, ◌||◌, Bool, true, false, cond, List, [], ◌∷◌, Option, Some, None, option_map, bytes_eq, if◌then◌else◌}
 use Rattle.std.specs.List.{AllByRecursion}
 use Rattle.std.specs.Option.{option_or}
@@ -25,7 +25,7 @@ use Rattle.gb_run.specs.Named.{named, put, removed, removed_in}
 use Rattle.gb_run.specs.Steps.{Step, put_steps}
 use Rattle.gb_run.proofs.Looks.{at_others, at_put, steps_append, ties}
 
--- ---- paths beneath a place
+-- ---- paths under a place
 
 pub from_beneath : (root path : Place) → path_from root (beneath root path) ≡ path
 from_beneath root [] = at_root root
@@ -39,7 +39,7 @@ alike true b f g = sym (f refl)
 alike false true f g = g refl
 alike false false f g = refl
 
--- two paths beneath a place tie where they are one
+-- two paths under a place compare as equal if they are one
 pub tied_beneath : (root p q : Place) → eq_by_cmp byte_order (beneath root p) (beneath root q) ≡ bytes_eq q p
 tied_beneath root p q = alike _ _
     (λ e. (bytes_decides q p).1 (sym (beneath_same root p q (same_place (beneath root p) (beneath root q) e))))
@@ -111,7 +111,7 @@ module _ (outputs : List Output) (output : Output) (is : output_named outputs ta
       by false true h = refl
       by false false h = refl
 
-  -- what a reply has stand at the path of an output, by its steps over others
+  -- what a reply leaves at the path of an output, by its steps over others
   pub at_named : (held : List Step) (reply : Reply) → WritesTarget reply.writes → RemovesTarget reply.removes → (path : List ℕ)
       → find byte_order (beneath output.place path) (put_steps held (named outputs reply.removes reply.writes))
       ≡ option_or (option_map (λ b. Some b) (written_at reply.writes target path)) (cond (is_removed reply.removes target path) (Some None) (find byte_order (beneath output.place path) held))

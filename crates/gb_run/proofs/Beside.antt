@@ -1,5 +1,5 @@
--- Places taken as empty files stand for the files: what hinders an action's files beside them is what hinders
--- them beside the files themselves.
+-- Places taken as empty files represent the files: the faults of an action's files are the same given the
+-- places taken as given the files themselves.
 use Rattle.std.proofs.Common.{◌≡◌, ℕ, suc, Bool, true, false, cond, not, ◌||◌, List, [], ◌∷◌, ◌++◌, length, map, Option, Some, None, refl, sym, ap, ◌∙◌}
 use Rattle.std.specs.List.{flat_map}
 use Rattle.std.specs.Prelude.{nat_lt}
@@ -19,7 +19,7 @@ use Rattle.gb_run.specs.Placing.{blank, count_faults, faults_beside}
 
 -- ---- by place
 
--- what stands at a place once these are put: the last of them counts
+-- what is at a place once these are put: the last of them counts
 last_at : List (Place × Bytes) → Place → Option Bytes
 last_at [] q = None
 last_at (f ∷ files) q = or_else (last_at files q) (cond (eq_by_cmp byte_order q f.0) (Some f.1) None)
@@ -40,11 +40,11 @@ pub or_none : (o : Option Bytes) → or_else o None ≡ o
 or_none None = refl
 or_none (Some b) = refl
 
--- files put over others count before them, in whatever order they come
+-- files put over others take precedence over them, in whatever order they are put
 pub at_over : (held : Files) (files : List (Place × Bytes)) (q : Place) → file_at (put_over held files) q ≡ or_else (file_at (put_over [] files) q) (file_at held q)
 at_over held files q = at_last held files q ∙ ap (λ o. or_else o (file_at held q)) (sym (at_last [] files q ∙ or_none (last_at files q)))
 
--- files come to the same by place
+-- files give the same by place
 pub over_by_place : (held : Files) (files : List (Place × Bytes)) → is_sorted byte_order held ≡ true → put_over held files ≡ put_over held (put_over [] files)
 over_by_place held files h =
     same_files _ _ (sorted-put_over held files h) (sorted-put_over held (put_over [] files) h)
@@ -113,7 +113,7 @@ faults_blank all (f ∷ files) =
 pub taken_then : (held : Files) (files : List (Place × Bytes)) → is_sorted byte_order held ≡ true → put_over (blank held) (blank (put_over [] files)) ≡ blank (put_over held files)
 taken_then held files h = sym (blank_over held (put_over [] files)) ∙ ap blank (sym (over_by_place held files h))
 
--- what hinders files beside places taken is what hinders them beside the files
+-- the faults of files given the places taken are those given the files
 pub beside_held : (outputs : List Output) (held : Files) (files : List (Place × Bytes)) → is_sorted byte_order held ≡ true
     → faults_beside outputs (blank held) (put_over [] files) ≡ step_faults outputs held files
 beside_held outputs held files h =

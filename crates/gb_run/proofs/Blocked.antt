@@ -1,4 +1,5 @@
--- Where the steps of a reply have room, and which is the first that has none: as for all the files of a task.
+-- Where the steps of a reply have room, and which is the first that has none: the same as for all the files
+-- of a task.
 use Rattle.std.specs.Prelude.{◌≡◌, ◌⊎◌, ◌++◌, ◌&&◌, ◌||◌, Bool, true, false, not, cond, List, [], ◌∷◌, map, Option, Some, None, Ok, Err, is_some, option_and_then, unwrap_or}
 use Rattle.std.specs.List.{AllByRecursion, filter, list_any}
 use Rattle.std.specs.Ordering.{eq_by_cmp, is_lt}
@@ -104,7 +105,7 @@ first_is rest (f ∷ made) q bytes sorted at blocked before =
         own : file_at (f ∷ made) f.0 ≡ Some f.1
         own = find-same f.0 f made refl
 
--- nothing hinders the files of an action but the rest of the folder
+-- the files of an action have no fault but by the rest of the folder
 blocked_step : (outputs : List Output) (rest held : Files) (written : List Written) (q : Place) → step_faults outputs held (placed outputs written) ≡ [] → first_of (blocked_in rest (put_over [] (placed outputs written))) ≡ Some q
     → step_by outputs rest held (Ok written) ≡ Err (faults.Blocked q)
 blocked_step outputs rest held written q none first =
@@ -115,7 +116,7 @@ blocked_step outputs rest held written q none first =
     by [] e = no_some None q refl e
     by (p ∷ places) e = ap (λ x. Err (faults.Blocked x)) (some_same p q e)
 
--- nor the rest
+-- nor by the rest
 free_step : (outputs : List Output) (rest held : Files) (written : List Written) → step_faults outputs held (placed outputs written) ≡ [] → has_room rest (put_over [] (placed outputs written))
     → step_by outputs rest held (Ok written) ≡ Ok (put_over held (placed outputs written))
 free_step outputs rest held written none free =
@@ -129,9 +130,9 @@ free_step outputs rest held written none free =
         (none_left (is_blocked rest f.0) (list_any (λ (g : Place × Bytes). is_blocked rest g.0) files) e)
         ∙ nothing files (none_right (is_blocked rest f.0) (list_any (λ (g : Place × Bytes). is_blocked rest g.0) files) e)
 
--- ---- a front and what is behind it
+-- ---- a prefix and what is after it
 
--- what goes comes first, so a front up to what comes holds all that goes
+-- removals come first, so a prefix up to a write contains all removals
 front_comes : (going coming front : List Step) (s : Step) (behind : List Step) → AllByRecursion (λ (x : Step). is_some x.1 ≡ false) going → is_some s.1 ≡ true → going ++ coming ≡ front ++ s ∷ behind
     → (before : List Step) × (coming ≡ before ++ s ∷ behind) × (front ≡ going ++ before)
 front_comes [] coming front s behind none some e = (front, e, refl)
@@ -151,7 +152,7 @@ below_more p q (x ∷ xs) less h =
     ap (λ o. is_lt o && below_all byte_order p xs) (nat_list_cmp_total.trans p q x.0 less (is_less (byte_order q x.0) (left_of (is_lt (byte_order q x.0)) (below_all byte_order q xs) h)))
     ∙ below_more p q xs less (right_of (is_lt (byte_order q x.0)) (below_all byte_order q xs) h)
 
--- what is found before a step is found in the front
+-- what is found before a step is found in the prefix
 found_before : {X : Type 0} (front : List (Place × X)) (s : Place × X) (behind : List (Place × X)) (p : Place) (v : X) → is_sorted byte_order (front ++ s ∷ behind) ≡ true → byte_order p s.0 ≡ Less
     → find byte_order p (front ++ s ∷ behind) ≡ Some v → find byte_order p front ≡ Some v
 found_before [] s behind p v h less e =
@@ -164,7 +165,7 @@ found_before (x ∷ front) s behind p v h less e =
     by again true is = is
     by again false is = again is
 
--- what stands stays where files come
+-- what is there stays there while files are put
 stays : (files : Files) (xs : List Step) (q : Place) → AllByRecursion (λ (s : Step). is_some s.1 ≡ true) xs → is_some (file_at files q) ≡ true → is_some (file_at (after_steps files xs) q) ≡ true
 stays files [] q all e = e
 stays files (s ∷ xs) q all e = stays (with_left files s.0 s.1) xs q all.1 (ap is_some (at_left files s.0 s.1 q) ∙ by (eq_by_cmp byte_order q s.0))
@@ -215,7 +216,7 @@ module _ (task : Task) (files : Files) (folder : IsFolder files) (written : List
   rest_kept [] now all is = is
   rest_kept (s ∷ xs) now all is = rest_kept xs (with_left now s.0 s.1) all.1 (files_where-with_left outside now s.0 s.1 (ap not all.0) ∙ is)
 
-  -- where a step had room the rest is not in its way
+  -- if a step had room the rest is not in its way
   room_rest : (xs : List Step) (now : Files) → AllByRecursion (λ (s : Step). is_output_of task s.0 ≡ true) xs → files_where outside now ≡ rest → HasRoom now xs
       → AllByRecursion (λ (s : Step). is_some s.1 ≡ true → is_blocked rest s.0 ≡ false) xs
   room_rest [] now all is room = tt
@@ -226,14 +227,14 @@ module _ (task : Task) (files : Files) (folder : IsFolder files) (written : List
       first (Some b) e some =
           ap (λ (fs : Files). is_blocked fs s.0) (sym is) ∙ blocked_where outside now s.0 (subst (λ o. IsFree now (s.0, o)) e room.0)
 
-  -- what stood is not in the way of the rest
+  -- what was there is not in the way of the rest
   stood_free : (q : Place) (b : Bytes) → file_at files q ≡ Some b → is_blocked rest q ≡ false
   stood_free q b e = blocked_where outside files q (free_at files q b folder e)
 
   new_made : (q : Place) (b : Bytes) → file_at made q ≡ Some b → file_at (put_over rest made) q ≡ Some b
   new_made q b e = at-put_over rest made q made_sorted ∙ ap (λ o. or_else o (file_at rest q)) e
 
-  -- what is made stood so, or comes by a step
+  -- what is made was there already, or is put by a step
   came : (q : Place) (b : Bytes) → file_at made q ≡ Some b → (file_at files q ≡ Some b) ⊎ (find byte_order q (kept comes steps) ≡ Some (Some b))
   came q b e = by (find byte_order q steps) (is_place q) refl refl (sym (at_in_turn files steps q sorted) ∙ ap (λ (fs : Files). file_at fs q) leads.reached ∙ new_made q b e)
     where
@@ -325,7 +326,7 @@ module _ (task : Task) (files : Files) (folder : IsFolder files) (written : List
     made_free = found_holds (λ (f : Place × Bytes). is_blocked made f.0 ≡ false) made step.0 (value step.1 some).0
         (free_files_of made made (none_before _ (count_faults task.outputs made) none)) step_made
 
-    -- what stands then at an output is made
+    -- what is at an output then is made
     then_made : (q : Place) (b : Bytes) → is_output_of task q ≡ true → file_at then q ≡ Some b → is_some (file_at made q) ≡ true
     then_made q b at e =
         let new = value (file_at (put_over rest made) q) (ap (λ (fs : Files). is_some (file_at fs q)) (sym leads.reached ∙ ap (after_steps files) all ∙ after_append files front (step ∷ behind))

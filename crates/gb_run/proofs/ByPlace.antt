@@ -59,7 +59,7 @@ take_shown place (e ∷ es) sorted =
     ] refl
     ∙ ap (λ b. cond (not b) ((string_bytes e.0, e.1) ∷ without (shown es) place) (without (shown es) place)) (sym (same_place (string_bytes e.0) place))
 
--- a digest is taken out
+-- a digest is removed
 pub take_by_place : (held new : ByPlace) (place : Place) → is_sorted byte_order (digests_in held) ≡ true → new.entries ≡ remove_entry (at_place place) held.entries
     → digests_in new ≡ without (digests_in held) place
 take_by_place held new place sorted is = ap shown is ∙ take_shown place held.entries (subst T (sym sorted) tt)
@@ -72,9 +72,9 @@ sorted_without files place sorted = so _ (is_sorted-where_key byte_order (λ oth
     so true h = refl
     so false h = absurd h
 
--- ---- at or beneath a root
+-- ---- at or under a root
 
--- what is looked up
+-- what a look-up finds
 pub found_at : (place : Place) (es : List Entry) → file_at (shown es) place ≡ lookup (at_place place) es
 found_at place [] = refl
 found_at place (e ∷ es) = ap (cond (at_place place e.0) (Some e.1)) (found_at place es)
@@ -94,18 +94,18 @@ inside_shown start end place (e ∷ es) at_start at_end =
     kept true e es rest is = ap (λ (rest : Files). (string_bytes e.0, e.1) ∷ rest) is
     kept false e es rest is = is
 
--- the digests of a range from `place/` up to `place0` are those beneath the place
+-- the digests of a range from `place/` up to `place0` are those under the place
 pub inside_by_place : (held : ByPlace) (start end : String Global) (place : Place) (es : List Entry) → string_bytes start ≡ place ++ 47 ∷ [] → string_bytes end ≡ place ++ 48 ∷ []
     → es ≡ entries_between string_cmp (Included start) (Excluded end) held.entries → shown es ≡ files_where (λ q. is_beneath q place) (digests_in held)
 inside_by_place held start end place es at_start at_end is = ap shown is ∙ inside_shown start end place held.entries at_start at_end
 
--- nothing stands at the root behind what stands at or after it
+-- there is nothing at the root after what is at or after it
 none_behind : (root first : Place) (files : Files) → ((other : Place) → byte_order first other ≡ Less → byte_order root other ≡ Less) → T (below_all byte_order first files) → file_at files root ≡ None
 none_behind root first [] before below = refl
 none_behind root first (file ∷ files) before below =
     ap (λ o. cond (is_eq o) (Some file.1) (file_at files root)) (before file.0 (less_from _ (first_part _ _ below))) ∙ none_behind root first files before (second_part _ _ below)
 
--- what stands at the root itself
+-- what is at the root itself
 abbrev pub at_root : Place → Option Bytes → Files
 at_root root None = []
 at_root root (Some bytes) = (root, bytes) ∷ []
@@ -113,7 +113,7 @@ at_root root (Some bytes) = (root, bytes) ∷ []
 abbrev beneath_root : Place → Files → Files
 beneath_root root files = files_where (λ place. is_beneath place root) files
 
--- the files at or beneath a root: at the root itself, and then those beneath it
+-- the files at or under a root: at the root itself, and then those under it
 pub root_first : (files : Files) (root : Place) → T (is_sorted byte_order files) → at_root root (file_at files root) ++ files_where (λ place. is_beneath place root) files ≡ files_under files root
 root_first [] root sorted = refl
 root_first (file ∷ files) root sorted =
@@ -140,7 +140,7 @@ root_first (file ∷ files) root sorted =
 
 -- ---- what is left of a range
 
--- each of these is a place beneath the root
+-- each of these is a place under the root
 abbrev pub AreBeneath : Place → List Entry → Type 0
 AreBeneath root es = AllByRecursion (λ (e : Entry). (is_place (string_bytes e.0) ≡ true) × (is_beneath (string_bytes e.0) root ≡ true)) es
 
@@ -166,7 +166,7 @@ range_beneath root files es placed is = back es (subst (AllByRecursion Good) (sy
 pub under_from : (place root : Place) → is_beneath place root ≡ true → is_under place root ≡ true
 under_from place root is = elim (bytes_eq place root) as (λ b. (b || is_beneath place root) ≡ true) [ true ↦ refl | false ↦ is ]
 
--- ---- the paths of what lies at or beneath a root stand in order
+-- ---- the paths of what is at or under a root are in order
 
 places_good : (files : Files) (root : Place) → are_placed files ≡ true → AllByRecursion (λ place. is_place place ≡ true) (places_under files root)
 places_good [] root placed = tt
@@ -187,7 +187,7 @@ paths_in_order files root sorted placed =
     ∙ entries_ordered root (places_under files root) (places_in_order files root sorted)
     (recursion_from_All (λ place. is_under place root ≡ true) (places_under files root) (places_pass files root)) (places_good files root placed)
 
--- ---- what is found at a root, and beneath it
+-- ---- what is found at a root, and under it
 
 from_both : (root : Place) (xs ys : Files) → from_root root xs ++ from_root root ys ≡ from_root root (xs ++ ys)
 from_both root [] ys = refl

@@ -1,4 +1,4 @@
--- A work that is done is a run.
+-- Doing a computed work is a run.
 use Rattle.std.specs.Prelude.{ℕ, ◌≡◌, ◌≤◌, ◌⊎◌, ◌++◌, if◌then◌else◌, List, [], ◌∷◌, Option, None, Some, Result, Ok, Err, IsTrue, length}
 use Rattle.std.specs.FinMap.Entries.{is_sorted}
 use Rattle.std.specs.List.{AllByRecursion, flat_map}
@@ -59,7 +59,7 @@ module _ (outputs : List Output) (rest held : Files) where
 abbrev made : Course → Action → Result (List Written) Text
 made course action = course.kinds.makes (kind_of action) action.args course.task.values course.trees
 
--- how a run ends, by how its work was done and by its own fault
+-- how a run ends, from how its work was done and its own fault
 abbrev pub Ends : Course → Way → Tearing → ℕ → ℕ → Ending → Option Fault → List Text → Files → Type 0
 Ends course way may_leave before after (Ok done) None lines new = EndsWell course lines new
 Ends course way may_leave before after (Ok done) (Some fault) lines new =
@@ -219,7 +219,7 @@ module _ (course : Course) (may_leave : Tearing) (before after : ℕ) (rises : b
         (λ between behind goes answers next. parts_end left over (lines ++ (part_of course action).lines) behind between new parts.1 result goes next answers risen) parts.5) does
   ]
 
--- Where calls do such a work, and are answered as by a folder that holds these files, the run ends well or fails
+-- If calls do such a work, and are answered as by a folder that holds these files, the run ends well or fails
 -- there, as a run of the task does.
 pub done_work_ends : (may_leave : Tearing) (course : Course) (before after : ℕ) (old new : Contents) (calls : List Call) (lines : List Text) (result : Ending)
     → IsTrue (is_sorted byte_order course.rest) → old.files ≡ course.rest → before ≤ after → ((place : Place) → result ≡ Err (faults.Device place) → HasRisen before after)

@@ -1,4 +1,4 @@
--- Where no more files are taken in all than one output may have, no output has too many.
+-- If no more files are taken in all than one output may have, no output has too many.
 use Rattle.std.proofs.Common.{◌≡◌, ◌≤◌, Bool, true, false, cond, List, [], ◌∷◌, length, map, refl, ap, ◌∙◌, arith}
 use Rattle.std.specs.Prelude.{nat_lt}
 use Rattle.std.specs.List.{filter}

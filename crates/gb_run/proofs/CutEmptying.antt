@@ -1,4 +1,4 @@
--- Where the outputs of a task could not be emptied: what stands then stood before, or is torn.
+-- If the outputs of a task could not be emptied, what is there afterwards was there before, or is torn.
 use Rattle.std.proofs.Common.{◌≡◌, ◌⊎◌, inl, inr, true, false, cond, not, List, [], ◌∷◌, Option, Some, None, fold, map, refl, sym, ap, subst, ◌∙◌}
 use Rattle.std.specs.Prelude.{bytes_eq}
 use Rattle.std.specs.Cmp.Lexicographic.{bytes_decides}
@@ -18,7 +18,7 @@ use Rattle.gb_run.specs.Emptying.{places_at}
 use Rattle.gb_run.specs.Laws.{CutEmptyingsInventNothing, TornPlacesAreOfTheEmptying}
 use Rattle.gb_run.proofs.FailedRuns.{left_elsewhere, left_here}
 
--- what stands once some places are emptied stood before
+-- what is there after some places are emptied was there before
 stood_before : (places : List Place) (files : Files) (q : Place) (bytes : Bytes) → file_at (fold without files places) q ≡ Some bytes → file_at files q ≡ Some bytes
 stood_before [] files q bytes e = e
 stood_before (place ∷ places) files q bytes e =
@@ -28,7 +28,7 @@ stood_before (place ∷ places) files q bytes e =
       | false ↦ λ stands. stands
     ] (sym (file_at-without files place q) ∙ later)
 
--- odd things are told as such, and never as a failure of the device
+-- unsupported entries are reported as such, and never as a failure of the device
 odd_is_not_device : (contents : Contents) (roots : List Place) (place : Place) → first_of (map told_of_tree (map trees.BadFileName (filter (is_odd_under contents) roots))) ≡ Some (faults.Device place) → ⊥
 odd_is_not_device contents roots place e = go (filter (is_odd_under contents) roots) e
   where
@@ -37,7 +37,7 @@ odd_is_not_device contents roots place e = go (filter (is_odd_under contents) ro
     go (root ∷ odd) h = cc
 
 module _ (setting : Setting) (task : Task) where
-  -- what stood in the folder before stands in the run
+  -- what was in the folder before is there in the run
   stands : (old : Files) (place : Place) (o : Option Bytes) → ((bytes : Bytes) → o ≡ Some bytes → file_at old place ≡ Some bytes) → StandsInRun setting.kinds task old place o
   stands old place None h = tt
   stands old place (Some bytes) h = inl (h bytes refl)

@@ -1,4 +1,4 @@
--- The digests of files, as the files change and as they stand at outputs.
+-- The digests of files, as the files change and as they are at outputs.
 use Rattle.std.proofs.Common.{◌≡◌, ℕ, Bool, true, false, cond, List, [], ◌∷◌, map, Option, Some, refl, sym, ◌∙◌, ap}
 use Rattle.std.proofs.lemmas.Bool.{and_parts}
 use Rattle.std.specs.Prelude.{unwrap_or}
@@ -39,7 +39,7 @@ where_digests test (file ∷ files) =
       | false ↦ where_digests test files
     ]
 
--- ---- the files at or beneath a place
+-- ---- the files at or under a place
 
 -- files by their paths from a root
 abbrev pub from_root : Place → Files → Files
@@ -71,7 +71,7 @@ by_paths root files (file ∷ part) all =
     bytes_is : (o : Option Bytes) (b : Bytes) → o ≡ Some b → unwrap_or o [] ≡ b
     bytes_is o b e = ap (λ (x : Option Bytes). unwrap_or x []) e
 
--- the files of an output, where files stand in order
+-- the files of an output, if files are in order
 pub files_from_is : (files : Files) (root : Place) → is_sorted byte_order files ≡ true → files_from files root ≡ cond (is_own root) [] (from_root root (files_under files root))
 files_from_is files root sorted =
     elim (is_own root) as (λ own. contents_at files (cond own [] (entries_from root (map (λ (file : Place × Bytes). file.0) (files_under files root)))) ≡ cond own [] (from_root root (files_under files root))) [
@@ -83,7 +83,7 @@ root_digests : (root : Place) (files : Files) → from_root root (digests_of fil
 root_digests root [] = refl
 root_digests root (file ∷ files) = ap (λ (fs : Files). (path_from root file.0, sha256 file.1) ∷ fs) (root_digests root files)
 
--- what digests an output has
+-- the digests of an output
 pub from_digests : (files : Files) (root : Place) → is_sorted byte_order files ≡ true → files_from (digests_of files) root ≡ digests_of (files_from files root)
 from_digests files root sorted =
     files_from_is (digests_of files) root (sorted_digests files ∙ sorted)

@@ -9,7 +9,7 @@ use Rattle.gb_plan.specs.declared.task.Output.{Output}
 use Rattle.gb_meaning.specs.Kinds.{Kinds, kind_of}
 use Rattle.gb_meaning.specs.Run.{Ended, ends, or_end, step_by, with_done}
 
--- a run behind actions that ended
+-- a run after actions that ended
 abbrev pub behind : List Action → Ended → Ended
 behind [] ended = ended
 behind (action ∷ actions) ended = with_done action (behind actions ended)
@@ -45,7 +45,7 @@ module _ (kinds : Kinds) (outputs : List Output) (values : Values) (trees : Tree
   abbrev pub step : Files → Action → Result Files Fault
   step held action = step_by outputs rest held (kinds.makes (kind_of action) action.args values trees)
 
-  -- what ended goes on as what its last action left
+  -- what ended continues with what its last action left
   pub on : (done left : List Action) (held : Files) → (run held done).fault ≡ None → run held (done ++ left) ≡ behind done (run (run held done).held left)
   on [] left held e = refl
   on (action ∷ done) left held e =
@@ -55,7 +55,7 @@ module _ (kinds : Kinds) (outputs : List Output) (values : Values) (trees : Tree
         | Err fault ↦ λ h. some_none fault h
       ] e
 
-  -- a run that met no fault ended all its actions
+  -- a run without a fault ended all its actions
   pub all_done : (done : List Action) (held : Files) → (run held done).fault ≡ None → (run held done).done ≡ done
   all_done [] held e = refl
   all_done (action ∷ done) held e =

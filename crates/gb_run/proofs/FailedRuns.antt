@@ -61,7 +61,7 @@ module _ (course : Course) (way : Way) (moment : Moment course way) where
       ∙ ap (λ (ended : Ended). ended.done) (on course.kinds course.task.outputs course.task.values course.trees course.rest moment.done moment.left [] moment.no_fault)
       ∙ behind-done moment.done (run course.kinds course.task.outputs course.task.values course.trees course.rest (run_along course moment.done).held moment.left)
 
-  -- the actions that have ended are a front of those that can
+  -- the actions that have ended are a prefix of those that can
   pub front_of : moment.done ≡ take (length moment.done) (whole_run course).done
   front_of =
       sym (ap (take (length moment.done)) ended_done
@@ -107,14 +107,14 @@ module _ (course : Course) (moment : Moment course InFull) where
           (of_more course.kinds course.task.outputs course.task.values course.trees (action ∷ []) (take (count course InFull moment) more) file
           (of_free course.kinds course.task.outputs course.task.values course.trees (run_along course moment.done).held action file g)))))
 
-  -- its files, those that stand and those that are left
+  -- its files, those that were put and those that are left
   parts : IsParted (files_at_hand course (run_along course moment.done).held moment.left) moment.front moment.behind
   parts = parted (files_at_hand course (run_along course moment.done).held moment.left) moment.front moment.behind moment.at_hand
 
   then_is : files_then course InFull moment ≡ put_over (put_over course.rest (run_along course moment.done).held) parts.first
   then_is = ap (after_steps (put_over course.rest (run_along course moment.done).held)) parts.front_is ∙ after_put (put_over course.rest (run_along course moment.done).held) parts.first
 
-  -- each file of the folder is written by an action that the run came to, or is of the rest
+  -- each file of the folder is written by an action that the run reached, or is of the rest
   pub stands_by : (file : Place × Bytes) → Contains (files_then course InFull moment) file → Among upto file ⊎ Contains course.rest file
   stands_by file h = elim (in_over (put_over course.rest (run_along course moment.done).held) parts.first file (subst (λ (fs : Files). Contains fs file) then_is h)) [
     | inl front ↦ inl (of_hand file (subst (λ (fs : List (Place × Bytes)). Contains fs file) (sym parts.all) (Contains-append_left parts.first parts.later file front)))
@@ -128,7 +128,7 @@ module _ (course : Course) (moment : Moment course InFull) where
     ]
   ]
 
-  -- so is each that was to be put
+  -- the same for each that was to be put
   pub was_next : (step : Step) (more : List Step) → moment.behind ≡ step ∷ more → (bytes : Bytes) × (step.1 ≡ Some bytes) × Among upto (step.0, bytes)
   was_next step more is = by parts.later parts.all (sym is ∙ parts.behind_is)
     where
@@ -154,7 +154,7 @@ pub left_here : (files : Files) (place : Place) (left : Option Bytes) → file_a
 left_here files place None = file_at-without files place place ∙ ap (λ b. cond (not b) (file_at files place) None) ((bytes_decides place place).1 refl)
 left_here files place (Some bytes) = file_at-with_file files place bytes place ∙ ap (λ b. cond b (Some bytes) (file_at files place)) ((bytes_decides place place).1 refl)
 
--- ---- no run blames the device by itself
+-- ---- no run attributes its own fault to the device
 
 blocked_blame_none : (places : List Place) → AllByRecursion BlamesNone (map faults.Blocked places)
 blocked_blame_none [] = tt
@@ -196,16 +196,17 @@ failed_runs_print_fronts setting way task changes old fault lines new failure =
       failure.fails.printed ∙ ap (λ (actions : List Action). lines_of setting.kinds task (trees_of task old) changes actions) (front_of (course_in setting.kinds task changes old) way moment),
     )
 
--- ---- what stands
+-- ---- what is there
 
 module _ (setting : Setting) (task : Task) (changes : List Changes) (old : Files) where
-  -- where each file at the outputs stands in the run, and each that was to be put
+  -- where in the run each file at the outputs is, and each that was to be put
   pub record AreOfTheRun (way : Way) (moment : Moment (course_in setting.kinds task changes old) way) (place : Place) : Type 0 where
     pub stood : StandsInRun setting.kinds task old place (file_at (files_then (course_in setting.kinds task changes old) way moment) place)
     pub next : (step : Step) (later : List Step) → moment.behind ≡ step ∷ later → step.0 ≡ place → StandsInRun setting.kinds task old place step.1
 
   module _ (way : Way) (moment : Moment (course_in setting.kinds task changes old) way) where
-    -- what stands at a place once the run has failed: what stood at the moment, but where the device failed
+    -- what is at a place once the run has failed: what was there at the moment, except where the device
+    -- failed
     pub left_then : (before after : ℕ) (fault : Fault) (new : Files)
         → FailsByItself (course_in setting.kinds task changes old) way moment fault new
         ⊎ FailsByMachine setting.may_leave before (files_then (course_in setting.kinds task changes old) way moment) moment.behind fault after new
@@ -249,7 +250,7 @@ module _ (setting : Setting) (task : Task) (changes : List Changes) (old : Files
       | inr rest ↦ absurd (false≢true (sym (not-true _ (in_where (λ q. not (is_output_of task q)) old (place, bytes) rest)) ∙ output))
     ]
 
-    -- each file that stands then is written
+    -- each file that is there then is written
     pub written_then : (bytes : Bytes) → file_at (files_then (course_in setting.kinds task changes old) InFull moment) place ≡ Some bytes → IsWritten setting.kinds task old place bytes
     written_then bytes is = written_by bytes (found_in (files_then (course_in setting.kinds task changes old) InFull moment) place bytes is)
 

@@ -1,4 +1,4 @@
--- A run by changes that failed: what it keeps, what it prints, and what it leaves.
+-- An incremental execution that failed: what it keeps, what it prints, and what it leaves.
 use Rattle.std.specs.Prelude.{ℕ, ◌≡◌, ◌≢◌, ◌⊎◌, ◌++◌, ◌||◌, Bool, true, false, cond, if◌then◌else◌, List, [], ◌∷◌, Option, Some, None, Result, Ok, Err, IsTrue}
 use Rattle.std.specs.List.{AllByRecursion, fold, list_any}
 use Rattle.std.specs.FinMap.Entries.{is_sorted}
@@ -59,7 +59,7 @@ untouched files (s ∷ steps) q all = untouched (with_left files s.0 s.1) steps 
 abbrev AreMeant : Files → List Step → Type 0
 AreMeant target steps = AllByRecursion (λ (step : Step). (step.1 ≡ None) ⊎ (step.1 ≡ file_at target step.0)) steps
 
--- what holds of no file, of what stood and of what is to stand, holds on the way
+-- what holds of no file, of what was there and of what is to be there, holds in between
 steps_stand : (P : Option Bytes → Type 0) (target files : Files) (q : Place) (steps : List Step) → P None → P (file_at target q) → AreMeant target steps → P (file_at files q) → P (file_at (after_steps files steps) q)
 steps_stand P target files q [] none new meant at = at
 steps_stand P target files q (s ∷ steps) none new meant at =
@@ -284,7 +284,7 @@ module _ (setting : Setting) (task : Task) (changes : List Changes) (old : Files
         apart : stopped.step.0 ≢ place
         apart = (subst (AllByRecursion (λ (s : Step). s.0 ≢ place)) stopped.next (all_behind (λ (s : Step). s.0 ≢ place) moment.front moment.behind others)).0
 
-  -- ---- what stands
+  -- ---- what is there
 
   module _ (source : has_no_source task old ≡ false) (q : Place) (output : is_output_of task q ≡ true) where
     abbrev Stands : Option Bytes → Type 0
@@ -307,7 +307,7 @@ module _ (setting : Setting) (task : Task) (changes : List Changes) (old : Files
     target_stands : (at : IsAtWriter) → Stands (file_at (target_of at.action) q)
     target_stands at = subst (λ (left : Option Bytes). Stands left) same (are_of_the_run setting task changes old source full_moment q output).stood
       where
-        -- a run in full behind its files
+        -- a full execution after its files
         full_moment : Moment (course_in setting.kinds task changes old) InFull
         full_moment = record {
           done = moment.done;
@@ -341,7 +341,7 @@ module _ (setting : Setting) (task : Task) (changes : List Changes) (old : Files
             steps_stand (λ (left : Option Bytes). Stands left) (target_of at.action) (ended_files (course_in setting.kinds task changes old) (ByChanges old) moment.done) q moment.front tt (target_stands at)
             (all_front (λ (step : Step). (step.1 ≡ None) ⊎ (step.1 ≡ file_at (target_of at.action) step.0)) moment.front moment.behind at.leads.meant) ended_stands
 
-    -- so does what was to stand next
+    -- the same for what was to be put next
     next_stands : (step : Step) (later : List Step) → moment.behind ≡ step ∷ later → step.0 ≡ q → Stands step.1
     next_stands step later next here = by hand
       where

@@ -1,4 +1,4 @@
--- What is stored for the actions of a ready task writes and goes on as the kinds say.
+-- The table entries for the actions of a ready task write and execute incrementally as the kinds say.
 use Rattle.std.specs.Prelude.{ℕ, ◌≡◌, ◌&&◌, ◌||◌, Bool, true, false, if◌then◌else◌, List, [], ◌∷◌, Option, Some, None, is_some, bytes_eq}
 use Rattle.std.specs.List.{AllByRecursion, list_all}
 use Rattle.std.specs.FinMap.Entries.{find}

@@ -1,4 +1,4 @@
--- What stands at the outputs of a task was made of its old trees, and is seen so.
+-- The files at the outputs of a task were made of its old trees, and are read so.
 use Rattle.std.specs.Prelude.{ℕ, ◌≡◌, ◌&&◌, ◌||◌, Bool, true, false, cond, List, [], ◌∷◌, map, Option, Some, None, option_map, option_and_then, bytes_eq, if◌then◌else◌}
 use Rattle.std.specs.List.{AllByRecursion, list_any}
 use Rattle.std.specs.Option.{option_or}
@@ -41,9 +41,9 @@ no_some o x e f = absurd (cc)
 some_same : {X : Type 0} (o : Option X) (x y : X) → o ≡ Some x → o ≡ Some y → x ≡ y
 some_same o x y e f = cc
 
--- ---- outputs lie apart
+-- ---- outputs are disjoint
 
--- a place under the output of a name lies under some output
+-- a place under the output of a name is under some output
 pub under_named : (outputs : List Output) (name : List ℕ) (output : Output) (q : Place) → output_named outputs name ≡ Some output → is_under q output.place ≡ true
     → list_any (λ (o : Output). is_under q o.place) outputs ≡ true
 under_named [] name output q e under = no_some None output refl e
@@ -59,7 +59,7 @@ any_places : (outputs : List Output) (q : Place) → list_any (is_under q) (map 
 any_places [] q = refl
 any_places (o ∷ outputs) q = ap (λ b. is_under q o.place || b) (any_places outputs q)
 
--- no place lies under outputs of two names
+-- no place is under outputs of two names
 pub never_both : (outputs : List Output) (name other : List ℕ) (a b : Output) (q : Place) → bytes_eq name other ≡ false → output_named outputs name ≡ Some a → output_named outputs other ≡ Some b
     → is_under q a.place ≡ true → is_under q b.place ≡ true → some_overlap (map (λ (o : Output). o.place) outputs) ≡ false → ⊥
 never_both [] name other a b q differ e f under_a under_b apart = no_some None a refl e
@@ -86,7 +86,7 @@ never_both (first ∷ outputs) name other a b q differ e f under_a under_b apart
     by again false true x y v w = clash name b a under_b under_a (some_same (Some first) first b refl w) v
     by again false false x y v w = again v w
 
--- ---- what was written stands nowhere else
+-- ---- what was written is nowhere else
 
 pub unwritten : (written : List Written) → WritesTarget written → (output path : List ℕ) → bytes_eq output target ≡ false → written_at written output path ≡ None
 unwritten [] all output path differ = refl
@@ -114,7 +114,7 @@ module _ (kinds : Kinds) (task : Task) (old trees : Trees) (changes : List Chang
   pub target_before : WritesTarget before.written
   target_before = writes_target kinds writer fits.keeps writer.args task.values old before.written before.makes
 
-  -- at an output of the task stands what was made
+  -- at an output of the task there is what was made
   pub stood : (q : Place) → is_output_of task q ≡ true → file_at files q ≡ file_at (put_over [] (placed task.outputs before.written)) q
   stood q at =
       sym (ap (λ b. cond b (file_at files q) None) at) ∙ sym (file_at-files_where files (is_output_of task) q) ∙ ap (λ (fs : Files). file_at fs q) before.files
@@ -127,11 +127,11 @@ module _ (kinds : Kinds) (task : Task) (old trees : Trees) (changes : List Chang
       stood (beneath output.place path) (at_target path) ∙ at_placed task.outputs output is_target [] before.written target_before path
       ∙ or_none (written_at before.written target path)
 
-  -- elsewhere at outputs nothing stands
+  -- elsewhere at outputs there is nothing
   pub stood_elsewhere : (q : Place) → is_output_of task q ≡ true → IsElsewhere task.outputs output is_target q → file_at files q ≡ None
   stood_elsewhere q at other = stood q at ∙ placed_elsewhere task.outputs output is_target [] before.written target_before q other
 
-  -- nothing stands at an output of another name
+  -- there is nothing at an output of another name
   none_stood : (name path : List ℕ) (other : Output) → bytes_eq name target ≡ false → output_named task.outputs name ≡ Some other → file_at files (beneath other.place path) ≡ None
   none_stood name path other differ named = by (whether task.outputs output is_target (beneath other.place path))
     where
@@ -144,7 +144,7 @@ module _ (kinds : Kinds) (task : Task) (old trees : Trees) (changes : List Chang
   seen_is name path =
       ap (λ (outs : List OutputFiles). stands_at outs name path) goes_on.stands ∙ ap (option_and_then (λ (fs : Files). file_at fs path)) (seen_named files good task.outputs name)
 
-  -- what is seen of an output
+  -- what is read of an output
   pub seen_target : (path : List ℕ) → stands_at seen target path ≡ file_at files (beneath output.place path)
   seen_target path =
       seen_is target path ∙ ap (λ o. option_and_then (λ (fs : Files). file_at fs path) (option_map (λ (p : Output). files_from files p.place) o)) is_target

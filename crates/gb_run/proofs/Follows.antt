@@ -1,4 +1,5 @@
--- What follows from steps that were done: over any folder, and over contents that answer as the calls were answered.
+-- What follows from steps that were done: over any folder, and over contents that answer as the calls were
+-- answered.
 use Rattle.std.specs.Prelude.{◌≡◌, ◌⊎◌, Bool, List, [], ◌∷◌, Some, None, Ok, Err, IsTrue}
 use Rattle.std.specs.List.{AllByRecursion}
 use Rattle.std.proofs.Common.{refl, sym, ap, subst, ◌∙◌, inl, inr, arith}
@@ -17,7 +18,7 @@ use Rattle.gb_folder.specs.Device.{Device, Leads}
 use Rattle.gb_run.specs.Doing.{Does, OrEnds, Ending, call_of, ending_of}
 use Rattle.gb_folder.proofs.Leading.{count_of}
 
--- ---- what is asked for
+-- ---- what the calls are
 
 step_permitted : (permit : Permit) (step : Step) (answer : Answer) → permit step.0 step.1 → IsPermitted permit (call_of step answer)
 step_permitted permit (place, None) answer may = may
@@ -34,7 +35,7 @@ permitted permit (step ∷ steps) calls result all (inr asked) =
     on (Ok d) h goes = goes h
     on (Err fault) h goes = subst (λ (cs : List Call). AllByRecursion (IsPermitted permit) cs) (sym h.0) tt
 
--- ---- whom to blame
+-- ---- attribution of faults
 
 device_ending : (step : Step) (answer : Answer) (place : Place) → ending_of step answer ≡ Err (faults.Device place) → (fault_of (call_of step answer) ≡ Some folders.Device) × (step.0 ≡ place)
 device_ending (at, None) (Ok done) place is = absurd (let e = is in (cc))
@@ -52,7 +53,7 @@ device_ending (at, Some bytes) (Err folders.Blocked) place is = absurd (let e = 
 device_ending (at, Some bytes) (Err folders.TooLarge) place is = absurd (let e = is in (cc))
 device_ending (at, Some bytes) (Err folders.BadFileName) place is = absurd (let e = is in (cc))
 
--- the device is blamed at a place of these steps alone
+-- a fault is attributed to the device only at a place of these steps
 pub blamed_at : (test : Place → Bool) (steps : List Step) (calls : List Call) (result : Ending) → AllByRecursion (λ (s : Step). IsTrue (test s.0)) steps → Does steps calls result → (place : Place) → result ≡ Err (faults.Device place) → IsTrue (test place)
 blamed_at test [] calls result all does place is = absurd (let e = does.1 in (cc))
 blamed_at test (step ∷ steps) calls result all (inl memory) place is = absurd (let e = memory.1 in (cc))
@@ -132,7 +133,7 @@ module _ (may_leave : Tearing) where
           (rest.0 ∙ ap (λ (f : Contents). folder_after f steps) one.0, (one.1, subst (λ (f : Contents). HasRoom f.files steps) one.0 rest.1))
       on (Err fault) same h goes = absurd (let e = h.1 in (cc))
 
-  -- a front of them was done, and the next was shut out, or hindered by the machine
+  -- a prefix of them was done, and the next was shut out, or failed by the machine
   pub cut_short : (steps : List Step) (calls : List Call) (old new : Contents) (fault : Fault) → AllByRecursion IsSmall steps → Does steps calls (Err fault) → AnswersAll may_leave old calls new → IsCutShort may_leave steps old fault new
   cut_short [] calls old new fault small does all = absurd (let e = does.1 in (cc))
   cut_short (step ∷ steps) calls old new fault small (inl memory) all = record {

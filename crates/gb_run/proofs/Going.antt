@@ -1,4 +1,4 @@
--- A run by changes on the way: what holds between its actions, and what its end comes to.
+-- An incremental execution in progress: what holds between its actions, and what follows at its end.
 use Rattle.std.specs.Prelude.{ℕ, ◌≡◌, ◌≤◌, ◌⊎◌, ◌++◌, ◌||◌, Bool, true, false, cond, if◌then◌else◌, List, [], ◌∷◌, None, Ok, Err, map}
 use Rattle.std.specs.List.{list_any}
 use Rattle.std.proofs.Common.{refl, sym, ap, subst, ◌∙◌, inl, inr, append_assoc, arith}
@@ -65,7 +65,7 @@ module _ (kinds : Kinds) (task : Task) (trees : Trees) (changes : List Changes) 
       ap (λ ls. printed_by kinds task first trees changes ++ ls) (lines_more done action)
       ∙ sym (append_assoc (printed_by kinds task first trees changes) (lines_by (course_of kinds task trees changes (rest_of task old)) done) (printed_by kinds task action trees changes))
 
-  -- where one action writes, none before it does
+  -- if one action writes, none before it does
   pub two_writers : (xs : List Action) (a b : Action) (ys : List Action) → any_writes xs ≡ true → writers kinds xs ++ a ∷ ys ≡ b ∷ [] → ⊥
   two_writers [] a b ys e is = true≢false (sym e)
   two_writers (x ∷ xs) a b ys e is = by (λ w q. two_writers xs a b ys w q) (kinds.writes (kind_of x)) e is
@@ -163,7 +163,7 @@ module _ (kinds : Kinds) (task : Task) (trees : Trees) (changes : List Changes) 
         held_none : (run_along course going.done).held ≡ []
         held_none = going.none_held none_before
 
-        -- what stands is what stood
+        -- what is there is what was there before
         pub stands_old : folder ≡ old
         stands_old = going.stands ∙ ap (λ b. if b then put_over (rest_of task old) (run_along course going.done).held else old) none_before
 

@@ -1,4 +1,4 @@
--- Where the files that stand on the way of a run come from: an action writes them.
+-- Where the files in the folder during a run come from: an action writes them.
 use Rattle.std.proofs.Common.{◌≡◌, ◌<◌, ◌⊎◌, inl, inr, ℕ, zero, suc, Bool, true, false, cond, List, [], ◌∷◌, ◌++◌, length, Some, None, Result, Ok, Err, refl, sym, ap, subst, ◌∙◌, arith}
 use Rattle.std.specs.Prelude.{Contains, slice_index_or}
 use Rattle.std.specs.Ordering.{is_eq, nat_cmp}
@@ -37,7 +37,7 @@ in_cons x y xs h = go h.0 h.1 h.2
 
 -- ---- files
 
--- a file that is put, or stood
+-- a file that is put, or was there before
 in_put : (files : Files) (place : Place) (bytes : Bytes) (file : Place × Bytes) → Contains (with_file files place bytes) file → ((place, bytes) ≡ file) ⊎ Contains files file
 in_put [] place bytes file h = in_cons (place, bytes) file [] h
 in_put (f ∷ files) place bytes file h =

@@ -18,13 +18,13 @@ use Rattle.gb_run.specs.Placing.{blank, faults_beside}
 use Rattle.gb_run.specs.Step.{IsKept}
 use Rattle.gb_run.proofs.Beside.{beside_held, over_by_place, taken_then}
 
--- files that hinder nothing are put over those so far
+-- files without a fault are put over those so far
 pub put_freely : (outputs : List Output) (held : Files) (made : Result (List Written) Text) (written : List Written) → made ≡ Ok written
     → step_faults outputs held (placed outputs written) ≡ [] → put_result outputs held made ≡ Ok (put_over held (placed outputs written))
 put_freely outputs held made written is none =
     ap (put_result outputs held) is ∙ ap (λ (faults : List Fault). if is_empty faults then Ok (put_over held (placed outputs written)) else Err faults) none
 
--- an action's files take their places, and tell their digests
+-- an action's files take their places, and their digests are known
 pub keeps_on : (outputs : List Output) (held taken digests : Files) (made : Result (List Written) Text) → IsKept held taken digests
     → (written : List Written) → made ≡ Ok written → faults_beside outputs taken (put_over [] (placed outputs written)) ≡ []
     → (taken_now digests_now : Files) → taken_now ≡ put_over taken (blank (put_over [] (placed outputs written)))

@@ -1,4 +1,4 @@
--- The reply of a task's writer to changes leads from what stands to what it makes.
+-- The reply of a task's writer to an incremental request leads from the current files to what it makes.
 use Rattle.std.specs.Prelude.{ℕ, ◌≡◌, ◌≢◌, ◌⊎◌, ◌&&◌, ◌||◌, Bool, true, false, not, cond, List, [], ◌∷◌, Option, Some, None, is_some, option_map, unwrap_or, bytes_eq, if◌then◌else◌}
 use Rattle.std.specs.List.{AllByRecursion, flat_map}
 use Rattle.std.specs.Option.{option_or}
@@ -131,7 +131,7 @@ named_removes P (path ∷ removes) each = (
   named_removes P removes (λ p is. each p (ap (λ b. (bytes_eq path.output p.output && bytes_eq path.path p.path) || b) is ∙ or_true (bytes_eq path.output p.output && bytes_eq path.path p.path))),
 )
 
--- ---- files without a fault stand at places
+-- ---- files without a fault are at places
 
 is_good : (b : Bool) (fault : _) → fault_if (not b) fault ≡ [] → b ≡ true
 is_good true fault e = refl
@@ -145,7 +145,7 @@ placed_files all (file ∷ files) e =
     (none_before (fault_if (not (is_place file.0)) (faults.BadPlace file.0)) _ (none_before _ _ (none_before (file_faults all file) (flat_map (file_faults all) files) e))))
     (placed_files all files (none_after (file_faults all file) (flat_map (file_faults all) files) e))
 
--- at no place stands no file
+-- at what is no place there is no file
 nowhere : (files : Files) (q : Place) → are_placed files ≡ true → is_place q ≡ false → file_at files q ≡ None
 nowhere [] q good not_one = refl
 nowhere (file ∷ files) q good not_one =

@@ -1,4 +1,4 @@
--- What stands at a place once steps are done.
+-- What is at a place once steps are done.
 use Rattle.std.specs.Prelude.{◌≡◌, ◌≢◌, ◌++◌, ◌&&◌, Bool, true, false, not, cond, List, [], ◌∷◌, Option, Some, None, is_some, unwrap_or, option_and_then, bytes_eq}
 use Rattle.std.specs.List.{AllByRecursion, filter}
 use Rattle.std.specs.Cmp.{unsigned_ties}
@@ -41,7 +41,7 @@ at_left files place (Some bytes) q = file_at-with_file files place bytes q ∙ a
 
 -- ---- steps by place
 
--- nothing is to stand at a place below all of them
+-- there is nothing at a place below all of them
 pub none_below : {X : Type 0} (p : Place) (steps : List (Place × X)) → below_all byte_order p steps ≡ true → find byte_order p steps ≡ None
 none_below p [] h = refl
 none_below p (s ∷ steps) h =
@@ -110,7 +110,7 @@ pub after_append : (old : Files) (xs ys : List Step) → after_steps old (xs ++ 
 after_append old [] ys = refl
 after_append old (x ∷ xs) ys = after_append (with_left old x.0 x.1) xs ys
 
--- what steps in their turn leave
+-- what steps in execution order leave
 pub at_in_turn : (old : Files) (steps : List Step) (q : Place) → is_sorted byte_order steps ≡ true
     → file_at (after_steps old (in_turn steps)) q ≡ cond (is_place q) (unwrap_or (find byte_order q steps) (file_at old q)) (file_at old q)
 at_in_turn old steps q h =
@@ -153,7 +153,7 @@ apart_from p q other = by (eq_by_cmp byte_order q p) refl
     by true e = absurd (other (sym (same_place q p e)))
     by false e = refl
 
--- steps at other places say nothing of this one
+-- steps at other places do not affect this one
 pub at_others : (held steps : List Step) (q : Place) → AllByRecursion (λ (s : Step). s.0 ≢ q) steps → find byte_order q (put_steps held steps) ≡ find byte_order q held
 at_others held [] q all = refl
 at_others held (s ∷ steps) q all =

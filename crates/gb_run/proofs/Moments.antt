@@ -1,4 +1,4 @@
--- Moments of a run between two actions, and what a later failure of the machine is of an earlier call.
+-- Moments of a run between two actions, and what a later failure of the machine means for an earlier call.
 use Rattle.std.specs.Prelude.{ℕ, ◌≡◌, ◌≤◌, ◌⊎◌, ◌++◌, List, [], ◌∷◌, None, Result, Err}
 use Rattle.std.proofs.Common.{refl, ap, subst, ◌∙◌, inl, inr}
 use Rattle.gb_folder.specs.Files.{Contents, Files, HasRisen, Place, SameTearing, Tearing, file_at, with_left}
@@ -34,7 +34,7 @@ machine_before first second before between after old new behind fault same le mo
   files = stopped.files;
 })
 
--- a step was hindered where these files stood
+-- a step was prevented where these files were
 pub by_machine : (may_leave : Tearing) (before after : ℕ) (old : Contents) (stood : Files) (front : List Step) (step : Step) (behind : List Step) (fault : Fault) (new : Contents)
     → after_steps old.files front ≡ stood → ((place : Place) → fault ≡ faults.Device place → HasRisen before after)
     → IsHindered may_leave step.0 step.1 (folder_after old front) fault new → FailsByMachine may_leave before stood (step ∷ behind) fault after new.files
@@ -79,7 +79,7 @@ module _ (course : Course) where
 -- ---- at an action
 
 module _ (course : Course) (way : Way) (done left : List Action) (action : Action) (all : course.task.actions ≡ done ++ action ∷ left) (no_fault : (run_along course done).fault ≡ None) where
-  -- what the action comes to behind those that have ended
+  -- the result of the action after those that have ended
   abbrev comes_to : Result Files Fault
   comes_to = step_by course.task.outputs course.rest (run_along course done).held (made_by course.kinds course.task action course.trees)
 

@@ -1,4 +1,4 @@
--- Whether one action of a task writes, and goes on by changes.
+-- Whether one action of a task writes, and executes incrementally.
 use Rattle.std.specs.Prelude.{◌≡◌, Bool, true, false, cond, List, [], ◌∷◌, Some}
 use Rattle.std.specs.FinMap.Entries.{find}
 use Rattle.std.proofs.Common.{refl, sym, ap, ◌∙◌}
@@ -30,7 +30,7 @@ one_is kinds actions = by (writers kinds actions) refl
     by (w ∷ []) e = rw e
     by (w ∷ x ∷ more) e = rw e
 
--- where one that goes on was found before, or none
+-- if one that executes incrementally was found before, or none
 abbrev pub only : Kinds → Bool → List Action → Bool
 only kinds true left = is_empty (writers kinds left)
 only kinds false left = one kinds (writers kinds left)
@@ -73,7 +73,7 @@ module _ {S : Type 0} (meanings : Meanings S) (kinds : Kinds) (rows : Rows S) (t
         by [] = kind_answers ∙ not_so
         by (w ∷ ws) = refl
 
--- ---- what is stored
+-- ---- what the table holds
 
 module _ {S : Type 0} (meanings : Meanings S) (rows : Rows S) (action : Action) where
   pub quiet_goes : (writes : Bool) → writes ≡ false → ((stored : S) → find byte_order action.kind rows ≡ Some stored → writes ≡ writes_stored meanings stored) → CanGoOn meanings rows action

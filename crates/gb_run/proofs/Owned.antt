@@ -1,4 +1,4 @@
--- The files of a folder that stand at a task's outputs, and their digests as they are told output by output.
+-- The files of a folder at a task's outputs, and their digests as they are given output by output.
 use Rattle.std.specs.Prelude.{ℕ, ◌≡◌, ◌++◌, ◌&&◌, ◌||◌, Bool, true, false, not, cond, List, [], ◌∷◌, map, Option, Some, None, is_some, option_map, unwrap_or, if◌then◌else◌}
 use Rattle.std.specs.List.{AllByRecursion, list_any}
 use Rattle.std.specs.Ordering.{eq_by_cmp}
@@ -51,7 +51,7 @@ none_both test (f ∷ files) =
       | false ↦ λ _. none_both test files
     ] refl
 
--- what stands at a task's outputs has no rest
+-- the files at a task's outputs have no rest
 pub no_rest : (task : Task) (files : Files) → rest_of task (output_files task files) ≡ []
 no_rest task files = none_both (is_output_of task) files
 
@@ -65,7 +65,7 @@ module _ (test : Place → Bool) (files : Files) (sorted : is_sorted byte_order 
       ∙ ap (λ (fs : Files). cond (is_own root) [] (from_root root fs)) (narrowed (λ q. is_under q root) test within files)
       ∙ sym (files_from_is files root sorted)
 
-  -- so outputs are seen as they are in the whole folder
+  -- so outputs are read as they are in the whole folder
   pub owned_seen : (outputs : List Output) → ((q : Place) → list_any (λ (output : Output). is_under q output.place) outputs ≡ true → test q ≡ true)
       → map (seen_of (files_where test files)) outputs ≡ map (seen_of files) outputs
   owned_seen [] within = refl
@@ -77,7 +77,7 @@ module _ (test : Place → Bool) (files : Files) (sorted : is_sorted byte_order 
 
 -- ---- digests, output by output
 
--- what an output is seen to have, in digests
+-- what is read of an output, in digests
 abbrev pub print_of : OutputFiles → List ℕ × Tree
 print_of output = (output.name, digests_of output.files)
 
@@ -85,7 +85,7 @@ pub placed_digests : (files : Files) → are_placed (digests_of files) ≡ are_p
 placed_digests [] = refl
 placed_digests (f ∷ files) = ap (λ b. is_place f.0 && b) (placed_digests files)
 
--- the digests of outputs as they are seen, put back beneath their places
+-- the digests of outputs as they are read, put back under their places
 pub seen_digests : (files : Files) → is_sorted byte_order files ≡ true → (outputs : List Output)
     → digests_at outputs (map print_of (map (seen_of files) outputs)) ≡ standing outputs (map (seen_of (digests_of files)) outputs)
 seen_digests files sorted [] = refl
@@ -111,7 +111,7 @@ module _ (files : Files) (placed : are_placed files ≡ true) where
         | false ↦ back_placed root (places_under files root) (under_all files root files) (placed_all files root files placed)
       ]
 
-  -- what stands at outputs lies at places
+  -- what is at outputs is at places
   pub all_placed : (outputs : List Output) → at_places (standing outputs (map (seen_of files) outputs)) ≡ standing outputs (map (seen_of files) outputs)
   all_placed [] = refl
   all_placed (output ∷ outputs) =
@@ -142,7 +142,7 @@ only_some (Some y) None false e = absurd (let q = e in (cc))
 only_some (Some y) (Some x) true e = let q = e in (cc)
 only_some (Some y) (Some x) false e = absurd (let q = e in (cc))
 
--- what stands at outputs, put back beneath their places
+-- the files at outputs, put back under their places
 pub put_back : (task : Task) (files : Files) → is_sorted byte_order files ≡ true → are_placed files ≡ true → list_any (λ (output : Output). is_own output.place) task.outputs ≡ false
     → put_over [] (standing task.outputs (map (seen_of files) task.outputs)) ≡ output_files task files
 put_back task files sorted placed out =
@@ -152,7 +152,7 @@ put_back task files sorted placed out =
     only_some (file_at (put_over [] these) q) (file_at files q) (is_output_of task q) (sym (as_steps [] [] these (λ p. refl) q) ∙ all_back files placed task.outputs out [] q)
     ∙ sym (at-where (is_output_of task) files q))
 
--- the digests that stood are those of the files at the outputs
+-- the digests from before are those of the files at the outputs
 pub digests_owned : (task : Task) (files : Files) (outputs : List OutputFiles) (stood : Trees) → is_sorted byte_order files ≡ true → are_placed files ≡ true
     → list_any (λ (output : Output). is_own output.place) task.outputs ≡ false → outputs ≡ map (seen_of files) task.outputs → stood ≡ map print_of outputs
     → put_over [] (at_places (digests_at task.outputs stood)) ≡ digests_of (output_files task files)

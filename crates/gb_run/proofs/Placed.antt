@@ -1,4 +1,5 @@
--- Files beside those that a task has put before: what hinders them, how large they are, and where they lie.
+-- Files of an action, given those that a task has put before: their faults, how large they are, and their
+-- places.
 use Rattle.std.proofs.Common.{◌≡◌, ◌≤◌, ℕ, Bool, true, false, not, List, [], ◌∷◌, ◌++◌, length, Some, refl, sym, ap, subst, ◌∙◌, arith, Bor}
 use Rattle.std.proofs.lemmas.Bool.{and_from, not-false}
 use Rattle.std.specs.List.{AllByRecursion, flat_map}
@@ -41,7 +42,7 @@ not_so : (hindered : Bool) (fault : Fault) → fault_if hindered fault ≡ [] �
 not_so true fault e = absurd (cc)
 not_so false fault e = refl
 
--- ---- the faults beside what was taken before
+-- ---- the faults given what was taken before
 
 -- the files by place, and the places taken with them, are these
 pub beside_is : (outputs : List Output) (taken all files by_place : Files) → by_place ≡ files → all ≡ put_over taken (blank by_place)
@@ -68,7 +69,7 @@ small_taken outputs taken files none =
     let all = put_over taken (blank files) in
     small_files all files (none_before _ (count_faults outputs all) none)
 
--- no file of these hinders another
+-- no file of these is in conflict with another
 pub free_files_of : (all files : Files) → flat_map (file_faults all) files ≡ [] → AllByRecursion (λ file. is_blocked all file.0 ≡ false) files
 free_files_of all [] none = tt
 free_files_of all (file ∷ files) none =

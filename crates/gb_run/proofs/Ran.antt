@@ -1,4 +1,4 @@
--- A run that was worked out and then done: what was asked, whom to blame, and how it ends.
+-- A run that was computed and then done: its calls, the attribution of its faults, and how it ends.
 use Rattle.std.specs.Prelude.{ℕ, ◌≡◌, ◌≢◌, ◌≤◌, ◌++◌, Bool, true, List, [], ◌∷◌, Option, Result, Ok, Err, IsTrue, IfErr, IfOk, OnOk, map}
 use Rattle.std.specs.FinMap.Entries.{is_sorted}
 use Rattle.std.specs.List.{AllByRecursion}
@@ -96,7 +96,7 @@ device_alone (Err fault) made place other is = let e = is in (cc)
 
 -- ---- how it ends
 
--- the rest of the folder has no part in the work
+-- the work does not depend on the rest of the folder
 same_work : (kinds : Kinds) (task : Task) (trees : Trees) (changes : List Changes) (rest held : Files) (actions : List Action)
     → work_of (course_of kinds task trees changes []) held actions ≡ work_of (course_of kinds task trees changes rest) held actions
 same_work kinds task trees changes rest held [] = refl

@@ -56,7 +56,7 @@ none_passes t (x ∷ xs) e =
 none_blocked : (rest : Files) (files : List (Place × Bytes)) → has_room rest files → blocked_in rest files ≡ []
 none_blocked rest files free = ap (map (λ (f : Place × Bytes). f.0)) (none_passes (λ (f : Place × Bytes). is_blocked rest f.0) files free)
 
--- the first that is blocked, behind some that are not
+-- the first that is blocked, after some that are not
 first_blocked : (rest : Files) (front : List (Place × Bytes)) (file : Place × Bytes) (behind : List (Place × Bytes)) → has_room rest front → is_blocked rest file.0 ≡ true
     → blocked_in rest (front ++ file ∷ behind) ≡ file.0 ∷ blocked_in rest behind
 first_blocked rest [] file behind free blocked =
@@ -75,7 +75,7 @@ met_first [] held fault e = absurd (cc)
 met_first (first ∷ faults) held fault e = cc
 
 module _ (outputs : List Output) (rest held : Files) (written : List Written) where
-  -- nothing hinders the files: the action ends
+  -- the files have no fault: the action ends
   pub step_ends : step_faults outputs held (placed outputs written) ≡ [] → has_room (put_over rest held) (put_over [] (placed outputs written))
       → step_by outputs rest held (Ok written) ≡ Ok (put_over held (placed outputs written))
   step_ends none free =
@@ -83,7 +83,7 @@ module _ (outputs : List Output) (rest held : Files) (written : List Written) wh
       ∙ ap (λ (places : List Place). unless_hindered (map faults.Blocked places) (put_over held (placed outputs written)))
       (none_blocked rest (put_over [] (placed outputs written)) (fewer_room rest held (put_over [] (placed outputs written)) free))
 
-  -- its files hinder one another
+  -- its files are in conflict with one another
   pub step_hindered : (fault : Fault) → first_of (step_faults outputs held (placed outputs written)) ≡ Some fault → step_by outputs rest held (Ok written) ≡ Err fault
   step_hindered fault e =
       met_first (hindrances outputs rest held (placed outputs written)) (put_over held (placed outputs written)) fault
@@ -132,6 +132,6 @@ module _ (outputs : List Output) (rest held : Files) (written : List Written) wh
           ∙ sym (or_none (is_blocked (put_over rest held) file.0)) ∙ ap (λ b. is_blocked (put_over rest held) file.0 || b) (sym by_front)
           ∙ sym (blocked_over (put_over rest held) front file.0) ∙ blocked
 
-  -- the files of an action that nothing of the task's hinders
+  -- the files of an action that have no fault within the task
   pub free_is : step_faults outputs held (placed outputs written) ≡ [] → free_files outputs held (Ok written) ≡ put_over [] (placed outputs written)
   free_is none = ap (λ hs. cond (is_empty hs) (put_over [] (placed outputs written)) []) none

@@ -1,4 +1,4 @@
--- A run in full that ends before its first action.
+-- A full execution that ends before its first action.
 use Rattle.std.proofs.Common.{◌≡◌, ℕ, [], refl}
 use Rattle.gb_folder.specs.Files.{Tearing}
 use Rattle.gb_report.specs.declared.fault.Fault.{Fault}

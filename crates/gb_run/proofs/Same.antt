@@ -1,4 +1,4 @@
--- The same of equal slices.
+-- Equal slices have equal properties.
 use Rattle.std.specs.Prelude.{◌≡◌, true, List, [], ◌∷◌, Option}
 use Rattle.std.specs.List.{AllByRecursion}
 use Rattle.std.specs.Borrow.{Bor}

@@ -1,4 +1,4 @@
--- The files of outputs as they are seen: by their paths, and put back beneath their places.
+-- The files of outputs as they are read: by their paths, and put back under their places.
 use Rattle.std.specs.Prelude.{ℕ, ◌≡◌, ◌++◌, ◌&&◌, ◌||◌, Bool, true, false, cond, List, [], ◌∷◌, map, Option, Some, None, is_some, option_map, unwrap_or, bytes_eq, if◌then◌else◌}
 use Rattle.std.specs.List.{AllByRecursion, list_any}
 use Rattle.std.specs.Ordering.{eq_by_cmp}
@@ -25,7 +25,7 @@ use Rattle.gb_run.specs.Steps.{Step, put_steps}
 use Rattle.gb_run.proofs.AtPaths.{tied_beneath}
 use Rattle.gb_run.proofs.Looks.{at_put, steps_append, ties}
 
--- a place under a root is beneath it at its path
+-- a place under a root is its path under it
 pub whole : (root p : Place) → is_under p root ≡ true → is_place p ≡ true → beneath root (path_from root p) ≡ p
 whole root p under good = by (under_parts p root under)
   where
@@ -61,7 +61,7 @@ module _ (files : Files) (root : Place) where
       by again false true u e = absurd (true≢false (sym (beneath_under root path) ∙ ap (λ p. is_under p root) (same_place (beneath root path) file.0 e) ∙ u))
       by again false false u e = again
 
-  -- what is seen at a path stands at its place
+  -- what is read at a path is at its place
   pub seen_at : is_own root ≡ false → are_placed files ≡ true → (path : Place) → file_at (files_from files root) path ≡ file_at files (beneath root path)
   seen_at out placed path =
       ap (λ b. file_at (contents_at files (if b then [] else entries_from root (places_under files root))) path) out

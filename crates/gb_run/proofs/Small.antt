@@ -28,7 +28,7 @@ use Rattle.gb_run.proofs.Leading.{all_found, all_in_turn, at_files}
 use Rattle.gb_run.proofs.Looks.{at_put, sorted_steps}
 use Rattle.gb_tree.proofs.Holding.{all_append}
 
--- steps put over others count before them
+-- steps put over others take precedence over them
 last_or : (held : List Step) (xs : List Step) (base : List Step) (q : Place) → find byte_order q base ≡ None
     → find byte_order q (put_steps held xs) ≡ option_or (find byte_order q (put_steps base xs)) (find byte_order q held)
 last_or held xs base q none = go xs held base (ap (λ o. option_or o (find byte_order q held)) (sym none))
@@ -52,7 +52,7 @@ small_at (f ∷ files) all q b e = by (small_at files all.1 q b) (eq_by_cmp byte
     by again true is = subst (λ x. length x ≤ max_file) (some_same f.1 b is) all.0
     by again false is = again is
 
--- what comes is held then, and so it is not too large
+-- what is put is held then, and so it is not too large
 pub small_steps : (outputs : List Output) (seen : List OutputFiles) (removes : List OutputPath) (writes : List Written)
     → faults_beside outputs [] (held_after outputs seen removes writes) ≡ [] → AllByRecursion IsSmall (in_turn (steps_of outputs removes writes))
 small_steps outputs seen removes writes none =

@@ -48,7 +48,7 @@ module _ (outputs : List Output) (rest held taken folder : Files) (made : Result
     faults_same : faults_beside outputs taken by_place ≡ step_faults outputs held (placed outputs written)
     faults_same = ap (λ (places : Files). faults_beside outputs places by_place) is_held.places ∙ beside_held outputs held (placed outputs written) is_held.in_order
 
-    -- its files hinder one another
+    -- its files are in conflict with one another
     pub stops_placing : first_of (faults_beside outputs taken (put_over [] (placed outputs written))) ≡ Some fault → Stops folder
     stops_placing first =
         stops_itself (ap (step_by outputs rest held) is ∙ step_hindered outputs rest held written fault (ap first_of (sym faults_same) ∙ first))

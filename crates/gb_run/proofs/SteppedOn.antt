@@ -1,4 +1,4 @@
--- Steps that are followed, one more at a time.
+-- Following steps, one more at a time.
 use Rattle.std.specs.Prelude.{ℕ, ◌≡◌, ◌<◌, ◌+◌, ◌++◌, List, [], ◌∷◌, take, length, get_or}
 use Rattle.std.proofs.Common.{sym, ap, ◌∙◌}
 use Rattle.std.proofs.lemmas.List.{take_more}

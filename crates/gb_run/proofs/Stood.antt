@@ -1,4 +1,4 @@
--- What a run made is what stands at the outputs, beside a rest with no file there.
+-- What a run made is what is at the outputs, given a rest with no file there.
 use Rattle.std.specs.Prelude.{◌≡◌, Bool, true, false, not, cond, ◌||◌, List, [], ◌∷◌, Some, None}
 use Rattle.std.specs.List.{list_any}
 use Rattle.std.specs.Ordering.{eq_by_cmp}
@@ -25,7 +25,7 @@ use Rattle.gb_run.proofs.Beside.{or_none}
 use Rattle.gb_run.proofs.Digested.{files_from_is, from_root}
 use Rattle.gb_run.proofs.Writer.{ok_same}
 
--- where no file of these passes, none stands at a place that does
+-- if no file of these passes, there is none at a place that does
 none_at : (test : Place → Bool) (files : Files) (q : Place) → list_any (λ (file : Place × Bytes). test file.0) files ≡ false → test q ≡ true → file_at files q ≡ None
 none_at test [] q none passes = refl
 none_at test (file ∷ files) q none passes =
@@ -36,7 +36,7 @@ none_at test (file ∷ files) q none passes =
     by true e = not_true (sym (none_left (test file.0) (list_any (λ (f : Place × Bytes). test f.0) files) none) ∙ ap test (sym (same_place q file.0 e)) ∙ passes)
     by false e = refl
 
--- the files beside the outputs are at none
+-- the files outside the outputs are at none
 none_beside : (test : Place → Bool) (files : Files) → list_any (λ (file : Place × Bytes). test file.0) (files_where (λ place. not (test place)) files) ≡ false
 none_beside test [] = refl
 none_beside test (file ∷ files) =
@@ -63,7 +63,7 @@ module _ (test : Place → Bool) (rest held : Files) (rest_in_order : is_sorted 
       ∙ ap (λ (fs : Files). cond (is_own root) [] (from_root root fs)) (under_same root within)
       ∙ sym (files_from_is held root in_order)
 
-  -- files beside the outputs do not count
+  -- files outside the outputs do not count
   pub prints_beside : (outputs : List Output) → ((q : Place) → list_any (λ (output : Output). is_under q output.place) outputs ≡ true → test q ≡ true)
       → prints_at outputs (put_over rest held) ≡ prints_at outputs held
   prints_beside [] within = refl
@@ -73,7 +73,7 @@ module _ (test : Place → Bool) (rest held : Files) (rest_in_order : is_sorted 
       ∙ ap (λ (trees : Trees). (output.name, digests_of (files_from held output.place)) ∷ trees)
       (prints_beside outputs (λ q under. within q (or_right (is_under q output.place) (list_any (λ (o : Output). is_under q o.place) outputs) under)))
 
--- beside the rest of a folder
+-- together with the rest of a folder
 pub prints_of_made : (task : Task) (old held : Files) → is_sorted byte_order old ≡ true → is_sorted byte_order held ≡ true
     → prints_at task.outputs (put_over (rest_of task old) held) ≡ prints_at task.outputs held
 prints_of_made task old held old_in_order in_order =

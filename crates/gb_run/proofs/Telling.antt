@@ -45,7 +45,7 @@ use Rattle.gb_run.proofs.Writer.{writer_of}
 
 -- ---- the action that writes
 
--- a run goes on from the files at the outputs as from the whole folder
+-- a run based on the files at the outputs is the same as one based on the whole folder
 goes_on_owned : (kinds : Kinds) (task : Task) (old trees : Trees) (changes : List Changes) (outputs : List OutputFiles) (files : Files) → is_sorted byte_order files ≡ true
     → GoesOn kinds task old trees changes outputs files → GoesOn kinds task old trees changes outputs (output_files task files)
 goes_on_owned kinds task old trees changes outputs files sorted goes_on = record {
@@ -76,7 +76,7 @@ module _ (kinds : Kinds) (task : Task) (action : Action) (trees : Trees) (change
     carries = answers.by_changes reply refl refl;
   }
 
-  -- where nothing hinders them, the digests once its steps are followed are those of its files
+  -- if these files have no fault, the digests once its steps are followed are those of its files
   pub makes_so : (digests : Files) → faults_beside task.outputs [] (held_after task.outputs seen reply.removes reply.writes) ≡ []
       → digests ≡ digests_of (after_steps (output_files task files) (in_turn (steps_of task.outputs reply.removes reply.writes))) → Makes kinds task action trees digests
   makes_so digests none is = record {
@@ -101,7 +101,8 @@ module _ (kinds : Kinds) (task : Task) (trees : Trees) (changes : List Changes) 
   abbrev any_writes : List Action → Bool
   any_writes actions = list_any (λ (a : Action). kinds.writes (kind_of a)) actions
 
-  -- Some first actions have ended; these are left. The digests are those of what stood, until one that writes has.
+  -- Some first actions have ended; these are left. The digests are those from before, until one that writes
+  -- has.
   pub record IsTelling (left : List Action) (digests : Files) : Type 0 where
     pub done : List Action
     pub all : task.actions ≡ done ++ left

@@ -1,4 +1,4 @@
--- The turn of the action that writes: it ends, or stops.
+-- The execution of the action that writes: it ends, or stops.
 use Rattle.std.specs.Prelude.{ℕ, ◌≡◌, ◌⊎◌, true, List, [], ◌∷◌, map, Some, Result, Ok, Err, IsOk, IsTrue}
 use Rattle.std.specs.List.{flat_map}
 use Rattle.std.proofs.Common.{refl, sym, ap, subst, ◌∙◌, inl, inr}
@@ -99,7 +99,7 @@ module _ (kinds : Kinds) (task : Task) (action : Action) (trees : Trees) (change
       ∙ beside_held task.outputs [] (placed task.outputs made.0) refl
 
   module _ (may_leave : Tearing) (before : ℕ) (fault : Fault) (after : ℕ) where
-    -- its files hinder one another
+    -- its files are in conflict with one another
     pub stops_placing : first_of (faults_beside task.outputs [] (held_after task.outputs seen reply.removes reply.writes)) ≡ Some fault → Stops kinds task action trees files may_leave before fault after files
     stops_placing first =
         stops_itself kinds task action trees files may_leave before fault after

@@ -1,4 +1,4 @@
--- A run in full, worked out action by action.
+-- A full execution, computed action by action.
 use Rattle.std.specs.Prelude.{◌≡◌, ◌++◌, if◌then◌else◌, List, [], ◌∷◌, map, Option, None, Some, Result, Ok, Err}
 use Rattle.std.proofs.Common.{refl, sym, ap, ◌∙◌, append_assoc}
 use Rattle.gb_core.specs.Lists.{first_of}
@@ -21,7 +21,7 @@ use Rattle.gb_run.proofs.Beside.{beside_held}
 use Rattle.gb_run.proofs.Endings.{with_none}
 use Rattle.gb_run.proofs.Keeping.{IsMaking, made_more}
 
--- the files of an action hinder one another
+-- the files of an action are in conflict with one another
 module _ (outputs : List Output) (held taken digests : Files) (kept : IsKept held taken digests) where
   beside : (written : List Written) → faults_beside outputs taken (put_over [] (placed outputs written)) ≡ step_faults outputs held (placed outputs written)
   beside written = ap (λ (places : Files). faults_beside outputs places (put_over [] (placed outputs written))) kept.places ∙ beside_held outputs held (placed outputs written) kept.in_order
@@ -42,7 +42,7 @@ map-last f (y ∷ xs) x = ap (λ ys. f y ∷ ys) (map-last f xs x)
 abbrev with_parts : List Part → Work → Work
 with_parts parts work = record { parts = parts ++ work.parts; fault = work.fault }
 
--- The parts of some first actions are worked out; these are left.
+-- The parts of some first actions are computed; these are left.
 pub record IsWorking (course : Course) (left : List Action) (taken digests : Files) (parts : List HeldPart)
     : Type 0 where
   pub making : IsMaking course.kinds course.task course.trees left taken digests

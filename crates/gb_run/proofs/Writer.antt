@@ -105,7 +105,7 @@ module _ (kinds : Kinds) (task : Task) (values : Values) (trees : Trees) where
   never_ok : {A : Type 0} (faults : List Fault) (actions : List Action) (new : Files) → goes (Err faults) actions ≡ Ok new → A
   never_ok faults actions new e = no_err (goes (Err faults) actions) faults new (stays_err faults actions) e
 
-  -- the first action's result leads on, if all of them come to an end
+  -- the first action's result leads on, if all of them end well
   pub record GoesBy (action : Action) (actions : List Action) (held new : Files) : Type 0 where
     pub written : List Written
     pub makes : kinds.makes (kind_of action) action.args values trees ≡ Ok written

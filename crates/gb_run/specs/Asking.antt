@@ -1,4 +1,4 @@
--- What an action is asked in full, and what it answers.
+-- The full request to an action, and the answer to it.
 use Rattle.std.specs.Prelude.{◌≡◌, false, List, map, Result}
 use Rattle.gb_action.specs.Changes.{Changes}
 use Rattle.gb_action.specs.Files.{Trees}
@@ -18,7 +18,7 @@ pub record IsFullRequest (task : Task) (trees : Trees) (changes : List Changes)
   pub in_full : request.changes.incremental ≡ false
   pub lists : request.changes.lists ≡ changes
 
--- so it is, with the trees and change lists of another one
+-- the same, with the trees and change lists of another request
 abbrev pub IsFullLike : Task → Request → Request → Type 0
 IsFullLike task other request = IsFullRequest task other.files other.changes.lists request
 

@@ -1,4 +1,4 @@
--- What the writer of a task is asked by changes, and what a run by changes goes on from.
+-- The incremental request to the writer of a task, and what an incremental execution is based on.
 use Rattle.std.specs.Prelude.{◌≡◌, ◌&&◌, Bool, true, false, List, [], map, Ok, Some, IsTrue, bytes_eq}
 use Rattle.std.specs.Prelude.{is_some}
 use Rattle.std.specs.List.{filter, list_all, list_any}
@@ -26,7 +26,7 @@ use Rattle.gb_meaning.specs.Label.{has_one_writer}
 use Rattle.gb_meaning.specs.Made.{made_of, output_named}
 use Rattle.gb_meaning.specs.Memory.{output_files}
 
--- what is asked by changes, for these arguments
+-- the incremental request with these arguments
 abbrev pub request_of : Task → Trees → List Changes → List OutputFiles → List Value → Request
 request_of task trees changes outputs args = record {
   args = args;
@@ -36,13 +36,13 @@ request_of task trees changes outputs args = record {
   changes = record { incremental = true; lists = changes };
 }
 
--- an output with the files that stand there, by their paths
+-- an output with the files that are there, by their paths
 abbrev pub seen_of : Files → Output → OutputFiles
 seen_of files output =
     record { name = output.name; form = output.form; files = files_from files output.place }
 
--- What stands at the task's outputs was made of old trees, from which the lists tell the changes; the outputs
--- are seen as they stand, and lie apart.
+-- The files at the task's outputs were made of old trees. The lists give the changes from those trees. The
+-- outputs are read as they are, and are disjoint.
 pub record GoesOn (kinds : Kinds) (task : Task) (old trees : Trees) (changes : List Changes)
     (outputs : List OutputFiles) (files : Files) : Type 0 where
   pub one_writer : IsTrue (has_one_writer kinds task.actions)
@@ -58,7 +58,7 @@ pub record GoesOn (kinds : Kinds) (task : Task) (old trees : Trees) (changes : L
 abbrev pub writers : Kinds → List Action → List Action
 writers kinds actions = filter (λ action. kinds.writes (kind_of action)) actions
 
--- whatever it is given, the action writes files of its own output alone, and none if its kind writes none
+-- on any input, the action writes files of its own output alone, and none if its kind writes none
 abbrev pub KeepsToOwn : Kinds → Action → Type 0
 KeepsToOwn kinds action =
     (args : List Value) (values : _) (trees : Trees) (written : List Written)
@@ -70,22 +70,22 @@ abbrev pub HasTarget : Kinds → Task → Action → Type 0
 HasTarget kinds task action =
     kinds.writes (kind_of action) ≡ true → IsTrue (is_some (output_named task.outputs target))
 
--- what is known of the actions of a task that is ready
+-- what is known of the actions of a ready task
 pub record IsFitting (kinds : Kinds) (task : Task) (action : Action) : Type 0 where
   pub keeps : KeepsToOwn kinds action
   pub has_target : HasTarget kinds task action
 
--- what is stored for the action writes files
+-- the table entry of the action writes files
 abbrev pub writes_stored : {S : Type 0} → Meanings S → S → Bool
 writes_stored meanings stored = is_some (shape_of meanings stored).out
 
--- what is stored for the action can answer changes
+-- the table entry of the action can answer incremental requests
 abbrev pub AnswersChanges : {S : Type 0} → Meanings S → Rows S → Action → Type 0
 AnswersChanges {S = S} meanings rows action =
     (stored : S) → find byte_order action.kind rows ≡ Some stored
     → (shape_of meanings stored).incremental ≡ true
 
--- so it can, if it writes
+-- the same, if it writes
 abbrev pub CanGoOn : {S : Type 0} → Meanings S → Rows S → Action → Type 0
 CanGoOn {S = S} meanings rows action =
     (stored : S) → find byte_order action.kind rows ≡ Some stored

@@ -1,4 +1,4 @@
--- The effect of a reply to changes.
+-- The effect of a reply to an incremental request.
 use Rattle.std.specs.Prelude.{◌≡◌, List, [], ◌∷◌, Ok, IsTrue}
 use Rattle.std.specs.List.{AllByRecursion}
 use Rattle.std.specs.FinMap.Entries.{is_sorted}
@@ -18,7 +18,8 @@ use Rattle.gb_run.specs.AskingChanges.{GoesOn, IsFitting, request_of, writers}
 use Rattle.gb_run.specs.Named.{held_after, steps_of}
 use Rattle.gb_run.specs.Steps.{LeadTo, in_turn}
 
--- The reply of a task's writer to changes, and the files that it makes of the trees as they are now.
+-- The reply of a task's writer to an incremental request, and the files that it makes of the trees as they
+-- are now.
 pub record IsReplied (kinds : Kinds) (task : Task) (trees : Trees) (changes : List Changes)
     (outputs : List OutputFiles) (files : Files) (reply : Reply) (written : List Written) : Type 0 where
   pub in_order : IsTrue (is_sorted byte_order files)
@@ -32,7 +33,7 @@ pub record IsReplied (kinds : Kinds) (task : Task) (trees : Trees) (changes : Li
   pub carries : CarriesOver (kinds.makes (kind_of writer)) (request_of task trees changes outputs writer.args)
       reply
 
--- The files that stand once such a reply is done are those that the writer makes.
+-- The files after such a reply is done are those that the writer makes.
 abbrev pub RepliesAreMade : Type 0
 RepliesAreMade =
     (kinds : Kinds) (task : Task) (trees : Trees) (changes : List Changes) (outputs : List OutputFiles)
@@ -40,8 +41,8 @@ RepliesAreMade =
     → IsReplied kinds task trees changes outputs files reply written →
     held_after task.outputs outputs reply.removes reply.writes ≡ put_over [] (placed task.outputs written)
 
--- Where nothing of the task's hinders these files, its steps lead from what stands to what a run in full
--- leaves, and each is at a place where the two differ.
+-- If these files have no fault within the task, the steps of the reply lead from the current files to what a
+-- full execution leaves, and each is at a place where the two differ.
 abbrev pub RepliesLeadOn : Type 0
 RepliesLeadOn =
     (kinds : Kinds) (task : Task) (trees : Trees) (changes : List Changes) (outputs : List OutputFiles)

@@ -15,6 +15,6 @@ ByText = BTreeMap (String Global) (Option (Bor Bytes))
 abbrev pub steps_in : ByText → List Step
 steps_in steps = map (λ e. (string_bytes e.0, option_copied e.1)) steps.entries
 
--- steps in a row
+-- a list of steps
 abbrev pub shown_steps : List (Place × Option (Bor Bytes)) → List Step
 shown_steps steps = map (λ step. (step.0, option_copied step.1)) steps

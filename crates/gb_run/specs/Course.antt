@@ -14,7 +14,7 @@ use Rattle.gb_meaning.specs.Run.{Ended, ends}
 use Rattle.gb_meaning.specs.Turn.{lines_of}
 use Rattle.gb_run.specs.Asking.{made_by}
 
--- What a run goes by: what kinds mean, the task with its trees and its change lists, and the rest of the
+-- What a run depends on: what kinds mean, the task with its trees and its change lists, and the rest of the
 -- folder.
 pub record Course : Type 0 where
   pub kinds : Kinds
@@ -51,7 +51,7 @@ pub record EndsWell (course : Course) (lines : List Text) (new : Files) : Type 0
 
 -- ---- The action at hand
 
--- the files of an action by place, where none of the task's hinders another
+-- the files of an action by place, if the task's files have no fault among themselves
 abbrev pub free_files : List Output → Files → Result (List Written) Text → Files
 free_files outputs held (Err text) = []
 free_files outputs held (Ok written) =

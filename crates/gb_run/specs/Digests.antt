@@ -16,6 +16,6 @@ ByPlace = BTreeMap (String Global) Bytes
 abbrev pub digests_in : ByPlace → Files
 digests_in held = map (λ e. (string_bytes e.0, e.1)) held.entries
 
--- the name of each output, with the digests of the files that stand at or beneath its place
+-- the name of each output, with the digests of the files at or under its place
 abbrev pub prints_at : List Output → Files → Trees
 prints_at outputs files = map (λ output. (output.name, digests_of (files_from files output.place))) outputs

@@ -1,4 +1,4 @@
--- Steps done in a folder: by which calls, and how that ends.
+-- Steps done in a folder: by which calls, and how they end.
 use Rattle.std.specs.Prelude.{◌≡◌, ◌⊎◌, List, [], ◌∷◌, Some, None, Ok, Err}
 use Rattle.gb_folder.specs.Calls.{Call, Writes, Removes}
 use Rattle.gb_folder.specs.Device.{Device, IsCalled}

@@ -12,7 +12,7 @@ use Rattle.gb_store.specs.Changes.{IsCutShort}
 use Rattle.gb_store.specs.Faults.{IsOfMachine}
 use Rattle.gb_meaning.specs.Tree.{listing_faults, told_of_tree}
 
--- the place lies at or beneath one of these outputs
+-- the place is at or under one of these outputs
 abbrev pub is_at_output : List Output → Place → Bool
 is_at_output outputs place = list_any (λ output. is_under place output.place) outputs
 
@@ -20,12 +20,12 @@ is_at_output outputs place = list_any (λ output. is_under place output.place) o
 abbrev pub places_at : List Output → Files → List Place
 places_at outputs files = flat_map (λ output. places_under files output.place) outputs
 
--- what hinders listing them: things there that no place can name
+-- the faults of listing them: entries there that no place can name
 abbrev pub odd_faults : List Output → Contents → List Fault
 odd_faults outputs folder = map told_of_tree (odd_roots folder (map (λ output. output.place) outputs))
 
--- The outputs of a task are not emptied: an odd thing stands there and nothing has changed; or the machine
--- failed, before the first removal or at one, where a front of the files is gone.
+-- The outputs of a task are not emptied. Either an unsupported entry is there and nothing has changed; or the
+-- machine failed, before the first removal or at one, and some first files are gone.
 abbrev pub CannotEmpty : Task → Tearing → ℕ → Contents → Fault → ℕ → Contents → Type 0
 CannotEmpty task may_leave before old fault after new =
     ((first_of (listing_faults task old) ≡ Some fault) × (new ≡ old))

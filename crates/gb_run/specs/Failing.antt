@@ -1,4 +1,4 @@
--- A run on its way, in full or by changes, and how it fails.
+-- A run in progress, full or incremental, and how it fails.
 use Rattle.std.specs.Prelude.{ℕ, ◌≡◌, ◌⊎◌, ◌++◌, true, List, [], ◌∷◌, None, Some, if◌then◌else◌}
 use Rattle.std.specs.List.{list_any}
 use Rattle.gb_folder.specs.Files.{Files, Tearing}
@@ -12,21 +12,21 @@ use Rattle.gb_run.specs.Named.{put}
 use Rattle.gb_run.specs.Stepping.{FailsByMachine}
 use Rattle.gb_run.specs.Steps.{LeadTo, Step, after_steps}
 
--- which way a run goes: in full, from outputs without a file; or by changes of these files
+-- the way of a run: in full, from outputs without a file; or incremental, from these files
 pub data Way : Type 0 where
   InFull : Way
   ByChanges : Files → Way
 
--- the folder once these actions have ended: the rest with what they made put over it; by changes it is as it
--- was, until one that writes has ended
+-- the folder after these actions have ended: the rest with what they made put over it; in an incremental
+-- execution it is as it was, until one that writes has ended
 abbrev pub ended_files : Course → Way → List Action → Files
 ended_files course InFull done = put_over course.rest (run_along course done).held
 ended_files course (ByChanges old) done =
     if list_any (λ action. course.kinds.writes (kind_of action)) done
     then put_over course.rest (run_along course done).held else old
 
--- The steps of the action at hand. In full they put its files. By changes they lead to the folder with its
--- files, if it writes and nothing of the task's hinders them; else there are none.
+-- The steps of the action at hand. In a full execution they put its files. In an incremental one they lead to
+-- the folder with its files, if it writes and these have no fault within the task; else there are none.
 abbrev pub AreAtHand : Course → Way → List Action → List Action → List Step → Type 0
 AreAtHand course InFull done left steps =
     steps ≡ put (files_at_hand course (run_along course done).held left)
@@ -39,7 +39,7 @@ AreAtHand course (ByChanges old) done (action ∷ later) steps =
     (put_over (run_along course done).held
     (files_at_hand course (run_along course done).held (action ∷ later)))) steps)
 
--- A moment of the run: these actions have ended, and of the steps of the next one some first ones are done.
+-- A moment of the run: these actions have ended, and some first steps of the next one are done.
 pub record Moment (course : Course) (way : Way) : Type 0 where
   pub done : List Action
   pub left : List Action

@@ -1,4 +1,4 @@
--- What follows for a task's turn from how the run of its actions ends.
+-- Consequences for a task's execution of how the run of its actions ends.
 use Rattle.std.specs.Prelude.{ℕ, ◌≡◌, ◌⊎◌, false, true, List, Some, Ok, IsTrue, take, ⊤}
 use Rattle.std.specs.List.{AllByRecursion}
 use Rattle.std.specs.FinMap.Entries.{is_sorted}
@@ -34,7 +34,7 @@ EndedRunsAreMade =
     (files : Files) × (made_of kinds task.actions task.values (trees_of task old) task.outputs ≡ Ok files)
     × (new ≡ with_outputs task old files)
 
--- Its digests are those of what stands at the outputs then.
+-- Its digests are those of the files at the outputs then.
 abbrev pub MadeStands : Type 0
 MadeStands =
     (kinds : Kinds) (task : Task) (trees : Trees) (changes : List Changes) (old : Files)
@@ -45,15 +45,15 @@ MadeStands =
 
 -- ---- A run that fails
 
--- A run of the task over these files may go this way: by changes of them if one action writes, and each keeps
--- to its own output.
+-- A run of the task over these files may go this way: incremental from them if one action writes, and each
+-- keeps to its own output.
 abbrev pub IsWayOf : Kinds → Task → Files → Way → Type 0
 IsWayOf kinds task old InFull = ⊤
 IsWayOf kinds task old (ByChanges stood) =
     (stood ≡ old) × IsTrue (has_one_writer kinds task.actions)
     × AllByRecursion (IsFitting kinds task) task.actions
 
--- How a task's run fails that goes this way.
+-- How a task's run of this way fails.
 pub record Failure (setting : Setting) (way : Way) (task : Task) (changes : List Changes) (old : Files)
     (fault : Fault) (lines : List Text) (new : Files) : Type 0 where
   pub is_way : IsWayOf setting.kinds task old way
@@ -62,7 +62,7 @@ pub record Failure (setting : Setting) (way : Way) (task : Task) (changes : List
   pub fails : Fails (course_in setting.kinds task changes old) way setting.may_leave before fault lines after
       new
 
--- It prints the lines of some first actions of those that end.
+-- It prints the lines of a prefix of the actions that end.
 abbrev pub FailedRunsPrintFronts : Setting → Type 0
 FailedRunsPrintFronts setting =
     (way : Way) (task : Task) (changes : List Changes) (old : Files) (fault : Fault)
@@ -71,8 +71,8 @@ FailedRunsPrintFronts setting =
     (count : ℕ) × (lines ≡ lines_of setting.kinds task (trees_of task old) changes
     (take count (run_of setting.kinds task old).done))
 
--- In full each file at the outputs is one that an action writes which the run came to, but where the device
--- failed.
+-- In a full execution each file at the outputs is written by an action that the run reached, except where the
+-- device failed.
 abbrev pub FailedRunsInventNothingInFull : Setting → Type 0
 FailedRunsInventNothingInFull setting =
     (task : Task) (changes : List Changes) (old : Files) (fault : Fault)
@@ -81,7 +81,7 @@ FailedRunsInventNothingInFull setting =
     (place : Place) (bytes : Bytes) → is_output_of task place ≡ true → file_at new place ≡ Some bytes →
     IsWritten setting.kinds task old place bytes ⊎ (fault ≡ faults.Device place)
 
--- By changes it may also be one that stood there.
+-- In an incremental execution it may also be one that was there before.
 abbrev pub FailedRunsInventNothingByChanges : Setting → Type 0
 FailedRunsInventNothingByChanges setting =
     (task : Task) (changes : List Changes) (old : Files) (fault : Fault)
@@ -91,7 +91,7 @@ FailedRunsInventNothingByChanges setting =
     (file_at old place ≡ Some bytes) ⊎ IsWritten setting.kinds task old place bytes
     ⊎ (fault ≡ faults.Device place)
 
--- By changes a file that stood as it is to be made stays.
+-- In an incremental execution a file that was as it is to be made stays.
 abbrev pub FailedRunsKeepRightFiles : Setting → Type 0
 FailedRunsKeepRightFiles setting =
     (task : Task) (changes : List Changes) (old : Files) (fault : Fault)
@@ -101,7 +101,8 @@ FailedRunsKeepRightFiles setting =
     (place : Place) (bytes : Bytes) → file_at files place ≡ Some bytes → file_at old place ≡ Some bytes →
     file_at new place ≡ Some bytes
 
--- Where the device failed there stands what it may leave of what stood in the run and what was to stand.
+-- Where the device failed, the content is what it may leave of what was there in the run and what was to be
+-- there.
 abbrev pub TornPlacesAreOfTheRun : Setting → Type 0
 TornPlacesAreOfTheRun setting =
     (way : Way) (task : Task) (changes : List Changes) (old : Files) (place : Place)
@@ -112,7 +113,7 @@ TornPlacesAreOfTheRun setting =
 
 -- ---- Emptied outputs
 
--- Where the outputs could not be emptied, each file stood there before, but where the device failed.
+-- If the outputs could not be emptied, each file was there before, except where the device failed.
 abbrev pub CutEmptyingsInventNothing : Setting → Type 0
 CutEmptyingsInventNothing setting =
     (task : Task) (before : ℕ) (old : Contents) (fault : Fault) (after : ℕ) (new : Contents)
@@ -120,7 +121,7 @@ CutEmptyingsInventNothing setting =
     (place : Place) (bytes : Bytes) → file_at new.files place ≡ Some bytes →
     (file_at old.files place ≡ Some bytes) ⊎ (fault ≡ faults.Device place)
 
--- Where the device failed then, there stands what stood there, or is torn.
+-- Where the device failed then, the content is what was there before, or torn.
 abbrev pub TornPlacesAreOfTheEmptying : Setting → Type 0
 TornPlacesAreOfTheEmptying setting =
     (task : Task) (before : ℕ) (old : Contents) (place : Place) (after : ℕ) (new : Contents)

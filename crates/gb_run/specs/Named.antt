@@ -10,7 +10,7 @@ use Rattle.gb_plan.specs.declared.task.Output.{Output}
 use Rattle.gb_meaning.specs.Made.{output_named, placed}
 use Rattle.gb_run.specs.Steps.{Step, put_steps}
 
--- nothing is to stand beneath the place of an output
+-- a removal under the place of an output
 abbrev pub removed_in : Option Output → OutputPath → List Step
 removed_in None removed = []
 removed_in (Some output) removed = (beneath output.place removed.path, None) ∷ []
@@ -23,7 +23,7 @@ removed outputs removes = flat_map (λ path. removed_in (output_named outputs pa
 abbrev pub put : List (Place × Bytes) → List Step
 put files = map (λ file. (file.0, Some file.1)) files
 
--- what a reply does, one after another
+-- the steps of a reply, one after another
 abbrev pub named : List Output → List OutputPath → List Written → List Step
 named outputs removes writes = removed outputs removes ++ put (placed outputs writes)
 
@@ -31,7 +31,7 @@ named outputs removes writes = removed outputs removes ++ put (placed outputs wr
 abbrev pub steps_of : List Output → List OutputPath → List Written → List Step
 steps_of outputs removes writes = put_steps [] (named outputs removes writes)
 
--- the files of outputs, each tree of them beneath the place of its output
+-- the files of outputs, each tree of them under the place of its output
 abbrev pub standing : List Output → List OutputFiles → List (Place × Bytes)
 standing [] seen = []
 standing (output ∷ outputs) [] = []
@@ -46,7 +46,7 @@ left_in (place, Some bytes) = (place, bytes) ∷ []
 abbrev pub files_left : List Step → Files
 files_left steps = flat_map left_in steps
 
--- the files that stand once a reply is done, over those that are seen
+-- the files after a reply is done, over those that were read
 abbrev pub held_after : List Output → List OutputFiles → List OutputPath → List Written → Files
 held_after outputs seen removes writes =
     files_left (put_steps (put_steps [] (put (standing outputs seen))) (named outputs removes writes))

@@ -11,11 +11,11 @@ use Rattle.gb_meaning.specs.Made.{file_faults, full_outputs, put_over}
 abbrev pub blank : Files → Files
 blank files = map (λ file. (file.0, [])) files
 
--- the outputs at which more files stand than may, as faults
+-- the outputs with more files than they may have, as faults
 abbrev pub count_faults : List Output → Files → List Fault
 count_faults outputs files = map (λ output. faults.TooManyFiles output.name) (full_outputs outputs files)
 
--- what hinders these files, in the order of their places, beside the places taken before
+-- the faults of these files, in the order of their places, given the places taken before
 abbrev pub faults_beside : List Output → Files → Files → List Fault
 faults_beside outputs taken files =
     let all = put_over taken (blank files) in

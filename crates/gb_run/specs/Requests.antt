@@ -1,4 +1,4 @@
--- What a task's actions are asked.
+-- The requests to a task's actions.
 use Rattle.std.specs.Prelude.{◌≡◌, map}
 use Rattle.gb_action.specs.declared.request.Request.{Request}
 use Rattle.gb_plan.specs.Task.{seen_files, seen_outputs}

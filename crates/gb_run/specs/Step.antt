@@ -28,7 +28,7 @@ pub record IsKept (held taken digests : Files) : Type 0 where
   pub places : taken ≡ blank held
   pub prints : digests ≡ digests_of held
 
--- An action stops, by itself or by the machine; of its files by place some first ones stand.
+-- An action stops, by itself or by the machine. Of its files by place a prefix exists.
 abbrev pub StopsIn : List Output → Files → Files → Result (List Written) Text → Tearing → ℕ → Fault → ℕ
     → Files → Type 0
 StopsIn outputs rest held made may_leave before fault after new =

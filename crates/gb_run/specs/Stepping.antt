@@ -1,4 +1,4 @@
--- Steps done one after another, and where that is cut short.
+-- Steps done one after another, and what is left if that is cut short.
 use Rattle.std.specs.Prelude.{ℕ, ◌≡◌, ◌≤◌, ◌⊎◌, ◌++◌, true, false, List, [], ◌∷◌, Option, Some, None, Result}
 use Rattle.std.specs.Prelude.{Err, is_some, length, ⊤}
 use Rattle.gb_folder.specs.Files.{Bytes, Contents, Files, HasRisen, Tearing, file_at, is_blocked, with_left}
@@ -18,7 +18,7 @@ abbrev pub IsFree : Files → Step → Type 0
 IsFree files (place, None) = ⊤
 IsFree files (place, Some bytes) = is_blocked files place ≡ false
 
--- so it is at each step, once those before it are done
+-- the same at each step, after those before it are done
 abbrev pub HasRoom : Files → List Step → Type 0
 HasRoom files [] = ⊤
 HasRoom files (step ∷ steps) = IsFree files step × HasRoom (with_left files step.0 step.1) steps
@@ -30,7 +30,7 @@ pub record IsShutOut (step : Step) (old : Contents) (fault : Fault) (new : Conte
   pub told : fault ≡ faults.Blocked step.0
   pub same : new ≡ old
 
--- The steps were cut short: some first ones are done, and the next was shut out, or hindered by the machine.
+-- The steps were cut short: some first ones are done, and the next was shut out, or stopped by the machine.
 pub record IsCutShort (may_leave : Tearing) (steps : List Step) (old : Contents) (fault : Fault)
     (new : Contents) : Type 0 where
   pub front : List Step
@@ -43,7 +43,7 @@ pub record IsCutShort (may_leave : Tearing) (steps : List Step) (old : Contents)
 
 -- ---- Where a run fails
 
--- The device stopped the first of these steps: there stands what it may leave.
+-- The device stopped the first of these steps. At its place is what the device may leave.
 pub record IsStopped (may_leave : Tearing) (before : ℕ) (old : Files) (behind : List Step) (fault : Fault)
     (after : ℕ) (new : Files) : Type 0 where
   pub step : Step
@@ -60,8 +60,8 @@ abbrev pub FailsByMachine : Tearing → ℕ → Files → List Step → Fault �
 FailsByMachine may_leave before old behind fault after new =
     ((fault ≡ faults.OutOfMemory) × (new ≡ old)) ⊎ IsStopped may_leave before old behind fault after new
 
--- An action stops over these files, by itself, where this is its result, or by the machine: of its
--- steps some first ones are done.
+-- An action stops over these files, by itself, if this is its result, or by the machine: some first steps of
+-- it are done.
 pub record StopsAt (AreSteps : List Step → Type 0) (comes_to : Result Files Fault) (may_leave : Tearing)
     (before : ℕ) (old : Files) (fault : Fault) (after : ℕ) (new : Files) : Type 0 where
   pub front : List Step

@@ -1,4 +1,4 @@
--- The turn of the action that writes, and how it ends or stops.
+-- The execution of the action that writes, and how it ends or stops.
 use Rattle.std.specs.Prelude.{ℕ, ◌≡◌, ◌⊎◌, List, [], ◌∷◌, Ok}
 use Rattle.std.specs.List.{AllByRecursion}
 use Rattle.gb_folder.specs.Files.{Files, Tearing}
@@ -18,7 +18,7 @@ use Rattle.gb_run.specs.AskingChanges.{GoesOn, IsFitting, writers}
 use Rattle.gb_run.specs.Stepping.{StopsAt}
 use Rattle.gb_run.specs.Steps.{LeadTo, Step}
 
--- The action is the one that writes, and goes on from what stands.
+-- The action is the one that writes, and its execution is based on the current files.
 pub record IsItsTurn (kinds : Kinds) (task : Task) (action : Action) (trees : Trees) (changes : List Changes)
     (seen : List OutputFiles) (files : Files) : Type 0 where
   pub fitting : AllByRecursion (IsFitting kinds task) task.actions
@@ -49,7 +49,7 @@ AreOfTurn kinds task action trees old steps =
     ⊎ LeadTo old (put_over (rest_of task old)
     (put_over [] (free_files task.outputs [] (made_by kinds task action trees)))) steps
 
--- It stops, by itself or by the machine; of its steps some first ones are done.
+-- It stops, by itself or by the machine. Some first steps of it are done.
 abbrev pub Stops : Kinds → Task → Action → Trees → Files → Tearing → ℕ → Fault → ℕ → Files → Type 0
 Stops kinds task action trees old may_leave before fault after new =
     StopsAt (AreOfTurn kinds task action trees old)

@@ -1,4 +1,4 @@
--- The steps and lines of a full rebuild, worked out before anything is changed, and what it is to do them.
+-- The steps and lines of a full rebuild, computed before anything is changed, and what it means to do them.
 use Rattle.std.specs.Prelude.{◌≡◌, ◌⊎◌, ◌++◌, List, [], ◌∷◌, Option, None, Some, Result, Ok, Err}
 use Rattle.gb_core.specs.Lists.{first_of}
 use Rattle.gb_folder.specs.Calls.{Call}
@@ -16,7 +16,7 @@ use Rattle.gb_run.specs.Doing.{Does, Ending}
 use Rattle.gb_run.specs.Named.{put}
 use Rattle.gb_run.specs.Steps.{Step}
 
--- What one action wants done, and the lines that it prints then.
+-- The steps of one action, and the lines that it prints after them.
 pub record Part : Type 0 where
   pub steps : List Step
   pub lines : List Text
@@ -68,7 +68,7 @@ DoesParts (part ∷ parts) calls lines result =
     × Does part.steps first mid
     × OrPrints mid part.lines (λ more. DoesParts parts later more result) later lines result
 
--- the work's own fault, where doing its parts went well
+-- the work's own fault, if doing its parts went well
 abbrev pub or_fault : Ending → Option Fault → Ending
 or_fault (Ok done) None = Ok tt
 or_fault (Ok done) (Some fault) = Err fault
@@ -84,8 +84,8 @@ abbrev pub ending : {X : Type 0} → Result X Fault → Ending
 ending (Ok made) = Ok tt
 ending (Err fault) = Err fault
 
--- The actions ran in full by these calls: memory ran out before the first of them, or what the actions come
--- to was done, and it ends with its own fault where it has one.
+-- The actions ran in full by these calls. Either memory ran out before the first of them, or the work of the
+-- actions was done, and the run ends with the work's own fault if it has one.
 abbrev pub RunsInFull : Course → List Call → List Text → Ending → Type 0
 RunsInFull course calls lines result =
     let work = work_of course [] course.task.actions in

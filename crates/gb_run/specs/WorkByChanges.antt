@@ -1,4 +1,4 @@
--- The steps and lines of an incremental execution, worked out before anything is changed.
+-- The steps and lines of an incremental execution, computed before anything is changed.
 use Rattle.std.specs.Prelude.{◌≡◌, ◌⊎◌, ◌++◌, true, false, List, [], ◌∷◌, Option, None, Some, Ok, Err}
 use Rattle.std.specs.List.{AllZip}
 use Rattle.gb_core.specs.Lists.{first_of}
@@ -22,8 +22,8 @@ use Rattle.gb_run.specs.Placing.{faults_beside}
 use Rattle.gb_run.specs.Steps.{in_turn}
 use Rattle.gb_run.specs.Work.{DoesParts, Part, Work, or_fault}
 
--- What such a run goes by: what kinds mean, the task with its trees and change lists, and its outputs as they
--- were seen.
+-- What such a run depends on: what kinds mean, the task with its trees and change lists, and its outputs as
+-- they were read.
 pub record Increment : Type 0 where
   pub kinds : Kinds
   pub task : Task
@@ -41,8 +41,8 @@ pub record IsReaderPart (run : Increment) (action : Action) (part : Part) : Type
   pub made : IsFitting run.kinds run.task action → made_by run.kinds run.task action run.trees ≡ Ok []
   pub steps : part.steps ≡ []
 
--- The part of the action that writes: it replied to the change lists, nothing hinders the files that the task
--- then holds, and the steps are those that the reply names, removals first.
+-- The part of the action that writes: it replied to the change lists, the files that the task then holds have
+-- no fault, and the steps are those that the reply names, removals first.
 pub record IsWriterPart (run : Increment) (action : Action) (part : Part) : Type 0 where
   pub writes : run.kinds.writes (kind_of action) ≡ true
   pub reply : Reply
@@ -57,8 +57,8 @@ IsPart run action part =
     (IsReaderPart run action part ⊎ IsWriterPart run action part)
     × (part.lines ≡ printed_by run.kinds run.task action run.trees run.changes)
 
--- Why an action ends the run by itself: it failed with a text, or the files that the task would hold are
--- hindered.
+-- Why an action ends the run by itself: it failed with a text, or the files that the task would hold have a
+-- fault.
 abbrev pub FailsWith : Increment → Action → Fault → Type 0
 FailsWith run action fault =
     ((text : Text) × (fault ≡ faults.ActionFailed text)
@@ -69,7 +69,7 @@ FailsWith run action fault =
     × (first_of (faults_beside run.task.outputs [] (held_after run.task.outputs run.seen reply.removes
     reply.writes)) ≡ Some fault))
 
--- the next of these actions fails so, or there is none
+-- the next of these actions fails with this fault, or there is none
 abbrev pub EndsSo : Increment → List Action → Option Fault → Type 0
 EndsSo run [] own = own ≡ None
 EndsSo run (action ∷ later) own = (fault : Fault) × (own ≡ Some fault) × FailsWith run action fault
@@ -82,8 +82,8 @@ pub record IsWorkByChanges (run : Increment) (work : Work) : Type 0 where
   pub parts : AllZip (IsPart run) done work.parts
   pub ends : EndsSo run left work.fault
 
--- The actions ran by changes by these calls: memory ran out before the first of them, or the result of
--- the actions was done, and it ends with its own fault where it has one.
+-- The actions ran incrementally by these calls. Either memory ran out before the first of them, or the work
+-- of the actions was done, and the run ends with the work's own fault if it has one.
 abbrev pub RunsByChanges : Increment → List Call → List Text → Ending → Type 0
 RunsByChanges run calls lines result =
     ((calls ≡ []) × (lines ≡ []) × (result ≡ Err faults.OutOfMemory))

@@ -1,4 +1,4 @@
-//! Asking the actions of a task, in full or by changes.
+//! Calls the actions of a task, with full or incremental requests.
 ghost use Rattle.std.specs.Prelude.{◌≡◌, ◌⊎◌, ℕ, List, true, Ok, Err, IfOk, IfErr, OnOk, Some, map};
 ghost use Rattle.std.specs.FinMap.Entries.{find};
 ghost use Rattle.gb_core.specs.Lists.{byte_order};
@@ -28,7 +28,7 @@ use gb_plan::task::{Action, Output, TaskDeclaration};
 use gb_report::fault::Fault;
 use std::alloc::{AllocError, Global};
 
-/// Whether what is stored for an action writes files. Takes no memory.
+/// Whether the table entry of an action writes files. Allocates no memory.
 pub fn is_writer<A: Actions>(table: &ActionTable<A::Stored>, action: &Action) -> bool
     ensures { (stored : A.Stored) → find byte_order action.now.kind table.now ≡ Some stored
         → result ≡ writes_stored A.meanings stored }
@@ -39,7 +39,7 @@ pub fn is_writer<A: Actions>(table: &ActionTable<A::Stored>, action: &Action) ->
     }
 }
 
-/// Whether what is stored for an action can answer changes alone. Takes no memory.
+/// Whether the table entry of an action can answer incremental requests. Allocates no memory.
 fn answers_changes<A: Actions>(table: &ActionTable<A::Stored>, action: &Action) -> bool
     ensures { (stored : A.Stored) → find byte_order action.now.kind table.now ≡ Some stored
         → result ≡ (shape_of A.meanings stored).incremental }
@@ -50,8 +50,8 @@ fn answers_changes<A: Actions>(table: &ActionTable<A::Stored>, action: &Action) 
     }
 }
 
-/// Whether exactly one action of the task writes files, and can answer changes: the task can go on by them.
-/// Takes no memory.
+/// Whether exactly one action of the task writes files, and this action can answer incremental
+/// requests. Then the task can execute incrementally. Allocates no memory.
 pub fn has_one_writer<A: Actions>(table: &ActionTable<A::Stored>, task: &TaskDeclaration) -> bool
     requires ready { IsReady A.meanings table.now task.now }
     ensures agreed { (kinds : Kinds) → Agrees A.meanings table.now kinds
@@ -70,7 +70,7 @@ pub fn has_one_writer<A: Actions>(table: &ActionTable<A::Stored>, task: &TaskDec
     found
 }
 
-/// Asks an action: the request becomes one for its arguments.
+/// Calls an action. The request then has the arguments of this action.
 pub fn ask<A: Actions>(
     alloc: Global,
     task: &TaskDeclaration,

@@ -1,4 +1,4 @@
-//! A run by changes: worked out as a value, and then done.
+//! An incremental execution: computed as a value first, then done in the folder.
 ghost use Rattle.std.specs.Prelude.{◌≡◌, List, [], Ok, IsTrue, IfOk, IfErr, OnOk, map};
 ghost use Rattle.std.specs.FinMap.Entries.{is_sorted};
 ghost use Rattle.std.specs.List.{AllByRecursion};
@@ -38,11 +38,12 @@ use gb_report::fault::Fault;
 use gb_tree::prints::Prints;
 use std::alloc::Global;
 
-/// Runs the actions of a task over the files at its outputs: the one that writes by changes, the others in
-/// full with the same change lists. All is worked out before anything is changed. What is left is what a run
-/// in full leaves, and no place is touched whose file is right. Returns the digests of what the actions make:
-/// those of the files before, with the reply put over them. After an error the lines are those of the actions
-/// that had ended.
+/// Executes the actions of a task incrementally, over the files at its outputs. The action that
+/// writes gets an incremental request. The others get full requests with the same change lists.
+/// Everything is computed before anything is changed. The files that result are those of a full
+/// execution, and no place is touched whose file is right. Returns the digests of what the actions
+/// make: those of the files before, with the reply put over them. After an error the lines are
+/// those of the actions that had ended.
 pub fn run_by_changes<A: Actions, F: Folder>(
     alloc: Global,
     folder: &mut F,

@@ -1,7 +1,7 @@
-//! The files that a task holds once a reply is done, checked before anything changes.
+//! Checks the files that a task holds after a reply is done, before anything changes.
 //!
-//! All of them are looked at by place, also those that stay as they are: so what is told first is what a
-//! run in full tells first.
+//! All of them are checked by place, also those that stay as they are. So the first fault reported
+//! is the one that a full execution reports first.
 ghost use Rattle.std.specs.Prelude.{◌≡◌, ◌⊎◌, [], Some, IfOk, IfErr, OnOk};
 ghost use Rattle.std.specs.List.{flat_map};
 ghost use Rattle.gb_core.specs.Lists.{first_of};
@@ -19,8 +19,8 @@ use gb_report::fault::Fault;
 use std::alloc::{AllocError, Global};
 use std::collections::BTreeMap;
 
-/// Checks all the files that stand once these steps are done. An error is the first of what hinders them,
-/// or want of memory (3).
+/// Checks all the files that exist after these steps are done. An error is the first fault of these
+/// files, or lack of memory (3).
 pub fn check_held(
     alloc: Global,
     outputs: &[Output],
@@ -36,7 +36,7 @@ pub fn check_held(
     Ok(())
 }
 
-/// The places of the files that stand.
+/// The places of the files that exist after the steps.
 fn places_held(
     alloc: Global,
     steps: &BTreeMap<String, Option<&Bytes>>,
@@ -52,7 +52,7 @@ fn places_held(
     Ok(held)
 }
 
-/// Checks each of these files beside all.
+/// Checks each of these files against all files.
 fn check_all(
     alloc: Global,
     all: &FileMap,
@@ -70,7 +70,7 @@ fn check_all(
     Ok(())
 }
 
-/// Checks one file beside all.
+/// Checks one file against all files.
 fn check_file(alloc: Global, all: &FileMap, text: &str, bytes: &Bytes) -> Result<(), Fault>
     ensures ok { OnOk result (file_faults all.now (text.now, bytes.now) ≡ []) }
     ensures err { IfErr result (λ fault. (fault ≡ Fault.OutOfMemory)

@@ -1,7 +1,7 @@
 //! The digests of files, by place.
 //!
-//! They stand in a map by the texts of their places, in byte order: what lies at or beneath an output's
-//! place is one look-up and one range of the map.
+//! They are in a map keyed by the texts of their places, in byte order. So what is at or under an
+//! output's place is found by one look-up and one range of the map.
 ghost use Rattle.std.specs.Prelude.{◌≡◌, ◌++◌, ◌∷◌, ℕ, List, [], IsTrue, IfOk, OnOk, OnErr, map};
 ghost use Rattle.std.specs.Prelude.{string_bytes};
 ghost use Rattle.std.specs.FinMap.Entries.{is_sorted};
@@ -46,7 +46,7 @@ impl Model for Digests {
 }
 
 impl Digests {
-    /// Of no file.
+    /// The digests of no file.
     pub fn new(alloc: Global) -> Digests
         ensures { result ≡ [] }
     {
@@ -56,7 +56,7 @@ impl Digests {
         }
     }
 
-    /// Puts the digest of a file, in the place of one that stands there.
+    /// Stores the digest of a file. It replaces the one at that place, if there is one.
     pub fn hold(&mut self, place: &Place, digest: [u8; 32]) -> Result<(), AllocError>
         ensures ok { OnOk result (self.new ≡ with_file self.old place.now digest) }
         ensures err { OnErr result (self.new ≡ self.old) }
@@ -64,7 +64,7 @@ impl Digests {
         hold(self.alloc, &mut self.held, place, digest)
     }
 
-    /// Puts the digest of a file with these bytes.
+    /// Stores the digest of a file with these bytes.
     pub fn put(&mut self, place: &Place, bytes: &Bytes) -> Result<(), AllocError>
         ensures ok { OnOk result (self.new ≡ with_file self.old place.now (sha256 bytes.now)) }
         ensures files { OnOk result ((files : Files) → self.old ≡ digests_of files
@@ -74,8 +74,8 @@ impl Digests {
         self.hold(place, Sha256::digest(bytes.as_slice()))
     }
 
-    /// Follows these steps, one after another: stores the digest of what is written, and drops that of what
-    /// is removed.
+    /// Follows these steps, one after another: stores the digest of what is written, and drops that
+    /// of what is removed.
     pub fn follow(&mut self, steps: &[(Place, Option<Bytes>)]) -> Result<(), AllocError>
         ensures { OnOk result ((files : Files) → self.old ≡ digests_of files
             → self.new ≡ digests_of (after_steps files steps.now)) }
@@ -99,7 +99,7 @@ impl Digests {
         }
     }
 
-    /// Takes the digest at a place out, if there is one.
+    /// Removes the digest at a place, if there is one.
     pub fn remove(&mut self, place: &Place)
         ensures ok { self.new ≡ without self.old place.now }
         ensures files { (files : Files) → self.old ≡ digests_of files
@@ -108,8 +108,8 @@ impl Digests {
         take_out(&mut self.held, place);
     }
 
-    /// What stands at or beneath the place of each of these outputs, by paths from it. At a place in the
-    /// tool's own folder `.gb` there is nothing.
+    /// The digests at or under the place of each of these outputs, by paths from it. At a place in
+    /// the tool's own folder `.gb` there are none.
     pub fn prints(&self, alloc: Global, outputs: &[Output]) -> Result<Vec<Prints>, AllocError>
         ensures named { IfOk result (λ made.
             map (λ prints. prints.0) made.items ≡ map (λ output. output.name) outputs.now) }
@@ -123,7 +123,7 @@ impl Digests {
         Ok(made)
     }
 
-    /// What stands at or beneath the place of one output.
+    /// The digests at or under the place of one output.
     fn prints_of(&self, alloc: Global, output: &Output) -> Result<Prints, AllocError>
         ensures named { IfOk result (λ prints. prints.0 ≡ output.now.name) }
         ensures prints { IfOk result (λ prints. (files : Files) → self.now ≡ digests_of files
@@ -138,7 +138,7 @@ impl Digests {
     }
 }
 
-/// Puts a digest. Where memory runs out the digests stay as they were.
+/// Stores a digest. If memory runs out, the digests are unchanged.
 fn hold(
     alloc: Global,
     held: &mut BTreeMap<String, [u8; 32]>,
@@ -154,7 +154,7 @@ fn hold(
     Ok(())
 }
 
-/// Takes the digest at a place out.
+/// Removes the digest at a place.
 fn take_out(held: &mut BTreeMap<String, [u8; 32]>, place: &Place)
     requires { IsTrue (is_sorted byte_order (digests_in held.old)) }
     ensures { digests_in held.new ≡ without (digests_in held.old) place.now }
@@ -162,7 +162,7 @@ fn take_out(held: &mut BTreeMap<String, [u8; 32]>, place: &Place)
     held.remove(place.as_str());
 }
 
-/// The digests at or beneath the root, by their paths from it.
+/// The digests at or under the root, by their paths from it.
 fn found_under(
     alloc: Global,
     held: &BTreeMap<String, [u8; 32]>,

@@ -1,4 +1,4 @@
-//! Steps done in a folder, one after another.
+//! Does steps in a folder, one after another.
 ghost use Rattle.std.specs.Prelude.{◌≡◌, List, Some, None};
 ghost use Rattle.gb_folder.specs.Calls.{Call};
 ghost use Rattle.gb_folder.specs.Device.{Leads};
@@ -33,8 +33,8 @@ fn do_step<F: Folder>(folder: &mut F, step: &(Place, Option<Bytes>)) -> Result<(
     }
 }
 
-/// Writes a file. The place is copied first, so that a failure of the device is reported at it whatever
-/// memory is left.
+/// Writes a file. The place is copied first. So a failure of the device is reported at it however
+/// much memory is left.
 fn write_file<F: Folder>(folder: &mut F, place: &Place, bytes: &Bytes) -> Result<(), Fault>
     ensures { Tried F.device (place.now, Some bytes.now) folder.old result folder.new }
 {
@@ -52,7 +52,7 @@ fn remove_file<F: Folder>(folder: &mut F, place: &Place) -> Result<(), Fault>
     removal_ending(answer, at)
 }
 
-/// How a write ends that was answered so.
+/// How a write ends, by the folder's answer.
 fn write_ending(answer: Result<(), FolderFault>, place: Place) -> Result<(), Fault>
     ensures { result ≡ write_ending place answer }
 {
@@ -62,7 +62,7 @@ fn write_ending(answer: Result<(), FolderFault>, place: Place) -> Result<(), Fau
     }
 }
 
-/// How a removal ends that was answered so.
+/// How a removal ends, by the folder's answer.
 fn removal_ending(answer: Result<(), FolderFault>, place: Place) -> Result<(), Fault>
     ensures { result ≡ removal_ending place answer }
 {

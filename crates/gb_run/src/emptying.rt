@@ -1,4 +1,4 @@
-//! The output places of a task, listed and emptied.
+//! Lists and empties the output places of a task.
 ghost use Rattle.std.specs.Prelude.{◌≡◌, ◌⊎◌, [], Some, IsTrue, IfOk, IfErr, OnOk};
 ghost use Rattle.std.specs.List.{list_all};
 ghost use Rattle.gb_core.specs.Lists.{first_of};
@@ -18,8 +18,8 @@ use gb_store::listing::listed_at;
 use gb_store::removal::remove_all;
 use std::alloc::Global;
 
-/// Takes the files at the outputs of a task away. An error is the first odd thing there (14), before
-/// anything is removed, or the machine's (3, 10), which leaves a front of the files gone.
+/// Removes the files at the outputs of a task. An error is the first unsupported entry there (14),
+/// before anything is removed, or the machine's (3, 10), after which some first files are gone.
 pub fn empty_outputs<F: Folder>(
     alloc: Global,
     folder: &mut F,
@@ -42,8 +42,8 @@ pub fn empty_outputs<F: Folder>(
     remove_all(folder, places.as_slice())
 }
 
-/// The places of the files at these outputs, output by output. An error is the first odd thing there
-/// (14), or the machine's (3, 10).
+/// The places of the files at these outputs, output by output. An error is the first unsupported
+/// entry there (14), or the machine's (3, 10).
 pub fn listed_outputs<F: Folder>(
     alloc: Global,
     folder: &mut F,

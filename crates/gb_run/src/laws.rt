@@ -1,4 +1,4 @@
-//! What follows for a task's turn from how the run of its actions ends.
+//! Consequences for a task's execution of how the run of its actions ends.
 ghost use Rattle.gb_run.specs.Laws.{CutEmptyingsInventNothing, EndedRunsAreMade};
 ghost use Rattle.gb_run.specs.Laws.{FailedRunsInventNothingByChanges, FailedRunsInventNothingInFull};
 ghost use Rattle.gb_run.specs.Laws.{FailedRunsKeepRightFiles, FailedRunsPrintFronts, MadeStands};
@@ -11,43 +11,44 @@ pub fn ended_runs_are_made()
     ensures { EndedRunsAreMade }
 {}
 
-/// The digests of what a run made are those of what stands at the outputs once it has ended well.
+/// The digests of what a run made are those of the files at the outputs once it has ended well.
 pub fn made_stands()
     ensures { MadeStands }
 {}
 
-/// A run that failed prints the lines of some first actions of those that end.
+/// A run that failed prints the lines of a prefix of the actions that end.
 pub fn failed_runs_print_fronts<G: Grounds>()
     ensures { FailedRunsPrintFronts G.setting }
 {}
 
-/// A run in full that failed leaves nothing at the outputs but what its actions write and what is torn.
+/// A full execution that failed leaves at the outputs only what its actions write and what is torn.
 pub fn failed_runs_invent_nothing_in_full<G: Grounds>()
     ensures { FailedRunsInventNothingInFull G.setting }
 {}
 
-/// A run by changes that failed leaves nothing at the outputs but what stood there, what its actions write
-/// and what is torn.
+/// An incremental execution that failed leaves at the outputs only what was there before, what its
+/// actions write and what is torn.
 pub fn failed_runs_invent_nothing_by_changes<G: Grounds>()
     ensures { FailedRunsInventNothingByChanges G.setting }
 {}
 
-/// A run by changes that failed keeps the files that were right.
+/// An incremental execution that failed keeps the files that were right.
 pub fn failed_runs_keep_right_files<G: Grounds>()
     ensures { FailedRunsKeepRightFiles G.setting }
 {}
 
-/// What stands where the device failed is torn in the run.
+/// Where the device failed, the content is what it may leave of what was there in the run and what
+/// was to be there.
 pub fn torn_places_are_of_the_run<G: Grounds>()
     ensures { TornPlacesAreOfTheRun G.setting }
 {}
 
-/// Where outputs could not be emptied, each file stood there before, but where the device failed.
+/// If the outputs could not be emptied, each file was there before, except where the device failed.
 pub fn cut_emptyings_invent_nothing<G: Grounds>()
     ensures { CutEmptyingsInventNothing G.setting }
 {}
 
-/// Where the device failed as outputs were emptied, there stands what stood there, or is torn.
+/// Where the device failed as outputs were emptied, the content is what was there before, or torn.
 pub fn torn_places_are_of_the_emptying<G: Grounds>()
     ensures { TornPlacesAreOfTheEmptying G.setting }
 {}

@@ -1,4 +1,4 @@
-//! A work done in a folder, part after part.
+//! Does a computed work in a folder, part after part.
 ghost use Rattle.std.specs.Prelude.{◌≡◌, ◌++◌, [], ◌∷◌, List, map};
 ghost use Rattle.gb_folder.specs.Calls.{Call};
 ghost use Rattle.gb_folder.specs.Device.{Leads};
@@ -13,8 +13,8 @@ use gb_folder::folder::Folder;
 use gb_report::fault::Fault;
 use std::alloc::Global;
 
-/// Does these parts, one after another, up to the first step that fails. The lines of a part are printed once
-/// it is done.
+/// Does these parts, one after another, up to the first step that fails. The lines of a part are
+/// printed once it is done.
 pub fn do_parts<F: Folder>(
     alloc: Global,
     folder: &mut F,

@@ -1,9 +1,9 @@
 //! The places that the files of a task take, checked before any is written.
 //!
-//! The files of an action are looked at by place, beside all that the task has put so far: the order
-//! in which they are listed tells nothing but which of two at one place counts. The places taken stand
-//! in a map, as empty files: whether another file is in the way is then one look-up for each folder of
-//! a place.
+//! The files of an action are checked by place, together with all that the task has put so far. The
+//! order in which they are listed decides only which of two at one place counts. The places taken
+//! are in a map, as empty files. So whether another file is in the way is one look-up for each
+//! folder of a place.
 ghost use Rattle.std.specs.Prelude.{◌≡◌, ◌⊎◌, [], ◌∷◌, false, Some, IsTrue, IfOk, IfErr, OnOk, string_bytes};
 ghost use Rattle.std.specs.List.{flat_map};
 ghost use Rattle.std.specs.Option.{option_copied};
@@ -27,8 +27,9 @@ use gb_report::fault::Fault;
 use std::alloc::{AllocError, Global};
 use std::collections::BTreeMap;
 
-/// Takes the places of the files that an action writes, beside those taken before, and returns the steps that
-/// write them, by place. An error is the first of what hinders them, or want of memory (3).
+/// Takes the places of the files that an action writes, given those taken before, and returns the
+/// steps that write them, by place. An error is the first fault of these files, or lack of memory
+/// (3).
 pub fn take_places(
     alloc: Global,
     taken: &mut FileMap,
@@ -83,7 +84,7 @@ pub fn output_named<'a>(outputs: &'a [Output], name: &Name) -> Option<&'a Output
     None
 }
 
-/// Puts a file beneath the place of its output.
+/// Puts a file under the place of its output.
 fn put_file(
     alloc: Global,
     files: &mut BTreeMap<String, Bytes>,
@@ -98,7 +99,7 @@ fn put_file(
     Ok(())
 }
 
-/// The text of a path beneath a root, whether or not it is a place.
+/// The text of a path under a root, whether or not it is a place.
 pub fn text_beneath(alloc: Global, root: &Place, path: &RelPath) -> Result<String, AllocError>
     ensures { IfOk result (λ text. string_bytes text ≡ beneath root.now path.now) }
 {
@@ -120,7 +121,7 @@ fn hold_all(taken: &mut FileMap, files: &BTreeMap<String, Bytes>) -> Result<(), 
     Ok(())
 }
 
-/// Checks each of these files beside all: the steps that write them.
+/// Checks each of these files against all files. Returns the steps that write them.
 fn check_all(
     alloc: Global,
     all: &FileMap,
@@ -139,7 +140,7 @@ fn check_all(
     Ok(steps)
 }
 
-/// Checks one file beside all.
+/// Checks one file against all files.
 fn check_file(alloc: Global, all: &FileMap, text: &str, bytes: &Bytes) -> Result<Place, Fault>
     ensures place { IfOk result (λ place. place ≡ text.now) }
     ensures ok { OnOk result (file_faults all.now (text.now, bytes.now) ≡ []) }
@@ -156,7 +157,7 @@ fn check_file(alloc: Global, all: &FileMap, text: &str, bytes: &Bytes) -> Result
     Ok(place)
 }
 
-/// The place that a text is.
+/// The place with this text.
 pub fn place_of(alloc: Global, text: &str) -> Result<Place, Fault>
     ensures place { IfOk result (λ place. place ≡ text.now) }
     ensures good { OnOk result (IsTrue (is_place text.now)) }
@@ -170,8 +171,9 @@ pub fn place_of(alloc: Global, text: &str) -> Result<Place, Fault>
     }
 }
 
-/// Whether no output has more files than it may. The outputs are looked at one by one only where the task
-/// has put more files than one may have: so an action costs no listing of all that was put before it.
+/// Whether no output has more files than it may. The outputs are checked one by one only if the
+/// task has put more files than one may have. So an action costs no listing of all that was put
+/// before it.
 #[tactic(auto, using(crate::proofs::Counted::none_full))]
 pub fn check_counts(alloc: Global, taken: &FileMap, outputs: &[Output]) -> Result<(), Fault>
     requires { IsTrue (are_placed taken.now) }
@@ -185,7 +187,7 @@ pub fn check_counts(alloc: Global, taken: &FileMap, outputs: &[Output]) -> Resul
     check_each_count(alloc, taken, outputs)
 }
 
-/// Looks at the outputs one by one.
+/// Checks the outputs one by one.
 fn check_each_count(alloc: Global, taken: &FileMap, outputs: &[Output]) -> Result<(), Fault>
     requires { IsTrue (are_placed taken.now) }
     ensures ok { OnOk result (count_faults outputs.now taken.now ≡ []) }

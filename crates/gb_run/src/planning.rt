@@ -1,4 +1,4 @@
-//! The steps of a reply, in their order, once all files that the task will hold are checked.
+//! The steps of a reply, in their order, after all files that the task will hold are checked.
 ghost use Rattle.std.specs.Prelude.{◌≡◌, ◌⊎◌, [], Some, IfOk, IfErr, OnOk};
 ghost use Rattle.std.specs.Option.{option_copied};
 ghost use Rattle.gb_core.specs.Lists.{first_of};
@@ -19,8 +19,8 @@ use gb_report::fault::Fault;
 use std::alloc::{AllocError, Global};
 use std::collections::BTreeMap;
 
-/// The steps of a reply over the files that are seen, with bytes of their own. An error is the first of what
-/// hinders all that the task then holds, or want of memory (3).
+/// The steps of a reply over the files that were read, with bytes of their own. An error is the
+/// first fault of the files that the task then holds, or lack of memory (3).
 pub fn planned(
     alloc: Global,
     outputs: &[Output],
@@ -66,7 +66,7 @@ fn owned_one(place: &Place, bytes: Option<&Bytes>) -> Result<(Place, Option<Byte
     }
 }
 
-/// Checks all that the task holds once a reply is done.
+/// Checks all files that the task holds after a reply is done.
 fn check_planned(
     alloc: Global,
     outputs: &[Output],

@@ -1,4 +1,4 @@
-//! What a reply has stand, by the texts of places.
+//! What a reply leaves, by the texts of places.
 ghost use Rattle.std.specs.Prelude.{◌≡◌, ◌++◌, IfOk, OnOk, map, string_bytes};
 ghost use Rattle.std.specs.Option.{option_copied};
 ghost use Rattle.std.specs.FinMap.Entries.{put};
@@ -19,8 +19,8 @@ use gb_plan::task::Output;
 use std::alloc::{AllocError, Global};
 use std::collections::BTreeMap;
 
-/// Puts what a reply names: of two at one place the later counts, and a file that is written counts
-/// before its removal.
+/// Puts the steps that a reply names. Of two at one place the later counts. A write of a file takes
+/// precedence over its removal.
 pub fn put_reply<'a>(
     alloc: Global,
     steps: &mut BTreeMap<String, Option<&'a Bytes>>,
@@ -35,7 +35,7 @@ pub fn put_reply<'a>(
     put_writes(alloc, steps, outputs, writes)
 }
 
-/// Puts the files of outputs as they are seen, each beneath the place of its output.
+/// Puts the files of outputs as they were read, each under the place of its output.
 pub fn put_standing<'a>(
     alloc: Global,
     steps: &mut BTreeMap<String, Option<&'a Bytes>>,
@@ -51,7 +51,7 @@ pub fn put_standing<'a>(
     Ok(())
 }
 
-/// Puts the files of a tree beneath a place.
+/// Puts the files of a tree under a place.
 fn put_tree<'a>(
     alloc: Global,
     steps: &mut BTreeMap<String, Option<&'a Bytes>>,
@@ -67,7 +67,7 @@ fn put_tree<'a>(
     Ok(())
 }
 
-/// Has nothing stand at these paths. A path of no output is passed over.
+/// Puts removals at these paths. A path of no output is skipped.
 fn put_removals(
     alloc: Global,
     steps: &mut BTreeMap<String, Option<&Bytes>>,
@@ -85,7 +85,7 @@ fn put_removals(
     Ok(())
 }
 
-/// Has these files stand. A file of no output is passed over.
+/// Puts these files. A file of no output is skipped.
 fn put_writes<'a>(
     alloc: Global,
     steps: &mut BTreeMap<String, Option<&'a Bytes>>,
@@ -103,7 +103,7 @@ fn put_writes<'a>(
     Ok(())
 }
 
-/// Has a file, or none, stand beneath a place.
+/// Puts a file, or a removal, under a place.
 fn put_step<'a>(
     alloc: Global,
     steps: &mut BTreeMap<String, Option<&'a Bytes>>,

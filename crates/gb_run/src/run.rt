@@ -1,4 +1,4 @@
-//! A run in full: worked out as a value, and then done.
+//! A full execution: computed as a value first, then done in the folder.
 ghost use Rattle.std.specs.Prelude.{◌≡◌, ◌++◌, [], Ok, IsTrue, IfOk, IfErr, OnOk, List, map};
 ghost use Rattle.gb_folder.specs.Calls.{Asks, Call, changes_at};
 ghost use Rattle.gb_folder.specs.Device.{Leads};
@@ -28,10 +28,10 @@ use gb_report::fault::Fault;
 use gb_tree::prints::Prints;
 use std::alloc::Global;
 
-/// Runs the actions of a task, each asked in full, over a folder without its files: works out what they
-/// make, before anything is changed, and then writes it, action by action. The lines of an action follow
-/// those of the others once its files are written. Returns the digests of what the actions made, whatever has
-/// become of it in the folder since.
+/// Executes the actions of a task, each with a full request, over a folder without its files.
+/// Computes what they make before anything is changed, and then writes it, action by action. The
+/// lines of an action follow those of the others once its files are written. Returns the digests of
+/// what the actions made, whatever has happened to it in the folder since.
 pub fn run_in_full<A: Actions, F: Folder>(
     alloc: Global,
     folder: &mut F,

@@ -10,7 +10,7 @@ use gb_plan::task::Output;
 use gb_tree::prints::Prints;
 use std::alloc::{AllocError, Global};
 
-/// The digests of outputs as they stood, each beneath the place of its output.
+/// The digests of outputs as they were before, each under the place of its output.
 pub fn digests_stood(
     alloc: Global,
     outputs: &[Output],
@@ -26,7 +26,7 @@ pub fn digests_stood(
     Ok(digests)
 }
 
-/// Puts the digests of a tree beneath a place.
+/// Stores the digests of a tree under a place.
 fn hold_tree(
     alloc: Global,
     digests: &mut Digests,
@@ -42,7 +42,7 @@ fn hold_tree(
     Ok(())
 }
 
-/// Puts the digest of a path beneath a place. A path that leads to no place is passed over.
+/// Stores the digest of a path under a place. A path that leads to no place is skipped.
 fn hold_file(
     alloc: Global,
     digests: &mut Digests,

@@ -12,7 +12,7 @@ use gb_core::place::{Place, PlaceFault};
 use std::alloc::{AllocError, Global};
 use std::collections::BTreeMap;
 
-/// The steps in their turn: first what goes, by place, and then what comes, by place.
+/// The steps in execution order: first the removals, by place, and then the writes, by place.
 pub fn in_turn<'a>(
     alloc: Global,
     steps: &BTreeMap<String, Option<&'a Bytes>>,
@@ -25,7 +25,7 @@ pub fn in_turn<'a>(
     Ok(ordered)
 }
 
-/// Puts the steps behind others by which files go.
+/// Appends the steps that remove files to others.
 fn push_going<'a>(
     alloc: Global,
     ordered: &mut Vec<(Place, Option<&'a Bytes>)>,
@@ -42,7 +42,7 @@ fn push_going<'a>(
     Ok(())
 }
 
-/// Puts the steps behind others by which files come.
+/// Appends the steps that put files to others.
 fn push_coming<'a>(
     alloc: Global,
     ordered: &mut Vec<(Place, Option<&'a Bytes>)>,
@@ -59,7 +59,7 @@ fn push_coming<'a>(
     Ok(())
 }
 
-/// Puts a step behind others, if its text is a place.
+/// Appends a step to others, if its text is a place.
 fn push_step<'a>(
     alloc: Global,
     ordered: &mut Vec<(Place, Option<&'a Bytes>)>,

@@ -1,4 +1,5 @@
-//! The steps and lines of a full rebuild, worked out before anything is changed. Nothing here knows a folder.
+//! The steps and lines of a full rebuild, computed before anything is changed. Nothing here depends
+//! on a folder.
 ghost use Rattle.std.specs.Prelude.{◌≡◌, ◌≢◌, ◌⊎◌, ◌++◌, ℕ, List, [], Ok, Err, Some, IsTrue, IfOk, IfErr};
 ghost use Rattle.std.specs.Prelude.{OnOk, map};
 ghost use Rattle.std.specs.List.{AllByRecursion};
@@ -34,22 +35,23 @@ use gb_report::fault::Fault;
 use gb_tree::prints::Prints;
 use std::alloc::{AllocError, Global};
 
-/// What one action wants done, and the lines that it prints then.
+/// The steps of one action, and the lines that it prints after them.
 #[derive(Drop)]
 pub struct Part {
     pub steps: Vec<(Place, Option<Bytes>)>,
     pub lines: Lines,
 }
 
-/// The result of a run: the parts of its actions up to the first that fails, and the digests of what they
-/// make, or the fault of that one.
+/// The result of a run: the parts of its actions up to the first that fails, and the digests of
+/// what they make, or the fault of that action.
 #[derive(Drop)]
 pub struct Work {
     pub parts: Vec<Part>,
     pub made: Result<Vec<Prints>, Fault>,
 }
 
-/// What is at hand as a run is worked out: the request, and the places and the digests of the files so far.
+/// The state while a run is computed: the request, and the places and the digests of the files so
+/// far.
 #[derive(Drop)]
 struct Working {
     request: Request,
@@ -57,7 +59,7 @@ struct Working {
     digests: Digests,
 }
 
-/// Works out a run in full. An error is want of memory alone.
+/// Computes a full execution. The only error is lack of memory.
 pub fn work_in_full<A: Actions>(
     alloc: Global,
     task: &TaskDeclaration,
@@ -117,7 +119,8 @@ pub fn stopped(parts: Vec<Part>, fault: Fault) -> Result<Work, AllocError>
     }
 }
 
-/// Works out the part of one action: it is asked, and its files take their places beside those of the others.
+/// Computes the part of one action: calls it, and takes the places of its files, given those of the
+/// others.
 fn part_of<A: Actions>(
     alloc: Global,
     task: &TaskDeclaration,

@@ -1,5 +1,5 @@
-//! The steps and lines of an incremental execution, worked out before anything is changed. Nothing here knows
-//! a folder.
+//! The steps and lines of an incremental execution, computed before anything is changed. Nothing
+//! here depends on a folder.
 ghost use Rattle.std.specs.Prelude.{◌≡◌, ◌≢◌, ◌⊎◌, ◌++◌, ℕ, List, [], Ok, Err, Some, IsTrue, IfOk, IfErr};
 ghost use Rattle.std.specs.Prelude.{OnOk, map, true, false};
 ghost use Rattle.std.specs.FinMap.Entries.{is_sorted};
@@ -41,8 +41,9 @@ use gb_tree::prints::Prints;
 use std::alloc::{AllocError, Global};
 use std::mem;
 
-/// The state while a run is worked out: the request, in which outputs have no files; the outputs as they
-/// were read, for the one action that is asked by changes; and the digests of what they will hold.
+/// The state while a run is computed: the request, in which outputs have no files; the outputs as
+/// they were read, for the one action that gets an incremental request; and the digests of what
+/// they will hold.
 #[derive(Drop)]
 struct Working {
     request: Request,
@@ -50,7 +51,7 @@ struct Working {
     digests: Digests,
 }
 
-/// The part of an action that writes no file: it is asked in full.
+/// The part of an action that writes no file: it gets a full request.
 fn part_of_reader<A: Actions>(
     alloc: Global,
     task: &TaskDeclaration,
@@ -80,7 +81,7 @@ fn part_of_reader<A: Actions>(
     })
 }
 
-/// Asks the action that writes, by changes, over the outputs as they were seen.
+/// Calls the action that writes with an incremental request, over the outputs as they were read.
 fn ask_by_changes<A: Actions>(
     alloc: Global,
     task: &TaskDeclaration,
@@ -112,7 +113,7 @@ fn ask_by_changes<A: Actions>(
     ask::<A>(alloc, task, table, action, &mut working.request)
 }
 
-/// Makes the request one in full again.
+/// Makes the request a full one again.
 fn go_back(working: &mut Working)
     ensures request { working.new.request ≡ record working.old.request {
       outputs = working.old.seen;
@@ -125,7 +126,8 @@ fn go_back(working: &mut Working)
     working.request.changes.incremental = false;
 }
 
-/// The part of the action that writes: it is asked by changes, and all that the task then holds is checked.
+/// The part of the action that writes: it gets an incremental request, and all files that the task
+/// then holds are checked.
 fn part_of_writer<A: Actions>(
     alloc: Global,
     task: &TaskDeclaration,
@@ -171,7 +173,7 @@ fn part_of_writer<A: Actions>(
     Ok(Part { steps, lines })
 }
 
-/// The part of one action: the one that writes is asked by changes, any other in full.
+/// The part of one action: the one that writes gets an incremental request, any other a full one.
 fn part_of<A: Actions>(
     alloc: Global,
     task: &TaskDeclaration,
@@ -213,8 +215,8 @@ fn part_of<A: Actions>(
     }
 }
 
-/// Works out a run by changes, over outputs that were seen with these files and digests. An error is want of
-/// memory alone.
+/// Computes an incremental execution, over outputs that were read with these files and digests. The
+/// only error is lack of memory.
 pub fn work_by_changes<A: Actions>(
     alloc: Global,
     task: &TaskDeclaration,

@@ -86,7 +86,7 @@ Reads-call room d sum =
     (λ x p. record { name = p.0; arguments = p.1 })
     (λ x p. refl) (λ x o p. refl)
 
--- a call ends before a token that is no bracket
+-- a call ends before a token that is not a bracket
 pub call_ends : (c : Call) (o : Option Token) → stops (is_sign OpenParen) o ≡ true → call_end c o ≡ true
 call_ends c o h = arguments_ends c.arguments o h
   where
@@ -256,7 +256,7 @@ Reads-input_files room d sum =
     (λ x p. files_are d (input_files_from x))
     (λ x o p. ap (λ (b : Bool). b && roots_end x.1.1 o) (sym (flags_close x.1.0)))
 
--- ---- a clause, behind its word
+-- ---- a clause, after its word
 
 abbrev clause_spelling : ClauseWord → List ℕ
 clause_spelling words.Input = codes "input"
@@ -413,7 +413,7 @@ some_clause (words.Run runs.OnlyIf) = (clauses.OnlyIf a_condition, (a_condition,
 some_clause (words.Run runs.UpToDateWhen) = (clauses.UpToDateWhen a_condition, (a_condition, refl, record { value = (tt, tt); test = refl }))
 some_clause (words.Run runs.Enabled) = (clauses.Enabled a_tree, (a_tree, refl, (tt, tt)))
 
--- a clause made of what stands behind its word
+-- a clause made of what comes after its word
 made_clause : {A : Type 0} {P : A → Type 0} {m : A → List Leveled} {e : A → Option Token → Bool} {r : Reader A} (d : ℕ) → Reads P m e r → (f : A → Clause) → ((x : A) → tail_spelled d (f x) ≡ m x) → ((x : A) (o : Option Token) → clause_end (f x) o ≡ e x o) → Reads (λ c. (x : A) × (c ≡ f x) × P x) (tail_spelled d) clause_end (made_at f r)
 made_clause {A} {P} d R f same ends = Reads-into R f (λ c. (x : A) × (c ≡ f x) × P x) (tail_spelled d) clause_end (λ c q. q) (λ x p. (x, refl, p)) (λ x p. same x) (λ x o p. ends x o)
 
@@ -447,7 +447,7 @@ Reads-clause room d sum =
 
 -- ---- a block
 
--- none of what goes on with a clause
+-- none of the words that continue a clause
 record Calm (o : Option Token) : Type 0 where
   dot : stops (is_sign Dot) o ≡ true
   comma : stops (is_sign Comma) o ≡ true

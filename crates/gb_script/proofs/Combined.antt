@@ -1,4 +1,4 @@
--- Readers put together from others, by their laws.
+-- Readers combined from others, by their laws.
 use Rattle.std.proofs.Common.{◌≡◌, ℕ, suc, ◌+◌, Bool, true, false, cond, not, List, [], ◌∷◌, ◌++◌, Option, Some, Ok, Err, refl, sym, ap, subst, ◌∙◌, ◌⊎◌, inl, inr}
 use Rattle.std.specs.Prelude.{◌&&◌}
 use Rattle.std.proofs.lemmas.List.{append-nil}
@@ -16,7 +16,7 @@ use Rattle.gb_script.proofs.Opens.{Reads-open}
 use Rattle.gb_script.proofs.Maybe.{stops, Begun, begun_begins, Reads-maybe}
 use Rattle.gb_script.proofs.Many.{both_true, and_true}
 
--- ---- another word for the same reader
+-- ---- another name for the same reader
 
 module _ {A : Type 0} {P : A → Type 0} {m : A → List Leveled} {e : A → Option Token → Bool} {r : Reader A} (R : Reads P m e r) (s : Reader A) (same : (ts : List Token) → s ts ≡ r ts) where
   pub Reads-same : Reads P m e s
@@ -31,7 +31,7 @@ module _ {A : Type 0} {P : A → Type 0} {m : A → List Leveled} {e : A → Opt
         record { value = t.value; fits = t.fits; front = t.front; over = t.over; more = t.more; rest = t.rest; whole = t.whole; spelled = t.spelled; size = t.size; within = t.within; past = t.past; only = λ other. same (tokens_of t.front ++ t.over.0 ∷ other) ∙ t.only other };
   }
 
--- ---- what is made of what is read
+-- ---- a value made of what is read
 
 module _ {A B : Type 0} {P : A → Type 0} {m : A → List Leveled} {e : A → Option Token → Bool} {r : Reader A} (R : Reads P m e r) (f : A → B)
     (Q : B → Type 0) (marks : B → List Leveled) (ends : B → Option Token → Bool)
@@ -86,7 +86,7 @@ module _ {A B : Type 0} {FitsFirst : A → Type 0} {m1 : A → List Leveled} {e1
       (λ a x o p q h. let t = both_true (e1 x.0 (first_or (m2 x.1) o)) (e2 x.1 o) h in (ap (λ (z : A). e1 z (first_or (m2 x.1) o)) (sym q.0) ∙ t.0, t.1))
       (λ a x o p q h g. and_true (e1 x.0 (first_or (m2 x.1) o)) (e2 x.1 o) (ap (λ (z : A). e1 z (first_or (m2 x.1) o)) q.0 ∙ h) g)
 
--- ---- a token before it, or behind it
+-- ---- a token before it, or after it
 
 module _ {A : Type 0} {P : A → Type 0} {m : A → List Leveled} {e : A → Option Token → Bool} {r : Reader A} {test : Token → Bool} {t : Token} (T : IsTestOf test t) (R : Reads P m e r) where
   pub Reads-past : (a : A) × P a → Reads P (λ a. (t, 0) ∷ m a) e (past_at test r)
@@ -108,7 +108,7 @@ module _ {A : Type 0} {P : A → Type 0} {m : A → List Leveled} {e : A → Opt
       (λ a b o p q h. (closes a p, refl))
       (λ a b o p q h g. refl)
 
--- ---- behind a bracket that opens inside of d others, where room more may open
+-- ---- after a bracket that opens inside d others, where room more may open
 
 pub Reads-opened : {A : Type 0} {P : A → Type 0} {m : A → List Leveled} {e : A → Option Token → Bool} (r : ℕ → Reader A) (s : Sign) (room d : ℕ) → room + d ≡ 64 → (a : A) × P a → ((n : ℕ) → room ≡ suc n → Reads P m e (r n)) → Reads P (λ a. (Mark s, d + 1) ∷ m a) e (opened_at s room r)
 Reads-opened {P} {m} {e} r s room d sum some R = Reads-open P m e r s d some room sum R
@@ -231,7 +231,7 @@ module _ {A : Type 0} {FitsFirst FitsSecond : A → Type 0} {m : A → List Leve
     deeps = either_deeps;
   }
 
--- ---- a word that is said or not
+-- ---- a word that is present or absent
 
 abbrev pub said_end : List ℕ → Bool → Option Token → Bool
 said_end w true o = true

@@ -1,4 +1,4 @@
--- What stands at the front of a text is a piece that may stand there, and the other way round.
+-- The scan at the front of a text gives a piece that may be there, and the other way round.
 use Rattle.std.proofs.Common.{◌≡◌, ℕ, suc, ◌+◌, ◌<◌, Bool, true, false, List, [], ◌∷◌, ◌++◌, length, take, drop, Option, Some, None, refl, sym, ap, subst, ◌∙◌, append_assoc, arith, inl, inr, take_while, length-append}
 use Rattle.std.specs.Prelude.{◌==◌, ◌&&◌}
 use Rattle.std.specs.List.{prefix_len, flat_map, list_all}
@@ -41,7 +41,7 @@ drop_length : (w rest : List ℕ) → drop (length w) (w ++ rest) ≡ rest
 drop_length [] rest = refl
 drop_length (b ∷ w) rest = drop_length w rest
 
--- a run that cannot go on is taken whole
+-- a run that cannot continue is taken whole
 pub run_taken : (p : ℕ → Bool) (w rest : List ℕ) → list_all p w ≡ true → begins p rest ≡ false → take_while p (w ++ rest) ≡ w
 run_taken p w rest h g = ap (λ n. take n (w ++ rest)) (prefix_all p w rest h g) ∙ take_length w rest
 

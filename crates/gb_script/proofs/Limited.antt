@@ -1,4 +1,4 @@
--- At most 64 steps, each behind a dot that tells which step it is, are read by the laws.
+-- At most 64 steps, each after a dot that has the number of the step, are read by the laws.
 use Rattle.std.proofs.Common.{◌≡◌, ℕ, zero, suc, ◌+◌, ◌≤◌, Bool, true, false, List, [], ◌∷◌, ◌++◌, length, Option, Result, Ok, Err, refl, sym, ap, subst, ◌∙◌, arith, ◌⊎◌, inl, inr}
 use Rattle.std.specs.Prelude.{nat_lt, drop}
 use Rattle.std.specs.List.{AllByRecursion}
@@ -18,7 +18,7 @@ use Rattle.gb_script.proofs.Maybe.{stops, stops_is, is_stop, Begun, Reads-maybe}
 use Rattle.gb_script.proofs.Loop.{none_left}
 use Rattle.gb_script.proofs.Combined.{Reads-into}
 
--- what follows a chain is no dot
+-- the token after a chain is not a dot
 abbrev pub no_dot : Option Token → Bool
 no_dot o = stops (is_sign Dot) o
 

@@ -25,7 +25,7 @@ use Rattle.gb_script.proofs.Singles.{Reads-name}
 use Rattle.gb_script.proofs.ClauseLaws.{Reads-clause}
 use Rattle.gb_script.proofs.StatementLaws.{Reads-action, Reads-statement}
 
--- f of each of these that are spelled one after another, with how many tokens are left from its first one on
+-- f of each of these that are derived one after another, with how many tokens are left from its first one on
 abbrev pub firsts : {A B : Type 0} → (A → ℕ → B) → (A → List Leveled) → List A → ℕ → List B
 firsts f m [] n = []
 firsts f m (x ∷ xs) n = f x n ∷ firsts f m xs (n - length (m x))

@@ -1,4 +1,4 @@
--- From how many tokens are left to the lines of tokens, and to what the bytes of a text say.
+-- From how many tokens are left to the lines of tokens, and to the meaning of the bytes of a text.
 use Rattle.std.proofs.Common.{◌≡◌, ℕ, ◌-◌, ◌≤◌, ◌⊎◌, inl, inr, List, [], ◌∷◌, ◌++◌, length, map, take, drop, Ok, Err, refl, sym, ap, ◌∙◌, append_assoc}
 use Rattle.std.proofs.lemmas.List.{length-map, length-drop, take-append-drop}
 use Rattle.std.specs.Prelude.{IsUtf8}

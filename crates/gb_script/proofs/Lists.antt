@@ -1,4 +1,4 @@
--- One, and the others behind commas, by the laws.
+-- One, and the others after commas, by the laws.
 use Rattle.std.proofs.Common.{◌≡◌, Bool, true, List, [], ◌∷◌, length, Option, Ok, refl, sym, ap, subst, ◌∙◌}
 use Rattle.std.specs.Prelude.{◌&&◌}
 use Rattle.std.specs.List.{flat_map}

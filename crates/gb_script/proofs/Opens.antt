@@ -140,7 +140,7 @@ module _ {B : Type 0} (P : B → Type 0) (m : B → List Leveled) (e : B → Opt
           | inr y ↦ absurd (let no : stray {A = B × List Token} ts ≡ Err (Deep k) = sym (ap (λ read. read >>= λ o. r o.0 o.1) (open_fails s (suc n) ts y)) ∙ h in cc)
         ]
 
-  -- a bracket inside of d others, where room more may open
+  -- a bracket inside d others, where room more may open
   pub Reads-open : (room : ℕ) → room + d ≡ 64 → ((n : ℕ) → room ≡ suc n → Reads P m e (r n)) → Reads P (λ b. (Mark s, d + 1) ∷ m b) e (λ ts. open_at s room ts >>= λ o. r o.0 o.1)
   Reads-open zero sum R =
       let full : d ≡ 64 = omega arith in

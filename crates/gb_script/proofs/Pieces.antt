@@ -306,7 +306,7 @@ one_newline b h = rw h refl
 no_newline : (b : ℕ) → is_newline b ≡ false → newlines (b ∷ []) ≡ 0
 no_newline b h = rw h refl
 
--- the tokens of a piece, and those of the pieces behind it
+-- the tokens of a piece, and those of the pieces after it
 next_placed : (p : Piece) (line : ℕ) (after : List ℕ) (ps : List Piece) (rest : List ℕ) → ((l : ℕ) → scan l after ≡ placed l ps rest) → scan_next scan line (part_of p, after) ≡ placed line (p ∷ ps) rest
 next_placed (Comment c) line after ps rest more = more line
 next_placed (Single t) line after ps rest more = ap (λ (l : List Placed). (t, line) ∷ l) (more line)
@@ -356,7 +356,7 @@ cut_found (suc n) (b ∷ bs) h =
           record { pieces = x.piece ∷ more.pieces; rest = more.rest; cut = (x.rest, x.whole, x.stands, more.cut); stuck = more.stuck }
     ]
 
--- the tokens of a text are those that it is scanned to
+-- the tokens of a text are those that the scan gives
 pub tokens_found : (text : List ℕ) → HasTokens text (scan 1 text)
 tokens_found text =
     let c = cut_found (length text) text (omega arith) in

@@ -1,4 +1,4 @@
--- What a reader reads, law by law, and that readers in a row keep the laws.
+-- What a reader reads, law by law, and that readers in sequence keep the laws.
 use Rattle.std.proofs.Common.{◌≡◌, ℕ, Bool, true, false, cond, List, [], ◌∷◌, ◌++◌, length, Option, Some, None, Result, Ok, Err, refl, sym, ap, subst, ◌∙◌, append_assoc, ◌⊎◌, inl, inr}
 use Rattle.std.proofs.lemmas.List.{append-nil, map-append}
 use Rattle.gb_script.specs.declared.stop.Fault.{Fault}
@@ -69,7 +69,7 @@ pub record Taken {A : Type 0} (P : A → Type 0) (marks : A → List Leveled) (e
   pub within : AllWithin (marks a)
   pub ends_there : ends a (first rest) ≡ true
 
--- n tokens before the end, one stands that nothing has after the tokens before it, which begin something
+-- n tokens before the end is one that nothing has after the tokens before it, which begin something
 pub record StrayIn {A : Type 0} (P : A → Type 0) (marks : A → List Leveled) (read : Reader A) (ts : List Token) (n : ℕ) : Type 0 where
   pub value : A
   pub fits : P value
@@ -82,7 +82,7 @@ pub record StrayIn {A : Type 0} (P : A → Type 0) (marks : A → List Leveled) 
   pub within : AllWithin front
   pub only : (b : Token) (rest other : List Token) → bad ≡ b ∷ rest → read (tokens_of front ++ b ∷ other) ≡ stray (b ∷ other)
 
--- n tokens before the end, one stands that passes the limit, and none before it does
+-- n tokens before the end is one that passes the limit, and none before it does
 pub record DeepIn {A : Type 0} (P : A → Type 0) (marks : A → List Leveled) (read : Reader A) (ts : List Token) (n : ℕ) : Type 0 where
   pub value : A
   pub fits : P value
@@ -98,9 +98,9 @@ pub record DeepIn {A : Type 0} (P : A → Type 0) (marks : A → List Leveled) (
   pub only : (other : List Token) → read (tokens_of front ++ over.0 ∷ other) ≡ deep (over.0 ∷ other)
 
 pub record Reads {A : Type 0} (P : A → Type 0) (marks : A → List Leveled) (ends : A → Option Token → Bool) (read : Reader A) : Type 0 where
-  -- what is read is spelled so
+  -- a value that is read has this spelling
   pub takes : (ts rest : List Token) (a : A) → read ts ≡ Ok (a, rest) → Taken P marks ends ts a rest
-  -- what is spelled so is read, up to the first token past the limit
+  -- a value with this spelling is read, up to the first token past the limit
   pub again : (a : A) (k : List Token) → P a → ends a (first k) ≡ true → read (tokens_of (marks a) ++ k) ≡ checked (marks a) k (Ok (a, k))
   pub strays : (ts : List Token) (n : ℕ) → read ts ≡ Err (Stray n) → StrayIn P marks read ts n
   pub deeps : (ts : List Token) (n : ℕ) → read ts ≡ Err (Deep n) → DeepIn P marks read ts n
@@ -169,7 +169,7 @@ module _ {A B : Type 0} {FitsFirst : A → Type 0} {m1 : A → List Leveled} {e1
       ∙ sym (checked-append (m1 a) (m2 a b) k (Ok (b, k)))
       ∙ ap (λ (l : List Leveled). checked l k (Ok (b, k))) (sym s)
 
-  -- what the first reader took is taken again, whatever follows the bad token
+  -- what the first reader took is taken once more, whatever comes after the bad token
   again_before : (ts rest : List Token) (a : A) (front : List Leveled) (b : Token) (bad other : List Token) → Taken FitsFirst m1 e1 ts a rest → rest ≡ tokens_of front ++ b ∷ bad → r1 (tokens_of (m1 a ++ front) ++ b ∷ other) ≡ Ok (a, tokens_of front ++ b ∷ other)
   again_before ts rest a front b bad other t at =
       let k = tokens_of front ++ b ∷ other in
@@ -260,7 +260,7 @@ module _ {A B : Type 0} {FitsFirst : A → Type 0} {m1 : A → List Leveled} {e1
   pub Reads-bind : Reads P m e (λ ts. r1 ts >>= λ x. r2 x.0 x.1)
   Reads-bind = record { takes = both_takes; again = both_again; strays = both_strays; deeps = both_deeps }
 
--- ---- the same, in other words
+-- ---- the same, restated
 
 module _ {A : Type 0} {P : A → Type 0} {m : A → List Leveled} {e : A → Option Token → Bool} {r : Reader A} (R : Reads P m e r)
     (Q : A → Type 0) (marks : A → List Leveled) (ends : A → Option Token → Bool)

@@ -13,7 +13,7 @@ pub cases_bool : (b : Bool) → (b ≡ true) ⊎ (b ≡ false)
 cases_bool true = inl refl
 cases_bool false = inr refl
 
--- a text may be cut behind its first byte, where that is ASCII
+-- a text may be cut after its first byte, if that is ASCII
 pub past_first_boundary : (text : List ℕ) → IsUtf8 text → begins (λ b. nat_lt b 128) text ≡ true → IsCharBoundary text 1
 past_first_boundary [] u h = absurd cc
 past_first_boundary (b ∷ text) u h = IsCharBoundary-after_ascii (b ∷ text) 0 u (omega arith) (grind (arith, nat_tests))
@@ -46,7 +46,7 @@ prefix_passes p (x ∷ xs) (suc i) h =
 name_byte_ascii : (b : ℕ) → is_name_byte b ≡ true → b < 128
 name_byte_ascii b h = grind (arith, nat_tests)
 
--- a text may be cut behind a word
+-- a text may be cut after a word
 pub word_boundary : (text : List ℕ) → IsUtf8 text → begins is_name_byte text ≡ true → IsCharBoundary text (prefix_len is_name_byte text)
 word_boundary text utf8 h =
     let n = prefix_len is_name_byte text in

@@ -1,4 +1,4 @@
--- From what a row of tokens is read to, to what the bytes of a text say.
+-- From what a row of tokens is read as, to the meaning of the bytes of a text.
 use Rattle.std.proofs.Common.{◌≡◌, ℕ, ◌+◌, ◌-◌, ◌≤◌, ◌⊎◌, Bool, true, false, cond, inl, inr, List, [], ◌∷◌, ◌++◌, length, map, get_or, Option, None, Result, Ok, Err, refl, sym, ap, subst, ◌∙◌, arith, length-append}
 use Rattle.std.proofs.lemmas.List.{map-append, length-map}
 use Rattle.std.proofs.lemmas.Bool.{le-ltb, lt-ltb}
@@ -108,12 +108,12 @@ module _ {A : Type 0} {P : A → Type 0} {m : A → List Leveled} {e : A → Opt
           line_is = at ∙ line_is n lines x.front x.rest l x.whole (s.left ∙ ap length x.rest_is);
         }
 
-  -- what the bytes spell is read
+  -- what the bytes parse as is read
   pub spells_again : (bytes : List ℕ) (tokens : List Token) (script : A) → tokens ≡ tokens_in (scan 1 bytes) → IsSpelled P m bytes script → all_at r tokens ≡ Ok script
   spells_again bytes tokens script t s =
       all_again R ends_text tokens script s.is (t ∙ ap tokens_in (sym (tokens_again bytes s.tokens s.source.has)) ∙ s.spelled_so) s.within
 
-  -- ---- what the bytes say is one thing
+  -- ---- the bytes have one meaning
 
   abbrev lines_of : List ℕ → List ℕ
   lines_of bytes = map (λ p. p.1) (scan 1 bytes)
@@ -160,7 +160,7 @@ module _ {A : Type 0} {P : A → Type 0} {m : A → List Leveled} {e : A → Opt
   pub one_said : (bytes : List ℕ) (a b : Result A ScriptFault) → IsSaid P m bytes a → IsSaid P m bytes b → a ≡ b
   one_said bytes a b s t = said_is bytes a s ∙ sym (said_is bytes b t)
 
-  -- ---- from the steps of the code to what it answers
+  -- ---- from the steps of the code to its result
 
   module _ (bytes text : List ℕ) (same : text ≡ bytes) (short : length bytes ≤ 1048576) (utf8 : IsUtf8 bytes) where
     pub spells_text : (tokens : List Token) (script : A) → tokens ≡ tokens_in (scan 1 text) → all_at r tokens ≡ Ok script → IsSpelled P m bytes script

@@ -26,7 +26,7 @@ use Rattle.gb_script.proofs.Limited.{no_dot}
 use Rattle.gb_script.proofs.ClauseLaws.{Reads-call, call_end, call_ends, a_call, a_call_fits, an_assignment, Reads-property_assignment, Reads-block, all_of, of_all}
 use Rattle.gb_script.proofs.Combined.{Reads-into, Reads-pair, Reads-past}
 
--- ---- a call behind a colon
+-- ---- a call after a colon
 
 abbrev action_end : Option Call → Option Token → Bool
 action_end None o = stops (is_sign Colon) o
@@ -39,7 +39,7 @@ abbrev IsThere : Option Call → Type 0
 IsThere None = ⊥
 IsThere (Some c) = IsCall c
 
--- what stands behind the colon
+-- the part after the colon
 abbrev behind_colon : ℕ → Option Call → List Leveled
 behind_colon d None = []
 behind_colon d (Some c) = call_spelled d c
@@ -111,7 +111,7 @@ Reads-configuration room d sum =
     (λ x p. record { name = p.0; block = p.1 })
     (λ x p. refl) (λ x o p. refl)
 
--- ---- a statement, behind its word
+-- ---- a statement, after its word
 
 abbrev statement_spelling : StatementWord → List ℕ
 statement_spelling words.DefaultTasks = codes "defaultTasks"
@@ -224,7 +224,7 @@ some_statement (words.Property properties.DisallowChanges) = (statements.Disallo
 some_statement words.Register = (statements.Register a_registration, (a_registration, refl, record { name = refl; action = tt; block = tt }))
 some_statement words.Named = (statements.Named a_configuration, (a_configuration, refl, record { name = refl; block = tt }))
 
--- a statement made of what stands behind its word
+-- a statement made of the part after its word
 made_statement : {A : Type 0} {P : A → Type 0} {m : A → List Leveled} {e : A → Option Token → Bool} {r : Reader A} (d : ℕ) → Reads P m e r → (f : A → Statement) → ((x : A) → tail_spelled d (f x) ≡ m x) → ((x : A) (o : Option Token) → statement_end (f x) o ≡ e x o) → Reads (λ s. (x : A) × (s ≡ f x) × P x) (tail_spelled d) statement_end (made_at f r)
 made_statement {A} {P} d R f same ends = Reads-into R f (λ s. (x : A) × (s ≡ f x) × P x) (tail_spelled d) statement_end (λ s q. q) (λ x p. (x, refl, p)) (λ x p. same x) (λ x o p. ends x o)
 

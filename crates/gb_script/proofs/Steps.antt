@@ -14,7 +14,7 @@ use Rattle.gb_script.specs.Readers.{function_at, zip_from, link_of_at, inside_at
 abbrev with_rest : {A : Type 0} → A → List Token → Result (A × List Token) Fault
 with_rest a rest = Ok (a, rest)
 
--- the token that passes the test, behind what was read
+-- the token that passes the test, after the value that was read
 abbrev closed : {A : Type 0} → (Token → Bool) → A × List Token → Result (A × List Token) Fault
 closed test x = skip_at test x.1 >>= with_rest x.0
 
@@ -31,7 +31,7 @@ closed_of : (tree : Tree) (function : Function) (s : Result (List Token) Fault) 
 closed_of tree function (Ok rest) = refl
 closed_of tree function (Err e) = refl
 
--- the tree that was read before is put to the function that is read behind it
+-- the tree that was read first is given to the function that is read after it
 zip_of : (tree : Tree) (test : Token → Bool) (x : Result (Function × List Token) Fault) → (((x >>= behind tree) >>= zipped) >>= closed test) ≡ ((x >>= closed test) >>= zipped_to tree)
 zip_of tree test (Ok y) = closed_of tree y.0 (skip_at test y.1)
 zip_of tree test (Err e) = refl

@@ -17,9 +17,9 @@ use Rattle.gb_script.proofs.Many.{AllFrom, ends_all}
 use Rattle.gb_script.proofs.Lists.{IsList, list_ends, Reads-list}
 use Rattle.gb_script.proofs.Combined.{Reads-into, Reads-pair, Reads-closed, Reads-opened}
 
--- ---- one or more, parted by commas
+-- ---- one or more, separated by commas
 
--- what follows a row is no comma
+-- the token after a row is not a comma
 abbrev pub row_end : (Option Token → Bool) → Option Token → Bool
 row_end c o = c o && stops (is_sign Comma) o
 
@@ -140,7 +140,7 @@ Reads-function room d sum =
 abbrev pub a_function : Function
 a_function = record { name = a_name; arguments = [] }
 
--- a function ends before a token that is no bracket
+-- a function ends before a token that is not a bracket
 pub function_ends : (f : Function) (o : Option Token) → stops (is_sign OpenParen) o ≡ true → function_end f o ≡ true
 function_ends f o h = given_ends f.arguments o h
   where

@@ -47,7 +47,7 @@ source_means sources.BuildDir = refl
 source_means sources.GradleProperty = refl
 source_means sources.Task = refl
 
--- what stands behind the word
+-- the part after the word
 abbrev root_tail : ℕ → Root → List Leveled
 root_tail d (TextOf t) = []
 root_tail d (FlagOf b) = []
@@ -167,7 +167,7 @@ all_links : (ls : List Link) → AllByRecursion IsLink ls → AreLinks (links_of
 all_links [] p = tt
 all_links (l ∷ ls) p = (p.0, all_links ls p.1)
 
--- ---- a token that begins a value is none that closes a list
+-- ---- a token that begins a value does not close a list
 
 tree_begun : (d : ℕ) (tree : Tree) → Begun in_list (tree_spelled d tree)
 tree_begun d (Chain root links) = root_begun root (links_spelled d 1 links)
@@ -236,7 +236,7 @@ some_begun d (t ∷ ts) p =
 abbrev IsListRoot : Root → Type 0
 IsListRoot root = (ts : List Tree) × (root ≡ list_from ts) × AllByRecursion IsTree ts
 
--- what stands within the brackets
+-- the part within the brackets
 abbrev list_marks : ℕ → Root → List Leveled
 list_marks d (TextOf t) = []
 list_marks d (FlagOf b) = []
@@ -450,7 +450,7 @@ step_means steps.FlatMap = refl
 step_means steps.Zip = refl
 step_means steps.OrElse = refl
 
--- what stands within the brackets
+-- the part within the brackets
 abbrev inner_marks : ℕ → Link → List Leveled
 inner_marks d (MapBy f) = function_spelled (d + 1) f
 inner_marks d (FlatMapBy f) = function_spelled (d + 1) f
@@ -571,7 +571,7 @@ module _ (room d : ℕ) (sum : room + d ≡ 64) (inside : Reader Tree) (R : (n :
       (λ x p. ap (λ (l : List Leveled). root_spelled d x.0 ++ l) (links_is 1 x.1))
       (λ x o p. refl)
 
--- a value inside of d brackets, where room more may open
+-- a value inside d brackets, where room more may open
 pub Reads-tree : (room d : ℕ) → room + d ≡ 64 → Reads IsTree (tree_spelled d) (λ t. no_dot) (tree_at room)
 unfolding inside_at
 Reads-tree zero d sum = Reads-chained zero d sum (inside_at zero) (λ n e. absurd (no n e))

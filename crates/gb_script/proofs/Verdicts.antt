@@ -1,4 +1,4 @@
--- The first fault of a row of tokens is one, so reading finds it.
+-- The first fault of a row of tokens is a fault of the reader, so reading finds it.
 use Rattle.std.proofs.Common.{◌≡◌, ℕ, ◌≤◌, Bool, true, cond, List, [], ◌∷◌, ◌++◌, length, Option, None, Result, Ok, Err, refl, sym, ap, ◌∙◌, append_assoc, arith, ◌⊎◌, inl, inr, eqb, length-append}
 use Rattle.std.proofs.lemmas.List.{append-nil, map-append}
 use Rattle.gb_script.specs.declared.stop.Fault.{Fault}
@@ -19,13 +19,13 @@ abbrev behind_head : List Token → List Token
 behind_head [] = []
 behind_head (t ∷ ts) = ts
 
--- one list cut in two ways: the first cut is not behind the second
+-- one list cut in two ways: the first cut is not after the second
 record NotBehind (x y u v : List Token) : Type 0 where
   between : List Token
   front : u ≡ x ++ between
   rest : y ≡ between ++ v
 
--- the first cut is behind the second
+-- the first cut is after the second
 record Behind (x y u v : List Token) : Type 0 where
   next : Token
   between : List Token
@@ -54,7 +54,7 @@ same_cut x y u v h size =
     at_once (t ∷ w) f r = absurd (let more = ap length r in omega (arith, length-append w v))
 
 module _ {A : Type 0} (P : A → Type 0) (m : A → List Leveled) where
-  -- some of them is spelled by the tokens and more
+  -- some value has a spelling that begins with the tokens
   record Spelling (before : List Token) : Type 0 where
     value : A
     is : P value
@@ -69,7 +69,7 @@ module _ {A : Type 0} (P : A → Type 0) (m : A → List Leveled) where
     whole = ap tokens_of b.whole ∙ map-append (λ (l : Leveled). l.0) b.front b.more ∙ ap (λ (l : List Token). l ++ tokens_of b.more) (sym b.tokens);
   }
 
-  -- nothing is spelled with the first stray token in its place
+  -- no spelling has the first stray token in its place
   no_spelling : (before bad w : List Token) (b : Token) → IsFirstStray P m before bad → bad ≡ b ∷ w → (a : A) → P a → (front other : List Token) → tokens_of (m a) ≡ front ++ other → (v : List Token) → front ++ other ≡ before ++ b ∷ v → ⊥
   no_spelling before bad w b s at a p front other h v same = s.none b w at a v p (h ∙ same)
 

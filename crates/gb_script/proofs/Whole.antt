@@ -26,7 +26,7 @@ pub record DeepAt {A : Type 0} (Is : A → Type 0) (spelled : A → List Leveled
   pub parts : ts ≡ before ++ over ∷ rest
   pub left : n ≡ length (over ∷ rest)
   pub first : IsFirstDeep Is spelled before (over ∷ rest)
-  -- whatever follows it
+  -- whatever comes after it
   pub only : (other : List Token) → all_at read (before ++ over ∷ other) ≡ Err (Deep (length (over ∷ other)))
 
 nil_all : (ts : List Token) → length ts ≡ 0 → ts ≡ []

@@ -1,4 +1,4 @@
--- A tree as a row of cells, which gives it back. Proofs tell trees apart by it.
+-- A tree as a row of cells, from which it can be decoded. Proofs distinguish trees by it.
 use Rattle.std.specs.Prelude.{◌≡◌, ℕ, true, false, List, [], ◌∷◌, ◌==◌, if◌then◌else◌, refl}
 use Rattle.std.specs.Coded.{Coded, code_by, coded×, coded_ℕ, coded_list}
 use Rattle.std.proofs.Common.{ap, ◌∙◌}
@@ -7,7 +7,7 @@ use Rattle.gb_script.specs.Tree.{Tree, Chain, Root, TextOf, FlagOf, ListOf, Prop
 use Rattle.gb_script.specs.Tree.{TheBuildDir, GradlePropertyOf, TaskOf, Link, MapBy, FlatMapBy, ZipBy, Else}
 use Rattle.gb_script.specs.Tree.{Trees, NoTree, AndTree, Links, NoLink, AndLink}
 
--- which form stands here, its text, and the arguments of its function
+-- which form this cell has, its text, and the arguments of its function
 abbrev pub Cell : Type 0
 Cell = ℕ × (List ℕ × List (List ℕ))
 
@@ -50,7 +50,7 @@ abbrev mutual
   links_cells NoLink k = plain 17 ∷ k
   links_cells (AndLink link links) k = plain 18 ∷ link_cells link (links_cells links k)
 
--- what the cells to the right of a place were found to be
+-- what the cells to the right of a place were decoded to
 pub data Found : Type 0 where
   Nothing : Found
   ATree : (tree : Tree) (more : Found) → Found

@@ -1,4 +1,4 @@
--- The numbers under which faults are told to users.
+-- The numbers under which faults are reported to users.
 use Rattle.std.specs.Prelude.{ℕ}
 use Rattle.gb_script.specs.declared.fault.ScriptFault.{ScriptFault}
 use Rattle.gb_script.specs.declared.fault.ScriptFault.TheVariants.{OutOfMemory, Syntax, TooLong, TooDeep}

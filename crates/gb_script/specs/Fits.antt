@@ -1,5 +1,5 @@
--- Which scripts and settings the notation has: where it wants a name there is one, where it wants a
--- property the name is none of those reserved, and where it wants one or more there are some.
+-- Which scripts and settings are well-formed: names are names, properties have names that are not reserved,
+-- and rows that must not be empty have at least one element.
 use Rattle.std.specs.Prelude.{◌≡◌, ℕ, false, IsTrue, List, [], ◌∷◌, Option, None, Some}
 use Rattle.std.specs.List.{AllByRecursion}
 use Rattle.gb_core.specs.Name.{is_name}
@@ -22,7 +22,7 @@ use Rattle.gb_script.specs.Words.{is_reserved}
 abbrev pub IsName : List ℕ → Type 0
 IsName w = IsTrue (is_name w)
 
--- a name that is none of those reserved
+-- a name that is not reserved
 abbrev pub IsProperty : List ℕ → Type 0
 IsProperty w = IsName w × (is_reserved w ≡ false)
 

@@ -1,5 +1,5 @@
--- How what a script says is spelled, as tokens. A bracket bears how many are open with it, and the dot of
--- a step which step of its chain it is; every other token bears 0.
+-- The grammar: the tokens of a script. A bracket has the number of brackets that are open with it, and the
+-- dot of a step has the number of that step in its chain; every other token has 0.
 use Rattle.std.specs.Prelude.{ℕ, ◌+◌, Bool, true, false, List, [], ◌∷◌, ◌++◌, codes, map, Option, None, Some}
 use Rattle.std.specs.List.{flat_map}
 use Rattle.gb_script.specs.declared.token.Sign.{Sign}
@@ -23,7 +23,7 @@ use Rattle.gb_script.specs.declared.script.Configuration.{Configuration}
 use Rattle.gb_script.specs.declared.script.Statement.{Statement}
 use Rattle.gb_script.specs.declared.script.Statement.TheVariants as statements
 
--- a token, and how deep it is where it is a bracket that opens or the dot of a step
+-- a token, and its depth if it is a bracket that opens or the dot of a step
 abbrev pub Leveled : Type 0
 Leveled = Token × ℕ
 
@@ -39,13 +39,13 @@ text t = (Text t, 0)
 abbrev pub sign : Sign → Leveled
 sign s = (Mark s, 0)
 
--- a bracket inside of d others
+-- a bracket inside d others
 abbrev pub opened : Sign → ℕ → Leveled
 opened s d = (Mark s, d + 1)
 
 -- ---- texts and functions
 
--- one, and the others, each behind a comma
+-- one, and the others, each after a comma
 abbrev pub list_spelled : {A : Type 0} → (A → List Leveled) → List A → List Leveled
 list_spelled spelled [] = []
 list_spelled spelled (x ∷ xs) = spelled x ++ flat_map (λ y. sign Comma ∷ spelled y) xs
@@ -61,7 +61,7 @@ texts_spelled ts = list_spelled text_spelled ts
 abbrev pub bracketed_spelled : ℕ → List ℕ → List Leveled
 bracketed_spelled d t = opened OpenParen d ∷ text t ∷ sign CloseParen ∷ []
 
--- texts in brackets, where there are any
+-- texts in brackets, if there are any
 abbrev pub given_spelled : ℕ → List (List ℕ) → List Leveled
 given_spelled d [] = []
 given_spelled d (t ∷ ts) = opened OpenParen d ∷ texts_spelled (t ∷ ts) ++ sign CloseParen ∷ []
@@ -94,12 +94,12 @@ abbrev mutual
   trees_spelled d NoTree = []
   trees_spelled d (AndTree tree trees) = tree_spelled d tree ++ further_spelled d trees
 
-  -- the others, each behind a comma
+  -- the others, each after a comma
   pub further_spelled : ℕ → Trees → List Leveled
   further_spelled d NoTree = []
   further_spelled d (AndTree tree trees) = sign Comma ∷ tree_spelled d tree ++ further_spelled d trees
 
-  -- the steps from the n-th on, each behind its dot
+  -- the steps from the n-th on, each after its dot
   pub links_spelled : ℕ → ℕ → Links → List Leveled
   links_spelled d n NoLink = []
   links_spelled d n (AndLink link links) =
@@ -122,7 +122,7 @@ values_spelled d trees = list_spelled (tree_spelled d) trees
 
 -- ---- clauses
 
--- values in brackets, where there are any
+-- values in brackets, if there are any
 abbrev pub arguments_spelled : ℕ → List Tree → List Leveled
 arguments_spelled d [] = []
 arguments_spelled d (t ∷ ts) = opened OpenParen d ∷ values_spelled (d + 1) (t ∷ ts) ++ sign CloseParen ∷ []
@@ -139,12 +139,12 @@ assignment_spelled d a = word a.name ∷ sign Equals ∷ tree_spelled d a.value
 abbrev pub condition_spelled : ℕ → Condition → List Leveled
 condition_spelled d c = tree_spelled d c.value ++ word (codes "is") ∷ function_spelled d c.test
 
--- the word, where it is said
+-- the word, if it is present
 abbrev pub said_spelled : List ℕ → Bool → List Leveled
 said_spelled w true = word w ∷ []
 said_spelled w false = []
 
--- texts behind the word, where there are any
+-- texts after the word, if there are any
 abbrev pub patterns_spelled : List ℕ → List (List ℕ) → List Leveled
 patterns_spelled w [] = []
 patterns_spelled w (t ∷ ts) = word w ∷ texts_spelled (t ∷ ts)
@@ -181,7 +181,7 @@ block_spelled d cs = sign OpenBrace ∷ flat_map (clause_spelled d) cs ++ sign C
 
 -- ---- statements
 
--- the call behind a colon, where there is one
+-- the call after a colon, if there is one
 abbrev pub action_spelled : ℕ → Option Call → List Leveled
 action_spelled d None = []
 action_spelled d (Some c) = sign Colon ∷ call_spelled d c

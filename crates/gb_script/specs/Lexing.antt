@@ -1,4 +1,4 @@
--- What a text is made of: pieces one after another, which are blanks, comments and tokens.
+-- A text is a sequence of pieces, which are blanks, comments and tokens.
 use Rattle.std.specs.Prelude.{◌≡◌, ℕ, ◌+◌, Bool, false, not, ◌||◌, ◌==◌, nat_le, IsTrue, List, [], ◌∷◌}
 use Rattle.std.specs.Prelude.{◌++◌, if◌then◌else◌, count_by}
 use Rattle.std.specs.List.{flat_map, list_all}
@@ -43,7 +43,7 @@ escaped b =
 abbrev pub is_writable : ℕ → Bool
 is_writable b = nat_le 32 b || b == 10 || b == 9
 
--- the first one, where there is one, passes the test
+-- the first one, if there is one, passes the test
 abbrev pub begins : {A : Type 0} → (A → Bool) → List A → Bool
 begins test [] = false
 begins test (x ∷ xs) = test x
@@ -51,7 +51,7 @@ begins test (x ∷ xs) = test x
 -- a blank, a comment or a token
 pub data Piece : Type 0 where
   Blank : (b : ℕ) → Piece
-  -- what stands behind //
+  -- the rest after //
   Comment : (c : List ℕ) → Piece
   Single : (t : Token) → Piece
 
@@ -64,7 +64,7 @@ written (Single (Text t)) = 34 ∷ flat_map escaped t ++ 34 ∷ []
 written (Single (Mark s)) = sign_byte s ∷ []
 written (Single Wrong) = []
 
--- The piece may stand where this follows it. A comment goes up to a newline or the end;
+-- The piece may be followed by this text. A comment goes up to a newline or the end;
 -- a word is all of its run.
 abbrev pub Stands : Piece → List ℕ → Type 0
 Stands (Blank b) rest = IsTrue (is_blank b)
@@ -81,8 +81,8 @@ IsCut text [] rest = text ≡ rest
 IsCut text (p ∷ ps) rest =
     (after : List ℕ) × (text ≡ written p ++ after) × Stands p after × IsCut after ps rest
 
--- No piece stands at the front: the text ends, or what follows is an open text, a word of more than 64 bytes,
--- or whatever else begins nothing.
+-- No piece is at the front: the text ends, or the next part is a text that is not closed, a word of more
+-- than 64 bytes, or anything else that begins no piece.
 abbrev pub IsStuck : List ℕ → Type 0
 IsStuck rest = (p : Piece) (after : List ℕ) → rest ≡ written p ++ after → Stands p after → ⊥
 
@@ -93,7 +93,7 @@ Placed = Token × ℕ
 abbrev pub newlines : List ℕ → ℕ
 newlines bytes = count_by is_newline bytes
 
--- the tokens of the pieces from a line on; one that no script has stands for a rest where no piece does
+-- the tokens of the pieces from a line on; a token that no script has represents a rest that begins no piece
 abbrev pub placed : ℕ → List Piece → List ℕ → List Placed
 placed line [] [] = []
 placed line [] (b ∷ rest) = (Wrong, line) ∷ []
@@ -101,8 +101,8 @@ placed line (Blank b ∷ ps) rest = placed (line + newlines (b ∷ [])) ps rest
 placed line (Comment c ∷ ps) rest = placed line ps rest
 placed line (Single t ∷ ps) rest = (t, line) ∷ placed line ps rest
 
--- The tokens of the text, each with its line: 1 and the newlines before it. Nothing matters behind a
--- place where no piece stands.
+-- The tokens of the text, each with its line: 1 plus the number of newlines before it. Nothing after a
+-- position that begins no piece matters.
 pub record HasTokens (text : List ℕ) (tokens : List Placed) : Type 0 where
   pub pieces : List Piece
   pub rest : List ℕ

@@ -8,7 +8,7 @@ use Rattle.gb_script.specs.Reading.{Reader, ◌>>=◌, is_sign, is_any, skip_at,
 use Rattle.gb_script.specs.Reading.{no_matter}
 use Rattle.gb_script.specs.Readers.{in_block, clause_at, action_at, statement_of_at}
 
--- the line of the clause in front
+-- the line of the clause at the front
 unfoldable pub clause_line_at : (ℕ → ℕ) → ℕ → Reader ℕ
 clause_line_at line room ts = do
   clause ← clause_at room ts
@@ -48,7 +48,7 @@ clause_lines_at line room (words.Property word) ts = no_lines_at room (words.Pro
 clause_lines_at line room words.Register ts = registration_lines_at line room ts
 clause_lines_at line room words.Named ts = configuration_lines_at line room ts
 
--- the line of the statement in front, and those of its clauses
+-- the line of the statement at the front, and the lines of its clauses
 unfoldable pub statement_lines_at : (ℕ → ℕ) → ℕ → Reader (ℕ × List ℕ)
 statement_lines_at line room ts = do
   word ← meaning_at statement_words ts

@@ -1,4 +1,4 @@
--- The lines in which the statements of a script begin, and the clauses of their blocks.
+-- The lines on which the statements of a script begin, and those of the clauses of their blocks.
 use Rattle.std.specs.Prelude.{◌≡◌, ℕ, List, [], ◌∷◌, ◌++◌, length, drop, codes}
 use Rattle.gb_script.specs.declared.token.Sign.TheVariants.{OpenBrace}
 use Rattle.gb_script.specs.declared.script.Clause.{Clause}
@@ -9,7 +9,7 @@ use Rattle.gb_script.specs.Grammar.{Leveled, word, sign, action_spelled, clause_
 use Rattle.gb_script.specs.Notation.{line_of}
 use Rattle.gb_script.specs.Script.{Spells}
 
--- Several things are spelled one after another, and these are the tokens from the first one on:
+-- Several values are derived one after another, and these are the tokens from the first one on:
 -- f of each, with the tokens from its own first token on.
 abbrev pub each_from : {A B : Type 0} → (A → List Placed → B) → (A → List Leveled) → List A → List Placed
     → List B
@@ -27,7 +27,7 @@ clauses_in (statements.DisallowChanges x) = []
 clauses_in (statements.Register r) = r.block
 clauses_in (statements.Named c) = c.block
 
--- what is spelled before its clauses
+-- the tokens before its clauses
 abbrev pub before_clauses : Statement → List Leveled
 before_clauses (statements.DefaultTasks x) = []
 before_clauses (statements.Property x) = []
@@ -51,7 +51,7 @@ statement_lines bytes s tokens = (
 abbrev pub script_lines : List ℕ → List Statement → List Placed → List (ℕ × List ℕ)
 script_lines bytes script tokens = each_from (statement_lines bytes) (statement_spelled 0) script tokens
 
--- The bytes spell a script, and these are the lines of its statements and clauses.
+-- The bytes parse as a script, and these are the lines of its statements and clauses.
 pub record AreLinesOf (bytes : List ℕ) (lines : List (ℕ × List ℕ)) : Type 0 where
   pub script : List Statement
   pub spells : Spells bytes script

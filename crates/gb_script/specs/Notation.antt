@@ -1,4 +1,4 @@
--- How a text spells something of a notation, or fails to. A notation is what it has, and how that is spelled.
+-- How a text parses in a notation, or has a fault. A notation is its values and the spelling of each.
 use Rattle.std.specs.Prelude.{◌≡◌, ℕ, ◌+◌, ◌<◌, ◌≤◌, List, [], ◌∷◌, ◌++◌, length, map, Result}
 use Rattle.std.specs.Prelude.{Ok, Err, IsUtf8}
 use Rattle.gb_script.specs.declared.token.Token.{Token}
@@ -18,13 +18,13 @@ pub record IsSource (bytes : List ℕ) (tokens : List Placed) : Type 0 where
   pub utf8 : IsUtf8 bytes
   pub has : HasTokens bytes tokens
 
--- the line of the first of these tokens, or the last line of the text where none is left
+-- the line of the first of these tokens, or the last line of the text if none is left
 abbrev pub line_of : List ℕ → List Placed → ℕ
 line_of bytes [] = 1 + newlines bytes
 line_of bytes (p ∷ ps) = p.1
 
 module _ {A : Type 0} (Is : A → Type 0) (spelled : A → List Leveled) where
-  -- The bytes spell it: their tokens are its spelling, and pass no limit.
+  -- The bytes parse as the value: their tokens are its spelling, and pass no limit.
   pub record IsSpelled (bytes : List ℕ) (said : A) : Type 0 where
     pub tokens : List Placed
     pub source : IsSource bytes tokens
@@ -32,8 +32,8 @@ module _ {A : Type 0} (Is : A → Type 0) (spelled : A → List Leveled) where
     pub within : AllWithin (spelled said)
     pub is : Is said
 
-  -- the line of the first token that nothing has after the tokens before it, or the last line
-  -- where the text ends too early
+  -- the line of the first token that no spelling has after the tokens before it, or the last line
+  -- if the text ends too early
   pub record IsSyntaxFault (bytes : List ℕ) (line : ℕ) : Type 0 where
     pub before : List Placed
     pub bad : List Placed
@@ -41,7 +41,7 @@ module _ {A : Type 0} (Is : A → Type 0) (spelled : A → List Leveled) where
     pub first : IsFirstStray Is spelled (tokens_in before) (tokens_in bad)
     pub line_is : line ≡ line_of bytes bad
 
-  -- the line of the first token past a limit, which something has there, limits aside
+  -- the line of the first token past a limit, which some spelling has there, limits aside
   pub record IsDepthFault (bytes : List ℕ) (line : ℕ) : Type 0 where
     pub before : List Placed
     pub bad : List Placed
@@ -49,7 +49,7 @@ module _ {A : Type 0} (Is : A → Type 0) (spelled : A → List Leveled) where
     pub first : IsFirstDeep Is spelled (tokens_in before) (tokens_in bad)
     pub line_is : line ≡ line_of bytes bad
 
-  -- What the bytes say in the notation, or the one fault that they have.
+  -- The meaning of the bytes in the notation, or the one fault that they have.
   abbrev pub IsSaid : List ℕ → Result A ScriptFault → Type 0
   IsSaid bytes (Ok said) = IsSpelled bytes said
   IsSaid bytes (Err OutOfMemory) = ⊥
@@ -58,6 +58,6 @@ module _ {A : Type 0} (Is : A → Type 0) (spelled : A → List Leveled) where
   IsSaid bytes (Err (TooDeep line)) = IsDepthFault bytes line
   IsSaid bytes (Err NotUtf8) = (length bytes ≤ 1048576) × ¬ (IsUtf8 bytes)
 
-  -- bytes say no two things
+  -- bytes never have two meanings
   abbrev pub SaysOneThing : Type 0
   SaysOneThing = (bytes : List ℕ) (a b : Result A ScriptFault) → IsSaid bytes a → IsSaid bytes b → a ≡ b

@@ -58,7 +58,7 @@ function_at room ts =
 
 -- ---- expressions
 
--- what stands behind the word of a source
+-- the rest of a source, after its word
 unfoldable pub root_of_at : ℕ → SourceWord → Reader Root
 root_of_at room sources.True ts = Ok (FlagOf true, ts)
 root_of_at room sources.False ts = Ok (FlagOf false, ts)
@@ -81,7 +81,7 @@ list_root_at room inside ts =
     (λ inner. closed_at (is_sign CloseBracket)
     (made_at list_from (λ ts. maybe_at in_list (list_at inside) [] ts))) ts
 
--- what the first word is found to be: the word of a source, or else a property
+-- the first word as it was found: the word of a source, or else a property
 unfoldable pub word_root_at : ℕ → Option SourceWord → List Token → Reader Root
 word_root_at room (Some word) whole ts = root_of_at room word ts
 word_root_at room None whole ts = made_at PropertyOf property_at whole
@@ -96,7 +96,7 @@ root_at room inside (Wrong ∷ ts) = stray (Wrong ∷ ts)
 abbrev pub zip_from : Tree × Function → Link
 zip_from x = ZipBy x.0 x.1
 
--- what stands behind the word of a step
+-- the rest of a step, after its word
 unfoldable pub link_of_at : ℕ → Reader Tree → StepWord → Reader Link
 link_of_at room inside steps.Map ts =
     opened_at OpenParen room (λ inner. closed_at (is_sign CloseParen) (made_at MapBy (function_at inner))) ts
@@ -110,7 +110,7 @@ link_of_at room inside steps.Zip ts =
 link_of_at room inside steps.OrElse ts =
     opened_at OpenParen room (λ inner. closed_at (is_sign CloseParen) (made_at Else inside)) ts
 
--- a step, behind its dot
+-- a step, after its dot
 unfoldable pub link_at : ℕ → Reader Tree → Reader Link
 link_at room inside ts = do
   rest ← skip_at (is_sign Dot) ts
@@ -127,7 +127,7 @@ chain_at room inside ts =
     (pair_at (root_at room inside)
     (λ ts. many_at (is_sign Dot) no_matter (λ s. link_at room inside) 64 tt ts)) ts
 
--- a value behind a bracket for which there was this much room
+-- a value after a bracket for which there was this much room
 unfoldable pub inside_at : ℕ → Reader Tree
 inside_at zero ts = stray ts
 inside_at (suc room) ts = chain_at room (inside_at room) ts
@@ -154,7 +154,7 @@ call_at room ts =
 abbrev pub assignment_from : List ℕ × Tree → Assignment
 assignment_from x = record { name = x.0; value = x.1 }
 
--- a name that is read so, and the value that it gets
+-- a name that is read so, and the value assigned to it
 unfoldable pub assignment_at : Reader (List ℕ) → ℕ → Reader Assignment
 assignment_at named room ts =
     made_at assignment_from (pair_at named (λ ts. past_at (is_sign Equals) (tree_at room) ts)) ts
@@ -167,7 +167,7 @@ condition_at room ts =
     made_at condition_from
     (pair_at (tree_at room) (λ ts. past_at (is_word (codes "is")) (function_at room) ts)) ts
 
--- texts behind the word, or none
+-- texts after the word, or none
 unfoldable pub patterns_at : List ℕ → Reader (List (List ℕ))
 patterns_at w ts = maybe_at (is_word w) (λ ts. past_at (is_word w) (list_at text_at) ts) [] ts
 
@@ -203,13 +203,13 @@ input_files_at room ts =
     made_at input_files_from
     (pair_at name_at (pair_at flags_at (λ ts. past_at (is_word (codes "from")) (roots_at room) ts))) ts
 
--- what stands behind a word that sets a task before or after others
+-- the rest of a clause that orders a task before or after others, after its word
 unfoldable pub order_of_at : OrderWord → Reader Clause
 order_of_at orders.DependsOn ts = made_at clauses.DependsOn (list_at text_at) ts
 order_of_at orders.MustRunAfter ts = made_at clauses.MustRunAfter (list_at text_at) ts
 order_of_at orders.FinalizedBy ts = made_at clauses.FinalizedBy (list_at text_at) ts
 
--- what stands behind a word that says what a task does, or when it does it
+-- the rest of a clause that sets what a task does or when it runs, after its word
 unfoldable pub run_of_at : ℕ → RunWord → Reader Clause
 run_of_at room runs.DoFirst ts = made_at clauses.DoFirst (call_at room) ts
 run_of_at room runs.DoLast ts = made_at clauses.DoLast (call_at room) ts
@@ -217,7 +217,7 @@ run_of_at room runs.OnlyIf ts = made_at clauses.OnlyIf (condition_at room) ts
 run_of_at room runs.UpToDateWhen ts = made_at clauses.UpToDateWhen (condition_at room) ts
 run_of_at room runs.Enabled ts = made_at clauses.Enabled (tree_at room) ts
 
--- what stands behind the word of a clause
+-- the rest of a clause, after its word
 unfoldable pub clause_of_at : ℕ → ClauseWord → Reader Clause
 clause_of_at room words.Input ts = made_at clauses.Input (assignment_at name_at room) ts
 clause_of_at room words.InputFiles ts = made_at clauses.InputFiles (input_files_at room) ts
@@ -243,7 +243,7 @@ block_at room ts = do
 
 -- ---- statements
 
--- a call behind a colon, or none
+-- a call after a colon, or none
 unfoldable pub action_at : ℕ → Reader (Option Call)
 action_at room ts =
     maybe_at (is_sign Colon) (λ ts. past_at (is_sign Colon) (made_at Some (call_at room)) ts) None ts
@@ -261,7 +261,7 @@ configuration_from x = record { name = x.0; block = x.1 }
 unfoldable pub configuration_at : ℕ → Reader Configuration
 configuration_at room ts = made_at configuration_from (pair_at name_at (block_at room)) ts
 
--- what stands behind a word that says something of a property
+-- the rest of a statement about a property, after its word
 unfoldable pub property_of_at : ℕ → PropertyWord → Reader Statement
 property_of_at room properties.Declare ts = made_at statements.Property property_at ts
 property_of_at room properties.Set ts = made_at statements.Set (assignment_at property_at room) ts
@@ -270,7 +270,7 @@ property_of_at room properties.Convention ts =
 property_of_at room properties.Unset ts = made_at statements.Unset property_at ts
 property_of_at room properties.DisallowChanges ts = made_at statements.DisallowChanges property_at ts
 
--- what stands behind the word of a statement
+-- the rest of a statement, after its word
 unfoldable pub statement_of_at : ℕ → StatementWord → Reader Statement
 statement_of_at room begins_with.DefaultTasks ts = made_at statements.DefaultTasks (list_at text_at) ts
 statement_of_at room (begins_with.Property word) ts = property_of_at room word ts
@@ -286,7 +286,7 @@ statement_at room ts = do
 unfoldable pub script_at : Reader (List Statement)
 script_at ts = many_at is_any no_matter (λ s. statement_at 64) (length ts) tt ts
 
--- the texts behind the word
+-- the texts after the word
 unfoldable pub include_at : Reader (List (List ℕ))
 include_at ts = past_at (is_word (codes "include")) (list_at text_at) ts
 

@@ -1,4 +1,4 @@
--- Reading tokens from left to right, up to the first fault, and how readers are put together.
+-- Reading tokens from left to right, up to the first fault, and how readers are combined.
 use Rattle.std.specs.Prelude.{◌≡◌, ℕ, zero, suc, ◌-◌, Bool, true, false, not, ◌&&◌, List, [], ◌∷◌, length}
 use Rattle.std.specs.Prelude.{drop, Option, Some, None, Result, Ok, Err, nat_eq, ◌==◌, if◌then◌else◌}
 use Rattle.std.specs.Str.{bytes_eq}
@@ -23,7 +23,7 @@ abbrev pub ◌>>=◌ : {A B : Type 0} → Result A Fault → (A → Result B Fau
 (Ok x) >>= f = f x
 (Err e) >>= f = Err e
 
--- What a function returned, seen by view, is what reading gives, unless memory ran out.
+-- The returned value, under the view, is the result of reading, unless memory ran out.
 abbrev pub Fails : {Y : Type 0} → Stop → Result Y Fault → Type 0
 Fails stops.Memory read = Unit {0}
 Fails (stops.Fault f) read = read ≡ Err f
@@ -32,7 +32,7 @@ abbrev pub Gives : {X Y : Type 0} → (X → Y) → Result X Stop → Result Y F
 Gives view (Ok x) read = read ≡ Ok (view x)
 Gives view (Err e) read = Fails e read
 
--- the first token is none that a script has there
+-- the first token is one that no script has there
 abbrev pub stray : {A : Type 0} → List Token → Result A Fault
 stray ts = Err (Stray (length ts))
 
@@ -54,7 +54,7 @@ is_word w Wrong = false
 abbrev pub is_any : Token → Bool
 is_any t = true
 
--- ---- how readers are put together
+-- ---- how readers are combined
 
 -- a token that passes the test
 unfoldable pub skip_at : (Token → Bool) → List Token → Result (List Token) Fault
@@ -73,7 +73,7 @@ name_at (Text t ∷ ts) = stray (Text t ∷ ts)
 name_at (Mark s ∷ ts) = stray (Mark s ∷ ts)
 name_at (Wrong ∷ ts) = stray (Wrong ∷ ts)
 
--- a name that is none of those reserved
+-- a name that is not reserved
 unfoldable pub property_at : Reader (List ℕ)
 property_at [] = stray []
 property_at (Word w ∷ ts) = if is_name w && not (is_reserved w) then Ok (w, ts) else stray (Word w ∷ ts)
@@ -88,7 +88,7 @@ text_at (Text t ∷ ts) = Ok (t, ts)
 text_at (Mark s ∷ ts) = stray (Mark s ∷ ts)
 text_at (Wrong ∷ ts) = stray (Wrong ∷ ts)
 
--- what a word was found to be, of the tokens from the word on and those after it
+-- what a word was found to be, with the tokens from the word on and those after it
 abbrev pub found_at : {K : Type 0} → List Token → List Token → Option K → Result (K × List Token) Fault
 found_at whole ts None = stray whole
 found_at whole ts (Some k) = Ok (k, ts)
@@ -101,11 +101,11 @@ meaning_at words (Text t ∷ ts) = stray (Text t ∷ ts)
 meaning_at words (Mark s ∷ ts) = stray (Mark s ∷ ts)
 meaning_at words (Wrong ∷ ts) = stray (Wrong ∷ ts)
 
--- what begins so, or nothing where nothing does
+-- an element if one begins so, or else nothing
 unfoldable pub maybe_at : {A : Type 0} → (Token → Bool) → Reader A → A → Reader A
 maybe_at test r none ts = if begins test ts then r ts else Ok (none, ts)
 
--- Each one that begins so, at most n of them. What was read before decides what may come.
+-- Each element that begins so, at most n of them. The elements read before decide which may come.
 unfoldable pub many_at : {S A : Type 0} → (Token → Bool) → (S → A → S) → (S → Reader A) → ℕ → S
     → Reader (List A)
 many_at test next r zero s ts = if begins test ts then deep ts else Ok ([], ts)
@@ -116,7 +116,7 @@ many_at test next r (suc n) s ts =
       Ok (first.0 ∷ others.0, others.1))
     else Ok ([], ts)
 
--- what stands behind a token that passes the test
+-- the rest after a token that passes the test
 unfoldable pub past_at : {A : Type 0} → (Token → Bool) → Reader A → Reader A
 past_at test r ts = skip_at test ts >>= r
 
@@ -127,26 +127,26 @@ pair_at first second ts = do
   y ← second x.1
   Ok ((x.0, y.0), y.1)
 
--- what is made of what is read
+-- a function of the value read
 abbrev pub made_at : {A B : Type 0} → (A → B) → Reader A → Reader B
 made_at make r ts = do
   x ← r ts
   Ok (make x.0, x.1)
 
--- what stands before a token that passes the test
+-- the part before a token that passes the test
 abbrev pub closed_at : {A : Type 0} → (Token → Bool) → Reader A → Reader A
 closed_at test r ts = do
   x ← r ts
   rest ← skip_at test x.1
   Ok (x.0, rest)
 
--- what stands behind a bracket that opens, read with the room within
+-- the part after a bracket that opens, read with the room within
 abbrev pub opened_at : {A : Type 0} → Sign → ℕ → (ℕ → Reader A) → Reader A
 opened_at s room r ts = do
   inner ← open_at s room ts
   r inner.0 inner.1
 
--- whether the word is said
+-- whether the word is present
 unfoldable pub said_at : List ℕ → Reader Bool
 said_at w ts = if begins (is_word w) ts then Ok (true, drop 1 ts) else Ok (false, ts)
 
@@ -154,7 +154,7 @@ said_at w ts = if begins (is_word w) ts then Ok (true, drop 1 ts) else Ok (false
 abbrev pub no_matter : {A : Type 0} → Unit {0} → A → Unit {0}
 no_matter s x = tt
 
--- one or more, parted by commas
+-- one or more, separated by commas
 unfoldable pub list_at : {A : Type 0} → Reader A → Reader (List A)
 list_at r ts = do
   first ← r ts

@@ -27,11 +27,11 @@ sign_of b =
     else (if b == 61 then Some Equals
     else None)))))))))
 
--- A byte that stands for itself in a text: no control byte, no quotation mark (34) and no backslash (92).
+-- A byte that is literal in a text: no control byte, no quotation mark (34) and no backslash (92).
 abbrev pub is_plain : ℕ → Bool
 is_plain b = nat_le 32 b && not (b == 34) && not (b == 92)
 
--- the byte that this one stands for behind a backslash
+-- the byte that this one denotes after a backslash
 abbrev pub unescaped : ℕ → Option ℕ
 unescaped e =
     if e == 34 then Some 34
@@ -40,16 +40,16 @@ unescaped e =
     else (if e == 116 then Some 9
     else None)))
 
--- what the text has in front of its first byte that fails the test, and the text from there on
+-- the text before its first byte that fails the test, and the text from there on
 abbrev pub past_run : (ℕ → Bool) → List ℕ → List ℕ
 past_run test text = drop (prefix_len test text) text
 
--- what a content and the text after it are with this in front
+-- the result of a content and the text after it, with this put before the content
 abbrev pub with_content : List ℕ → Option (List ℕ × List ℕ) → Option (List ℕ × List ℕ)
 with_content front None = None
 with_content front (Some x) = Some (front ++ x.0, x.1)
 
--- a byte behind a backslash, and the text after the two
+-- a byte after a backslash, and the text after the two
 abbrev pub escape_of : List ℕ → Option ℕ → Option (ℕ × List ℕ)
 escape_of rest None = None
 escape_of rest (Some b) = Some (b, rest)
@@ -64,7 +64,7 @@ abbrev pub escaped_before : Option ℕ → Option (List ℕ × List ℕ) → Opt
 escaped_before None found = None
 escaped_before (Some b) found = with_content (b ∷ []) found
 
--- the content of a text, and what follows its closing mark, of what follows its opening mark
+-- the content of a text and the input after its closing mark, from the input after its opening mark
 unfoldable pub content_at : List ℕ → Option (List ℕ × List ℕ)
 content_at [] = None
 content_at (b ∷ []) = if b == 34 then Some ([], []) else None
@@ -89,7 +89,7 @@ word_at text =
     then (Found (Word (take_while is_name_byte text)), past_run is_name_byte text)
     else lost
 
--- a comment up to its newline, of what follows its first slash
+-- a comment up to its newline, from the input after its first slash
 unfoldable pub comment_at : List ℕ → Part × List ℕ
 comment_at text =
     if begins (λ b. b == 47) text then (Gap, past_run (λ b. not (is_newline b)) text)
@@ -99,7 +99,7 @@ abbrev pub mark_of : List ℕ → Option Sign → Part × List ℕ
 mark_of rest None = lost
 mark_of rest (Some s) = (Found (Mark s), rest)
 
--- what stands at the front, and the text after it
+-- the piece at the front, and the text after it
 unfoldable pub part_at : List ℕ → Part × List ℕ
 part_at [] = lost
 part_at (b ∷ bs) =
@@ -110,13 +110,13 @@ part_at (b ∷ bs) =
     else (if is_name_byte b then word_at (b ∷ bs)
     else mark_of bs (sign_of b)))))
 
--- the tokens of a part at a line, and what the text after it has
+-- the tokens of a piece at a line, before those of the text after it
 abbrev pub scan_next : (ℕ → List ℕ → List Placed) → ℕ → Part × List ℕ → List Placed
 scan_next more line (Newline, rest) = more (line + 1) rest
 scan_next more line (Gap, rest) = more line rest
 scan_next more line (Found t, rest) = (t, line) ∷ more line rest
 
--- the tokens of at most this many parts, each with its line
+-- the tokens of at most this many pieces, each with its line
 unfoldable pub scan_at : ℕ → ℕ → List ℕ → List Placed
 scan_at zero line text = []
 scan_at (suc n) line [] = []

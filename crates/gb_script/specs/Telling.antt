@@ -1,4 +1,4 @@
--- The fault that is told of bytes: they are no text, or reading the tokens of the text stopped.
+-- The fault that is reported for bytes: they are not a text, or reading the tokens of the text stopped.
 use Rattle.std.specs.Prelude.{ℕ, ◌+◌, ◌-◌, ◌<◌, ◌≤◌, List, length, slice_index_or, IsUtf8}
 use Rattle.gb_script.specs.declared.fault.ScriptFault.{ScriptFault}
 use Rattle.gb_script.specs.declared.fault.ScriptFault.TheVariants.{OutOfMemory, Syntax, TooLong, TooDeep}
@@ -8,7 +8,7 @@ use Rattle.gb_script.specs.declared.stop.Stop.{Stop}
 use Rattle.gb_script.specs.declared.stop.Stop.TheVariants as stops
 use Rattle.gb_script.specs.Lexing.{newlines}
 
--- the fault by which bytes are no text of at most 1 MiB
+-- the fault of bytes that are not a text of at most 1 MiB
 abbrev pub IsTextFault : List ℕ → ScriptFault → Type 0
 IsTextFault bytes OutOfMemory = ⊥
 IsTextFault bytes (Syntax line) = ⊥
@@ -16,12 +16,12 @@ IsTextFault bytes TooLong = 1048576 < length bytes
 IsTextFault bytes (TooDeep line) = ⊥
 IsTextFault bytes NotUtf8 = (length bytes ≤ 1048576) × ¬ (IsUtf8 bytes)
 
--- of a text and the lines of its tokens: the line of the token with this many left from it on, or
--- the last line where none is
+-- of a text and the lines of its tokens: the line of the first of the last `left` tokens, or the last
+-- line if there is none
 abbrev pub line_left : List ℕ → List ℕ → ℕ → ℕ
 line_left text lines left = slice_index_or lines (length lines - left) (1 + newlines text)
 
--- the fault of a text, by the lines of its tokens, where reading them stopped so
+-- the fault of a text, by the lines of its tokens, if reading them stopped so
 abbrev pub fault_told : List ℕ → List ℕ → Stop → ScriptFault
 fault_told text lines stops.Memory = OutOfMemory
 fault_told text lines (stops.Fault (Stray left)) = Syntax (line_left text lines left)

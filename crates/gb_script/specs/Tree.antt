@@ -1,9 +1,9 @@
--- What a value is made from, as a script writes it.
+-- The expression from which a value is made, as a script writes it.
 use Rattle.std.specs.Prelude.{ℕ, ◌+◌, Bool, List, [], ◌∷◌}
 use Rattle.gb_script.specs.declared.function.Function.{Function}
 
 mutual
-  -- a source, and what is done to it, step by step
+  -- a source, and its steps in order
   pub data Tree : Type 0 where
     Chain : (root : Root) (links : Links) → Tree
 

@@ -1,4 +1,4 @@
--- What the answer about a whole row of tokens says.
+-- The result for a whole sequence of tokens.
 use Rattle.std.specs.Prelude.{◌≡◌, ◌≢◌, Bool, true, false, List, [], ◌∷◌, ◌++◌, nat_lt}
 use Rattle.std.specs.List.{AllByRecursion}
 use Rattle.gb_script.specs.declared.token.Token.{Token}
@@ -14,7 +14,7 @@ IsWithin m = is_over m ≡ false
 abbrev pub AllWithin : List Leveled → Type 0
 AllWithin ms = AllByRecursion IsWithin ms
 
--- The tokens begin something, and pass no limit.
+-- The tokens begin a spelling, and pass no limit.
 pub record Begins {A : Type 0} (Is : A → Type 0) (spelled : A → List Leveled)
     (before : List Token) : Type 0 where
   pub value : A
@@ -25,19 +25,19 @@ pub record Begins {A : Type 0} (Is : A → Type 0) (spelled : A → List Leveled
   pub tokens : before ≡ tokens_of front
   pub within : AllWithin front
 
--- After the tokens before, the bad ones begin with the first that nothing has there, limits aside; where
--- there are none, the end comes too early.
+-- After the tokens before, the bad ones begin with the first that no spelling has there, limits aside. If
+-- there are no bad ones, the end comes too early.
 pub record IsFirstStray {A : Type 0} (Is : A → Type 0) (spelled : A → List Leveled)
     (before bad : List Token) : Type 0 where
-  -- the tokens before it begin something
+  -- the tokens before it begin a spelling
   pub begun : Begins Is spelled before
-  -- nothing begins with them and it
+  -- no spelling begins with them and it
   pub none : (b : Token) (rest : List Token) → bad ≡ b ∷ rest → (a : A) (other : List Token) → Is a
       → tokens_of (spelled a) ≢ before ++ b ∷ other
-  -- nothing is spelled by all the tokens
+  -- no spelling is exactly these tokens
   pub short : bad ≡ [] → (a : A) → Is a → tokens_of (spelled a) ≢ before
 
--- After the tokens before, which pass no limit, the bad ones begin with one past a limit; something
+-- After the tokens before, which pass no limit, the bad ones begin with one past a limit; some spelling
 -- has it there, limits aside.
 pub record IsFirstDeep {A : Type 0} (Is : A → Type 0) (spelled : A → List Leveled)
     (before bad : List Token) : Type 0 where

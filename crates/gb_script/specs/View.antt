@@ -1,4 +1,4 @@
--- What the parts of an expression stand for.
+-- What the parts of an expression denote.
 use Rattle.std.specs.Prelude.{List, map}
 use Rattle.gb_script.specs.declared.expression.Source.{Source}
 use Rattle.gb_script.specs.declared.expression.Source.TheVariants as sources

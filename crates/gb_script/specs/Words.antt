@@ -17,7 +17,7 @@ use Rattle.gb_script.specs.declared.words.PropertyWord.TheVariants as properties
 abbrev pub Meanings : Type 0 → Type 0
 Meanings K = List (List ℕ × K)
 
--- what the word means among these
+-- the meaning of the word among these
 abbrev pub meaning_in : {K : Type 0} → Meanings K → List ℕ → Option K
 meaning_in [] w = None
 meaning_in (x ∷ xs) w = if bytes_eq w x.0 then Some x.1 else meaning_in xs w
@@ -34,7 +34,7 @@ source_words =
     ∷ (codes "task", sources.Task)
     ∷ []
 
--- no property is named so
+-- no property has such a name
 abbrev pub is_reserved : List ℕ → Bool
 is_reserved w = is_some (meaning_in source_words w)
 

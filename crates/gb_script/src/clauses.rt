@@ -1,4 +1,4 @@
-//! Tokens to the clauses of a task.
+//! Reads the clauses of a task from tokens.
 ghost use Rattle.std.specs.Prelude.{◌≡◌, ◌<◌, ◌≤◌, length, IfOk, Ok, [], codes};
 ghost use Rattle.gb_script.specs.Lexing.{begins};
 ghost use Rattle.gb_script.specs.Words.{clause_words};
@@ -37,7 +37,7 @@ fn bracketed_values(
     closed(Expressions::new(values), rest, Sign::CloseParen)
 }
 
-/// Values in brackets, or none where no bracket is.
+/// Values in brackets, or none if there is no bracket.
 #[tactic(auto, unfolding(crate::specs::Reading::maybe_at))]
 fn values(alloc: Global, tokens: &[Token], room: u32) -> Result<(Expressions, &[Token]), Stop>
     ensures exact { Gives (λ x. (x.0, x.1.now))
@@ -51,7 +51,7 @@ fn values(alloc: Global, tokens: &[Token], room: u32) -> Result<(Expressions, &[
     }
 }
 
-/// A name, and the values in brackets behind it, if a bracket is there.
+/// A name, and the values in brackets after it, if there is a bracket.
 #[tactic(auto, unfolding(crate::specs::Readers::call_at))]
 pub fn call(alloc: Global, tokens: &[Token], room: u32) -> Result<(Call, &[Token]), Stop>
     ensures exact { Gives (λ x. (x.0, x.1.now)) result (call_at room tokens.now) }
@@ -62,7 +62,7 @@ pub fn call(alloc: Global, tokens: &[Token], room: u32) -> Result<(Call, &[Token
     Ok((Call { name, arguments }, rest))
 }
 
-/// A value behind a sign of equality.
+/// A value after an equals sign.
 #[tactic(auto, unfolding(crate::specs::Reading::past_at))]
 fn assigned(alloc: Global, tokens: &[Token], room: u32) -> Result<(Expression, &[Token]), Stop>
     ensures exact { Gives (λ x. (x.0, x.1.now))
@@ -72,7 +72,7 @@ fn assigned(alloc: Global, tokens: &[Token], room: u32) -> Result<(Expression, &
     expression(alloc, skip(tokens, Sign::Equals)?, room)
 }
 
-/// A name, and the value that it gets.
+/// A name, and the value assigned to it.
 #[tactic(auto, unfolding(crate::specs::Readers::assignment_at))]
 fn assignment(alloc: Global, tokens: &[Token], room: u32) -> Result<(Assignment, &[Token]), Stop>
     ensures exact { Gives (λ x. (x.0, x.1.now)) result (assignment_at name_at room tokens.now) }
@@ -83,7 +83,7 @@ fn assignment(alloc: Global, tokens: &[Token], room: u32) -> Result<(Assignment,
     Ok((Assignment { name, value }, rest))
 }
 
-/// A property, and the value that it gets.
+/// A property, and the value assigned to it.
 #[tactic(auto, unfolding(crate::specs::Readers::assignment_at))]
 pub fn property_assignment(
     alloc: Global,
@@ -98,7 +98,7 @@ pub fn property_assignment(
     Ok((Assignment { name, value }, rest))
 }
 
-/// The function of a test, behind its word.
+/// The function of a test, after its word.
 #[tactic(auto, unfolding(crate::specs::Reading::past_at))]
 fn test(alloc: Global, tokens: &[Token], room: u32) -> Result<(Function, &[Token]), Stop>
     ensures exact { Gives (λ x. (x.0, x.1.now)) result
@@ -123,7 +123,7 @@ fn condition(alloc: Global, tokens: &[Token], room: u32) -> Result<(Condition, &
     }
 }
 
-/// What is said of the files that a task reads, before their roots.
+/// The flags of the files that a task reads, which precede their roots.
 #[derive(Clone, Copy)]
 struct Flags {
     incremental: bool,
@@ -150,7 +150,7 @@ fn read_flags(tokens: &[Token]) -> (Flags, &[Token])
     )
 }
 
-/// The patterns that let files in, and those that keep files out.
+/// The patterns that include files, and those that exclude files.
 #[derive(Drop)]
 struct Patterns {
     include: Texts,
@@ -174,7 +174,7 @@ struct Roots {
     patterns: Patterns,
 }
 
-/// What stands behind the word before the roots, and that word.
+/// The word `from`, and the roots and patterns after it.
 #[tactic(auto, unfolding(crate::specs::Reading::past_at, crate::specs::Readers::roots_at))]
 fn read_roots(alloc: Global, tokens: &[Token], room: u32) -> Result<(Roots, &[Token]), Stop>
     ensures exact { Gives (λ x. ((x.0.from, (x.0.patterns.include, x.0.patterns.exclude)), x.1.now)) result
@@ -208,7 +208,7 @@ fn input_files(alloc: Global, tokens: &[Token], room: u32) -> Result<(InputFiles
     Ok((files, rest))
 }
 
-/// What stands behind a word that sets a task before or after others.
+/// The rest of a clause that orders a task before or after others, after its word.
 #[tactic(auto, unfolding(crate::specs::Readers::order_of_at))]
 fn order_of(alloc: Global, word: OrderWord, tokens: &[Token]) -> Result<(Clause, &[Token]), Stop>
     ensures exact { Gives (λ x. (x.0, x.1.now)) result (order_of_at word tokens.now) }
@@ -230,7 +230,7 @@ fn order_of(alloc: Global, word: OrderWord, tokens: &[Token]) -> Result<(Clause,
     }
 }
 
-/// What stands behind a word that says what a task does, or when it does it.
+/// The rest of a clause that sets what a task does or when it runs, after its word.
 #[tactic(auto, unfolding(crate::specs::Readers::run_of_at))]
 fn run_of(
     alloc: Global,
@@ -265,7 +265,7 @@ fn run_of(
     }
 }
 
-/// What stands behind the word of a clause.
+/// The rest of a clause, after its word.
 #[tactic(auto, unfolding(crate::specs::Readers::clause_of_at))]
 fn clause_of(
     alloc: Global,

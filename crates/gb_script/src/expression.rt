@@ -1,10 +1,10 @@
-//! What a value is made from, as a script writes it.
+//! The expression from which a value is made, as a script writes it.
 use crate::function::Function;
 use gb_core::name::Name;
 use gb_core::text::Text;
 use std::marker::Model;
 
-/// A source, and what is done to it, step by step. Contracts see it as a tree (`specs/Tree.antt`).
+/// A source, and its steps in order. Contracts view it as a tree (`specs/Tree.antt`).
 #[derive(Debug, Drop)]
 #[cycle(expression)]
 pub struct Expression {
@@ -28,25 +28,25 @@ pub enum Source {
     Dir(Text),
     /// A file of the project.
     File(Text),
-    /// The folder of what is built.
+    /// The folder of build outputs.
     BuildDir,
-    /// What an invocation gives under the name.
+    /// The value that an invocation gives under the name.
     GradleProperty(Text),
     /// `task("T")`: a task, by its name or its path.
     Task(Text),
 }
 
-/// What is done to a value.
+/// A step from a value to the next.
 #[derive(Debug, Drop)]
 #[cycle(expression)]
 pub enum Step {
-    /// `.map(f)`: what a function makes of it.
+    /// `.map(f)`: the result of a function on it.
     Map(Function),
     /// `.flatMap(f)`: the output that a function chooses by it.
     FlatMap(Function),
     /// With another value.
     Zip(Expression, Function),
-    /// Another value where there is none.
+    /// Another value if there is none.
     OrElse(Expression),
 }
 
@@ -81,7 +81,7 @@ impl Expression {
         Expression { source, steps }
     }
 
-    /// Where its value comes from, before any step.
+    /// The source of its value, before any step.
     pub fn source(&self) -> &Source
         ensures { root_of result.now ≡ root self.now }
     {

@@ -5,20 +5,20 @@ use thiserror::Error;
 /// Why a script could not be read.
 #[derive(Clone, Copy, Debug, PartialEq, Eq, Error)]
 pub enum ScriptFault {
-    /// No memory to read it; 3.
+    /// Out of memory; 3.
     #[error("out of memory")]
     OutOfMemory,
-    /// The line of the first token that no script has after those before it, or the last line where
+    /// The line of the first token that no script has after those before it, or the last line if
     /// the text ends too early. Lines count from 1.
     #[error("syntax error in line {0}")]
     Syntax(u64),
     /// More than 1 MiB.
     #[error("too long")]
     TooLong,
-    /// The line of a bracket inside of 64 others, or of a step behind 64 others.
+    /// The line of a bracket inside 64 others, or of a step after 64 others.
     #[error("too deep in line {0}")]
     TooDeep(u64),
-    /// Its bytes are no UTF-8.
+    /// Its bytes are not valid UTF-8.
     #[error("not UTF-8")]
     NotUtf8,
 }
@@ -27,7 +27,7 @@ impl ScriptFault {
     ghost use Rattle.std.specs.Prelude.{◌≡◌};
     ghost use Rattle.gb_script.specs.Fault.{script_fault_number};
 
-    /// The number under which the fault is told to users.
+    /// The number under which the fault is reported to users.
     pub fn number(self) -> u16
         ensures { result ≡ script_fault_number self }
     {

@@ -1,12 +1,12 @@
-//! What a script names to work on values.
+//! The functions that a script names to work on values.
 use gb_core::name::Name;
 use gb_core::text::Texts;
 
-/// A function, with the texts that it is given.
+/// A function, with its text arguments.
 #[derive(Debug, Drop)]
 pub struct Function {
-    /// The name under which the table of functions is asked for it.
+    /// The name by which the function is looked up in the table of functions.
     pub name: Name,
-    /// The texts in brackets behind the name, or none where no bracket is.
+    /// The texts in brackets after the name, or none if there is no bracket.
     pub arguments: Texts,
 }

@@ -1,7 +1,7 @@
-//! A text to tokens.
+//! Cuts a text into tokens.
 //!
-//! The text is taken apart from the left, a part at a time, up to the first place where nothing
-//! begins. There a token stands that no script has, so what follows does not matter.
+//! The lexer cuts off one piece at a time from the left, up to the first position where no piece
+//! begins. There it emits a token that no script has, so the rest of the text does not matter.
 ghost use Rattle.std.specs.Prelude.{◌≡◌, ℕ, ◌<◌, ◌≤◌, not, ◌==◌, nat_lt, true, slice_index, length, drop};
 ghost use Rattle.std.specs.Prelude.{map, take_while, Some, option_map, IfOk, IfSome, string_bytes};
 ghost use Rattle.std.specs.List.{prefix_len};
@@ -15,7 +15,7 @@ use gb_core::name::{Name, NameFault, is_name_byte};
 use gb_core::text::Text;
 use std::alloc::{AllocError, Global};
 
-/// What stands at one place of a text.
+/// The piece at one position of a text.
 #[derive(Drop)]
 pub enum Part {
     /// The end of a line.
@@ -50,7 +50,7 @@ fn sign_of(byte: u8) -> Option<Sign>
     }
 }
 
-/// The character that a byte behind a backslash stands for.
+/// The character that a byte after a backslash denotes.
 fn unescaped(byte: u8) -> Option<char>
     ensures { result ≡ unescaped byte }
 {
@@ -72,7 +72,7 @@ fn begins(text: &str, byte: u8) -> bool
     }
 }
 
-/// The text behind its first byte.
+/// The text after its first byte.
 #[tactic(auto, using(crate::proofs::Runs::past_first_boundary))]
 fn past_first(text: &str) -> &str
     requires { begins (λ b. nat_lt b 128) text.now ≡ true }
@@ -82,14 +82,14 @@ fn past_first(text: &str) -> &str
     &text[1..]
 }
 
-/// How many bytes at the front stand for themselves in a text.
+/// How many bytes at the front are literal in a text.
 fn plain_len(bytes: &[u8]) -> usize
     ensures { result ≡ prefix_len is_plain bytes.now }
 {
     bytes.iter().take_while(|byte| is_plain(**byte)).count()
 }
 
-/// The bytes at the front that stand for themselves in a text, and the text behind them.
+/// The literal bytes at the front of a text, and the text after them.
 fn plain_run(text: &str) -> (&str, &str)
     ensures run { result.0.now ≡ take_while is_plain text.now }
     ensures rest { result.1.now ≡ past_run is_plain text.now }
@@ -104,7 +104,7 @@ fn word_len(bytes: &[u8]) -> usize
     bytes.iter().take_while(|byte| is_name_byte(**byte)).count()
 }
 
-/// The longest run of a word's bytes at the front, and the text behind it.
+/// The longest run of a word's bytes at the front, and the text after it.
 fn word_run(text: &str) -> (&str, &str)
     requires { begins is_name_byte text.now ≡ true }
     ensures run { result.0.now ≡ take_while is_name_byte text.now }
@@ -128,7 +128,7 @@ fn past_line(text: &str) -> &str
     text.split_at(line_len(text.as_bytes())).1
 }
 
-/// The character of an escape, and the text behind it; nothing where none begins the text.
+/// The character of an escape, and the text after it; nothing if no escape begins the text.
 #[tactic(auto, unfolding(crate::specs::Scanning::escape_at))]
 fn escape(text: &str) -> Option<(char, &str)>
     ensures exact { option_map (λ x. (x.0, x.1.now)) result ≡ escape_at text.now }
@@ -140,8 +140,8 @@ fn escape(text: &str) -> Option<(char, &str)>
     }
 }
 
-/// The content of a text, of what follows its opening mark, and what follows its closing mark;
-/// nothing where the text is open or has what no text can have.
+/// The content of a text and the input after its closing mark, from the input after its opening
+/// mark; nothing if the text is not closed or has a byte that no text can have.
 fn content(alloc: Global, text: &str) -> Result<Option<(Text, &str)>, AllocError>
     ensures exact { IfOk result (λ found. option_map (λ x. (x.0, x.1.now)) found ≡ content_at text.now) }
     ensures shorter { IfOk result (λ found. IfSome found (λ x. length x.1.now < length text.now)) }
@@ -162,7 +162,7 @@ fn content(alloc: Global, text: &str) -> Result<Option<(Text, &str)>, AllocError
     }
 }
 
-/// A text, of what follows its opening mark.
+/// A text, from the input after its opening mark.
 fn quoted(alloc: Global, text: &str) -> Result<(Part, &str), AllocError>
     ensures exact { IfOk result (λ x. (x.0, x.1.now) ≡ text_of (content_at text.now)) }
     ensures shorter { IfOk result (λ x. length x.1.now ≤ length text.now) }
@@ -187,7 +187,7 @@ fn word(alloc: Global, text: &str) -> Result<(Part, &str), AllocError>
     }
 }
 
-/// A comment, of what follows its first slash.
+/// A comment, from the input after its first slash.
 #[tactic(auto, unfolding(crate::specs::Scanning::comment_at))]
 fn comment(text: &str) -> (Part, &str)
     ensures exact { (result.0, result.1.now) ≡ comment_at text.now }
@@ -213,7 +213,7 @@ fn mark(text: &str) -> (Part, &str)
     }
 }
 
-/// What stands at the front of a text that is not empty, and the text behind it.
+/// The piece at the front of a text that is not empty, and the text after it.
 #[tactic(auto, unfolding(crate::specs::Scanning::part_at))]
 pub fn first_part(alloc: Global, text: &str) -> Result<(Part, &str), AllocError>
     requires { 0 < length text.now }
@@ -234,9 +234,9 @@ pub fn first_part(alloc: Global, text: &str) -> Result<(Part, &str), AllocError>
 /// The tokens of a text, and the line of each.
 #[derive(Drop)]
 pub struct Lexed {
-    /// The tokens in their order; behind one that no script has, nothing is taken.
+    /// The tokens in their order; after one that no script has, there are no more.
     pub tokens: Vec<Token>,
-    /// For each token the line that it begins in, counted from 1.
+    /// For each token the line on which it begins, counted from 1.
     pub lines: Vec<u64>,
 }
 
@@ -249,7 +249,8 @@ fn newlines(bytes: &[u8]) -> usize
 impl Lexed {
     ghost use Rattle.std.specs.Prelude.{◌+◌, ◌-◌, slice_index_or};
 
-    /// The line of the token with this many left from it on, or the last line of the text where none is.
+    /// The line of the first of the last `left` tokens, or the last line of the text if there is
+    /// none.
     pub fn line_of(&self, text: &str, left: usize) -> u64
         requires { length text.now ≤ 1048576 }
         ensures { result
@@ -263,7 +264,7 @@ impl Lexed {
     }
 }
 
-/// The tokens of a text up to the first place where nothing begins.
+/// The tokens of a text up to the first position where no piece begins.
 pub fn lex(alloc: Global, text: &str) -> Result<Lexed, AllocError>
     requires { length text.now ≤ 1048576 }
     ensures tokens { IfOk result (λ lexed. lexed.tokens.items ≡ map (λ p. p.0) (scan 1 text.now)) }

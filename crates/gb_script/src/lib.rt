@@ -1,16 +1,18 @@
-//! The notation of build scripts: from the bytes of a text to what it says.
+//! Parses build scripts: from the bytes of a text to its statements.
 //!
-//! `read_script` and `read_settings` are the ways in. Their contracts stand on two definitions that share
-//! nothing with the code: which tokens a text has (`specs/Lexing.antt`), and how what a script says is
-//! spelled in tokens (`specs/Grammar.antt`, `specs/Fits.antt`). What is read is what the bytes spell, what
-//! they spell is read, and a fault is the first in the text, told by its line: no script has that token
-//! after the ones before it, or it passes a limit (`specs/Verdict.antt`, `specs/Notation.antt`). Bytes
-//! never say two things (`laws`).
+//! `read_script` and `read_settings` are the public API. Their contracts rest on two definitions
+//! that share nothing with the code: the tokens of a text (`specs/Lexing.antt`), and the tokens
+//! that the grammar derives from a script (`specs/Grammar.antt`, `specs/Fits.antt`). A script that
+//! is returned is one that the bytes parse as, and a script that they parse as is returned. A fault
+//! is the first in the text and is reported with its line: no script has that token after the ones
+//! before it, or it passes a limit (`specs/Verdict.antt`, `specs/Notation.antt`). Bytes never have
+//! two meanings (`laws`).
 //!
-//! Two phases: `lexing` cuts the text into tokens with their lines; `reading`, `values`, `clauses` and
-//! `statements` have a function for each part of the notation. Set aside: tokens that borrow from the text,
-//! since contracts would then speak of where they lie; reading characters without tokens, since a fault is
-//! told by its token; going on after a fault, since only the first one counts.
+//! There are two phases: `lexing` cuts the text into tokens with their lines; `reading`, `values`,
+//! `clauses` and `statements` have a function for each part of the notation. Rejected: tokens that
+//! borrow from the text, since contracts would then have to mention their positions; reading
+//! characters without tokens, since a fault is reported by its token; continuing after a fault,
+//! since only the first one counts.
 #![tactic(auto)]
 
 mod clauses;

@@ -1,6 +1,6 @@
-//! The lines in which the statements of a script and the clauses of their blocks begin.
+//! The lines on which the statements of a script and the clauses of their blocks begin.
 //!
-//! The tokens are read once more, by the readers of clauses and statements; what they read is dropped.
+//! The readers of clauses and statements read the tokens again; the values they read are dropped.
 ghost use Rattle.std.specs.Prelude.{◌≡◌, ◌<◌, ◌≤◌, ◌⊎◌, length, IfOk, IfErr, Err};
 ghost use Rattle.gb_script.specs.Reading.{Gives, many_at, no_matter, all_at};
 ghost use Rattle.gb_script.specs.Readers.{in_block};
@@ -23,8 +23,8 @@ use crate::words::StatementWord;
 use std::alloc::Global;
 use std::marker::Model;
 
-/// The line in which a statement begins, and the lines in which the clauses of its block begin. Lines
-/// count from 1.
+/// The line on which a statement begins, and the lines on which the clauses of its block begin.
+/// Lines count from 1.
 #[derive(Drop)]
 pub struct StatementLines {
     statement: u64,
@@ -48,14 +48,14 @@ impl StatementLines {
         StatementLines { statement, clauses }
     }
 
-    /// The line in which the statement begins.
+    /// The line on which the statement begins.
     pub fn statement(&self) -> u64
         ensures { result ≡ self.now.0 }
     {
         self.statement
     }
 
-    /// The lines in which its clauses begin, in their order; none where the statement has no block.
+    /// The lines on which its clauses begin, in their order; none if the statement has no block.
     pub fn clauses(&self) -> &[u64]
         ensures { result.now ≡ self.now.1 }
     {
@@ -63,7 +63,7 @@ impl StatementLines {
     }
 }
 
-/// The line of the clause in front.
+/// The line of the clause at the front.
 #[tactic(auto, unfolding(crate::specs::LineReaders::clause_line_at))]
 fn clause_line<'t>(
     alloc: Global,
@@ -204,7 +204,7 @@ fn clause_lines_of<'t>(
     }
 }
 
-/// The line of the statement in front, and those of its clauses.
+/// The line of the statement at the front, and the lines of its clauses.
 #[tactic(auto, unfolding(crate::specs::LineReaders::statement_lines_at))]
 fn statement_lines<'t>(
     alloc: Global,
@@ -243,7 +243,7 @@ fn script_lines<'t>(
     Ok((lines, rest))
 }
 
-/// The lines of the statements and clauses of a script, all of it.
+/// The lines of the statements and clauses of a whole script.
 #[tactic(auto, unfolding(crate::specs::Reading::all_at))]
 fn whole_script_lines(alloc: Global, text: &str, lexed: &Lexed) -> Result<Vec<StatementLines>, Stop>
     requires { length text.now ≤ 1048576 }
@@ -258,12 +258,13 @@ fn whole_script_lines(alloc: Global, text: &str, lexed: &Lexed) -> Result<Vec<St
     Ok(lines)
 }
 
-/// The lines in which the statements of the script that the bytes are begin, and those in which the
-/// clauses of each begin, in their order. The faults are those of `read_script`.
+/// The lines on which the statements of the encoded script begin, and those on which the clauses of
+/// each begin, in their order. The faults are those of `read_script`.
 pub fn read_script_lines(alloc: Global, bytes: &[u8]) -> Result<Vec<StatementLines>, ScriptFault>
-    // The bytes spell a script, and each line is that of the first token of a statement or clause.
+    // The bytes parse as a script, and each line is that of the first token of a statement or
+    // clause.
     ensures found { IfOk result (λ lines. AreLinesOf bytes.now lines.items) }
-    // A fault is the one that the bytes have as a script, unless memory runs out.
+    // A fault is the fault that the bytes have as a script, unless memory runs out.
     ensures fault { IfErr result (λ fault. (fault ≡ ScriptFault.OutOfMemory) ⊎ Says bytes.now (Err fault)) }
 {
     let text = text_of(bytes)?;

@@ -1,8 +1,8 @@
-//! Tokens to what they say: the parts that stand all over the notation.
+//! Readers for the parts that occur throughout the notation.
 //!
-//! A function for each part reads it from the front of the tokens and answers what it says with the
-//! tokens that are left, or stops at the first fault. Each gives what the definition of its part in
-//! `specs/Readers.antt` gives.
+//! A function for each part reads it from the front of the tokens. It returns the value and the
+//! remaining tokens, or stops at the first fault. Each function agrees with the definition of its
+//! part in `specs/Readers.antt`.
 ghost use Rattle.std.specs.Prelude.{◌≡◌, ◌+◌, ◌<◌, ◌≤◌, List, length, IfOk, Ok, []};
 ghost use Rattle.gb_script.specs.Lexing.{begins};
 ghost use Rattle.gb_script.specs.declared.token.Token.{Token};
@@ -45,7 +45,7 @@ pub fn begins_word(tokens: &[Token], word: &str) -> bool
     }
 }
 
-/// The tokens behind this sign, which has to be the first.
+/// The tokens after this sign, which has to be the first.
 #[tactic(auto, unfolding(crate::specs::Reading::skip_at))]
 pub fn skip(tokens: &[Token], sign: Sign) -> Result<&[Token], Stop>
     ensures exact { Gives (λ rest. rest.now) result (skip_at (is_sign sign) tokens.now) }
@@ -58,7 +58,7 @@ pub fn skip(tokens: &[Token], sign: Sign) -> Result<&[Token], Stop>
     }
 }
 
-/// The tokens behind this word, which has to be the first.
+/// The tokens after this word, which has to be the first.
 #[tactic(auto, unfolding(crate::specs::Reading::skip_at))]
 pub fn skip_word<'t>(tokens: &'t [Token], word: &str) -> Result<&'t [Token], Stop>
     ensures exact { Gives (λ rest. rest.now) result (skip_at (is_word word.now) tokens.now) }
@@ -71,7 +71,7 @@ pub fn skip_word<'t>(tokens: &'t [Token], word: &str) -> Result<&'t [Token], Sto
     }
 }
 
-/// One more bracket, where this many may still open: how many may open within it.
+/// Opens one more bracket, where `room` many may still open: how many may open within it.
 #[tactic(auto, unfolding(crate::specs::Reading::open_at))]
 pub fn open(tokens: &[Token], sign: Sign, room: u32) -> Result<(u32, &[Token]), Stop>
     ensures exact { Gives (λ x. (x.0, x.1.now)) result (open_at sign room tokens.now) }
@@ -85,7 +85,7 @@ pub fn open(tokens: &[Token], sign: Sign, room: u32) -> Result<(u32, &[Token]), 
     Ok((room - 1, rest))
 }
 
-/// What was read, and the tokens behind this sign, which has to be the first behind it.
+/// The value that was read, and the tokens after this sign, which has to come first after it.
 pub fn closed<T: Drop>(read: T, tokens: &[Token], sign: Sign) -> Result<(T, &[Token]), Stop>
     ensures exact { Gives {Y = T × List Token} (λ x. (x.0, x.1.now)) result
         (bound (skip_at (is_sign sign) tokens.now) (λ rest. Ok (read, rest))) }
@@ -100,7 +100,7 @@ pub fn closed<T: Drop>(read: T, tokens: &[Token], sign: Sign) -> Result<(T, &[To
     }
 }
 
-/// The word in front, which may be one that the notation gives a meaning to.
+/// The word at the front, which may be one that the notation gives a meaning to.
 #[tactic(auto, unfolding(crate::specs::Reading::name_at))]
 pub fn name(tokens: &[Token]) -> Result<(Name, &[Token]), Stop>
     ensures exact { Gives (λ x. (x.0, x.1.now)) result (name_at tokens.now) }
@@ -108,7 +108,7 @@ pub fn name(tokens: &[Token]) -> Result<(Name, &[Token]), Stop>
 {
     match tokens {
         [Token::Word(word), rest @ ..] => {
-            // Tells the contract that a word is a name.
+            // Shows the contract that a word is a name.
             let _word = word.as_str();
             Ok((word.copy()?, rest))
         }
@@ -116,7 +116,7 @@ pub fn name(tokens: &[Token]) -> Result<(Name, &[Token]), Stop>
     }
 }
 
-/// A name that is none of those reserved.
+/// A name that is not reserved.
 #[tactic(auto, unfolding(crate::specs::Reading::property_at))]
 pub fn property(tokens: &[Token]) -> Result<(Name, &[Token]), Stop>
     ensures exact { Gives (λ x. (x.0, x.1.now)) result (property_at tokens.now) }
@@ -131,7 +131,7 @@ pub fn property(tokens: &[Token]) -> Result<(Name, &[Token]), Stop>
     }
 }
 
-/// The text in front, without its quotes.
+/// The text at the front, without its quotes.
 #[tactic(auto, unfolding(crate::specs::Reading::text_at))]
 pub fn text(tokens: &[Token]) -> Result<(Text, &[Token]), Stop>
     ensures exact { Gives (λ x. (x.0, x.1.now)) result (text_at tokens.now) }
@@ -154,7 +154,7 @@ pub fn bracketed_text(tokens: &[Token], room: u32) -> Result<(Text, &[Token]), S
     closed(text, rest, Sign::CloseParen)
 }
 
-/// A text behind a comma.
+/// A text after a comma.
 #[tactic(auto, unfolding(crate::specs::Reading::past_at))]
 pub fn further_text(tokens: &[Token]) -> Result<(Text, &[Token]), Stop>
     ensures exact { Gives (λ x. (x.0, x.1.now)) result (past_at (is_sign Sign.Comma) text_at tokens.now) }
@@ -163,7 +163,7 @@ pub fn further_text(tokens: &[Token]) -> Result<(Text, &[Token]), Stop>
     text(skip(tokens, Sign::Comma)?)
 }
 
-/// One or more texts, parted by commas.
+/// One or more texts, separated by commas.
 pub fn texts(alloc: Global, tokens: &[Token]) -> Result<(Texts, &[Token]), Stop>
     ensures exact { Gives (λ x. (x.0, x.1.now)) result (list_at text_at tokens.now) }
     ensures shorter { IfOk result (λ x. length x.1.now < length tokens.now) }
@@ -194,7 +194,7 @@ pub fn bracketed_texts(
     closed(texts, rest, Sign::CloseParen)
 }
 
-/// Texts in brackets, or none where no bracket is.
+/// Texts in brackets, or none if there is no bracket.
 #[tactic(auto, unfolding(crate::specs::Reading::maybe_at))]
 pub fn arguments(alloc: Global, tokens: &[Token], room: u32) -> Result<(Texts, &[Token]), Stop>
     ensures exact { Gives (λ x. (x.0, x.1.now))
@@ -208,7 +208,7 @@ pub fn arguments(alloc: Global, tokens: &[Token], room: u32) -> Result<(Texts, &
     }
 }
 
-/// A name, and the texts in brackets behind it, if a bracket is there.
+/// A name, and the texts in brackets after it, if there is a bracket.
 #[tactic(auto, unfolding(crate::specs::Readers::function_at))]
 pub fn function(alloc: Global, tokens: &[Token], room: u32) -> Result<(Function, &[Token]), Stop>
     ensures exact { Gives (λ x. (x.0, x.1.now)) result (function_at room tokens.now) }
@@ -219,7 +219,7 @@ pub fn function(alloc: Global, tokens: &[Token], room: u32) -> Result<(Function,
     Ok((Function { name, arguments }, rest))
 }
 
-/// Whether the word is said.
+/// Whether the word is present.
 #[tactic(auto, unfolding(crate::specs::Reading::said_at))]
 pub fn said<'t>(tokens: &'t [Token], word: &str) -> (bool, &'t [Token])
     ensures exact { said_at word.now tokens.now ≡ Ok (result.0, result.1.now) }
@@ -232,7 +232,7 @@ pub fn said<'t>(tokens: &'t [Token], word: &str) -> (bool, &'t [Token])
     }
 }
 
-/// The texts behind this word, which has to be the first.
+/// The texts after this word, which has to be the first.
 #[tactic(auto, unfolding(crate::specs::Reading::past_at))]
 pub fn texts_after<'t>(
     alloc: Global,
@@ -246,7 +246,7 @@ pub fn texts_after<'t>(
     texts(alloc, skip_word(tokens, word)?)
 }
 
-/// Texts behind the word, or none where it is not said.
+/// Texts after the word, or none if the word is absent.
 #[tactic(auto, unfolding(crate::specs::Reading::maybe_at, crate::specs::Readers::patterns_at))]
 pub fn patterns<'t>(
     alloc: Global,

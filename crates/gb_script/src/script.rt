@@ -1,34 +1,34 @@
-//! What scripts and settings say.
+//! The parsed form of scripts and settings.
 use crate::expression::{Expression, Expressions};
 use crate::function::Function;
 use gb_core::name::Name;
 use gb_core::text::Texts;
 use std::marker::Model;
 
-/// A kind with what is given to it.
+/// A kind with its arguments.
 #[derive(Debug, Drop)]
 pub struct Call {
     /// The name of the kind.
     pub name: Name,
-    /// The values in brackets behind it, or none where no bracket is.
+    /// The values in brackets after it, or none if there is no bracket.
     pub arguments: Expressions,
 }
 
-/// A name with the value that it gets.
+/// A name with the value assigned to it.
 #[derive(Debug, Drop)]
 pub struct Assignment {
-    /// Whose value it is: an input, an output or a property.
+    /// The owner of the value: an input, an output or a property.
     pub name: Name,
-    /// The value behind the sign of equality.
+    /// The value after the equals sign.
     pub value: Expression,
 }
 
 /// A value, and the test that it has to pass.
 #[derive(Debug, Drop)]
 pub struct Condition {
-    /// The value that is tested as the task is realised.
+    /// The value that is tested when the task is realised.
     pub value: Expression,
-    /// The test, with the texts that it is given.
+    /// The test, with its text arguments.
     pub test: Function,
 }
 
@@ -37,17 +37,17 @@ pub struct Condition {
 pub struct InputFiles {
     /// The name of the file property in its task.
     pub name: Name,
-    /// Actions hear what changed since the last run.
+    /// Actions are notified of what changed since the last run.
     pub incremental: bool,
     /// Without any file the task has nothing to do.
     pub skip_when_empty: bool,
-    /// A file counts by the last segment of its place.
+    /// Only the last segment of a file's place counts.
     pub name_only: bool,
     /// The roots, at least one.
     pub from: Expressions,
-    /// The patterns that let files in, or none where all are in.
+    /// The patterns that include files, or none if all are included.
     pub include: Texts,
-    /// The patterns that keep files out.
+    /// The patterns that exclude files.
     pub exclude: Texts,
 }
 
@@ -60,7 +60,7 @@ pub enum Clause {
     InputFiles(InputFiles),
     /// `outputFile N = V`: one file that the task makes, at this place.
     OutputFile(Assignment),
-    /// `outputDir N = V`: the task makes all files beneath this place.
+    /// `outputDir N = V`: the task makes all files under this place.
     OutputDir(Assignment),
     /// Tasks that run before this one, at least one.
     DependsOn(Texts),
@@ -68,15 +68,15 @@ pub enum Clause {
     MustRunAfter(Texts),
     /// Tasks that run after this one, at least one.
     FinalizedBy(Texts),
-    /// An action put before those of the task.
+    /// An action that runs before those of the task.
     DoFirst(Call),
-    /// An action put behind those of the task.
+    /// An action that runs after those of the task.
     DoLast(Call),
-    /// The task is skipped where the value fails the test.
+    /// The task is skipped if the value fails the test.
     OnlyIf(Condition),
-    /// The task runs in full where the value fails the test.
+    /// The task runs in full if the value fails the test.
     UpToDateWhen(Condition),
-    /// The task is skipped where the value is not true.
+    /// The task is skipped if the value is not true.
     Enabled(Expression),
 }
 
@@ -122,7 +122,7 @@ impl Block {
 pub struct Registration {
     /// The name of the task in its project.
     pub name: Name,
-    /// The kind behind the colon.
+    /// The kind after the colon.
     pub action: Option<Call>,
     /// The clauses in braces.
     pub block: Block,
@@ -133,20 +133,20 @@ pub struct Registration {
 pub struct Configuration {
     /// The name of a task of the project.
     pub name: Name,
-    /// The clauses in braces, which come behind those that it has.
+    /// The clauses in braces, which come after those that it has.
     pub block: Block,
 }
 
 /// A statement of a script.
 #[derive(Debug, Drop)]
 pub enum Statement {
-    /// The tasks that run where an invocation names none, at least one.
+    /// The tasks that run if an invocation names none, at least one.
     DefaultTasks(Texts),
     /// A new property.
     Property(Name),
     /// `set N = V`: the value of a property from here on.
     Set(Assignment),
-    /// `convention N = V`: its value where it is not set.
+    /// `convention N = V`: its value if it is not set.
     Convention(Assignment),
     /// `unset N`: the property falls back to its convention.
     Unset(Name),

@@ -1,4 +1,4 @@
-//! Bytes to scripts and settings.
+//! Reads scripts and settings from bytes.
 ghost use Rattle.std.specs.Prelude.{◌≡◌, ℕ, ◌<◌, ◌≤◌, ◌↔◌, ◌⊎◌, List, length, Result, Err, IfOk};
 ghost use Rattle.std.specs.Prelude.{IfErr, IsErrOf, IsUtf8};
 ghost use Rattle.gb_script.specs.Grammar.{script_spelled, settings_spelled};
@@ -19,7 +19,7 @@ use std::alloc::Global;
 /// The most bytes that a text may have: 1 MiB.
 pub const MAX_SCRIPT: usize = 1_048_576;
 
-/// The text that the bytes are.
+/// The text that the bytes encode.
 pub fn text_of(bytes: &[u8]) -> Result<&str, ScriptFault>
     ensures same { IfOk result (λ text. text.now ≡ bytes.now) }
     ensures short { IfOk result (λ text. length bytes.now ≤ 1048576) }
@@ -32,7 +32,7 @@ pub fn text_of(bytes: &[u8]) -> Result<&str, ScriptFault>
     std::str::from_utf8(bytes).map_err(|_| ScriptFault::NotUtf8)
 }
 
-/// The fault of a text where reading its tokens stopped.
+/// The fault of a text whose tokens could be read only up to this stop.
 pub fn fault_of(text: &str, lexed: &Lexed, stop: Stop) -> ScriptFault
     requires { length text.now ≤ 1048576 }
     ensures { result ≡ fault_told text.now lexed.now.lines.items stop }
@@ -44,15 +44,15 @@ pub fn fault_of(text: &str, lexed: &Lexed, stop: Stop) -> ScriptFault
     }
 }
 
-/// The script that the bytes are.
+/// Reads the script that the bytes encode.
 ///
-/// The faults, in the order in which they are told: more than 1 MiB (21), no UTF-8 (23), and then the
-/// first in the text of a token that no script has there (20), and a bracket inside of 64 others or a
-/// step behind 64 others (22), each with its line. Memory may run out on the way (3).
+/// Faults are checked in this order: more than 1 MiB (21), invalid UTF-8 (23), and then the first
+/// of these in the text, each with its line: a token that no script has there (20), or a bracket
+/// inside 64 others or a step after 64 others (22). It may also run out of memory (3).
 pub fn read_script(alloc: Global, bytes: &[u8]) -> Result<Script, ScriptFault>
-    // What is read is what the bytes spell.
+    // The bytes parse as the script that is returned.
     ensures found { IfOk result (λ script. Spells bytes.now script) }
-    // What the bytes say is the answer, unless memory runs out.
+    // The result is the script or the fault that the bytes have, unless memory runs out.
     ensures back { (said : Result (List Statement) ScriptFault) → Says bytes.now said
         → (result ≡ said) ⊎ (result ≡ Err ScriptFault.OutOfMemory) }
 
@@ -72,11 +72,12 @@ pub fn read_script(alloc: Global, bytes: &[u8]) -> Result<Script, ScriptFault>
     }
 }
 
-/// The settings that the bytes are. The faults are those of `read_script`, in the same order.
+/// Reads the settings that the bytes encode. The faults are those of `read_script`, in the same
+/// order.
 pub fn read_settings(alloc: Global, bytes: &[u8]) -> Result<Settings, ScriptFault>
-    // What is read is what the bytes spell.
+    // The bytes parse as the settings that are returned.
     ensures found { IfOk result (λ settings. SpellsSettings bytes.now settings) }
-    // What the bytes say is the answer, unless memory runs out.
+    // The result is the settings or the fault that the bytes have, unless memory runs out.
     ensures back { (said : Result (List (List (List ℕ))) ScriptFault) → SaysAsSettings bytes.now said
         → (result ≡ said) ⊎ (result ≡ Err ScriptFault.OutOfMemory) }
 

@@ -1,4 +1,4 @@
-//! Tokens to what a script or settings say.
+//! Reads the statements of a script and of settings from tokens.
 ghost use Rattle.std.specs.Prelude.{◌≡◌, ◌<◌, ◌≤◌, length, IfOk, None, Some};
 ghost use Rattle.gb_script.specs.Lexing.{begins};
 ghost use Rattle.gb_script.specs.Words.{statement_words};
@@ -19,7 +19,7 @@ use std::alloc::Global;
 /// How many brackets may be open at once.
 pub const MAX_OPEN: u32 = 64;
 
-/// The call behind a colon, which has to be the first token.
+/// The call after a colon, which has to be the first token.
 #[tactic(auto, unfolding(crate::specs::Reading::past_at))]
 fn call_after_colon(alloc: Global, tokens: &[Token], room: u32) -> Result<(Call, &[Token]), Stop>
     ensures exact { Gives (λ x. (Some x.0, x.1.now))
@@ -29,7 +29,7 @@ fn call_after_colon(alloc: Global, tokens: &[Token], room: u32) -> Result<(Call,
     call(alloc, skip(tokens, Sign::Colon)?, room)
 }
 
-/// A call behind a colon, or none where no colon is.
+/// A call after a colon, or none if there is no colon.
 #[tactic(auto, unfolding(crate::specs::Reading::maybe_at, crate::specs::Readers::action_at))]
 pub fn action(alloc: Global, tokens: &[Token], room: u32) -> Result<(Option<Call>, &[Token]), Stop>
     ensures exact { Gives (λ x. (x.0, x.1.now)) result (action_at room tokens.now) }
@@ -79,7 +79,7 @@ fn configuration(
     Ok((Configuration { name, block }, rest))
 }
 
-/// What stands behind a word that says something of a property.
+/// The rest of a statement about a property, after its word.
 #[tactic(auto, unfolding(crate::specs::Readers::property_of_at))]
 fn property_of(
     alloc: Global,
@@ -114,7 +114,7 @@ fn property_of(
     }
 }
 
-/// What stands behind the word of a statement.
+/// The rest of a statement, after its word.
 #[tactic(auto, unfolding(crate::specs::Readers::statement_of_at))]
 pub fn statement_of(
     alloc: Global,
@@ -185,7 +185,7 @@ fn statements(alloc: Global, tokens: &[Token]) -> Result<(Vec<Statement>, &[Toke
     Ok((statements, rest))
 }
 
-/// What a script of these tokens says, all of them.
+/// The script of these tokens, all of which are read.
 #[tactic(auto, unfolding(crate::specs::Reading::all_at))]
 pub fn whole_script(alloc: Global, tokens: &[Token]) -> Result<Script, Stop>
     ensures { Gives (λ script. script) result (all_at script_at tokens.now) }
@@ -197,7 +197,7 @@ pub fn whole_script(alloc: Global, tokens: &[Token]) -> Result<Script, Stop>
     Ok(Script::new(statements))
 }
 
-/// The project paths behind the word.
+/// The project paths after the word.
 #[tactic(auto, unfolding(crate::specs::Readers::include_at))]
 fn include(alloc: Global, tokens: &[Token]) -> Result<(Texts, &[Token]), Stop>
     ensures exact { Gives (λ x. (x.0, x.1.now)) result (include_at tokens.now) }
@@ -220,7 +220,7 @@ fn includes(alloc: Global, tokens: &[Token]) -> Result<(Vec<Texts>, &[Token]), S
     Ok((includes, rest))
 }
 
-/// What settings of these tokens say, all of them.
+/// The settings of these tokens, all of which are read.
 #[tactic(auto, unfolding(crate::specs::Reading::all_at))]
 pub fn whole_settings(alloc: Global, tokens: &[Token]) -> Result<Settings, Stop>
     ensures { Gives (λ settings. settings) result (all_at settings_at tokens.now) }

@@ -1,21 +1,21 @@
-//! Where reading tokens stops.
+//! The fault at which reading tokens stops.
 use std::alloc::{AllocError, AllocFailed};
 
-/// What is wrong with a row of tokens, and how many are left from there on.
+/// The fault of a sequence of tokens, and how many tokens are left from there on.
 #[derive(Clone, Copy)]
 pub enum Fault {
     /// A token that no script has there.
     Stray(usize),
-    /// A bracket inside of as many others as may be open.
+    /// A bracket inside as many others as may be open.
     Deep(usize),
 }
 
 /// Why reading tokens stopped.
 #[derive(Drop)]
 pub enum Stop {
-    /// No memory for what was read.
+    /// No memory for the result.
     Memory,
-    /// The tokens are at fault.
+    /// The tokens have a fault.
     Fault(Fault),
 }
 

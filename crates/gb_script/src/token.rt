@@ -1,21 +1,21 @@
-//! What a text is made of.
+//! The tokens of a text.
 use gb_core::name::Name;
 use gb_core::text::Text;
 
-/// A mark that stands for itself.
+/// A punctuation mark, which is a token of its own.
 #[derive(Clone, Copy, PartialEq, Eq)]
 pub enum Sign {
     /// `{`, before clauses.
     OpenBrace,
-    /// `}`, behind clauses.
+    /// `}`, after clauses.
     CloseBrace,
     /// `(`, before arguments.
     OpenParen,
-    /// `)`, behind arguments.
+    /// `)`, after arguments.
     CloseParen,
     /// `[`, before a list.
     OpenBracket,
-    /// `]`, behind a list.
+    /// `]`, after a list.
     CloseBracket,
     /// `,`, between values.
     Comma,
@@ -30,12 +30,12 @@ pub enum Sign {
 /// A token of a script.
 #[derive(Drop)]
 pub enum Token {
-    /// A name, be it reserved or not.
+    /// A name, reserved or not.
     Word(Name),
-    /// A text, its escapes read and its quotes taken off.
+    /// A text without its quotes, with its escapes decoded.
     Text(Text),
     /// One of the signs.
     Mark(Sign),
-    /// What no script has.
+    /// A token that no script has.
     Wrong,
 }

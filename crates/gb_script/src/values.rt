@@ -1,4 +1,4 @@
-//! Tokens to values.
+//! Reads values from tokens.
 ghost use Rattle.std.specs.Prelude.{◌≡◌, ◌<◌, ◌≤◌, length, map, IfOk, []};
 ghost use Rattle.gb_script.specs.Lexing.{begins};
 ghost use Rattle.gb_script.specs.View.{root_of, link_of};
@@ -16,10 +16,10 @@ use crate::token::{Sign, Token};
 use crate::words::{SourceWord, StepWord, source_word, step_word};
 use std::alloc::Global;
 
-/// How many steps one value may go through.
+/// How many steps one value may have.
 const MAX_STEPS: usize = 64;
 
-/// What stands behind the word of a source.
+/// The rest of a source, after its word.
 #[tactic(auto, unfolding(crate::specs::Readers::root_of_at))]
 fn source_of(word: SourceWord, tokens: &[Token], room: u32) -> Result<(Source, &[Token]), Stop>
     ensures exact { Gives (λ x. (root_of x.0, x.1.now)) result (root_of_at room word tokens.now) }
@@ -84,7 +84,7 @@ fn is_in_list(tokens: &[Token]) -> bool
     !tokens.is_empty() && !begins(tokens, Sign::CloseBracket)
 }
 
-/// A value in which this many more brackets may be open at once.
+/// A value in which `room` more brackets may be open at once.
 #[cycle(reader)]
 #[tactic(auto, unfolding(crate::specs::Readers::inside_at, crate::specs::Readers::chain_at))]
 pub fn expression(
@@ -138,7 +138,7 @@ fn list(alloc: Global, tokens: &[Token], room: u32) -> Result<(Source, &[Token])
     Ok((Source::List(elements), rest))
 }
 
-/// The elements of a list, or none where it is empty.
+/// The elements of a list, or none if it is empty.
 #[cycle(reader)]
 #[tactic(auto, unfolding(crate::specs::Reading::maybe_at))]
 fn elements(alloc: Global, tokens: &[Token], room: u32) -> Result<(Vec<Expression>, &[Token]), Stop>
@@ -153,7 +153,7 @@ fn elements(alloc: Global, tokens: &[Token], room: u32) -> Result<(Vec<Expressio
     }
 }
 
-/// An expression behind a comma.
+/// An expression after a comma.
 #[cycle(reader)]
 #[tactic(auto, unfolding(crate::specs::Reading::past_at))]
 fn further_expression(
@@ -168,7 +168,7 @@ fn further_expression(
     expression(alloc, skip(tokens, Sign::Comma)?, room)
 }
 
-/// One or more expressions, parted by commas.
+/// One or more expressions, separated by commas.
 #[cycle(reader)]
 pub fn expressions(
     alloc: Global,
@@ -189,7 +189,7 @@ pub fn expressions(
     Ok((expressions, rest))
 }
 
-/// The steps behind a source.
+/// The steps after a source.
 #[cycle(reader)]
 fn steps(alloc: Global, tokens: &[Token], room: u32) -> Result<(Vec<Step>, &[Token]), Stop>
     ensures exact { Gives (λ x. (map link_of x.0.items, x.1.now))
@@ -209,7 +209,7 @@ fn steps(alloc: Global, tokens: &[Token], room: u32) -> Result<(Vec<Step>, &[Tok
     Ok((steps, rest))
 }
 
-/// A step, behind its dot.
+/// A step, after its dot.
 #[cycle(reader)]
 #[tactic(auto, unfolding(crate::specs::Readers::link_at))]
 fn step(alloc: Global, tokens: &[Token], room: u32) -> Result<(Step, &[Token]), Stop>
@@ -221,7 +221,7 @@ fn step(alloc: Global, tokens: &[Token], room: u32) -> Result<(Step, &[Token]), 
     step_of(alloc, word, rest, room)
 }
 
-/// What stands behind the word of a step.
+/// The rest of a step, after its word.
 #[cycle(reader)]
 #[tactic(auto, unfolding(crate::specs::Readers::link_of_at))]
 fn step_of(
@@ -248,7 +248,7 @@ fn step_of(
     }
 }
 
-/// A function behind a comma, and the bracket that closes behind it.
+/// A function after a comma, and the bracket that closes after it.
 #[tactic(auto, unfolding(crate::specs::Reading::past_at))]
 fn last_function(alloc: Global, tokens: &[Token], room: u32) -> Result<(Function, &[Token]), Stop>
     ensures exact { Gives (λ x. (x.0, x.1.now)) result (closed_at (is_sign Sign.CloseParen)

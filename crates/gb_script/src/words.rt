@@ -2,7 +2,7 @@
 ghost use Rattle.std.specs.Prelude.{◌≡◌};
 ghost use Rattle.gb_script.specs.Words.{meaning_in, source_words, step_words, clause_words, statement_words};
 
-/// A word that is a source of its own or begins one. No property is named so.
+/// A word that is a source of its own or begins one. No property has such a name.
 #[derive(Clone, Copy)]
 pub enum SourceWord {
     /// `true`, the flag.
@@ -13,15 +13,15 @@ pub enum SourceWord {
     Dir,
     /// `file`, a file of the project.
     File,
-    /// `buildDir`, the folder of what is built.
+    /// `buildDir`, the folder of build outputs.
     BuildDir,
-    /// `gradleProperty`, what an invocation gives under a name.
+    /// `gradleProperty`, the value that an invocation gives under a name.
     GradleProperty,
     /// `task`, a task by its name or its path.
     Task,
 }
 
-/// What the word means where a value begins, if it is reserved.
+/// The meaning of the word where a value begins, if it is reserved.
 pub fn source_word(word: &str) -> Option<SourceWord>
     ensures { result ≡ meaning_in source_words word.now }
 {
@@ -40,17 +40,17 @@ pub fn source_word(word: &str) -> Option<SourceWord>
 /// A word that begins a step.
 #[derive(Clone, Copy)]
 pub enum StepWord {
-    /// `map`, what a function makes of a value.
+    /// `map`, the result of a function on a value.
     Map,
     /// `flatMap`, the output that a function chooses by a value.
     FlatMap,
-    /// `zip`, what a function makes of two values.
+    /// `zip`, the result of a function on two values.
     Zip,
     /// `orElse`, another value where there is none.
     OrElse,
 }
 
-/// What the word means behind a dot, if it begins a step.
+/// The meaning of the word after a dot, if it begins a step.
 pub fn step_word(word: &str) -> Option<StepWord>
     ensures { result ≡ meaning_in step_words word.now }
 {
@@ -63,7 +63,7 @@ pub fn step_word(word: &str) -> Option<StepWord>
     }
 }
 
-/// A word that sets a task before or after others.
+/// A word that orders a task before or after others.
 #[derive(Clone, Copy)]
 pub enum OrderWord {
     /// `dependsOn`, before this task and always with it.
@@ -74,12 +74,12 @@ pub enum OrderWord {
     FinalizedBy,
 }
 
-/// A word that says what a task does, or when it does it.
+/// A word that sets what a task does or when it runs.
 #[derive(Clone, Copy)]
 pub enum RunWord {
     /// `doFirst`, an action before all others.
     DoFirst,
-    /// `doLast`, an action behind all others.
+    /// `doLast`, an action after all others.
     DoLast,
     /// `onlyIf`, when the task is not skipped.
     OnlyIf,
@@ -100,13 +100,13 @@ pub enum ClauseWord {
     OutputFile,
     /// `outputDir`, a folder of files that the task makes.
     OutputDir,
-    /// One of the words of order.
+    /// One of the ordering words.
     Order(OrderWord),
-    /// One of the words of what it does, or when.
+    /// One of the words for what it does or when it runs.
     Run(RunWord),
 }
 
-/// What the word means in the braces of a task, if it begins a clause.
+/// The meaning of the word in the braces of a task, if it begins a clause.
 pub fn clause_word(word: &str) -> Option<ClauseWord>
     ensures { result ≡ meaning_in clause_words word.now }
 {
@@ -127,7 +127,7 @@ pub fn clause_word(word: &str) -> Option<ClauseWord>
     }
 }
 
-/// A word that says something of a property.
+/// A word that begins a statement about a property.
 #[derive(Clone, Copy)]
 pub enum PropertyWord {
     /// `property`, a new one.
@@ -145,7 +145,7 @@ pub enum PropertyWord {
 /// A word that begins a statement.
 #[derive(Clone, Copy)]
 pub enum StatementWord {
-    /// `defaultTasks`, what runs where an invocation names no task.
+    /// `defaultTasks`, the tasks that run if an invocation names no task.
     DefaultTasks,
     /// One of the words of properties.
     Property(PropertyWord),
@@ -155,7 +155,7 @@ pub enum StatementWord {
     Named,
 }
 
-/// What the word means at the front of a statement, if it begins one.
+/// The meaning of the word at the front of a statement, if it begins one.
 pub fn statement_word(word: &str) -> Option<StatementWord>
     ensures { result ≡ meaning_in statement_words word.now }
 {

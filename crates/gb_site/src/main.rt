@@ -1,4 +1,5 @@
-//! Builds the site in the current folder: `gb` with the kinds of pages and of feeds beside the built-in ones.
+//! Builds the site in the current folder: `gb` with the kinds of pages and of feeds and the
+//! built-in ones.
 #![tactic(auto)]
 
 use gb_action::actions::Actions;

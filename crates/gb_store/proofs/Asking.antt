@@ -1,4 +1,4 @@
--- What the removal of one of several places asks of a folder.
+-- What the removal of one of several places requests of a folder.
 use Rattle.std.proofs.Common.{◌≡◌, ◌<◌, ℕ, List, Option, None, length, get_or}
 use Rattle.std.specs.Cmp.Lexicographic.{bytes_decides}
 use Rattle.std.proofs.Common.{refl}
@@ -8,7 +8,7 @@ use Rattle.gb_folder.proofs.Asked.{asks_taken, take_at}
 use Rattle.gb_store.specs.Changes.{is_among, is_at}
 use Rattle.gb_store.proofs.Loops.{any_here}
 
--- the file at one of these places is taken away
+-- the file at one of these places is removed
 pub taken_among : {F : Type 0} {failures : F → ℕ} {may_leave : F → Tearing} {asked : F → Call → F → Type 0} {old new : F}
     (places : List Place) (i : ℕ) (place : Place) → i < length places → place ≡ get_or places i place
     → Asks failures may_leave asked (taken_at place) old new → Asks failures may_leave asked (takes_at (is_among places)) old new

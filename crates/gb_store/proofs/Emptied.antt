@@ -1,4 +1,4 @@
--- Files are taken away, place by place.
+-- Files are removed, place by place.
 use Rattle.std.proofs.Common.{◌≡◌, ℕ, Bool, true, false, cond, not, ◌&&◌, ◌||◌, List, [], ◌∷◌, ◌++◌, Option, Some, None, is_some, map, fold, refl, sym, ◌∙◌, ap}
 use Rattle.std.proofs.lemmas.Bool.{and_parts, not-true, false≢true}
 use Rattle.std.proofs.lemmas.Option.{none-some}
@@ -15,7 +15,7 @@ use Rattle.gb_folder.proofs.Changes.{file_at-files_where, file_at-without, same_
 use Rattle.gb_folder.proofs.Held.{equal_from}
 use Rattle.gb_folder.proofs.Sound.{sound_where, same_from}
 
--- where no file stands none is taken away
+-- removing a place without a file changes nothing
 pub without_none : (files : Files) (place : Place) → IsFolder files → file_at files place ≡ None → without files place ≡ files
 without_none files place sound none =
     same_files _ _ (sound_where files (λ other. not (bytes_eq other place)) sound) sound (λ q. file_at-without files place q ∙ left q)
@@ -35,7 +35,7 @@ taken_twice true true o = refl
 taken_twice true false o = refl
 taken_twice false b o = refl
 
--- what is left once the places are emptied
+-- the files that are left once the places are emptied
 at_removed : (places : List Place) (files : Files) (q : Place) → file_at (fold without files places) q ≡ cond (list_any (bytes_eq q) places) None (file_at files q)
 at_removed [] files q = refl
 at_removed (place ∷ places) files q =
@@ -46,7 +46,7 @@ found_at : (b : Bool) (bytes : List ℕ) (o : Option (List ℕ)) → is_some (co
 found_at true bytes o = refl
 found_at false bytes o = refl
 
--- a place is among those of some files where a file of theirs stands there
+-- a place is among the places of some files exactly if one of these files is at it
 stands_where : (test : Place → Bool) (files : Files) (q : Place) → list_any (bytes_eq q) (map (λ file. file.0) (files_where test files)) ≡ (test q && is_some (file_at files q))
 stands_where test [] q = elim (test q) as (λ b. false ≡ (b && false)) [ true ↦ refl | false ↦ refl ]
 stands_where test (file ∷ files) q =
@@ -71,7 +71,7 @@ stands_where test (file ∷ files) q =
     joined true b c = refl
     joined false b c = refl
 
--- the places of the files beneath some roots
+-- the places of the files under some roots
 stands_beneath : {X : Type 0} (root : X → Place) (xs : List X) (files : Files) (q : Place)
     → list_any (bytes_eq q) (flat_map (λ x. places_under files (root x)) xs) ≡ (list_any (λ x. is_under q (root x)) xs && is_some (file_at files q))
 stands_beneath root [] files q = refl
@@ -93,7 +93,7 @@ left_over true None = refl
 left_over true (Some bytes) = refl
 left_over false o = refl
 
--- Once each file beneath some roots is taken away, those elsewhere are left.
+-- Once each file under some roots is removed, those elsewhere are left.
 pub emptied : {X : Type 0} (root : X → Place) (xs : List X) (files : Files) → IsFolder files
     → fold without files (flat_map (λ x. places_under files (root x)) xs) ≡ files_where (λ q. not (list_any (λ x. is_under q (root x)) xs)) files
 emptied root xs files sound =
@@ -103,7 +103,7 @@ emptied root xs files sound =
     at_removed places files q ∙ ap (λ b. cond b None (file_at files q)) (stands_beneath root xs files q) ∙ left_over (is_rooted q) (file_at files q)
     ∙ sym (file_at-files_where files (λ p. not (is_rooted p)) q))
 
--- no file stands where another is in the way
+-- there is no file where another one is in the way
 pub blocked_none : (files : Files) (place : Place) → IsFolder files → is_blocked files place ≡ true → file_at files place ≡ None
 blocked_none files place sound blocked =
     elim (file_at files place) as (λ o. file_at files place ≡ o → o ≡ None) [
@@ -124,13 +124,13 @@ no_more : {X : Type 0} (xs : List X) → xs ++ [] ≡ xs
 no_more [] = refl
 no_more (x ∷ xs) = ap (λ ys. x ∷ ys) (no_more xs)
 
--- once each file at or beneath a place is taken away, those elsewhere are left
+-- once each file at or under a place is removed, those elsewhere are left
 pub emptied_place : (place : Place) (files : Files) → IsFolder files → fold without files (places_under files place) ≡ files_where (λ q. not (is_under q place)) files
 emptied_place place files sound =
     ap (fold without files) (sym (no_more (places_under files place))) ∙ emptied (λ p. p) (place ∷ []) files sound
     ∙ same_tests (λ q. not (is_under q place || false)) (λ q. not (is_under q place)) (λ q. unsplit (is_under q place)) files
 
--- the files at or beneath a place lie there
+-- the files at or under a place lie there
 pub all_under : (files : Files) (root : Place) → AllByRecursion (λ place. is_under place root ≡ true) (places_under files root)
 all_under [] root = tt
 all_under (file ∷ files) root =

@@ -14,7 +14,7 @@ use Rattle.gb_store.specs.Faults.{told_at}
 use Rattle.gb_store.specs.Changes.{ChangesOnly, is_at}
 use Rattle.gb_store.specs.Faults.{IsOfMachine}
 
--- the count goes on rising after a call
+-- the count continues to rise after a call
 pub machine_after : (first second third : ℕ) (fault : Fault) → second ≤ third → IsOfMachine first second fault → IsOfMachine first third fault
 machine_after first second third fault le (inl is) = inl is
 machine_after first second third fault le (inr device) = inr (device.0, device.1, HasRisen-after first second third device.2 le)
@@ -24,7 +24,7 @@ pub machine_before : (first second third : ℕ) (fault : Fault) → first ≤ se
 machine_before first second third fault le more (inl is) = inl is
 machine_before first second third fault le more (inr device) = inr (device.0, device.1, HasRisen-before first second third le more device.2)
 
--- a device's fault is told only where the folder's was one
+-- a device fault is reported only if the fault of the folder was one
 pub blames_device : (place : Place) (fault : FolderFault) (told : Fault) → (told ≡ faults.OutOfMemory) ⊎ (told ≡ told_at place fault) → (at : Place) → told ≡ faults.Device at → fault ≡ folders.Device
 blames_device place fault told (inl is) at device = absurd (no_device (sym is ∙ device))
   where
@@ -37,7 +37,7 @@ blames_device place folders.Blocked told (inr is) at device = absurd (let e = sy
 blames_device place folders.TooLarge told (inr is) at device = absurd (let e = sym is ∙ device in (cc))
 blames_device place folders.BadFileName told (inr is) at device = absurd (let e = sym is ∙ device in (cc))
 
--- want of memory and a device's fault are the machine's
+-- out-of-memory faults and device faults are faults of the machine
 pub of_machine : (before after : ℕ) (place : Place) (fault : FolderFault) (told : Fault) → (told ≡ faults.OutOfMemory) ⊎ (told ≡ told_at place fault)
     → (fault ≡ folders.Device → HasRisen before after) → (fault ≢ folders.OutOfMemory → fault ≢ folders.Device → ⊥) → IsOfMachine before after told
 of_machine before after place fault told (inl is) rose other = inl is
@@ -65,7 +65,7 @@ changes_to test old new files is differs = record {
   odd = ap (λ (c : Contents). c.odd) is;
 }
 
--- a file was taken away
+-- a file was removed
 pub changes_without : (test : Place → Bool) (old new : Contents) (place : Place) → new ≡ record old { files = without old.files place } → test place ≡ true → ChangesOnly test old new
 changes_without test old new place is holds = changes_to test old new _ is (DiffersOnlyAt-without test old.files place holds)
 
@@ -77,7 +77,7 @@ changes_with test old new place bytes is holds = changes_to test old new _ is (D
 pub changes_left : (test : Place → Bool) (old new : Contents) (place : Place) (left : Option (List ℕ)) → new ≡ record old { files = with_left old.files place left } → test place ≡ true → ChangesOnly test old new
 changes_left test old new place left is holds = changes_to test old new _ is (DiffersOnlyAt-with_left test old.files place left holds)
 
--- what holds of an error holds of the result that is it
+-- a property of an error result holds of each result equal to it
 pub at_err : {T E : Type 0} (P : Result T E → Type 0) (r : Result T E) (y z : E) → r ≡ Err y → y ≡ z → P (Err z) → P r
 at_err P r y z is same holds = subst P (sym (is ∙ ap Err same)) holds
 
@@ -94,11 +94,11 @@ is_device folders.BadFileName = inr (λ e. cc)
 err_is : {T E : Type 0} (r : Result T E) (y w : E) → r ≡ Err y → r ≡ Err w → y ≡ w
 err_is r y w a b = cc
 
--- who blames the device blames it as the call did whose fault is handed on
+-- if a fault that is passed on is a device fault at a place, so is the fault of the call
 pub handed_on : {T U : Type 0} (r : Result T Fault) (call : Result U Fault) (y z : Fault) (place : Place) → r ≡ Err y → y ≡ z → call ≡ Err z → r ≡ Err (faults.Device place) → call ≡ Err (faults.Device place)
 handed_on r call y z place told same is device = is ∙ ap Err (sym same ∙ err_is r y (faults.Device place) told device)
 
--- what holds of the places of all holds of each place among them
+-- a test that holds for the places of all elements holds for each place among them
 pub among_passes : {X : Type 0} (at : X → Place) (test : Place → Bool) (xs : List X) (place : Place) → AllByRecursion (λ x. test (at x) ≡ true) xs
     → list_any (λ x. is_at (at x) place) xs ≡ true → test place ≡ true
 among_passes at test [] place all any = absurd (true≢false (sym any))

@@ -12,7 +12,7 @@ use Rattle.gb_store.specs.Faults.{told_at}
 use Rattle.gb_store.proofs.Loops.{step_here}
 use Rattle.gb_store.proofs.Machine.{changes_chain, changes_none, changes_without}
 
--- the place of a device's fault is the one at which it came
+-- the place of a device fault is the one at which it occurred
 pub told_place : (place at : Place) (fault : FolderFault) → told_at place fault ≡ faults.Device at → place ≡ at
 told_place place at folders.OutOfMemory e = absurd (cc)
 told_place place at folders.Device e = cc
@@ -21,7 +21,7 @@ told_place place at folders.Blocked e = absurd (cc)
 told_place place at folders.TooLarge e = absurd (cc)
 told_place place at folders.BadFileName e = absurd (cc)
 
--- a removal that is told as a fault
+-- a removal that is reported as a fault
 pub hindered_by : (may_leave : Tearing) (place : Place) (next : Option Bytes) (old new : Contents) (fault : FolderFault) → fault ≢ folders.Missing → fault ≢ folders.Blocked → fault ≢ folders.TooLarge → fault ≢ folders.BadFileName
     → (fault ≢ folders.Device → new ≡ old) → (fault ≡ folders.Device → IsTorn may_leave place next old new) → IsHindered may_leave place next old (told_at place fault) new
 hindered_by may_leave place next old new folders.OutOfMemory a b d e same torn = inl (refl, same (λ h. cc))
@@ -31,7 +31,7 @@ hindered_by may_leave place next old new folders.Blocked a b d e same torn = abs
 hindered_by may_leave place next old new folders.TooLarge a b d e same torn = absurd (d refl)
 hindered_by may_leave place next old new folders.BadFileName a b d e same torn = absurd (e refl)
 
--- what may be left may be left of a folder before
+-- what may be left of a later folder may be left of an earlier one
 pub hindered_before : (first second : Tearing) (place : Place) (next : Option Bytes) (old new : Contents) (fault : Fault) → SameTearing first second → IsHindered second place next old fault new → IsHindered first place next old fault new
 hindered_before first second place next old new fault same (inl memory) = inl memory
 hindered_before first second place next old new fault same (inr torn) = inr (torn.0, (torn.1.0, (same place _ next torn.1.0).0 torn.1.1, torn.1.2))
@@ -67,7 +67,7 @@ all_taken P [] (suc i) all = tt
 all_taken P (place ∷ places) zero all = tt
 all_taken P (place ∷ places) (suc i) all = (all.0, all_taken P places i all.1)
 
--- only where files were taken away does the folder differ
+-- the folder differs only where files were removed
 pub changes_without_all : (test : Place → Bool) (places : List Place) (old : Contents) → AllByRecursion (λ place. test place ≡ true) places → ChangesOnly test old (without_all old places)
 changes_without_all test [] old all = changes_none test old (without_all old []) refl
 changes_without_all test (place ∷ places) old all =

@@ -14,7 +14,7 @@ is_at place other = bytes_eq other place
 abbrev pub is_among : List Place → Place → Bool
 is_among places place = list_any (λ other. is_at other place) places
 
--- Files differ only where the test holds; what is odd stays.
+-- Files differ only where the test holds; special entries stay the same.
 pub record ChangesOnly (test : Place → Bool) (old new : Contents) : Type 0 where
   pub elsewhere : DiffersOnlyAt test old.files new.files
   pub odd : new.odd ≡ old.odd
@@ -23,15 +23,14 @@ pub record ChangesOnly (test : Place → Bool) (old new : Contents) : Type 0 whe
 abbrev pub without_all : Contents → List Place → Contents
 without_all folder places = record folder { files = fold without folder.files places }
 
--- A write or a removal at a place came to nothing: memory ran out and nothing changed,
--- or the device stopped it.
+-- A write or a removal at a place failed: memory ran out and nothing changed, or the device stopped it.
 abbrev pub IsHindered : Tearing → Place → Option Bytes → Contents → Fault → Contents → Type 0
 IsHindered may_leave place next old fault new =
     ((fault ≡ faults.OutOfMemory) × (new ≡ old))
     ⊎ ((fault ≡ faults.Device place) × IsTorn may_leave place next old new)
 
--- The removal of these places was cut short: the files at some first ones are gone, and it
--- was hindered at the next.
+-- The removal of these places was cut short: the files at some first places are gone, and it failed at the
+-- next.
 pub record IsCutShort (may_leave : Tearing) (places : List Place) (old : Contents) (fault : Fault)
     (new : Contents) : Type 0 where
   pub gone : List Place

@@ -1,4 +1,4 @@
-//! A folder's fault, as a build tells it.
+//! The faults of a folder, as a build reports them.
 ghost use Rattle.std.specs.Prelude.{◌≡◌, ◌⊎◌};
 ghost use Rattle.gb_store.specs.Faults.{told_at};
 
@@ -6,7 +6,7 @@ use gb_core::place::Place;
 use gb_folder::folder::FolderFault;
 use gb_report::fault::Fault;
 
-/// The fault at a place; want of memory takes its stead where there is none to name the place.
+/// The fault at a place; an out-of-memory fault instead, if there is no memory to name the place.
 pub fn fault_at(fault: FolderFault, place: &Place) -> Fault
     ensures { (result ≡ Fault.OutOfMemory) ⊎ (result ≡ told_at place.now fault) }
 {

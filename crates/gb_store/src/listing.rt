@@ -1,4 +1,4 @@
-//! Which files stand beneath a place.
+//! Which files exist under a place.
 ghost use Rattle.std.specs.Prelude.{◌≡◌, ◌⊎◌, false, IsTrue, IfOk, IfErr, OnOk};
 ghost use Rattle.std.specs.List.{AllPass};
 ghost use Rattle.gb_core.specs.Place.{is_under};
@@ -13,7 +13,7 @@ use gb_folder::folder::Folder;
 use gb_report::fault::Fault;
 use std::alloc::Global;
 
-/// The places of the files at or beneath one place.
+/// The places of the files at or under one place.
 pub fn listed_at<F: Folder>(
     alloc: Global,
     folder: &mut F,

@@ -1,4 +1,4 @@
-//! Taking files away.
+//! Removing files.
 ghost use Rattle.std.specs.Prelude.{◌≡◌, ◌≢◌, ◌⊎◌, Bool, List, ℕ, [], ◌∷◌, None, true, IsTrue, IfErr, OnOk};
 ghost use Rattle.std.specs.List.{AllByRecursion};
 ghost use Rattle.gb_folder.specs.Calls.{Asks, taken_at, takes_at};
@@ -10,7 +10,7 @@ use gb_core::place::Place;
 use gb_folder::folder::{Folder, FolderFault};
 use gb_report::fault::Fault;
 
-/// Takes the files at these places away, one after another. A place where none stands counts as done.
+/// Removes the files at these places, one after another. A place without a file counts as done.
 pub fn remove_all<F: Folder>(folder: &mut F, places: &[Place]) -> Result<(), Fault>
     ensures asks { Asks F.failures F.may_leave F.asked (takes_at (is_among places.now)) folder.old
         folder.new }
@@ -33,8 +33,8 @@ pub fn remove_all<F: Folder>(folder: &mut F, places: &[Place]) -> Result<(), Fau
     Ok(())
 }
 
-/// Takes the file at a place away, if one stands there. The place is copied first, so that a failure of the
-/// device is told at it whatever memory is left.
+/// Removes the file at a place, if there is one. The place is copied first, so that a failure of
+/// the device is reported with its place whatever memory is left.
 fn remove_at<F: Folder>(folder: &mut F, place: &Place) -> Result<(), Fault>
     ensures asks { Asks F.failures F.may_leave F.asked (taken_at place.now) folder.old folder.new }
     ensures blame { Blames result (F.failures folder.old) (F.failures folder.new) }
@@ -56,7 +56,7 @@ fn remove_at<F: Folder>(folder: &mut F, place: &Place) -> Result<(), Fault>
     }
 }
 
-/// A fault in a removal, unless it says that there is no file to remove.
+/// The fault of a removal, unless it says that there is no file to remove.
 fn unless_absent(fault: FolderFault, place: Place) -> Result<(), Fault>
     ensures ok { OnOk result ((fault ≡ FolderFault.Missing) ⊎ (fault ≡ FolderFault.Blocked)) }
     ensures err { IfErr result (λ told. (fault ≢ FolderFault.Missing) × (fault ≢ FolderFault.Blocked)

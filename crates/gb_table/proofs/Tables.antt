@@ -11,7 +11,7 @@ use Rattle.gb_core.proofs.Found.{find-same, find-other}
 use Rattle.gb_table.specs.declared.table.AddFault.{AddFault}
 use Rattle.gb_table.specs.declared.table.AddFault.TheVariants.{Taken, OutOfMemory}
 
--- what is not there
+-- a value that is absent
 pub is_none : {X : Type 0} (o : Option X) → is_some o ≡ false → o ≡ None
 is_none None e = refl
 is_none (Some x) e = absurd (true≢false e)
@@ -22,7 +22,7 @@ apart fault h is = cc
 pub ok_is_no_fault : (x : Unit {0}) → IsErrOf {E = AddFault} (Ok x) Taken → ⊥
 ok_is_no_fault x is = cc
 
--- no memory is no duplicate, and a name that is not there is none
+-- an out-of-memory fault is no duplicate, and an absent name is no duplicate
 pub no_memory : {P : Type 0} (r : Result (Unit {0}) AddFault) → IsErrAnd r (λ fault. fault ≡ OutOfMemory) → ¬ P → (IsErrOf r Taken → P) × (P → IsErrOf r Taken)
 no_memory (Ok x) h absent = absurd h
 no_memory (Err fault) h absent = (λ is. absurd (apart fault h is), λ p. absurd (absent p))
@@ -43,7 +43,7 @@ module _ {K S : Type 0} (text : K → List ℕ) where
   named-append [] fs = refl
   named-append (e ∷ es) fs = ap (λ r. (text e.0, e.1) ∷ r) (named-append es fs)
 
-  -- whether a name is found in the table, by the entries behind it
+  -- whether a name is found in the table, by the underlying entries
   pub found-by : (q name : List ℕ) (es : List (K × S)) (table : List (List ℕ × S)) → named es ≡ table → name ≡ q
       → is_some (find byte_order q table) ≡ is_some (lookup (λ k. bytes_eq name (text k)) es)
   found-by q name es table is same =
@@ -55,7 +55,7 @@ module _ {K S : Type 0} (text : K → List ℕ) where
   none_has q (e ∷ es) others =
       ap (λ b. b || has_text (map (λ e. e.0) (named es)) q) others.0 ∙ none_has q es others.1
 
-  -- keys whose texts differ give a table in which no name is there twice
+  -- keys whose texts differ give a table in which no name occurs twice
   pub no_repeats-named : (es : List (K × S)) → IsDistinct (λ k other. bytes_eq (text k) (text other)) (map (λ e. e.0) es)
       → no_repeats (map (λ e. e.0) (named es)) ≡ true
   no_repeats-named [] distinct = refl

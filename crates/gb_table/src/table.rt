@@ -17,7 +17,7 @@ pub enum AddFault {
     /// Another value has the name.
     #[error("the name is taken")]
     Taken,
-    /// No memory for the entry: the table is as it was.
+    /// Not enough memory for the entry: the table is unchanged.
     #[error("out of memory")]
     OutOfMemory,
 }
@@ -58,7 +58,7 @@ impl<S> Model for NamedTable<S> {
 }
 
 impl<S: Drop> NamedTable<S> {
-    /// No value yet.
+    /// The empty table.
     pub fn new(alloc: Global) -> NamedTable<S>
         ensures { result ≡ [] }
     {
@@ -68,7 +68,7 @@ impl<S: Drop> NamedTable<S> {
         }
     }
 
-    /// Adds a value under a name that no other has.
+    /// Adds a value under a name that no other value has.
     pub fn add(&mut self, name: &Name, stored: S) -> Result<(), AddFault>
         ensures ok { OnOk result (self.new ≡ self.old ++ (name.now, stored) ∷ []) }
         ensures absent { OnOk result (find byte_order name.now self.old ≡ None) }
@@ -78,7 +78,7 @@ impl<S: Drop> NamedTable<S> {
         self.add_under(name.as_str(), stored)
     }
 
-    /// The same under the text of a name, as [`NamedTable::into_entries`] gives it.
+    /// The same under the text of a name, as [`NamedTable::into_entries`] returns it.
     pub fn add_under(&mut self, name: &str, stored: S) -> Result<(), AddFault>
         ensures ok { OnOk result (self.new ≡ self.old ++ (name.now, stored) ∷ []) }
         ensures absent { OnOk result (find byte_order name.now self.old ≡ None) }
@@ -105,14 +105,14 @@ impl<S: Drop> NamedTable<S> {
         Ok(named)
     }
 
-    /// No two entries have one name. A caller learns this; nothing happens at run time.
+    /// No two entries share a name. This is a fact for the caller; nothing happens at run time.
     pub fn names_are_unique(&self)
         ensures { no_repeats (map (λ entry. entry.0) self.now) ≡ true }
     {
         let _count = self.entries.len();
     }
 
-    /// The value of the name. Takes no memory.
+    /// The value of the name. Allocates no memory.
     pub fn find(&self, name: &str) -> Option<&S>
         ensures { option_copied result ≡ find byte_order name.now self.now }
     {

@@ -1,4 +1,4 @@
--- Which of some places stand above a text.
+-- Which of some places are above a text.
 use Rattle.std.proofs.Common.{arith, ◌≡◌, ℕ, Bool, true, false, ◌<◌, ◌||◌, eqb, List, [], ◌∷◌, refl, ◌∙◌, ap}
 use Rattle.std.proofs.lemmas.Str.Pattern.{NoCharPasses-char}
 use Rattle.std.specs.List.{list_any}
@@ -15,7 +15,7 @@ mixed false true true d = refl
 mixed false true false d = refl
 mixed false false c d = refl
 
--- the folder is one of them, or one stands above the folder
+-- the folder is one of them, or one is above the folder
 pub any_above : (text folder last : List ℕ) (places : List Place) → IsSplit text folder last
     → list_any (is_beneath text) places ≡ (list_any (λ other. bytes_eq other folder) places || list_any (is_beneath folder) places)
 any_above text folder last [] split = refl

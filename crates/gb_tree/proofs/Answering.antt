@@ -1,4 +1,4 @@
--- Files that were listed and read on a part of the way were so on all of it.
+-- Files that were listed and read during a part of the calls were listed and read during all of them.
 use Rattle.std.proofs.Common.{ℕ, List, [], ◌∷◌, inl, inr}
 use Rattle.std.specs.List.{AllZip}
 use Rattle.gb_folder.specs.Calls.{Asks, Call, no_change}
@@ -9,7 +9,7 @@ use Rattle.gb_tree.specs.Tree.{Entries}
 use Rattle.gb_tree.specs.declared.kept.SeenFile.{SeenFile}
 use Rattle.gb_tree.specs.declared.property.Naming.{Naming}
 
--- what follows pair by pair follows for two rows
+-- what follows pair by pair follows for two lists
 pub all_zip_more : {A B : Type 0} (some more : A → B → Type 0) → ((a : A) (b : B) → some a b → more a b) → (xs : List A) (ys : List B)
     → AllZip some xs ys → AllZip more xs ys
 all_zip_more some more step [] [] all = all

@@ -22,7 +22,7 @@ device_place (faults.BadFileName place) other = other
 device_place (faults.TooManyFiles name) other = other
 device_place (faults.DuplicateInput name path) other = other
 
--- a fault that came at one place names that place
+-- a fault that occurs at one place names that place
 pub blamed_here : (before after : ℕ) (place : Place) (fault : FolderFault) (told : TreeFault) → (told ≡ faults.OutOfMemory) ⊎ (told ≡ tree_fault_at place fault)
     → (fault ≡ folders.Device → HasRisen before after) → (at : Place) → told ≡ faults.Device at → (at ≡ place) × HasRisen before after
 blamed_here before after place fault told (inl none) rose at is = absurd (let e : faults.OutOfMemory ≡ faults.Device at = sym none ∙ is in cc)
@@ -45,12 +45,12 @@ blamed_before {A} {B} IsSuch IsMore first second third whole fault found le more
     fault_in (Err fault) other = fault
     fault_in (Ok value) other = other
 
--- ---- Places at or beneath roots
+-- ---- Places at or under roots
 
 under_here : (place at : Place) → bytes_eq place at ≡ true → (IsSuch : Place → Type 0) → IsSuch place → IsSuch at
 under_here place at same IsSuch holds = subst IsSuch ((bytes_decides place at).0 same) holds
 
--- one of the entries, of which each place is such
+-- one of the entries, where each place is such
 pub among_such : (IsSuch : Place → Type 0) (entries : Entries) → AllByRecursion (λ entry. IsSuch entry.1) entries → (at : Place) → IsTrue (is_among entries at) → IsSuch at
 among_such IsSuch [] all at h = absurd (cc)
 among_such IsSuch (entry ∷ entries) all at h =
@@ -72,6 +72,6 @@ entry_among (other ∷ entries) (suc i) entry within is = any_way (bytes_eq othe
     any_way true b h = refl
     any_way false b h = h
 
--- each of several places is such where what is told of an entry holds of its place
+-- each of several places is such where a statement about an entry holds of its place
 pub at_entry : (entries : Entries) (i : ℕ) (entry : List ℕ × Place) → i < length entries → entry ≡ get_or entries i entry → (at : Place) → at ≡ entry.1 → IsTrue (is_among entries at)
 at_entry entries i entry within is at same = subst (λ (place : Place). IsTrue (is_among entries place)) (sym same) (entry_among entries i entry within is)

@@ -1,4 +1,4 @@
--- What digests tell of the contents.
+-- What digests show about the contents.
 use Rattle.std.proofs.Common.{◌≡◌, ℕ, cond, List, [], ◌∷◌, ◌++◌, Option, Some, None, refl, sym, ◌∙◌, ap}
 use Rattle.std.specs.List.{flat_map}
 use Rattle.std.specs.Option.{option_map}
@@ -55,7 +55,7 @@ flat_digests : (f g : List ℕ → List Change) (es : Tree) → ((path : List �
 flat_digests f g [] same = refl
 flat_digests f g (e ∷ es) same = ap (λ c. c ++ flat_map (λ d. f d.0) (digests_of es)) (same e.0) ∙ ap (λ cs. g e.0 ++ cs) (flat_digests f g es same)
 
--- digests tell the changes of the contents, where contents that differ have digests that differ
+-- digests show the changes of the contents, where contents that differ have digests that differ
 pub same_changes : (old new : Tree) → AreApart old new → changes_between (digests_of old) (digests_of new) ≡ changes_between old new
 same_changes old new apart =
     ap (flat_map (λ e. change_at e.0 (file_at (digests_of old) e.0) (file_at (digests_of new) e.0))) (ap in_order (sym (digests_append old new)) ∙ sym (in_order_digests (old ++ new)))

@@ -1,4 +1,4 @@
--- Paths in order, of which one lies beneath another.
+-- Paths in order where one lies under another.
 use Rattle.std.proofs.Common.{arith, ◌≡◌, ◌≤◌, ◌<◌, ℕ, zero, suc, Bool, true, false, cond, not, ◌&&◌, ◌||◌, List, [], ◌∷◌, ◌++◌, length, get_or, take, drop, Option, Some, None, refl, sym, ◌∙◌, ap}
 use Rattle.std.proofs.lemmas.Bool.{false≢true}
 use Rattle.std.proofs.lemmas.List.Sorted.{ranks_by}
@@ -29,7 +29,7 @@ comes_before a b = is_lt (byte_order a b)
 weak : IsStrictWeakOrder comes_before
 weak = ranks_by nat_list_cmp_total (λ (path : List ℕ). path)
 
--- ---- What lies beneath a path
+-- ---- What lies under a path
 
 not_after : (o : Ordering) → is_le (ordering_reverse o) ≡ not (is_lt o)
 not_after Less = refl
@@ -70,7 +70,7 @@ none_late path text (entry ∷ entries) from miss all =
     ap (λ b. cond b (entry.0 ∷ filter (λ other. is_beneath other path) (paths_of entries)) (filter (λ other. is_beneath other path) (paths_of entries))) (too_late path text entry.0 from miss all.0)
     ∙ none_late path text entries from miss all.1
 
--- the first of these, if it lies beneath the path
+-- the first of these, if it lies under the path
 abbrev chosen : List ℕ → Entries → Option (List ℕ)
 chosen path [] = None
 chosen path (entry ∷ entries) = cond (is_beneath entry.0 path) (Some entry.0) None
@@ -116,7 +116,7 @@ none_there path entries rest n before from rising all is = chosen_of path entrie
     by [] is = refl
     by (other ∷ es) is = absurd (cc)
 
--- ---- What stands before a text
+-- ---- What comes before a text
 
 rising_at : (entries : Entries) (i j : ℕ) (d : Entry) → IsRising entries → i ≤ j → j < length entries → comes_before (get_or entries j d).0 (get_or entries i d).0 ≡ false
 rising_at [] i j d rising le within = absurd (omega (arith, within))
@@ -163,7 +163,7 @@ all_from text (entry ∷ entries) zero point = (
 all_from text (entry ∷ entries) (suc n) point =
     all_from text entries n (λ k d low high. point.0 (suc k) d (omega arith) (omega (arith, high)), λ k d low high. point.1 (suc k) d (omega (arith, low)) (omega (arith, high)))
 
--- ---- A path that stands again
+-- ---- A path that occurs again
 
 -- none of these is the path itself
 none_same : (path : List ℕ) (entries : Entries) → AllByRecursion (λ entry. bytes_eq entry.0 path ≡ false) entries → filter (λ other. is_under other path) (paths_of entries) ≡ filter (λ other. is_beneath other path) (paths_of entries)
@@ -236,7 +236,7 @@ front_none : {X : Type 0} (xs ys : List X) → xs ++ ys ≡ [] → (xs ≡ []) �
 front_none [] ys none = (refl, none)
 front_none (x ∷ xs) ys none = absurd (cc)
 
--- where no path stands again and none lies beneath another, the paths strictly rise
+-- where no path occurs again and none lies under another, the paths are strictly ascending
 pub strictly_sorted : (entries : Entries) → IsRising entries → doubled (paths_of entries) ≡ [] → is_sorted byte_order entries ≡ true
 strictly_sorted [] rising none = refl
 strictly_sorted (entry ∷ entries) rising none =

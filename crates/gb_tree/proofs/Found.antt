@@ -53,7 +53,7 @@ distinct_more (y ∷ places) x =
         ∙ ap (λ b. others y (distinct places) ++ cond (not b) (x ∷ []) []) is)
         ∙ sym (ap (λ b. cond b (y ∷ others y (distinct places)) (y ∷ others y (distinct places) ++ x ∷ [])) (still_in x y (distinct places) is ∙ has))
 
--- what is met first is kept
+-- the first occurrence is kept
 pub distinct_next : (places : List Place) (x : Place) (added : Bool) → added ≡ not (stands_in x (distinct places)) → distinct (places ++ x ∷ []) ≡ cond added (distinct places ++ x ∷ []) (distinct places)
 distinct_next places x added is =
     distinct_more places x
@@ -64,7 +64,7 @@ distinct_next places x added is =
     turned true kept more = refl
     turned false kept more = refl
 
--- a set that has what is kept takes in the next
+-- a set that has what is kept adds the next
 pub met_next : (places : List Place) (x other : Place) (before after : Bool) → before ≡ stands_in other (distinct places) → after ≡ cond (eq_by_cmp byte_order x other) true before
     → after ≡ stands_in other (distinct (places ++ x ∷ []))
 met_next places x other before after had now =
@@ -112,13 +112,13 @@ of_all place (other ∷ kept) at h =
       ] all
     ] h
 
--- a place at or beneath one of the starts
+-- a place at or under one of the starts
 pub under_start : (starts : List (Place × Place)) (i : ℕ) (start : Place × Place) (at : Place) → i < length starts → start ≡ get_or starts i start → IsTrue (is_under at start.1) → IsTrue (is_under_any (places_of starts) at)
 under_start [] i start at within is h = absurd (omega (arith, within))
 under_start (other ∷ starts) zero start at within is h = ap (λ b. b || is_under_any (places_of starts) at) (ap (λ (next : Place × Place). is_under at next.1) (sym is) ∙ h)
 under_start (other ∷ starts) (suc i) start at within is h = any_way (is_under at other.1) (is_under_any (places_of starts) at) (under_start starts i start at (omega (arith, within)) is h)
 
--- a place beneath one of the places that are kept is beneath one of all
+-- a place under one of the places that are kept is under one of all
 pub distinct_under : (places : List Place) (at : Place) → IsTrue (is_under_any (distinct places) at) → IsTrue (is_under_any places at)
 distinct_under [] at h = h
 distinct_under (place ∷ places) at h =
@@ -127,7 +127,7 @@ distinct_under (place ∷ places) at h =
       | false ↦ λ more. distinct_under places at (of_all place (distinct places) at more)
     ] h
 
--- ---- Each of the files stands
+-- ---- Each of the files exists
 
 found_each : (naming : Naming) (include exclude : List (List ℕ)) (files : Files) (roots : List Place) → Stand files (found naming include exclude files roots)
 found_each naming include exclude files [] = tt
@@ -140,7 +140,7 @@ pub found_stand : (naming : Naming) (roots : List Place) (include exclude : List
 found_stand naming roots include exclude files =
     all_in_order (λ entry. IsSome (file_at files entry.1)) (found naming include exclude files (distinct roots)) (found_each naming include exclude files (distinct roots))
 
--- what is taken in from one start lies beneath it
+-- what is taken in from one start lies under it
 pub taken_beneath : (naming : Naming) (include exclude : List (List ℕ)) (starts : List (Place × Place)) (i : ℕ) (start : Place × Place) (places read : List Place) (kept new : Entries) → i < length starts → start ≡ get_or starts i start
     → read ≡ places → AllPass (λ at. is_under at start.1) places → new ≡ held (kept ++ entries_in naming include exclude start.0 read)
     → AllByRecursion (λ entry. IsTrue (is_under_any (places_of starts) entry.1)) kept → AllByRecursion (λ entry. IsTrue (is_under_any (places_of starts) entry.1)) new
@@ -152,6 +152,6 @@ taken_beneath naming include exclude starts i start places read kept new within 
     (all_take _ (max_files + 1) (kept ++ here) (all_append _ kept here all
     (at_places (λ at. IsTrue (is_under_any (places_of starts) at)) (path_of naming start.0) (filter (is_in include exclude start.0) read) (all_filter _ (is_in include exclude start.0) read each))))
 
--- what lies beneath a start lies beneath its root
+-- what lies under a start lies under its root
 pub all_of_root : (root start : Place) (places : List Place) → IsTrue (is_under start root) → AllPass (λ at. is_under at start) places → AllPass (λ at. is_under at root) places
 all_of_root root start places within all = λ i d below. under_under (get_or places i d) start root (all i d below) within

@@ -1,4 +1,4 @@
--- What a pattern matches stands at its front or beneath it.
+-- What a pattern matches is at its front or under it.
 use Rattle.std.proofs.Common.{arith, ◌≡◌, ◌⊎◌, inl, inr, ℕ, zero, suc, ◌+◌, ◌-◌, ◌<◌, ◌≤◌, Bool, true, false, cond, not, ◌&&◌, ◌||◌, eqb, List, [], ◌∷◌, ◌++◌, length, take, drop, get_or, refl, sym, ◌∙◌, ap, append_assoc, length-append}
 use Rattle.std.proofs.Math.Seq.{get_or-append_seam, take-append_seam}
 use Rattle.std.proofs.lemmas.Bool.{and_parts, eqb-true, false≢true, not-true, or_parts}
@@ -32,7 +32,7 @@ same_segment : (segment text : List ℕ) → is_plain segment ≡ true → segme
 same_segment segment text plain matched =
     (bytes_decides segment text).0 (sym (ap (λ b. cond b (wild_matches segment text) (bytes_eq segment text)) (not-true (list_any is_wild segment) plain)) ∙ matched)
 
--- a row that plain segments and more match begins with these segments
+-- a list that plain segments and more match begins with these segments
 begins_with : (plain rest row : List (List ℕ)) → list_all is_plain plain ≡ true → matches_by is_double_star segment_matches (plain ++ rest) row ≡ true → (more : List (List ℕ)) × (row ≡ plain ++ more)
 begins_with [] rest row all matched = (row, refl)
 begins_with (segment ∷ plain) rest [] all matched =
@@ -61,7 +61,7 @@ segments_plain (c ∷ text) none =
       | false ↦ onto_plain c (segments text) parts.0 rest
     ]
 
--- a path whose segments begin with those of a folder is at it or beneath it
+-- a path whose segments begin with those of a folder is at it or under it
 under_folder : (path folder : List ℕ) (more : List (List ℕ)) → segments path ≡ segments folder ++ more → is_under path folder ≡ true
 under_folder path folder [] same =
     let is : path ≡ folder = sym (join_with_byte-slice_split 47 path) ∙ ap (join_with_byte 47) (same ∙ with_none (segments folder)) ∙ join_with_byte-slice_split 47 folder in
@@ -94,7 +94,7 @@ all_plain pattern path none matched =
     with_none [] = refl
     with_none (x ∷ xs) = ap (λ ys. x ∷ ys) (with_none xs)
 
--- ---- What stands before the last slash
+-- ---- What comes before the last slash
 
 abbrev is_slash : ℕ → Bool
 is_slash b = eqb b 47
@@ -143,7 +143,7 @@ none_before text none =
     let first : length text - (length text - 0) - 1 ≡ 0 = omega arith in
     ap (λ n. take (length text - n - 1) text) count ∙ ap (λ n. take n text) first
 
--- ---- What stands before the first of some bytes
+-- ---- What comes before the first of some bytes
 
 none_first : (test : ℕ → Bool) (text : List ℕ) → list_any test (before_first test text) ≡ false
 none_first test [] = refl
@@ -201,7 +201,7 @@ wild_front pattern path matched = by (cut (plain_front pattern))
         or_left_none : (a b : Bool) → (a || b) ≡ false → a ≡ false
         or_left_none a b h = (or_parts a b h).0
 
--- a path that the pattern matches stands at its front or beneath it, where it has one
+-- a path that the pattern matches is at its front or under it, where it has one
 pub under_front : (pattern path : List ℕ) → path_matches pattern path ≡ true → (front_of pattern ≡ []) ⊎ (is_under path (front_of pattern) ≡ true)
 under_front pattern path matched =
     elim (list_any is_wild pattern) as (λ b. list_any is_wild pattern ≡ b → (cond b (before_last is_slash (plain_front pattern)) pattern ≡ []) ⊎ (is_under path (cond b (before_last is_slash (plain_front pattern)) pattern) ≡ true)) [

@@ -1,4 +1,4 @@
--- The files and the listings of starts that were answered so far.
+-- The files and the listings of starts that calls returned so far.
 use Rattle.std.proofs.Common.{◌≡◌, ◌<◌, ◌+◌, ℕ, List, [], ◌∷◌, ◌++◌, length, take, get_or, refl, sym, ◌∙◌, ap, subst, append_assoc}
 use Rattle.std.proofs.lemmas.List.{map-append, take_more}
 use Rattle.std.specs.List.{AllZip, flat_map, zip}

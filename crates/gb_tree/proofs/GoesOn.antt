@@ -6,7 +6,7 @@ use Rattle.std.specs.List.{list_any, AllByRecursion}
 use Rattle.gb_tree.specs.Pattern.{matches_by, ends_of}
 use Rattle.gb_tree.specs.Passes.{pass, goes_on}
 
--- an item that stands for any number of things may stand for none
+-- an item that matches any number of elements may match none
 none_read : {P X : Type 0} (any : P → Bool) (fits : P → X → Bool) (p : P) (ps : List P) (xs : List X) → any p ≡ true
     → (matches_by any fits ps xs || matches_by any fits (p ∷ ps) xs) ≡ matches_by any fits (p ∷ ps) xs
 none_read any fits p ps [] is = ap (λ b. matches_by any fits ps [] || (b && matches_by any fits ps [])) is ∙ twice (matches_by any fits ps []) ∙ sym (ap (λ b. b && matches_by any fits ps []) is)
@@ -23,7 +23,7 @@ none_read any fits p ps (x ∷ xs) is =
     again true b = refl
     again false b = refl
 
--- it stands for nothing, or for the next thing and more
+-- it matches nothing, or the next element and more
 unrolled : {P X : Type 0} (any : P → Bool) (fits : P → X → Bool) (p : P) (ps : List P) (x : X) (xs : List X) → any p ≡ true
     → matches_by any fits (p ∷ ps) (x ∷ xs) ≡ (matches_by any fits ps (x ∷ xs) || matches_by any fits (p ∷ ps) xs)
 unrolled any fits p ps x xs is =
@@ -46,7 +46,7 @@ where_one : (en op s f a c r : Bool)
     → (((en || false) && a) || (((((s || op) && f) && c) || false) || r)) ≡ (((en && a) || (op && (f && c))) || ((s && (f && c)) || r))
 where_one en op s f a c r = grind arith
 
--- One thing more is read: what goes on now is what went on with the thing before it, or came to stand at the start.
+-- One element more is read: what continues now continued with the element before it, or reached the start.
 pub goes_on-read : {P X : Type 0} (any : P → Bool) (fits : P → X → Bool) (states : List Bool) (ps : List P) (en op : Bool) (x : X) (t : List X) → length ps ≤ length states
     → goes_on any fits (pass any (λ p. fits p x) en op states ps).0 ps (pass any (λ p. fits p x) en op states ps).1 t
     ≡ (((en && matches_by any fits ps t) || (op && matches_by any fits ps (x ∷ t))) || goes_on any fits states ps false (x ∷ t))
@@ -81,7 +81,7 @@ at_start_any en a c = grind arith
 at_start_one : (en a c : Bool) → (((en || false) && a) || (false && c)) ≡ (en && a)
 at_start_one en a c = grind arith
 
--- before anything is read, what goes on is what matches
+-- before anything is read, what continues is what matches
 pub goes_on-start : {P X : Type 0} (any : P → Bool) (fits : P → X → Bool) (states : List Bool) (ps : List P) (en : Bool) (t : List X) → AllByRecursion (λ s. s ≡ false) states → length ps ≤ length states
     → goes_on any fits (pass any (λ p. false) en false states ps).0 ps (pass any (λ p. false) en false states ps).1 t ≡ (en && matches_by any fits ps t)
 goes_on-start any fits states [] en t none fit = refl
@@ -100,7 +100,7 @@ goes_on-start any fits (s ∷ states) (p ∷ ps) en t none fit =
           ∙ at_start_one en whole tail
     ] refl)
 
--- what stands before items that may all stand for nothing has come to the end
+-- what is before items that may all match nothing has reached the end
 ended_too : {P X : Type 0} (any : P → Bool) (fits : P → X → Bool) (good : P → Bool) (states : List Bool) (ps : List P) (en op : Bool) → length ps ≤ length states
     → en ≡ true → matches_by {X = X} any fits ps [] ≡ true → (pass any good en op states ps).1 ≡ true
 ended_too any fits good states [] en op fit is all = is
@@ -114,7 +114,7 @@ ended_too any fits good (s ∷ states) (p ∷ ps) en op fit is all =
     both true b e = (refl, e)
     both false b e = absurd (cc)
 
--- nothing goes on past the text's end but what has come to the pattern's end
+-- nothing continues past the text's end but what has reached the pattern's end
 pub goes_on-end : {P X : Type 0} (any : P → Bool) (fits : P → X → Bool) (good : P → Bool) (states : List Bool) (ps : List P) (en op : Bool) → length ps ≤ length states
     → goes_on any fits (pass any good en op states ps).0 ps (pass any good en op states ps).1 [] ≡ (pass any good en op states ps).1
 goes_on-end any fits good states [] en op fit = and_true en
@@ -141,7 +141,7 @@ goes_on-end any fits good (s ∷ states) (p ∷ ps) en op fit =
     three true false c e = absurd (cc)
     three false b c e = absurd (cc)
 
--- where more is read, what has come to the pattern's end counts no more
+-- where more is read, what has reached the pattern's end counts no more
 not_ended : {P X : Type 0} (any : P → Bool) (fits : P → X → Bool) (states : List Bool) (ps : List P) (ended : Bool) (x : X) (t : List X)
     → goes_on any fits states ps ended (x ∷ t) ≡ goes_on any fits states ps false (x ∷ t)
 not_ended any fits states [] true x t = refl
@@ -149,14 +149,14 @@ not_ended any fits states [] false x t = refl
 not_ended any fits [] (p ∷ ps) ended x t = refl
 not_ended any fits (stands ∷ states) (p ∷ ps) ended x t = ap (λ b. (stands && matches_by any fits (p ∷ ps) (x ∷ t)) || b) (not_ended any fits states ps ended x t)
 
--- one turn of a loop over what is read
+-- one step of a loop over what is read
 pub read_on : {P X : Type 0} (any : P → Bool) (fits : P → X → Bool) (states : List Bool) (ps : List P) (ended : Bool) (xs : List X) (i : ℕ) (x : X) → length ps ≤ length states → i < length xs → x ≡ get_or xs i x
     → goes_on any fits (pass any (λ p. fits p x) false false states ps).0 ps (pass any (λ p. fits p x) false false states ps).1 (drop (i + 1) xs) ≡ goes_on any fits states ps ended (drop i xs)
 read_on any fits states ps ended xs i x fit within is =
     goes_on-read any fits states ps false false x (drop (i + 1) xs) fit
     ∙ sym (at_drop_more (goes_on any fits states ps ended) xs i x within ∙ ap (λ y. goes_on any fits states ps ended (y ∷ drop (i + 1) xs)) (sym is) ∙ not_ended any fits states ps ended x (drop (i + 1) xs))
 
--- one turn of a loop over a pattern
+-- one step of a loop over a pattern
 pub pass_on : {P : Type 0} (any good : P → Bool) (en op : Bool) (states : List Bool) (ps : List P) (i : ℕ) (p : P) (f stands en_next op_next : Bool) → i < length states → i < length ps → p ≡ get_or ps i p
     → ((get_or states i false || op) && f) ≡ ((get_or states i false || op) && good p) → stands ≡ (en || (any p && (get_or states i false || op)))
     → en_next ≡ cond (any p) (en || (any p && (get_or states i false || op))) ((get_or states i false || op) && f) → op_next ≡ (any p && (get_or states i false || op))
@@ -182,7 +182,8 @@ pass_on any good en op states ps i p f stands en_next op_next within item is fit
       ap (λ (r : List Bool × Bool). r.1) new ∙ sym (ap (λ (r : List Bool × Bool). r.1) old),
     )
 
--- the same where a test told whether the item stands for any number of things, and its fit was asked only where a match stands
+-- the same where a test returned whether the item matches any number of elements, and its fit was evaluated
+-- only where a match is
 pub pass_on_told : {P : Type 0} (any good : P → Bool) (en op : Bool) (states : List Bool) (ps : List P) (i : ℕ) (p : P) (a f stands en_next op_next : Bool) → i < length states → i < length ps → p ≡ get_or ps i p
     → a ≡ any p → f ≡ ((get_or states i false || op) && good p) → stands ≡ (en || (a && (get_or states i false || op)))
     → en_next ≡ cond a (en || (a && (get_or states i false || op))) ((get_or states i false || op) && f) → op_next ≡ (a && (get_or states i false || op))
@@ -212,7 +213,7 @@ unfolding chars
 characters [] = omega arith
 characters (b ∷ bytes) = omega (arith, characters_after (continuation_len b) (lead_bits b) bytes)
 
--- at first no match stands anywhere
+-- at first no match is anywhere
 pub none_stand : (n : ℕ) → AllByRecursion (λ s. s ≡ false) (replicate n false)
 none_stand zero = tt
 none_stand (suc n) = (refl, none_stand n)

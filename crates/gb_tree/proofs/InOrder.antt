@@ -1,4 +1,4 @@
--- Files are read place by place, and stand in the order of their paths.
+-- Files are read place by place, and are in the order of their paths.
 use Rattle.std.proofs.Common.{arith, add-one, ◌≡◌, ◌<◌, ◌+◌, inl, inr, ℕ, zero, suc, Bool, true, false, cond, ◌&&◌, List, [], ◌∷◌, ◌++◌, map, length, get_or, take, drop, Option, Some, None, refl, sym, ◌∙◌, ap}
 use Rattle.std.proofs.lemmas.Bool.{and_parts, false≢true}
 use Rattle.std.proofs.lemmas.List.{drop-drop, drop_all, drop_at}
@@ -55,7 +55,7 @@ at_root root = drop_all (length root + 1) root (omega arith)
 two_orders : (a b : List ℕ) → byte_order a b ≡ Less → byte_order b a ≡ Less → ⊥
 two_orders a b x y = let e : Less ≡ Greater = sym y ∙ reversed a b Less x in cc
 
--- paths from one root stand in the order of their places
+-- paths from one root are in the order of their places
 pub paths_ordered : (root q p : List ℕ) → IsUnder q root → IsUnder p root → is_place p ≡ true → byte_order q p ≡ Less → byte_order (path_from root p) (path_from root q) ≡ Greater
 paths_ordered root q p (inl at) (inl same) good less =
     absurd (let e : Less ≡ Equal = sym less ∙ same_tied q p (at ∙ sym same) in cc)

@@ -56,7 +56,7 @@ module _ (name : List ℕ) (naming : Naming) (roots : List Place) (include exclu
   as_odd : odd_roots contents (places_of starts) ≡ odd_roots contents (places_of (starts_in include (distinct roots)))
   as_odd = ap (λ starts. odd_roots contents (places_of starts)) same
 
-  -- what hinders finding the entries comes first
+  -- a fault in finding the entries comes first
   pub found_refused : (before after : ℕ) (fault : TreeFault) → IsRefused before after (odd_roots contents (places_of starts) ++ too_many name (all starts)) fault → IsRefused before after (entry_faults name naming roots include exclude contents) fault
   found_refused before after fault (inl machine) = inl machine
   found_refused before after fault (inr first) =
@@ -65,7 +65,7 @@ module _ (name : List ℕ) (naming : Naming) (roots : List Place) (include exclu
       ap (λ faults. faults ++ too_many name (all starts)) as_odd ∙ ap (λ faults. odd ++ faults) as_many in
       inr (front_first (odd ++ too_many name final) (told final) fault (sym (ap first_of here) ∙ first))
 
-  -- where nothing hindered that, what is left is that paths are doubled
+  -- where there was no such fault, the fault left is that paths are doubled
   pub only_doubled : (entries sorted : Entries) → odd_roots contents (places_of starts) ≡ [] → entries ≡ all starts → too_many name entries ≡ [] → sorted ≡ in_order entries → entry_faults name naming roots include exclude contents ≡ told sorted
   only_doubled entries sorted none is few order =
       ap (λ faults. faults ++ too_many name final ++ told final) (sym as_odd ∙ none)

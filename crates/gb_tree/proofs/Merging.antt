@@ -1,4 +1,4 @@
--- Two trees are gone through together, least path first.
+-- Two trees are merged, least path first.
 use Rattle.std.proofs.Common.{arith, ◌≡◌, ◌≤◌, ◌<◌, ◌+◌, ◌-◌, ◌⊎◌, inl, inr, ℕ, length, get_or, take, Bool, true, false, ◌&&◌, IsTrue, List, [], ◌∷◌, ◌++◌, map, Some, None, drop, refl, sym, ◌∙◌, ap, subst}
 use Rattle.std.proofs.lemmas.List.{drop-drop, drop_all, length-drop, take_all}
 use Rattle.std.specs.List.{AllByRecursion, flat_map}
@@ -16,7 +16,7 @@ use Rattle.gb_core.proofs.Found.{find-same, find-other, same_tied, tied_same}
 use Rattle.gb_tree.specs.Merge.{told, past}
 use Rattle.gb_tree.proofs.Loops.{step_here, with_none}
 
--- the path stands before each of the tree
+-- the path comes before each of the tree
 abbrev Before : List ℕ → Tree → Type 0
 Before k es = AllByRecursion (λ e. byte_order k e.0 ≡ Less) es
 
@@ -124,7 +124,7 @@ all_before k (e ∷ es) h = let parts = and_parts (is_lt (byte_order k e.0)) (be
 sorted_parts : (e : List ℕ × List ℕ) (es : Tree) → IsTrue (is_sorted byte_order (e ∷ es)) → Before e.0 es × IsTrue (is_sorted byte_order es)
 sorted_parts e es h = let parts = and_parts (below_all byte_order e.0 es) (is_sorted byte_order es) h in (all_before e.0 es parts.0, parts.1)
 
--- what is met tells what changed at the least path, and the rest is told later
+-- the two compared entries show what changed at the least path, and the rest is compared later
 pub told_met : (a b : List ℕ × List ℕ) (old new : Tree) → IsTrue (is_sorted byte_order (a ∷ old)) → IsTrue (is_sorted byte_order (b ∷ new))
     → told (byte_order a.0 b.0) a b ++ changes_between (drop (past (byte_order a.0 b.0)).0 (a ∷ old)) (drop (past (byte_order a.0 b.0)).1 (b ∷ new)) ≡ changes_between (a ∷ old) (b ∷ new)
 told_met a b old new sorted_old sorted_new =
@@ -162,7 +162,7 @@ all_added (e ∷ new) h =
     let parts = sorted_parts e new h in
     ap (λ cs. Added e.0 ∷ cs) (all_added new parts.1) ∙ sym (added_first e.0 e.1 [] new tt parts.0)
 
--- ---- one turn of the loop, and its end
+-- ---- one step of the loop, and its end
 
 pub record Turned (before after : Tree) (i j : ℕ) (a b : List ℕ × List ℕ) (n : ℕ × ℕ) : Type 0 where
   pub at : i + n.0 ≤ length before
@@ -210,7 +210,7 @@ whole_range xs i = take_all (length xs - i) (drop i xs) (subst (λ n. n ≤ leng
 none_added : (old : Tree) → IsTrue (is_sorted byte_order old) → map (λ e. Removed e.0) old ++ [] ≡ changes_between old []
 none_added old sorted = with_none (map (λ e. Removed e.0) old) ∙ all_removed old sorted
 
--- once one list is used up, the rest of the other is told
+-- once one list is used up, the rest of the other is added
 pub rest_told : (before after : Tree) (i j : ℕ) → (length before ≤ i) ⊎ (length after ≤ j) → IsTrue (is_sorted byte_order (drop i before)) → IsTrue (is_sorted byte_order (drop j after))
     → map (λ e. Removed e.0) (take (length before - i) (drop i before)) ++ map (λ e. Added e.0) (take (length after - j) (drop j after)) ≡ changes_between (drop i before) (drop j after)
 rest_told before after i j over sorted sorted_after =

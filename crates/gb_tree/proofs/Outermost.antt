@@ -1,4 +1,4 @@
--- Of places, those that lie beneath no other: each place beneath one of all lies beneath exactly one of them.
+-- The places that lie under no other place: each place under any of all lies under exactly one of these.
 use Rattle.std.proofs.Common.{arith, ◌≡◌, ◌⊎◌, inl, inr, ℕ, zero, suc, ◌+◌, ◌<◌, ◌≤◌, Bool, true, false, cond, not, ◌&&◌, ◌||◌, nat_eq, List, [], ◌∷◌, ◌++◌, length, refl, sym, ◌∙◌, ap, subst, append_assoc, length-append}
 use Rattle.std.proofs.lemmas.Bool.{eq-eqb, false≢true}
 use Rattle.std.specs.Cmp.Lexicographic.{bytes_decides}
@@ -11,7 +11,7 @@ use Rattle.gb_tree.specs.Property.{distinct, outermost}
 use Rattle.gb_tree.proofs.InOrder.{all_filter}
 use Rattle.gb_tree.proofs.Under.{IsUnder, under_parts}
 
--- ---- Beneath and at
+-- ---- Under and at
 
 or_second : (a b : Bool) → b ≡ true → (a || b) ≡ true
 or_second true b h = refl
@@ -28,7 +28,7 @@ pub under_from : (place root : List ℕ) → IsUnder place root → is_under pla
 under_from place root (inl same) = ap (λ b. b || is_beneath place root) ((bytes_decides place root).1 same)
 under_from place root (inr more) = or_second (bytes_eq place root) (is_beneath place root) (beneath_from place root more.0 more.1)
 
--- strictly beneath
+-- strictly under
 abbrev IsIn : List ℕ → List ℕ → Type 0
 IsIn place root = (rest : List ℕ) × (place ≡ root ++ 47 ∷ rest)
 
@@ -176,7 +176,7 @@ any_from test place (other ∷ places) stands passes = by (bytes_eq other place)
 -- ---- The outermost of them
 
 module _ (all : List Place) (at : Place) where
-  -- of those above the place, one that lies beneath none of all
+  -- of those above the place, one that lies under none of all
   record IsTop (top : Place) : Type 0 where
     pub among : stands_in top all ≡ true
     pub above : is_under at top ≡ true
@@ -229,7 +229,7 @@ module _ (all : List Place) (at : Place) where
           ap (λ (p : Place). cond (is_out p) (if_under n p) 0) e ∙ ap (λ b. cond (not b) (if_under n top) 0) is.free ∙ ap (λ b. cond b n 0) is.above
       by false apart = other apart (list_any (is_beneath place) all) (is_under at place) refl refl
 
-  -- a place beneath one of all lies beneath one of the outermost
+  -- a place under one of all lies under one of the outermost
   pub one_above : (n : ℕ) → list_any (is_under at) all ≡ true → total (if_under n) (outermost all) ≡ n
   one_above n any =
       let found = one_of (is_under at) all any in

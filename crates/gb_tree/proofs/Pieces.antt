@@ -9,7 +9,7 @@ use Rattle.sha2.specs.Sha256.{sha256}
 use Rattle.gb_folder.specs.Limits.{max_file}
 use Rattle.gb_tree.specs.Tree.{bytes_at}
 
--- what a folder gave that holds the same still
+-- a piece that a folder returned whose contents are still the same
 pub same_piece : (old now : Contents) (place : Place) (at count : ℕ) (piece : List ℕ) → now ≡ old → piece ≡ take count (drop at (bytes_at now.files place)) → piece ≡ take count (drop at (bytes_at old.files place))
 same_piece old now place at count piece same is = is ∙ ap (λ contents. take count (drop at (bytes_at contents.files place))) same
 
@@ -30,7 +30,7 @@ whole_digest at bytes piece digest of is short = of ∙ ap sha256 (whole at byte
 pub one_more : (at : ℕ) (bytes piece : List ℕ) → piece ≡ take 65536 (drop at bytes) → take at bytes ++ piece ≡ take (at + 65536) bytes
 one_more at bytes piece is = ap (λ more. take at bytes ++ more) is ∙ sym (take-add at 65536 bytes)
 
--- a full piece stands within the file
+-- a full piece is within the file
 pub within_file : (at : ℕ) (bytes piece : List ℕ) → at ≤ length bytes → piece ≡ take 65536 (drop at bytes) → 65536 ≤ length piece → at + 65536 ≤ length bytes
 within_file at bytes piece le is full =
     let count = ap length is ∙ length-take 65536 (drop at bytes) in

@@ -1,4 +1,4 @@
--- Why a file that stands is not read.
+-- Why an existing file is not read.
 use Rattle.std.proofs.Common.{◌≡◌, ◌⊎◌, ◌<◌, ◌≤◌, ◌++◌, Result, Err, arith, inl, inr, ℕ, Bool, true, List, [], ◌∷◌, length, Option, Some, None, refl, sym, ◌∙◌, ap, subst}
 use Rattle.std.proofs.lemmas.Bool.Decides.{nat_tests}
 use Rattle.std.proofs.lemmas.Bool.{false≢true}
@@ -14,7 +14,7 @@ use Rattle.gb_folder.specs.Limits.{max_file}
 use Rattle.gb_folder.proofs.Free.{free_at}
 use Rattle.gb_tree.specs.Tree.{IsTreeFaultOfMachine, tree_fault_at, is_large}
 
--- no file stands where another is in the way
+-- no file exists where another is in the way
 pub not_blocked : (files : Files) (place : Place) → IsFolder files → IsSome (file_at files place) → is_blocked files place ≡ true → ⊥
 not_blocked files place sound stands blocked = by (file_at files place) refl stands
   where
@@ -54,7 +54,7 @@ pub none_first : {X : Type 0} (xs : List X) → first_of xs ≡ None → xs ≡ 
 none_first [] e = refl
 none_first (x ∷ xs) e = absurd (cc)
 
--- the first of two lists in turn
+-- the first of two lists, one after the other
 pub front_first : {X : Type 0} (xs ys : List X) (x : X) → first_of xs ≡ Some x → first_of (xs ++ ys) ≡ Some x
 front_first [] ys x e = absurd (cc)
 front_first (y ∷ xs) ys x e = e

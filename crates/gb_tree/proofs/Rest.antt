@@ -1,4 +1,4 @@
--- The rest of a place behind a slash is a place.
+-- The rest of a place after a slash is a place.
 use Rattle.std.proofs.Common.{arith, ◌≡◌, ◌+◌, ◌≤◌, inl, inr, ℕ, suc, true, ◌&&◌, List, [], ◌∷◌, ◌++◌, length, take, drop, add-one, refl, sym, ◌∙◌, ap}
 use Rattle.std.proofs.Math.Seq.{drop-cons}
 use Rattle.std.proofs.lemmas.Bool.{and_parts}
@@ -38,7 +38,7 @@ rest_is_path root place (inl is) good = ap (λ p. is_rel_path (path_from root p)
 rest_is_path root place (inr more) good =
     ap (λ p. is_rel_path (path_from root p)) more.1 ∙ ap is_rel_path (past_root root more.0) ∙ place_is_path more.0 (rest_is_place root more.0 (sym (ap is_place more.1) ∙ good))
 
--- behind the last slash
+-- after the last slash
 pub last_is_path : (place front back : List ℕ) → SplitsAroundMatch (RFindsChar 47) place front back → is_place place ≡ true → is_rel_path back ≡ true
 last_is_path place front back (i, j, finds, at_front, at_back, order, long_front, long_back) good =
     let ends : j ≡ i + 1 = finds.1.ends ∙ ap (λ n. i + n) (len_utf8_ascii 47 (omega arith)) in

@@ -36,7 +36,7 @@ test_at test [] i x within is all = absurd (omega (arith, within))
 test_at test (y ∷ xs) zero x within is all = ap test is ∙ (and_parts (test y) (list_all test xs) all).0
 test_at test (y ∷ xs) (suc i) x within is all = test_at test xs i x (omega (arith, within)) is (and_parts (test y) (list_all test xs) all).1
 
--- a file that was seen stands among the places
+-- a file that was read is among the places
 pub seen_among : (files : List SeenFile) (i : ℕ) (x : SeenFile) → i < length files → x ≡ get_or files i x → IsTrue (is_among (entries_seen files) x.place)
 seen_among files i x within is =
     let entry = mapped_at (λ (file : SeenFile). (file.path, file.place)) files i x within is in
@@ -85,7 +85,7 @@ pub paths_seen : (files : List SeenFile) → map (λ file. file.path) files ≡ 
 paths_seen [] = refl
 paths_seen (file ∷ files) = ap (λ paths. file.path ∷ paths) (paths_seen files)
 
--- a file whose path follows those that are there stands behind them
+-- a file whose path follows those that are there is appended to them
 pub put_seen : (files : List SeenFile) (i : ℕ) (x : SeenFile) (tree : Tree) (bytes : List ℕ) → i < length files → x ≡ get_or files i x → IsTrue (is_sorted byte_order (digests_seen files))
     → map (λ file. file.0) tree ≡ map (λ file. file.path) (take i files) → put byte_order x.path bytes tree ≡ tree ++ (x.path, bytes) ∷ []
 put_seen files i x tree bytes within is sorted same =
@@ -99,12 +99,12 @@ contents_next old [] i x within is = absurd (omega (arith, within))
 contents_next old (y ∷ files) zero x within is = ap (λ (z : SeenFile). (z.path, bytes_at old z.place) ∷ []) is
 contents_next old (y ∷ files) (suc i) x within is = ap (λ more. (y.path, bytes_at old y.place) ∷ more) (contents_next old files i x (omega (arith, within)) is)
 
--- the tree of what was seen, and of one file more
+-- the tree of what was read, and of one file more
 pub contents_more : (old : Files) (files : List SeenFile) (i : ℕ) (x : SeenFile) → i < length files → x ≡ get_or files i x
     → contents_at old (entries_seen (take i files)) ++ (x.path, bytes_at old x.place) ∷ [] ≡ contents_at old (entries_seen (take (i + 1) files))
 contents_more old files i x within is = rw add-one (contents_next old files i x within is)
 
--- ---- What they tell of the files
+-- ---- What they show about the files
 
 pub digests_told : (old : Files) (seen : List SeenFile) → AllByRecursion (IsSeenIn old) seen → digests_seen seen ≡ digests_of (contents_at old (entries_seen seen))
 digests_told old [] all = refl
@@ -130,7 +130,7 @@ seen_sorted entries seen placed sorted = sorted_alike (digests_seen seen) (entri
     same_paths [] = refl
     same_paths (file ∷ seen) = ap (λ paths. file.path ∷ paths) (same_paths seen)
 
--- ---- One file more is seen
+-- ---- One file more is read
 
 pub placed_more : (entries : Entries) (i : ℕ) (e : List ℕ × Place) (seen more : List SeenFile) (x : SeenFile) → i < length entries → e ≡ get_or entries i e → more ≡ seen ++ x ∷ [] → x.path ≡ e.0 → x.place ≡ e.1
     → entries_seen seen ≡ take i entries → entries_seen more ≡ take (i + 1) entries

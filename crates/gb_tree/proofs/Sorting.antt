@@ -1,4 +1,4 @@
--- What stands in order is the only list in order of its entries.
+-- A list in order is the only list in order of its entries.
 use Rattle.std.proofs.Common.{arith, add-one, ◌≡◌, ◌+◌, ℕ, suc, Bool, true, false, cond, List, [], ◌∷◌, refl, sym, ◌∙◌, ap}
 use Rattle.std.proofs.lemmas.Cmp.{then_total, on_total}
 use Rattle.std.proofs.lemmas.List.Elements.{recursion_from_All}
@@ -72,7 +72,7 @@ ordered_in_order : (entries : Entries) → AreOrdered (in_order entries)
 ordered_in_order [] = tt
 ordered_in_order (entry ∷ entries) = ordered_inserted entry (in_order entries) (ordered_in_order entries)
 
--- ---- How often an entry stands
+-- ---- How often an entry occurs
 
 abbrev pub one_if : Ordering → ℕ
 one_if o = cond (is_eq o) 1 0
@@ -142,7 +142,7 @@ sorted_is xs ys permutation sorted =
     same_list ys (in_order xs) (ordered_from ys sorted) (ordered_in_order xs)
     (λ entry. sum_by-IsPermutation (λ other. one_if (entry_order entry other)) xs ys permutation ∙ sym (count_in_order entry xs))
 
--- what holds each entry as often is in order the same list
+-- two lists in order that have each entry equally often are the same list
 pub same_in_order : (xs ys : Entries) → ((entry : Entry) → sum_by (λ other. one_if (entry_order entry other)) xs ≡ sum_by (λ other. one_if (entry_order entry other)) ys) → in_order xs ≡ in_order ys
 same_in_order xs ys same =
     same_list (in_order xs) (in_order ys) (ordered_in_order xs) (ordered_in_order ys)

@@ -27,7 +27,7 @@ longer : (root front rest : List ℕ) → IsUnder rest front → IsUnder (root +
 longer root front rest (inl same) = inl (ap (λ t. root ++ 47 ∷ t) same)
 longer root front rest (inr more) = inr (more.0, ap (λ t. root ++ 47 ∷ t) more.1 ∙ sym (append_assoc root (47 ∷ front) (47 ∷ more.0)))
 
--- the start lies at the root or beneath it
+-- the start lies at the root or under it
 pub start_under : (root pattern : List ℕ) → is_under (start_of root pattern) root ≡ true
 start_under root pattern =
     elim (path_matches pattern (last_segment root) || not (is_place (root ++ 47 ∷ front_of pattern))) as (λ b. is_under (cond b root (root ++ 47 ∷ front_of pattern)) root ≡ true) [
@@ -54,7 +54,7 @@ module _ (root pattern place : List ℕ) (under : is_under place root ≡ true) 
       by (inl same) = absurd (false≢true (sym apart ∙ (bytes_decides place root).1 same))
       by (inr more) = beneath_front more.0 more.1 (ap (path_matches pattern) (sym (ap (path_from root) more.1 ∙ past_root root more.0)) ∙ fits) good
 
-  -- what a pattern lets in stands at its start or beneath it
+  -- what a pattern lets in is at its start or under it
   under_start : is_under place (start_of root pattern) ≡ true
   under_start = by (path_matches pattern (last_segment root)) (is_place begin) refl refl
     where
@@ -89,7 +89,7 @@ starts_under : (root : Place) (include : List (List ℕ)) → AllByRecursion (λ
 starts_under root [] = tt
 starts_under root (pattern ∷ include) = (start_under root pattern, starts_under root include)
 
--- each start lies at its root or beneath it
+-- each start lies at its root or under it
 pub each_under : (include : List (List ℕ)) (root : Place) → AllByRecursion (λ start. is_under start root ≡ true) (starts_of include root)
 each_under [] root = (own_place root, tt)
 each_under (pattern ∷ include) root =
@@ -217,13 +217,13 @@ found_in_order naming roots include exclude files =
     same_in_order (found_from naming include exclude files (starts_in include (distinct roots))) (found naming include exclude files (distinct roots))
     (λ entry. of_roots naming include exclude files entry (distinct roots))
 
--- ---- Beneath the roots
+-- ---- Under the roots
 
 with_root : (root : Place) (starts : List Place) → AllByRecursion (λ start. IsTrue (is_under start root)) starts → AllByRecursion (λ (start : Place × Place). IsTrue (is_under start.1 start.0)) (map (λ start. (root, start)) starts)
 with_root root [] all = tt
 with_root root (start ∷ starts) all = (all.0, with_root root starts all.1)
 
--- each of the starts lies at its root or beneath it
+-- each of the starts lies at its root or under it
 pub starts_within : (include : List (List ℕ)) (roots : List Place) → AllByRecursion (λ (start : Place × Place). IsTrue (is_under start.1 start.0)) (starts_in include roots)
 starts_within include [] = tt
 starts_within include (root ∷ roots) =
@@ -241,7 +241,7 @@ places_again : (root : Place) (starts : List Place) → places_of (map (λ start
 places_again root [] = refl
 places_again root (start ∷ starts) = ap (λ places. start ∷ places) (places_again root starts)
 
--- what lies beneath one of the starts lies beneath one of the roots
+-- what lies under one of the starts lies under one of the roots
 pub beneath_roots : (include : List (List ℕ)) (roots : List Place) (at : Place) → IsTrue (is_under_any (places_of (starts_in include roots)) at) → IsTrue (is_under_any roots at)
 beneath_roots include [] at h = h
 beneath_roots include (root ∷ roots) at h =

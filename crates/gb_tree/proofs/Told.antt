@@ -1,4 +1,4 @@
--- Why the files at entries are not read, told of the whole.
+-- Why the files at entries are not read, stated for the whole.
 use Rattle.std.proofs.Common.{◌≡◌, ◌≤◌, ◌++◌, ℕ, true, false, cond, List, [], ◌∷◌, map, inl, inr, sym, ◌∙◌, subst}
 use Rattle.std.specs.List.{AllByRecursion}
 use Rattle.std.specs.Prelude.{IsSome}
@@ -11,12 +11,12 @@ use Rattle.gb_tree.proofs.Refused.{back_first, front_first, machine_before}
 abbrev pub Stand : Files → Entries → Type 0
 Stand files entries = AllByRecursion (λ entry. IsSome (file_at files entry.1)) entries
 
--- what hindered listing them comes first
+-- a fault in listing them comes first
 pub refused_listing : (before after : ℕ) (listing more : List TreeFault) (fault : TreeFault) → IsRefused before after listing fault → IsRefused before after (listing ++ more) fault
 refused_listing before after listing more fault (inl machine) = inl machine
 refused_listing before after listing more fault (inr first) = inr (front_first listing more fault first)
 
--- nothing hindered listing the entries
+-- there was no fault in listing the entries
 pub refused_reading : (before mid after : ℕ) (old now : Contents) (listing : List TreeFault) (entries read : Entries) (fault : TreeFault) → now ≡ old → read ≡ entries → before ≤ mid → mid ≤ after → listing ≡ []
     → Stand old.files entries → (Stand now.files read → IsRefused mid after (too_large now.files read) fault) → IsRefused before after (listing ++ too_large old.files entries) fault
 refused_reading before mid after old now listing entries read fault same all le more none stands refused =

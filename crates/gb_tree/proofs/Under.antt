@@ -1,4 +1,4 @@
--- Places at or beneath a root.
+-- Places at or under a root.
 use Rattle.std.proofs.Common.{◌≡◌, ◌⊎◌, inl, inr, ℕ, Bool, true, false, ◌||◌, List, [], ◌∷◌, ◌++◌, drop, length, refl, sym, ◌∙◌, ap, IsTrue}
 use Rattle.std.proofs.lemmas.List.{drop_at}
 use Rattle.std.specs.Cmp.Lexicographic.{bytes_decides}

@@ -1,4 +1,4 @@
--- Files as calls answered them, over any folder: listed, and read.
+-- Files as calls on any folder returned them: listed, and read.
 use Rattle.std.specs.Prelude.{ℕ, ◌≡◌, ◌⊎◌, true, List, []}
 use Rattle.std.specs.List.{AllByRecursion, AllZip, flat_map, zip}
 use Rattle.gb_folder.specs.Answers.{WereListed, WereRead}
@@ -11,19 +11,19 @@ use Rattle.gb_tree.specs.declared.kept.SeenFile.{SeenFile}
 use Rattle.gb_tree.specs.declared.property.Naming.{Naming}
 use Rattle.sha2.specs.Sha256.{sha256}
 
--- what belongs to a property, of the places that were answered as all at or beneath each start
+-- what belongs to a property, among the places that calls returned as all at or under each start
 abbrev pub listed_in : Naming → List (List ℕ) → List (List ℕ) → List ((Place × Place) × List Place) → Entries
 listed_in naming include exclude listings =
     flat_map (λ listing. entries_in naming include exclude listing.0.0 listing.1) listings
 
--- these places were answered as all at or beneath a start
+-- a call returned these places as all at or under a start
 abbrev pub IsStartListed : {F : Type 0} → (F → ℕ) → (F → Tearing) → (F → Call → F → Type 0) → F → F
     → Place × Place → List Place → Type 0
 IsStartListed failures may_leave asked old new start places =
     WereListed failures may_leave asked old new start.1 places
 
--- The entries of a property: of what was answered as all at or beneath each of its starts, what belongs to
--- it.
+-- The entries of a property: what belongs to it, among the places that calls returned as all at or under
+-- each of its starts.
 pub record AreEntriesListed {F : Type 0} (failures : F → ℕ) (may_leave : F → Tearing)
     (asked : F → Call → F → Type 0) (naming : Naming) (roots : List Place) (include exclude : List (List ℕ))
     (old new : F) (entries : Entries) : Type 0 where
@@ -33,7 +33,7 @@ pub record AreEntriesListed {F : Type 0} (failures : F → ℕ) (may_leave : F �
   pub are : entries
       ≡ in_order (listed_in naming include exclude (zip (starts_in include (distinct roots)) listings))
 
--- those of an output: what was answered as all at or beneath its place; in the tool's own folder there are
+-- those of an output: what calls returned as all at or under its place; in the tool's own folder there are
 -- none
 abbrev pub AreOutputEntriesListed : {F : Type 0} → (F → ℕ) → (F → Tearing) → (F → Call → F → Type 0) → F → F
     → Place → Entries → Type 0
@@ -42,26 +42,26 @@ AreOutputEntriesListed failures may_leave asked old new root entries =
     ⊎ ((places : List Place) × WereListed failures may_leave asked old new root places
     × (entries ≡ entries_from root places))
 
--- the bytes of the file were answered: the digest is theirs, and no others are kept
+-- a call returned the bytes of the file: the digest is theirs, and no others are kept
 abbrev pub WasSeen : {F : Type 0} → (F → ℕ) → (F → Tearing) → (F → Call → F → Type 0) → F → F → SeenFile
     → Type 0
 WasSeen failures may_leave asked old new seen =
     (bytes : Bytes) × WereRead failures may_leave asked old new seen.place bytes
     × (seen.digest ≡ sha256 bytes) × KeepsOnly bytes seen.kept
 
--- those of each file were
+-- the same holds for each file
 abbrev pub WereSeen : {F : Type 0} → (F → ℕ) → (F → Tearing) → (F → Call → F → Type 0) → F → F → List SeenFile
     → Type 0
 WereSeen failures may_leave asked old new files =
     AllByRecursion (WasSeen failures may_leave asked old new) files
 
--- the file of an entry, with bytes that were answered
+-- the file of an entry, with bytes that calls returned
 abbrev pub IsFileRead : {F : Type 0} → (F → ℕ) → (F → Tearing) → (F → Call → F → Type 0) → F → F
     → List ℕ × Place → List ℕ × Bytes → Type 0
 IsFileRead failures may_leave asked old new entry file =
     (file.0 ≡ entry.0) × WereRead failures may_leave asked old new entry.1 file.1
 
--- the tree of these entries, each with bytes that were answered
+-- the tree of these entries, each with bytes that calls returned
 abbrev pub IsTreeRead : {F : Type 0} → (F → ℕ) → (F → Tearing) → (F → Call → F → Type 0) → F → F → Entries
     → Files → Type 0
 IsTreeRead failures may_leave asked old new entries files =

@@ -1,4 +1,4 @@
--- The numbers under which the faults of patterns and trees are told to users.
+-- The numbers under which the faults of patterns and trees are reported to users.
 use Rattle.std.specs.Prelude.{ℕ}
 use Rattle.gb_tree.specs.declared.pattern.PatternFault.{PatternFault}
 use Rattle.gb_tree.specs.declared.pattern.PatternFault.TheVariants.{OutOfMemory, BadPattern}

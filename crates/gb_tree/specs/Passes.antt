@@ -1,9 +1,9 @@
--- How a match goes on along a pattern: before which of its items a match can stand once a text has been read.
+-- How a match advances along a pattern: before which of its items a match can end once a text has been read.
 use Rattle.std.specs.Prelude.{Bool, true, false, ◌&&◌, ◌||◌, List, [], ◌∷◌, if◌then◌else◌, Option, None, Some}
 use Rattle.gb_tree.specs.Pattern.{matches_by}
 
--- One more thing is read, which fits some items of the pattern. `entered`: a match comes to stand before the
--- first item; `waiting`: one stood there that had read nothing of the thing.
+-- One more element is read; it fits some items of the pattern. `entered`: a match reaches the position before
+-- the first item; `waiting`: a match was there that had read nothing of the element.
 abbrev pub pass : {P : Type 0} → (P → Bool) → (P → Bool) → Bool → Bool → List Bool → List P → List Bool × Bool
 pass any fits entered waiting states [] = (states, entered)
 pass any fits entered waiting [] (p ∷ ps) = ([], entered)
@@ -13,7 +13,7 @@ pass any fits entered waiting (stood ∷ states) (p ∷ ps) =
     let rest = pass any fits (if any p then stands else here && fits p) (any p && here) states ps in
     (stands ∷ rest.0, rest.1)
 
--- one of the matches that stand along the pattern, or at its end, goes on to the text's end
+-- one of the matches along the pattern, or at its end, continues to the text's end
 abbrev pub goes_on : {P X : Type 0} → (P → Bool) → (P → X → Bool) → List Bool → List P → Bool → List X → Bool
 goes_on any fits states [] ended xs = ended && matches_by any fits [] xs
 goes_on any fits [] (p ∷ ps) ended xs = false

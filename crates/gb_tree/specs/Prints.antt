@@ -7,7 +7,7 @@ use Rattle.sha2.specs.Sha256.{sha256}
 abbrev pub digests_of : Tree → Tree
 digests_of tree = map (λ file. (file.0, sha256 file.1)) tree
 
--- No two contents that stand at one path of the two trees share a digest without being equal.
+-- No two contents at one path of the two trees share a digest without being equal.
 abbrev pub AreApart : Tree → Tree → Type 0
 AreApart old new =
     (path a b : List ℕ) → file_at old path ≡ Some a → file_at new path ≡ Some b → sha256 a ≡ sha256 b → a ≡ b

@@ -20,7 +20,7 @@ use Rattle.gb_tree.specs.declared.fault.TreeFault.TheVariants as faults
 abbrev pub last_segment : List ℕ → List ℕ
 last_segment place = after_last (λ b. b == 47) place
 
--- where a file stands, seen from a root; a root that is a file is seen by its name
+-- the path of a file from a root; a root that is a file is named by its last segment
 abbrev pub seen_from : Place → Place → List ℕ
 seen_from root place = if bytes_eq place root then last_segment place else path_from root place
 
@@ -32,21 +32,21 @@ abbrev pub lets_in : List (List ℕ) → List (List ℕ) → List ℕ → Bool
 lets_in include exclude path =
     (is_empty include || matches_any include path) && not (matches_any exclude path)
 
--- a file beneath the root belongs to the property
+-- a file under the root belongs to the property
 abbrev pub is_in : List (List ℕ) → List (List ℕ) → Place → Place → Bool
 is_in include exclude root place = not (is_own place) && lets_in include exclude (seen_from root place)
 
--- the path at which it stands in the property's tree
+-- the path at which it is in the property's tree
 abbrev pub path_of : Naming → Place → Place → List ℕ
 path_of Relative root place = seen_from root place
 path_of NameOnly root place = last_segment place
 
--- the places that belong to the property, of those beneath a root, with their paths
+-- the places that belong to the property, among those under a root, with their paths
 abbrev pub entries_in : Naming → List (List ℕ) → List (List ℕ) → Place → List Place → Entries
 entries_in naming include exclude root places =
     map (λ place. (path_of naming root place, place)) (filter (is_in include exclude root) places)
 
--- at or beneath one of the roots
+-- at or under one of the roots
 abbrev pub is_under_any : List Place → Place → Bool
 is_under_any roots place = list_any (is_under place) roots
 
@@ -62,18 +62,18 @@ found naming include exclude files roots =
 
 -- ---- Where they are looked for
 
--- Where all stands that a pattern lets in beneath the root: at the place of its front or beneath it. The root
+-- Where everything is that a pattern lets in under the root: at the place of its front or under it. The root
 -- itself, where that would be no place, or where the pattern lets in a file that is the root.
 abbrev pub start_of : Place → List ℕ → Place
 start_of root pattern =
     let start = root ++ 47 ∷ front_of pattern in
     if path_matches pattern (last_segment root) || not (is_place start) then root else start
 
--- those of them that lie beneath no other, each once
+-- those of them that lie under no other, each once
 abbrev pub outermost : List Place → List Place
 outermost places = filter (λ place. not (list_any (is_beneath place) places)) (distinct places)
 
--- the places beneath a root at which the files are listed
+-- the places under a root at which the files are listed
 abbrev pub starts_of : List (List ℕ) → Place → List Place
 starts_of include root = if is_empty include then root ∷ [] else outermost (map (start_of root) include)
 
@@ -89,7 +89,7 @@ abbrev pub found_from : Naming → List (List ℕ) → List (List ℕ) → Files
 found_from naming include exclude files starts =
     flat_map (λ start. entries_in naming include exclude start.0 (places_under files start.1)) starts
 
--- no more of them than tell that there are too many
+-- of these, up to one entry more than the limit
 abbrev pub held : Entries → Entries
 held entries = take (max_files + 1) entries
 
@@ -119,13 +119,13 @@ tree_of naming roots include exclude files = contents_at files (entries_of namin
 abbrev pub paths_of : Entries → List (List ℕ)
 paths_of entries = map (λ entry. entry.0) entries
 
--- Of each two paths in order that cannot stand in one tree, the same path twice or one a folder of the other:
--- the greater.
+-- For each two paths in order that cannot be in one tree (the same path twice, or one a folder of the
+-- other): the greater.
 abbrev pub doubled : List (List ℕ) → List (List ℕ)
 doubled [] = []
 doubled (path ∷ paths) = filter (λ other. is_under other path) paths ++ doubled paths
 
--- What hinders listing the property's files, and then reading them, in this order.
+-- The faults in listing the property's files, and then in reading them, in this order.
 abbrev pub entry_faults : List ℕ → Naming → List Place → List (List ℕ) → List (List ℕ) → Contents
     → List TreeFault
 entry_faults name naming roots include exclude contents =

@@ -1,4 +1,4 @@
--- Small files that were read and wait to be digested, and what each comes to.
+-- Small files that were read and wait to be digested, and the result for each.
 use Rattle.std.specs.Prelude.{ℕ, List, [], ◌∷◌, Option, Some, None, if◌then◌else◌}
 use Rattle.gb_folder.specs.Files.{Bytes}
 use Rattle.gb_tree.specs.declared.kept.SeenFile.{SeenFile}

@@ -14,7 +14,7 @@ use std::alloc::{AllocError, Global};
 use std::cmp::Ordering;
 
 /// What was added, modified or removed from the old state to the new one, by the bytes of the
-/// paths. The entries of both are gone through together, once.
+/// paths. One pass merges the entries of both.
 pub fn compare(alloc: Global, old: &Prints, new: &Prints) -> Result<ChangeList, AllocError>
     ensures changes { IfOk result (λ changes. changes ≡ changes_between old.now.1 new.now.1) }
     ensures exact { IfOk result (λ changes. (before after : Tree) → old.now.1 ≡ digests_of before
@@ -34,7 +34,7 @@ pub fn compare(alloc: Global, old: &Prints, new: &Prints) -> Result<ChangeList, 
     Ok(changes)
 }
 
-/// Tells what two entries show that are met, and answers their order.
+/// Adds the change that two compared entries show, and returns their order.
 fn tell(
     changes: &mut ChangeList,
     old: &(RelPath, [u8; 32]),
@@ -57,7 +57,7 @@ fn tell(
     Ok(order)
 }
 
-/// How many entries of either list are told when two are met in this order.
+/// How many entries of either list are done after two were compared with this order.
 fn past(order: Ordering) -> (usize, usize)
     ensures { result ≡ past order }
 {

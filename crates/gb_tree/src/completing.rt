@@ -1,4 +1,4 @@
-//! What was read is completed: of the files whose bytes were not kept, the bytes are read and digested anew.
+//! Completes a reading: the files whose bytes were not kept are read and digested again.
 ghost use Rattle.std.specs.Prelude.{◌≡◌, ◌++◌, ◌∷◌, [], map, IsTrue, IfOk, IfErr, OnOk};
 ghost use Rattle.std.specs.List.{AllByRecursion};
 ghost use Rattle.std.specs.FinMap.Entries.{is_sorted, put};
@@ -57,7 +57,7 @@ fn complete<F: Folder>(
     Ok((path, bytes, anew))
 }
 
-/// One file more, with its digest behind those of the others.
+/// Adds one file, with its digest after those of the others.
 fn add(
     files: &mut Files,
     digests: &mut Vec<(RelPath, [u8; 32])>,

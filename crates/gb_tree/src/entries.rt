@@ -29,8 +29,8 @@ use gb_folder::limits::MAX_FILES;
 use gb_folder::own::is_own;
 use std::alloc::{AllocError, Global};
 
-/// The places of the property's files, in the order of their paths, of which each can stand beside
-/// the others. Of no content anything is read.
+/// The places of the property's files, in the order of their paths. All of these paths can exist
+/// together in one tree. No content is read.
 pub(crate) fn entries_of<F: Folder>(
     alloc: Global,
     folder: &mut F,
@@ -73,7 +73,7 @@ pub(crate) fn entries_of<F: Folder>(
     Ok(entries)
 }
 
-/// What the starts give, of which there are no more than can be read.
+/// The entries that the starts give, where these are no more than can be read.
 fn found_few<F: Folder>(
     alloc: Global,
     folder: &mut F,
@@ -111,8 +111,8 @@ fn found_few<F: Folder>(
     Ok(entries)
 }
 
-/// What each of the starts gives, but no more than tell that there are too many: later ones are
-/// listed all the same, since something odd beneath them counts first.
+/// What each of the starts gives, up to one entry more than the limit. Later starts are listed all
+/// the same, since a special file under them is reported first.
 fn found<F: Folder>(
     alloc: Global,
     folder: &mut F,
@@ -157,7 +157,7 @@ fn found<F: Folder>(
     Ok(entries)
 }
 
-/// Adds those of the places beneath a root that belong to the property, until there are too many.
+/// Adds those of the places under a root that belong to the property, until there are too many.
 fn add_entries(
     alloc: Global,
     entries: &mut Vec<(RelPath, Place)>,
@@ -182,7 +182,7 @@ fn add_entries(
     Ok(())
 }
 
-/// Whether a place beneath the root belongs to the property.
+/// Whether a place under the root belongs to the property.
 fn is_in(include: &[Pattern], exclude: &[Pattern], root: &Place, place: &Place) -> bool
     requires { IsTrue (is_under place.now root.now) }
     ensures { result ≡ is_in include.now exclude.now root.now place.now }
@@ -210,7 +210,7 @@ fn sort(entries: &mut Vec<(RelPath, Place)>)
     entries.sort_unstable();
 }
 
-/// Refuses the first path that cannot stand beside one before it.
+/// Refuses the first path that cannot be in one tree with an earlier one.
 fn check_doubled(alloc: Global, name: &Name, entries: &[(RelPath, Place)]) -> Result<(), TreeFault>
     requires { IsRising entries.now }
     ensures ordered { OnOk result (IsTrue (is_sorted byte_order entries.now)) }
@@ -227,7 +227,7 @@ fn check_doubled(alloc: Global, name: &Name, entries: &[(RelPath, Place)]) -> Re
     Ok(())
 }
 
-/// The first of later paths, in order, that is the path or lies beneath it.
+/// The first of later paths, in order, that is the path or lies under it.
 fn first_under<'a>(
     alloc: Global,
     path: &RelPath,
@@ -244,8 +244,8 @@ fn first_under<'a>(
     }
 }
 
-/// The first of paths in order that lies beneath this one. What lies beneath a path stands side by
-/// side, but not always right behind it: `a-b` stands before `a/b`.
+/// The first of the sorted paths that lies under this one. The paths under a path are contiguous,
+/// but do not always follow it directly: `a-b` sorts before `a/b`.
 fn first_beneath<'a>(
     alloc: Global,
     path: &RelPath,
@@ -269,7 +269,7 @@ fn is_beneath(path: &RelPath, folder: &RelPath) -> bool
     lies_beneath(path.as_str().as_bytes(), folder.as_str().as_bytes())
 }
 
-/// The path and a slash, with which each path beneath it begins.
+/// The path and a slash: each path under it begins with this text.
 fn with_slash(alloc: Global, path: &RelPath) -> Result<String, AllocError>
     ensures { IfOk result (λ front. string_bytes front ≡ path.now ++ 47 ∷ []) }
 {
@@ -278,7 +278,7 @@ fn with_slash(alloc: Global, path: &RelPath) -> Result<String, AllocError>
     Ok(front)
 }
 
-/// How many of the paths, which stand in order, stand before the text.
+/// How many of the sorted paths come before the text.
 fn count_before(text: &str, entries: &[(RelPath, Place)]) -> usize
     requires { IsRising entries.now }
     ensures within { result ≤ length entries.now }

@@ -1,4 +1,4 @@
-//! Why a tree is not read.
+//! Why reading a tree fails.
 ghost use Rattle.std.specs.Prelude.{◌≡◌, ◌⊎◌};
 ghost use Rattle.gb_tree.specs.Tree.{tree_fault_at};
 
@@ -9,7 +9,7 @@ use std::alloc::{AllocError, AllocFailed};
 use std::fmt;
 use thiserror::Error;
 
-/// Why a tree is not read, with the place at which that came or the name of what was read.
+/// Why reading a tree fails, with the place of the fault or the name of what was read.
 #[derive(Drop, Error)]
 pub enum TreeFault {
     /// No memory for what is read; 3.
@@ -18,27 +18,27 @@ pub enum TreeFault {
     /// The device failed there; 10.
     #[error("device {0}")]
     Device(Place),
-    /// A file was listed that no longer stands.
+    /// A file was listed that no longer exists.
     #[error("missing {0}")]
     Missing(Place),
-    /// A file stands where a folder is needed, or beneath it; 12.
+    /// A file exists where a folder is needed, or the place is under a file; 12.
     #[error("blocked {0}")]
     Blocked(Place),
     /// It has more than 8 MiB.
     #[error("too large {0}")]
     TooLarge(Place),
-    /// Something stands there, or beneath it, that no place can name.
+    /// Something exists there, or under it, that no place can name.
     #[error("bad file name {0}")]
     BadFileName(Place),
     /// There are more than 65,536.
     #[error("too many files {0}")]
     TooManyFiles(Name),
-    /// Two files would stand at this path, or one at a folder of it.
+    /// Two files would have this path, or one would be at a folder of it.
     #[error("duplicate input {0} {1}")]
     DuplicateInput(Name, RelPath),
 }
 
-/// Told as it is shown.
+/// `Debug` prints the same text as `Display`.
 impl fmt::Debug for TreeFault {
     fn fmt<W: fmt::Write>(&self, f: &mut fmt::Formatter<W>) -> fmt::Result {
         fmt::Display::fmt(self, f)
@@ -48,7 +48,7 @@ impl fmt::Debug for TreeFault {
 impl TreeFault {
     ghost use Rattle.gb_tree.specs.Faults.{tree_fault_number};
 
-    /// The number under which the fault is told to users.
+    /// The number under which the fault is reported to users.
     pub fn number(&self) -> u16
         ensures { result ≡ tree_fault_number self.now }
     {
@@ -85,7 +85,7 @@ impl<T: Drop> From<AllocFailed<T>> for TreeFault {
     }
 }
 
-/// The fault at a place; want of memory takes its stead where there is none to name the place.
+/// The fault at a place, or `OutOfMemory` where there is no memory to name the place.
 pub(crate) fn fault_at(fault: FolderFault, place: &Place) -> TreeFault
     ensures { (result ≡ TreeFault.OutOfMemory) ⊎ (result ≡ tree_fault_at place.now fault) }
 {

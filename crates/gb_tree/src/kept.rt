@@ -1,4 +1,4 @@
-//! Files as they were read once, of which the bytes are kept as far as there is room.
+//! Files as they were read once. Their bytes are kept where there is room.
 ghost use Rattle.std.specs.Prelude.{◌≡◌, ◌↔◌, [], map, IsTrue, IfOk, IfErr};
 ghost use Rattle.std.specs.List.{AllByRecursion};
 ghost use Rattle.gb_folder.specs.Calls.{Asks, no_change};
@@ -21,7 +21,7 @@ use std::marker::Model;
 pub struct SeenFile {
     /// Its path in the tree.
     pub path: RelPath,
-    /// Where it stands.
+    /// Where it is.
     pub place: Place,
     /// The digest (SHA-256) of its bytes.
     pub digest: [u8; 32],
@@ -29,7 +29,7 @@ pub struct SeenFile {
     pub kept: Option<Bytes>,
 }
 
-/// The files of a property or an output as they were read, beside its name.
+/// The files of a property or an output as they were read, with its name.
 #[derive(Drop)]
 pub struct Reading {
     name: Name,
@@ -85,8 +85,8 @@ impl Reading {
         Ok(Prints::new(self.name.copy()?, digests))
     }
 
-    /// The files with their bytes, and the digests of these very bytes. What was kept is handed on; the
-    /// rest is read whole and digested anew, since a file may have changed.
+    /// The files with their bytes, and the digests of these very bytes. Bytes that were kept are
+    /// passed on; the other files are read whole and digested again, since a file may have changed.
     pub fn completed<F: Folder>(
         self,
         alloc: Global,
@@ -100,7 +100,7 @@ impl Reading {
         ensures prints { IfOk result (λ made. made.1 ≡ (self.0, digests_of made.0.1)) }
         ensures paths { IfOk result
             (λ made. map (λ file. file.0) made.0.1 ≡ map (λ file. file.path) self.1) }
-        // Over any folder: what was answered before, and what is answered now of the rest.
+        // Over any folder: what calls returned before, and what calls return now for the rest.
         ensures answered { (first : _) → Asks F.failures F.may_leave F.asked no_change first folder.old
             → WereSeen F.failures F.may_leave F.asked first folder.old self.1
             → IfOk result (λ made. IsTreeRead F.failures F.may_leave F.asked first folder.new

@@ -3,24 +3,24 @@
 //!
 //! A pattern is matched against the segments of a path, in steps that grow with the product of the
 //! two lengths and without memory ([`Pattern`](pattern::Pattern)).
-//! [`snapshot`](property::snapshot) reads the files of a property: those beneath its roots that its
-//! patterns let in. Beneath a root only the folders in front of the first `*` or `?` of its includes
-//! are looked at, so what stands elsewhere costs nothing and hinders nothing. The paths are sorted
-//! and compared before any content is read, in steps that grow as n log n.
+//! [`snapshot`](property::snapshot) reads the files of a property: those under its roots that its
+//! patterns let in. Under a root it looks only in the folders before the first `*` or `?` of its
+//! includes, so other files there cost nothing and cause no fault. The paths are sorted and
+//! compared before any content is read, in steps that grow as n log n.
 //! [`outputs`](output::outputs) reads the files at a place.
 //!
 //! [`reading_of`](property::reading_of) and [`output_reading`](output::output_reading) read such
-//! files once: they take the digests, of files below 65,536 bytes four at a time, and keep the bytes
-//! as far as there is room for them. From such a [`Reading`](kept::Reading) a run gets the contents
-//! by [`completed`](kept::Reading::completed), with the digests of these very contents.
+//! files once: they take the digests, of files below 65,536 bytes four at a time, and keep the
+//! bytes where there is room for them. From such a [`Reading`](kept::Reading) a run gets the
+//! contents by [`completed`](kept::Reading::completed), with the digests of these very contents.
 //!
-//! Of such files the digests are remembered: [`prints`](digest::prints) takes them from contents,
+//! The digests of such files are remembered: [`prints`](digest::prints) takes them from contents,
 //! [`prints_of`](property::prints_of) and [`output_prints`](output::output_prints) from the folder,
-//! of which they hold 65,536 bytes at a time. [`compare`](changes::compare) tells what was added,
+//! with 65,536 bytes in memory at a time. [`compare`](changes::compare) returns what was added,
 //! modified or removed between two such states.
 //!
-//! Set aside: regular expressions, character classes and negation in patterns, and one digest for a
-//! whole tree, which could not tell which file changed.
+//! Left out: regular expressions, character classes and negation in patterns, and one digest for a
+//! whole tree, which could not show which file changed.
 #![tactic(auto)]
 
 pub mod changes;

@@ -1,7 +1,7 @@
 //! Whether a path matches a pattern, in steps that grow with the product of their lengths at most.
 //!
-//! The text is read from the left, once. For each item of the pattern one flag says whether a match
-//! of what was read can stand before it, so no choice is tried twice.
+//! The text is read from the left, once. For each item of the pattern one flag records whether a
+//! match of the text read so far can end before the item, so no choice is tried twice.
 ghost use Rattle.std.specs.Prelude.{◌≡◌, ◌≤◌, ◌&&◌, ◌||◌, if◌then◌else◌, false, length};
 ghost use Rattle.std.specs.List.{list_any};
 ghost use Rattle.std.specs.Str.{chars};
@@ -14,24 +14,24 @@ ghost use Rattle.gb_tree.specs.Passes.{pass, fits_read, is_start};
 /// More than the most items of a pattern: a place has at most 1,024 bytes.
 const MOST_ITEMS: usize = 1025;
 
-/// One pass along a pattern, as one more thing of the text is read.
+/// One pass along a pattern, as one more element of the text is read.
 #[derive(Clone, Copy)]
 struct Pass {
-    /// Whether a match comes to stand before the next item.
+    /// Whether a match reaches the position before the next item.
     entered: bool,
-    /// Whether one stood there that has not read the thing yet.
+    /// Whether a match was at that position that has not read the element yet.
     waiting: bool,
 }
 
 impl Pass {
-    /// Whether a match that has not read the thing yet stands before the next item.
+    /// Whether a match that has not read the element yet is before the next item.
     fn is_open(self, stood: bool) -> bool
         ensures { result ≡ (stood || self.waiting) }
     {
         stood || self.waiting
     }
 
-    /// Goes past one item; whether a match stands before it.
+    /// Passes one item; returns whether a match is before it.
     fn over(&mut self, stood: bool, any: bool, fits: bool) -> bool
         ensures stands { result ≡ (self.old.entered || (any && (stood || self.old.waiting))) }
         ensures entered { self.new.entered ≡ (if any
@@ -47,7 +47,7 @@ impl Pass {
     }
 }
 
-/// Reads one more character, or begins; whether the whole of what was read matches.
+/// Reads one more character, or begins; returns whether all that was read matches.
 fn read_character(states: &mut [bool], pattern: &str, read: Option<char>) -> bool
     requires { length (chars pattern.now) ≤ length states.now }
     ensures states { states.new ≡ (pass is_star (fits_read stands_for read) (is_start read) false
@@ -90,7 +90,7 @@ fn segment_matches(pattern: &str, text: &str) -> bool
     }
 }
 
-/// Whether a `*` or a `?` stands in the text.
+/// Whether the text contains a `*` or a `?`.
 pub(crate) fn has_wild(text: &str) -> bool
     ensures { result ≡ list_any is_wild text.now }
 {
@@ -110,7 +110,7 @@ fn wild_matches(pattern: &str, text: &str) -> bool
     matched
 }
 
-/// Reads one more segment, or begins; whether the whole of what was read matches.
+/// Reads one more segment, or begins; returns whether all that was read matches.
 fn read_segment(states: &mut [bool], pattern: &str, read: Option<&str>) -> bool
     requires { length (segments pattern.now) ≤ length states.now × length pattern.now ≤ 1024 }
     ensures states { states.new
@@ -140,7 +140,7 @@ fn is_double_star(item: &str) -> bool
     item == "**"
 }
 
-/// Whether the segment that was read matches this one of a pattern; asked only where a match stands
+/// Whether the segment that was read matches this one of a pattern; evaluated only where a match is
 /// before it.
 fn fits_here(here: bool, item: &str, read: Option<&str>) -> bool
     requires { length item.now ≤ 1024 }

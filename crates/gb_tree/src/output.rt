@@ -1,4 +1,4 @@
-//! The files beneath an output's place.
+//! The files at or under an output's place.
 ghost use Rattle.std.specs.Prelude.{◌≡◌, [], IsTrue, IfOk, IfErr, OnOk};
 ghost use Rattle.std.specs.List.{AllByRecursion, AllPass};
 ghost use Rattle.std.specs.List.Sorted.{IsStrictlySortedBy};
@@ -27,7 +27,7 @@ use gb_folder::limits::MAX_FILES;
 use gb_folder::own::is_own;
 use std::alloc::Global;
 
-/// The files at or beneath the place, by their paths from it; a file at the place itself has the
+/// The files at or under the place, by their paths from it; a file at the place itself has the
 /// empty path. At a place in the tool's own folder `.gb` there are none, and nothing is listed.
 /// Nothing is written.
 pub fn outputs<F: Folder>(
@@ -53,8 +53,8 @@ pub fn outputs<F: Folder>(
     Ok(Snapshot::new(name.copy()?, files))
 }
 
-/// The prints of what [`outputs`] answers, refused as it refuses. Of the contents one piece is held
-/// at a time.
+/// The prints of what [`outputs`] returns, with the same faults. One piece of the contents is in
+/// memory at a time.
 pub fn output_prints<F: Folder>(
     alloc: Global,
     folder: &mut F,
@@ -79,8 +79,8 @@ pub fn output_prints<F: Folder>(
     Ok(Prints::new(name.copy()?, digests))
 }
 
-/// The files that [`outputs`] answers as they are read once, refused as it refuses. Their bytes are
-/// kept as far as there is `room` for them, which they lessen.
+/// The files that [`outputs`] returns, each read once, with the same faults. Their bytes are kept
+/// where `room` is left for them; kept bytes reduce `room`.
 pub fn output_reading<F: Folder>(
     alloc: Global,
     folder: &mut F,
@@ -95,7 +95,8 @@ pub fn output_reading<F: Folder>(
     ensures named { IfOk result (λ reading. reading.0 ≡ name.now) }
     ensures under { IfOk result
         (λ reading. AllByRecursion (λ seen. IsTrue (is_under seen.place place.now)) reading.1) }
-    // Over any folder: the files are those that calls answered, and so are the digests and the bytes.
+    // Over any folder: the files are those that calls returned, and so are the digests and the
+    // bytes.
     ensures listed { IfOk result (λ reading. AreOutputEntriesListed F.failures F.may_leave F.asked
         folder.old folder.new place.now (entries_seen reading.1)) }
     ensures answered { IfOk result
@@ -145,7 +146,7 @@ fn entries_at<F: Folder>(
     entries_beneath(alloc, folder, name, place)
 }
 
-/// The places of the files at or beneath the place, by their paths from it.
+/// The places of the files at or under the place, by their paths from it.
 fn entries_beneath<F: Folder>(
     alloc: Global,
     folder: &mut F,

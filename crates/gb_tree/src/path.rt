@@ -49,7 +49,7 @@ fn read_path(alloc: Global, text: &str) -> Result<RelPath, TreeFault>
     }
 }
 
-/// The place as a pattern sees it.
+/// The text of the place that patterns are matched against.
 pub(crate) fn seen_from<'a>(root: &str, place: &'a str) -> &'a str
     requires under { IsTrue (is_under place.now root.now) }
     requires placed { IsTrue (is_place place.now) }
@@ -88,7 +88,7 @@ pub fn text_from<'a>(root: &str, place: &'a str) -> &'a str
     }
 }
 
-/// A text without the slash that it begins with.
+/// A text without its leading slash.
 fn past_slash(text: &str) -> &str
     requires { (text.now ≡ []) ⊎ ((rest : List ℕ) × (text.now ≡ 47 ∷ rest)) }
     ensures { result.now ≡ drop 1 text.now }

@@ -16,7 +16,7 @@ pub enum PatternFault {
     /// No memory for its text; 3.
     #[error("out of memory")]
     OutOfMemory,
-    /// It is none.
+    /// The text is no pattern.
     #[error("bad pattern")]
     BadPattern,
 }
@@ -24,7 +24,7 @@ pub enum PatternFault {
 impl PatternFault {
     ghost use Rattle.gb_tree.specs.Faults.{pattern_fault_number};
 
-    /// The number under which the fault is told to users.
+    /// The number under which the fault is reported to users.
     pub fn number(self) -> u16
         ensures { result ≡ pattern_fault_number self }
     {
@@ -45,7 +45,7 @@ impl From<AllocError> for PatternFault {
     }
 }
 
-/// A pattern, as `src/**` or `*.txt`: a place in which `**`, `*` and `?` stand for what they match.
+/// A pattern, as `src/**` or `*.txt`: a place in which `**`, `*` and `?` are wildcards.
 #[derive(Debug, Drop)]
 pub struct Pattern {
     text: Place,
@@ -60,7 +60,7 @@ impl Model for Pattern {
 }
 
 impl Pattern {
-    /// A `/` at the end stands for `/**`. A `\` is refused, since none can stand for itself.
+    /// A `/` at the end is short for `/**`. A `\` is refused, since there is no way to escape one.
     pub fn read(alloc: Global, text: &str) -> Result<Pattern, PatternFault>
         ensures text { IfOk result (λ pattern. pattern ≡ spelled_out text.now) }
         ensures good { IfOk result (λ _. IsTrue (is_pattern text.now)) }

@@ -7,7 +7,7 @@ use gb_core::name::Name;
 use gb_core::place::RelPath;
 use std::marker::Model;
 
-/// The digests (SHA-256) of the files of a property or an output, beside its name.
+/// The digests (SHA-256) of the files of a property or an output, with its name.
 #[derive(Debug, Drop)]
 pub struct Prints {
     name: Name,
@@ -28,7 +28,7 @@ impl Model for Prints {
 }
 
 impl Prints {
-    /// Of paths that strictly rise by their bytes.
+    /// Prints with these digests; the paths must be strictly ascending by their bytes.
     pub fn new(name: Name, digests: Vec<(RelPath, [u8; 32])>) -> Prints
         requires { IsTrue (is_sorted byte_order digests.items) }
         ensures { result ≡ (name, digests.items) }

@@ -21,26 +21,26 @@ use gb_core::place::Place;
 use gb_folder::folder::Folder;
 use std::alloc::Global;
 
-/// By which part of its path a file stands in a tree.
+/// Which part of its path names a file in a tree.
 #[derive(Clone, Copy, Debug, PartialEq, Eq)]
 pub enum Naming {
     /// By its path from the root.
     Relative,
-    /// By the last segment of its place. Patterns still see the path from the root.
+    /// By the last segment of its place. Patterns are still matched against the path from the root.
     NameOnly,
 }
 
-/// The files at or beneath the roots that the patterns let in, by their paths. Equal roots count
+/// The files at or under the roots that the patterns let in, by their paths. Equal roots count
 /// once, and the tool's own folder `.gb` never does. Nothing is written.
 ///
-/// Of a root only that is looked at which an include may match: for each include what stands at or
-/// beneath the folder in front of its first `*` or `?`, so of `src/**` what is in `src`, and for an
-/// include that has neither what is at its own place. Each such folder is listed once, and not again
-/// where it lies in another one. A root of which no include is given is listed whole.
+/// Only that part of a root is listed which an include may match. For each include, that is what
+/// is at or under the folder before its first `*` or `?` (for `src/**`: what is in `src`), and for
+/// an include that has neither, what is at its own place. Each such folder is listed once, and not
+/// again where it lies in another one. A root for which no include is given is listed whole.
 ///
-/// Refused, in this order: something there that no place can name (14), more than 65,536 files (72),
-/// two files at one path or one at a folder of another (71), the first file above 8 MiB (13). Where
-/// the folder does not tell what it holds, also a file that is gone when it is read (11, 12).
+/// Refused, in this order: something there that no place can name (14), more than 65,536 files
+/// (72), two files at one path or one at a folder of another (71), the first file above 8 MiB (13).
+/// Where the folder's contents are not known, also a file that is gone when it is read (11, 12).
 pub fn snapshot<F: Folder>(
     alloc: Global,
     folder: &mut F,
@@ -68,8 +68,8 @@ pub fn snapshot<F: Folder>(
     Ok(Snapshot::new(name.copy()?, files))
 }
 
-/// The prints of what [`snapshot`] answers, found where it looks and refused as it refuses. Of the
-/// contents one piece is held at a time.
+/// The prints of what [`snapshot`] returns, from the same listings and with the same faults. One
+/// piece of the contents is in memory at a time.
 pub fn prints_of<F: Folder>(
     alloc: Global,
     folder: &mut F,
@@ -101,8 +101,8 @@ pub fn prints_of<F: Folder>(
     Ok(Prints::new(name.copy()?, digests))
 }
 
-/// The files that [`snapshot`] answers as they are read once, found where it looks and refused as it
-/// refuses. Their bytes are kept as far as there is `room` for them, which they lessen.
+/// The files that [`snapshot`] returns, each read once, from the same listings and with the same
+/// faults. Their bytes are kept where `room` is left for them; kept bytes reduce `room`.
 pub fn reading_of<F: Folder>(
     alloc: Global,
     folder: &mut F,
@@ -120,7 +120,8 @@ pub fn reading_of<F: Folder>(
     ensures named { IfOk result (λ reading. reading.0 ≡ name.now) }
     ensures under { IfOk result
         (λ reading. AllByRecursion (λ seen. IsTrue (is_under_any roots.now seen.place)) reading.1) }
-    // Over any folder: the files are those that calls answered, and so are the digests and the bytes.
+    // Over any folder: the files are those that calls returned, and so are the digests and the
+    // bytes.
     ensures listed { IfOk result (λ reading. AreEntriesListed F.failures F.may_leave F.asked naming roots.now
         include.now exclude.now folder.old folder.new (entries_seen reading.1)) }
     ensures answered { IfOk result

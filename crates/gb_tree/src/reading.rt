@@ -1,4 +1,4 @@
-//! Files are listed and read, or digested, one after another.
+//! Lists files and reads or digests them, one after another.
 ghost use Rattle.std.specs.Prelude.{◌≡◌, ◌≤◌, ◌⊎◌, [], length, take, drop, None, Some, false, true, IsTrue};
 ghost use Rattle.std.specs.Prelude.{IsSome, IfOk, IfErr, OnOk};
 ghost use Rattle.std.specs.List.{AllByRecursion, AllPass};
@@ -29,7 +29,7 @@ pub(crate) const PIECE: u64 = 65_536;
 /// How many of them make up the largest file.
 pub(crate) const PIECES: u64 = 128;
 
-/// The places of the files at or beneath one place.
+/// The places of the files at or under one place.
 pub(crate) fn listed<F: Folder>(
     alloc: Global,
     folder: &mut F,
@@ -140,7 +140,7 @@ pub(crate) fn read_piece<F: Folder>(
     }
 }
 
-/// The digest of one file, of which one piece at a time is held.
+/// The digest of one file. One piece of it is in memory at a time.
 fn digest_file<F: Folder>(
     alloc: Global,
     folder: &mut F,

@@ -1,5 +1,6 @@
-//! Files are read once each, at once, one after another: the digest of each is taken, and its bytes are kept
-//! where there is room. Small files wait for one another, so that four are digested at a time.
+//! Reads files once each, in one call, one after another: takes the digest of each, and keeps its
+//! bytes where there is room. Small files wait for one another, so that four are digested at a
+//! time.
 ghost use Rattle.std.specs.Prelude.{◌≡◌, ◌⊎◌, ◌++◌, ℕ, List, [], None, Some, false, true, map, IsTrue};
 ghost use Rattle.std.specs.Prelude.{IsSome, IfOk, IfErr, OnOk};
 ghost use Rattle.std.specs.List.{AllByRecursion};
@@ -37,7 +38,7 @@ enum Content {
     Digested([u8; 32], Option<Bytes>),
 }
 
-/// Whether the room holds so many bytes; then they are taken from it.
+/// Whether the room holds so many bytes; if so, they are subtracted from it.
 fn take_room(size: u64, room: &mut u64) -> bool {
     if *room < size {
         return false;
@@ -57,8 +58,8 @@ fn keep(bytes: Bytes, room: &mut u64) -> Option<Bytes>
     }
 }
 
-/// One file, read at once, so that what is digested and kept are the bytes of one file: where it is small,
-/// its bytes, and else its digest, and its bytes where they are kept.
+/// One file, read in one call, so that the digest and the kept bytes are those of one file. A small
+/// file gives its bytes; another gives its digest, and its bytes where they are kept.
 fn see_bytes<F: Folder>(
     alloc: Global,
     folder: &mut F,

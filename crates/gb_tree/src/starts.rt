@@ -1,5 +1,5 @@
-//! Where the files of a property are looked for: beneath a root, for each of its includes, at the
-//! folder in front of the first `*` or `?`.
+//! Where the files of a property are looked for: under a root, for each of its includes, at the
+//! folder before the first `*` or `?`.
 ghost use Rattle.std.specs.Prelude.{◌≡◌, ◌++◌, ℕ, List, map, IsTrue, IfOk, IfErr, OnOk, bytes_eq};
 ghost use Rattle.std.specs.List.{AllByRecursion, list_any};
 ghost use Rattle.gb_core.specs.Place.{is_beneath, is_place};
@@ -15,7 +15,7 @@ use gb_core::place::{Place, PlaceFault};
 use std::alloc::{AllocError, Global};
 use std::collections::BTreeSet;
 
-/// Each of the roots with each of the places beneath it at which files are listed.
+/// Each of the roots with each of the places under it at which files are listed.
 pub(crate) fn starts_in(
     alloc: Global,
     include: &[Pattern],
@@ -46,7 +46,7 @@ fn add_starts(
     Ok(())
 }
 
-/// The places beneath one root: the root, where nothing is included by name.
+/// The places under one root: the root itself, where nothing is included by name.
 fn starts_of(alloc: Global, include: &[Pattern], root: &Place) -> Result<Vec<Place>, TreeFault>
     ensures starts { IfOk result (λ starts. starts.items ≡ starts_of include.now root.now) }
     ensures err { IfErr result (λ fault. fault ≡ TreeFault.OutOfMemory) }
@@ -75,8 +75,8 @@ fn each_start(alloc: Global, include: &[Pattern], root: &Place) -> Result<Vec<Pl
     Ok(starts)
 }
 
-/// The place of one include. A root that is itself a file is seen by its name, and listed at its own
-/// place.
+/// The place of one include. A root that is itself a file is matched by its name, and listed at its
+/// own place.
 fn start_of(alloc: Global, root: &Place, pattern: &Pattern) -> Result<Place, TreeFault>
     ensures start { IfOk result (λ start. start ≡ start_of root.now pattern.now) }
     ensures err { IfErr result (λ fault. fault ≡ TreeFault.OutOfMemory) }
@@ -91,7 +91,7 @@ fn start_of(alloc: Global, root: &Place, pattern: &Pattern) -> Result<Place, Tre
     }
 }
 
-/// The folder in front of the first `*` or `?`; a pattern that has neither is its own front.
+/// The folder before the first `*` or `?`; a pattern that has neither is its own front.
 fn front_of(pattern: &str) -> &str
     ensures { result.now ≡ front_of pattern.now }
 {
@@ -104,7 +104,7 @@ fn front_of(pattern: &str) -> &str
     }
 }
 
-/// What stands before the first `*` and before the first `?`.
+/// The text before the first `*` and before the first `?`.
 fn plain_front(pattern: &str) -> &str
     ensures { result.now ≡ plain_front pattern.now }
 {
@@ -118,7 +118,7 @@ fn plain_front(pattern: &str) -> &str
     }
 }
 
-/// Those of the places that lie beneath no other, each once. They are looked up in a set, so that the
+/// Those of the places that lie under no other, each once. They are looked up in a set, so that the
 /// steps grow as n log n.
 fn outermost(alloc: Global, places: &[Place]) -> Result<Vec<Place>, AllocError>
     ensures { IfOk result (λ kept. kept.items ≡ outermost places.now) }
@@ -145,7 +145,7 @@ fn set_of(alloc: Global, places: &[Place]) -> Result<BTreeSet<String>, AllocErro
     Ok(met)
 }
 
-/// Whether the place lies beneath one of a set.
+/// Whether the place lies under one of a set.
 fn lies_in_any(met: &BTreeSet<String>, place: &Place) -> bool
     ensures { (places : List (List ℕ)) → HoldsPlaces met.now places
         → result ≡ list_any (is_beneath place.now) places }
@@ -160,7 +160,7 @@ fn lies_in_any(met: &BTreeSet<String>, place: &Place) -> bool
     false
 }
 
-/// Each place once. Those that were met stand in a set, so that the steps grow as n log n.
+/// Each place once. A set holds the places passed so far, so that the steps grow as n log n.
 pub(crate) fn distinct(alloc: Global, places: &[Place]) -> Result<Vec<Place>, AllocError>
     ensures { IfOk result (λ kept. kept.items ≡ distinct places.now) }
 {

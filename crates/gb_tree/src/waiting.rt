@@ -1,5 +1,5 @@
-//! Small files that were read wait for one another: as soon as there are four, they are digested side by
-//! side.
+//! Small files that were read wait for one another: as soon as there are four, they are digested
+//! together.
 ghost use Rattle.std.specs.Prelude.{◌≡◌, ◌++◌, [], ◌∷◌, IfOk, OnOk};
 ghost use Rattle.gb_tree.specs.Waiting.{file_in, file_of, waiting_files};
 ghost use Rattle.sha2.specs.Sha256.{sha256};
@@ -16,7 +16,7 @@ use std::alloc::AllocError;
 pub(crate) struct SmallFile {
     /// Its path in the tree.
     pub path: RelPath,
-    /// Where it stands.
+    /// Where it is.
     pub place: Place,
     /// Its bytes.
     pub bytes: Bytes,
@@ -62,7 +62,7 @@ fn with_digest(small: SmallFile, digest: [u8; 32]) -> SeenFile
     }
 }
 
-/// Puts a small file with its digest behind those that were seen.
+/// Appends a small file with its digest to the files read before.
 fn push_with(seen: &mut Vec<SeenFile>, small: SmallFile, digest: [u8; 32]) -> Result<(), AllocError>
     requires { digest ≡ sha256 small.bytes }
     ensures { OnOk result (seen.new.items ≡ seen.old.items ++ file_of small ∷ []) }
@@ -71,7 +71,7 @@ fn push_with(seen: &mut Vec<SeenFile>, small: SmallFile, digest: [u8; 32]) -> Re
     Ok(())
 }
 
-/// Puts two small files with their digests behind those that were seen.
+/// Appends two small files with their digests to the files read before.
 fn push_both_with(
     seen: &mut Vec<SeenFile>,
     first: SmallFile,
@@ -86,7 +86,7 @@ fn push_both_with(
     push_with(seen, second, digests.1)
 }
 
-/// Digests four files side by side and puts them behind those that were seen.
+/// Digests four files together and appends them to the files read before.
 fn push_four(
     seen: &mut Vec<SeenFile>,
     first: SmallFile,
@@ -111,7 +111,7 @@ fn push_four(
     push_both_with(seen, third, fourth, (digests[2], digests[3]))
 }
 
-/// Digests one file and puts it behind those that were seen.
+/// Digests one file and appends it to the files read before.
 fn push_one(seen: &mut Vec<SeenFile>, small: SmallFile) -> Result<(), AllocError>
     ensures { OnOk result (seen.new.items ≡ seen.old.items ++ file_of small ∷ []) }
 {
@@ -119,7 +119,7 @@ fn push_one(seen: &mut Vec<SeenFile>, small: SmallFile) -> Result<(), AllocError
     push_with(seen, small, digest)
 }
 
-/// Digests two files, one after the other, and puts them behind those that were seen.
+/// Digests two files, one after the other, and appends them to the files read before.
 fn push_two(seen: &mut Vec<SeenFile>, first: SmallFile, second: SmallFile) -> Result<(), AllocError>
     ensures { OnOk result (seen.new.items ≡ seen.old.items ++ file_of first ∷ file_of second ∷ []) }
 {
@@ -127,7 +127,7 @@ fn push_two(seen: &mut Vec<SeenFile>, first: SmallFile, second: SmallFile) -> Re
     push_one(seen, second)
 }
 
-/// Digests three files, one after another, and puts them behind those that were seen.
+/// Digests three files, one after another, and appends them to the files read before.
 fn push_three(
     seen: &mut Vec<SeenFile>,
     first: SmallFile,
@@ -141,7 +141,7 @@ fn push_three(
     push_one(seen, third)
 }
 
-/// Digests the files that wait, one after another, and puts them behind those that were seen.
+/// Digests the files that wait, one after another, and appends them to the files read before.
 pub(crate) fn digest_waiting(seen: &mut Vec<SeenFile>, waiting: Waiting) -> Result<(), AllocError>
     ensures { OnOk result (seen.new.items ≡ seen.old.items ++ waiting_files waiting) }
 {
@@ -173,7 +173,7 @@ fn add_small(
     }
 }
 
-/// One file more behind those that were seen and those that wait; a file that need not wait comes behind
+/// Adds one file after those read before and those that wait. A file that need not wait follows
 /// them once they are digested.
 pub(crate) fn add(
     seen: &mut Vec<SeenFile>,

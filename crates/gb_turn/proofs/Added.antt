@@ -34,7 +34,7 @@ take_past [] (suc n) le = refl
 take_past (x ∷ xs) zero le = absurd (omega (arith, le))
 take_past (x ∷ xs) (suc n) le = ap (λ ys. x ∷ ys) (take_past xs n (omega (arith, le)))
 
--- of the trees of these files they are all told
+-- the same for all properties, on the trees of these files
 pub all_of : (files : Files) (properties : List FileProperty)
     → added_of properties (map (λ (property : FileProperty). let tree : List ℕ × Tree = (property.name, tree_of property files) in tree) properties)
     ≡ map (told files) (filter (λ (property : FileProperty). property.incremental) properties)

@@ -1,4 +1,4 @@
--- What was settled and read of a turn, as calls answered it.
+-- What was decided and read in an execution, as calls returned it.
 use Rattle.std.specs.Prelude.{ℕ, ◌≡◌, Bool, List, [], ◌∷◌, map, Option, Result, Ok, Err, IfOk}
 use Rattle.std.specs.List.{AllZip}
 use Rattle.std.proofs.Common.{refl, sym, ap, ap₂, subst, ◌∙◌}
@@ -44,7 +44,7 @@ other_names : (a b : List ℕ) (l m : List (List ℕ)) → a ∷ l ≡ b ∷ m �
 other_names a b l m e = cc
 
 module _ {F : Type 0} (failures : F → ℕ) (may_leave : F → Tearing) (asked : F → Call → F → Type 0) (old new : F) where
-  -- ---- the contents of which digests were taken
+  -- ---- the contents whose digests were taken
 
   abbrev tree_of_seen : (files : List SeenFile) → WereSeen failures may_leave asked old new files → Tree
   tree_of_seen [] were = []
@@ -123,7 +123,7 @@ module _ {F : Type 0} (failures : F → ℕ) (may_leave : F → Tearing) (asked 
       ap₂ (λ (name : List ℕ) (forms : List (List ℕ × Form)). (name, output.form) ∷ forms) (first_name _ _ _ _ named)
       (files_formed outputs readings were.1 (other_names _ _ _ _ named))
 
-  -- ---- what is settled
+  -- ---- what is decided
 
   current_on : (options : Options) (task : Task) (last : Option Record) (inputs outputs : List Read) → AreInputs task inputs → AreInputsAnswered failures may_leave asked old new task inputs
       → AreOutputs task outputs → AreOutputsAnswered failures may_leave asked old new task outputs
@@ -157,7 +157,7 @@ module _ {F : Type 0} (failures : F → ℕ) (may_leave : F → Tearing) (asked 
   was_settled options task last path need (Ok (prepared.Decided (decisions.Incremental changes) basis seen)) may was = (was.1, was.2)
   was_settled options task last path need (Ok (prepared.Decided decisions.Full basis seen)) may was = (was.1, was.2)
 
-  -- what was decided to go on by changes was decided on outputs that were answered
+  -- where an incremental run was decided, calls returned the outputs that the decision is based on
   pub outputs_answered : (options : Options) (task : Task) (last : Option Record) (inputs : List Read) (decision : Decision) (changes : List Changes) (outputs : List Read)
       → decision ≡ decisions.Incremental changes → WasDecided failures may_leave asked old new options task last inputs decision outputs
       → AreOutputsAnswered failures may_leave asked old new task outputs
@@ -173,7 +173,7 @@ module _ {F : Type 0} (failures : F → ℕ) (may_leave : F → Tearing) (asked 
   read_anew task (decisions.Incremental changes) inputs outputs read stood = (read, stood)
   read_anew task decisions.Full inputs outputs read stood = read
 
--- what is told of a run, or of outputs that were cleared, is never that the task is up to date
+-- the outcome of a run, or of deleted outputs, is never that the task is up to date
 pub run_not_current : (ended : Result (Unit {0}) Fault) → ¬ (outcome_of ended ≡ outcomes.UpToDate)
 run_not_current (Ok done) e = absurd (cc)
 run_not_current (Err fault) e = absurd (cc)

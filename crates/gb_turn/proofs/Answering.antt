@@ -1,4 +1,4 @@
--- What a task's turn answers, over any folder.
+-- The outcome of a task's execution, over any folder.
 use Rattle.std.specs.Prelude.{◌≡◌, Bool, true, false, [], Result, Ok, Err, IfOk}
 use Rattle.std.specs.List.{list_any}
 use Rattle.std.proofs.Common.{sym, subst, ◌∙◌}

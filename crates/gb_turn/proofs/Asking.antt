@@ -1,4 +1,4 @@
--- What the calls of a turn ask for together.
+-- What the calls of an execution request together.
 use Rattle.std.specs.Prelude.{◌≡◌, ◌||◌, true, List, map, Option, None, Some, IsTrue}
 use Rattle.std.specs.Cmp.Lexicographic.{bytes_decides}
 use Rattle.std.proofs.Common.{ℕ, refl, sym, ap, subst, inl, inr, ◌∙◌}
@@ -37,7 +37,7 @@ use Rattle.gb_turn.specs.Turns.{goes_by_changes}
 use Rattle.gb_history.specs.declared.decide.Decision.{Decision}
 use Rattle.gb_history.specs.declared.decide.Decision.TheVariants as decisions
 
--- the record's place is one of the turn
+-- the record's place is one of the execution's
 at_record : (task : Task) → is_of_turn task (record_place task.path) ≡ true
 at_record task = or_right (is_output_of task (record_place task.path)) (is_at (record_place task.path) (record_place task.path)) ((bytes_decides (record_place task.path) (record_place task.path)).1 refl)
 
@@ -45,7 +45,7 @@ at_record task = or_right (is_output_of task (record_place task.path)) (is_at (r
 at_output : (task : Task) (place : Place) → is_output_of task place ≡ true → is_of_turn task place ≡ true
 at_output task place is = ap (λ b. b || is_at (record_place task.path) place) is
 
--- what a turn may ask for is at a place of it
+-- an execution may request changes only at places of its own
 pub of_turn : (task : Task) (text : Bytes → Type 0) (place : Place) (next : Option Bytes) → in_turn_with task text place next → is_of_turn task place ≡ true
 unfolding in_turn_with
 of_turn task text place None is = is
@@ -99,11 +99,11 @@ module _ {F : Type 0} {failures : F → ℕ} {may_leave : F → Tearing} {asked 
       → Asks failures may_leave asked (once holds (in_turn_with task some)) old new → Asks failures may_leave asked (once holds (in_turn_with task more)) old new
   text_once holds task some more wider asks = asks_more (permitted_more holds (in_turn_with task some) (in_turn_with task more) (permitted_text task some more wider)) asks
 
-  -- a turn that has not read asks for no change
+  -- an execution that has not read requests no change
   pub asks_never : (holds : Type 0) (permit : Permit) → ¬ holds → Asks failures may_leave asked (once holds permit) old new → Asks failures may_leave asked no_change old new
   asks_never holds permit never asks = asks_more (permitted_never holds permit never) asks
 
-  -- the record is taken out
+  -- the record is deleted
   pub record_taken : (task : Task) → Asks failures may_leave asked (taken_at (record_place task.path)) old new → Asks failures may_leave asked (takes_at (is_of_turn task)) old new
   record_taken task takes = asks_taken (record_place task.path) (take_at (is_of_turn task) (record_place task.path) (at_record task)) takes
 
@@ -118,7 +118,7 @@ module _ {F : Type 0} {failures : F → ℕ} {may_leave : F → Tearing} {asked 
   pub made_in_turn : (task : Task) (text : Bytes → Type 0) → Asks failures may_leave asked (changes_at (is_output_of task)) old new → Asks failures may_leave asked (in_turn_with task text) old new
   made_in_turn task text changes = asks_more (permitted_outputs task text) changes
 
-  -- the record is put in
+  -- the record is stored
   pub put_in_turn : (task : Task) (text : Bytes → Type 0) (run : Record) → text (record_text task.path run)
       → Asks failures may_leave asked (put_at (record_place task.path) (record_text task.path run)) old new → Asks failures may_leave asked (in_turn_with task text) old new
   put_in_turn task text run is puts = asks_more (permitted_record task text (record_text task.path run) is) puts
@@ -128,39 +128,39 @@ module _ {F : Type 0} {failures : F → ℕ} {may_leave : F → Tearing} {asked 
   text_in_turn task some more wider asks = asks_more (permitted_text task some more wider) asks
 
 module _ {F : Type 0} (failures : F → ℕ) (may_leave : F → Tearing) (asked : F → Call → F → Type 0) (old : F) where
-  -- the inputs of a run were answered
+  -- calls returned the inputs of a run
   pub run_read : (task : Task) (trees : Trees) (read : F) → AreInputsRead failures may_leave asked old read task trees → map (λ tree. tree.0) trees ≡ seen_files task.files
       → HasRead failures may_leave asked old task
   unfolding HasRead
   run_read task trees read inputs named = inl (trees, read, inputs, named)
 
-  -- and so they were where something was decided anew
+  -- and calls returned them where something was rechecked
   pub anew_read : (options : Options) (task : Task) (last : Record) (is : Anew) (read : F) → IsAnew options task last is → WasReadAnew failures may_leave asked old read task is
       → HasRead failures may_leave asked old task
   unfolding HasRead
   anew_read options task last (anew.ByChanges inputs outputs changes) read is was = inl (inputs.trees, read, was.0, is.0.named)
   anew_read options task last (anew.InFull inputs) read is was = inl (inputs.trees, read, was, is.named)
 
-  -- that the task has no source was answered
+  -- calls returned that the task has no source
   pub source_read : (task : Task) (read : F) → WasSourceless failures may_leave asked old read task → HasRead failures may_leave asked old task
   unfolding HasRead
   source_read task read was = inr (read, was)
 
 module _ {F S : Type 0} (failures : F → ℕ) (may_leave : F → Tearing) (asked : F → Call → F → Type 0) (old : F) (meanings : Meanings S) (rows : Rows S) where
-  -- a run in full on these trees is one
+  -- a full run on these trees is one
   pub full_is_one : (task : Task) (trees : Trees) (read : F) → AreInputsRead failures may_leave asked old read task trees → map (λ tree. tree.0) trees ≡ seen_files task.files → (bytes : Bytes)
       → IsTextIn meanings rows task trees bytes → IsInFull failures may_leave asked old meanings rows task bytes
   unfolding IsInFull
   full_is_one task trees read inputs named bytes is = (trees, read, inputs, named, is)
 
-  -- what was decided anew came to a run in full
+  -- the recheck resulted in a full run
   pub full_anew : (options : Options) (task : Task) (last : Record) (inputs : Inputs) (read : F) → WasReadAnew failures may_leave asked old read task (anew.InFull inputs)
       → IsAnew options task last (anew.InFull inputs) → (bytes : Bytes)
       → IsTextIn meanings rows task inputs.trees bytes → IsTextAnew failures may_leave asked old meanings rows options task last bytes
   unfolding IsInFull IsTextAnew
   full_anew options task last inputs read was is_anew bytes is = inl (inputs.trees, read, was, is_anew.named, is)
 
-  -- or to one by changes
+  -- or in an incremental one
   pub going_anew : (options : Options) (task : Task) (last : Record) (inputs : Inputs) (outputs : Outputs) (changes : List Changes) (read : F)
       → WasReadAnew failures may_leave asked old read task (anew.ByChanges inputs outputs changes) → (bytes : Bytes)
       → IsAnew options task last (anew.ByChanges inputs outputs changes) → IsTextBy meanings rows task inputs.trees changes outputs.seen bytes
@@ -179,14 +179,14 @@ module _ {F S : Type 0} (failures : F → ℕ) (may_leave : F → Tearing) (aske
     text = text;
   })
 
-  -- a run in full is one of the task, whatever was read of it
+  -- a full run is one of the task, whatever was read of it
   pub full_of_task : (options : Options) (task : Task) (last : Option Record) (bytes : Bytes)
       → IsInFull failures may_leave asked old meanings rows task bytes → IsTextOf failures may_leave asked old meanings rows options task last bytes
   unfolding IsTextOf
   full_of_task options task None bytes is = is
   full_of_task options task (Some last) bytes is = inl is
 
-  -- and so is one that was decided anew, where one action writes
+  -- and so is one that was rechecked, where one action writes
   pub anew_of_task : (options : Options) (task : Task) (last : Record)
       → ((kinds : Kinds) → Agrees meanings rows kinds → IsTrue (has_one_writer kinds task.actions)) → (bytes : Bytes)
       → IsTextAnew failures may_leave asked old meanings rows options task last bytes → IsTextOf failures may_leave asked old meanings rows options task (Some last) bytes
@@ -205,7 +205,7 @@ pub going_text : {S : Type 0} (meanings : Meanings S) (rows : Rows S) (task : Ta
 unfolding IsTextBy
 going_text meanings rows task trees changes seen run made = (run, refl, made)
 
--- a run that goes by changes has one writer
+-- an incremental run has one writer
 pub one_writer : (kinds : Kinds) (task : Task) (decision : Decision) (changes : List Changes) → decision ≡ decisions.Incremental changes → goes_by_changes kinds task decision ≡ true
     → has_one_writer kinds task.actions ≡ true
 one_writer kinds task decision changes is goes = ap (goes_by_changes kinds task) (sym is) ∙ goes

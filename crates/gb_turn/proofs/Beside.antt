@@ -1,4 +1,4 @@
--- A run comes to the same beside the tool's own files as without them.
+-- A run has the same result with the tool's own files next to it as without them.
 use Rattle.std.specs.Prelude.{◌≡◌, ◌++◌, Bool, true, false, not, List, [], ◌∷◌, map, length, take, cond, ◌+◌, Option, None, Some, Result, Ok, Err, Contains}
 use Rattle.std.specs.List.{AllByRecursion, filter, list_any}
 use Rattle.std.proofs.Common.{refl, sym, ap, subst, ◌∙◌, inl, inr}
@@ -80,7 +80,7 @@ module _ (kinds : Kinds) (task : Task) (out : list_any (λ (o : Output). is_own 
     w.5,
   )
 
--- what stands in a run stands so without the tool's own files
+-- what is in a run is there without the tool's own files, too
 module _ (setting : Setting) (task : Task) (out : list_any (λ (o : Output). is_own o.place) task.outputs ≡ false) (files : Files) (place : Place) (at : is_output_of task place ≡ true) where
   pub stands_outside : (left : Option Bytes) → StandsInRun setting.kinds task files place left → StandsInRun setting.kinds task (kept files) place left
   stands_outside None stands = tt

@@ -1,4 +1,4 @@
--- A run by changes, from what its calls answer to the task's turn.
+-- An incremental run, from the answers to its calls to the task's execution.
 use Rattle.gb_history.specs.Text.{record_text}
 use Rattle.std.specs.Prelude.{ℕ, ◌≡◌, ◌≤◌, Bool, false, true, List, [], None, Result, Ok, Err, OnErr, IfErr, map, Some, ◌||◌}
 use Rattle.std.specs.FinMap.Entries.{is_sorted}
@@ -145,7 +145,7 @@ module _ (kinds : Kinds) (registry_of : Registering) (may_leave : Tearing) (opti
             lines ran sorted well_so after new changes same inputs are_inputs mid after (le_chain before between mid le more) late (refl_le after) changed outputs fault cannot
             (stands (forget memory task.path) entry records_then said))
 
-  -- what the run goes on from
+  -- what the run is based on
   module _ (names : HasNamesInOrder task) (is_path : is_task_path task.path ≡ true) (distinct : some_overlap (output_places task) ≡ false) (taken : Contents)
       (gone : ChangesOnly (is_at (record_place task.path)) old taken) (trees : Trees) (outputs : List OutputFiles) (are_trees : trees ≡ trees_of task old.files)
       (are_outputs : outputs ≡ map (seen_of old.files) task.outputs) where

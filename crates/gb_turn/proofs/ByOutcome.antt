@@ -1,4 +1,4 @@
--- The execution of a task asks for what its outcome lets it ask for.
+-- The execution of a task makes the calls that its outcome permits.
 use Rattle.std.specs.Prelude.{ℕ, ◌≡◌, true, Err, IsTrue, List, Ok, Option, Result}
 use Rattle.std.proofs.Common.{refl, subst, sym, ◌∙◌, true≢false}
 use Rattle.gb_action.specs.Meanings.{Meanings}
@@ -24,7 +24,7 @@ module _ {F S : Type 0} (failures : F → ℕ) (may_leave : F → Tearing) (aske
   abbrev asks_by : Outcome → Type 0
   asks_by outcome = TurnAsks failures may_leave asked meanings rows options task last outcome lines old new
 
-  -- what is told before anything is changed
+  -- what is reported before anything is changed
   pub told_asks : (outcome : Outcome) → IsTrue (is_started outcome) → (outcome ≡ outcomes.Executed → is_empty task.actions ≡ true)
       → Asks failures may_leave asked no_change old new → IsToldCurrent failures may_leave asked options task last old new outcome → asks_by outcome
   told_asks outcomes.NotRun started idle asks current = absurd (let e = started in cc)

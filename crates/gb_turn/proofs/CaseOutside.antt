@@ -1,4 +1,4 @@
--- What a turn is prepared for in a whole folder it is in the folder without the tool's own files.
+-- An execution is prepared in a whole folder as in the folder without the tool's own files.
 use Rattle.std.specs.Prelude.{◌≡◌, ◌++◌, Bool, true, false, List, [], ◌∷◌, map, if◌then◌else◌}
 use Rattle.std.specs.List.{flat_map, list_any}
 use Rattle.std.proofs.Common.{refl, sym, ap, ap₂, subst, ◌∙◌}

@@ -1,4 +1,4 @@
--- What follows for a task's turn from its case.
+-- What follows for a task's execution from its case.
 use Rattle.std.specs.Prelude.{◌≡◌, ◌++◌, Bool, true, false, List, [], ◌∷◌, if◌then◌else◌, Option, Some, None}
 use Rattle.std.proofs.Common.{refl, sym, ap, subst, ◌∙◌, inl, inr}
 use mathlib.Core.Bool.{true≢false}

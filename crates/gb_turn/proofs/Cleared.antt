@@ -1,4 +1,4 @@
--- A task's record and outputs taken away, by how the calls ended.
+-- The deletion of a task's record and outputs, by how the calls ended.
 use Rattle.std.specs.Prelude.{ℕ, ◌≡◌, ◌≤◌, ◌||◌, Bool, false, not, Result, Ok, Err, OnOk, IfErr}
 use Rattle.std.specs.List.{list_any}
 use Rattle.std.proofs.Common.{ap, inl, inr}
@@ -22,7 +22,7 @@ use Rattle.gb_turn.specs.Turned.{is_of_turn}
 use Rattle.gb_turn.proofs.Own.{kept_at}
 use Rattle.gb_turn.proofs.Parts.{widened}
 
--- what changes at the record, or at the outputs, changes in the turn
+-- what changes at the record, or at the outputs, changes in the execution
 pub record_in_turn : (task : Task) (old new : Contents) → ChangesOnly (is_at (record_place task.path)) old new → ChangesOnly (is_of_turn task) old new
 record_in_turn task old new changes = widened (is_at (record_place task.path)) (is_of_turn task) (λ q is. or_right (is_output_of task q) (is_at (record_place task.path) q) is) old new changes
 
@@ -36,7 +36,7 @@ records_stay task out old new memory changes stands =
     stands_elsewhere old.files new.files memory
     (widened (is_output_of task) (λ q. not (is_own q)) (λ q at. kept_at task.outputs out q at) old new changes).elsewhere stands
 
--- what may be left, may be left of a folder before
+-- emptying that failed since a later count of failures failed so since an earlier one
 pub empty_before : (task : Task) (first second : Tearing) (before between after : ℕ) (old new : Contents) (fault : Fault) → SameTearing first second → before ≤ between → between ≤ after
     → CannotEmpty task second between old fault after new → CannotEmpty task first before old fault after new
 empty_before task first second before between after old new fault same le more (inl odd) = inl odd

@@ -1,4 +1,4 @@
--- A run that ended well, of which nothing could be told since memory ran out.
+-- A run that ended well, and could not be reported since memory ran out.
 use Rattle.std.specs.Prelude.{ℕ, ◌≡◌, [], ◌∷◌, List, if◌then◌else◌}
 use Rattle.std.specs.List.{list_any}
 use Rattle.std.proofs.Common.{refl, sym, ap, ◌∙◌}

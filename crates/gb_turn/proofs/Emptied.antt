@@ -1,4 +1,4 @@
--- The turn of a task without source, by how its record and outputs were taken away.
+-- The execution of a task without source, by the result of deleting its record and outputs.
 use Rattle.std.specs.Prelude.{ℕ, ◌≡◌, ◌≤◌, ◌⊎◌, ◌||◌, ◌&&◌, ◌++◌, Bool, true, false, not, List, [], ◌∷◌, map, is_some, Option, None, Some, Result, Ok, Err}
 use Rattle.std.specs.List.{list_any}
 use Rattle.std.proofs.Common.{refl, sym, ap, ap₂, subst, ◌∙◌, inl, inr}
@@ -80,7 +80,7 @@ dry task folder case = record {
     free_if true false [] b e = refl
     free_if true false (f ∷ fs) b e = not_true (ap is_dry e)
 
--- what is told
+-- the report
 abbrev pub told_of : Task → Result (Unit {0}) Fault → TaskReport
 told_of task result = record { path = task.path; outcome = cleared_outcome result; has_actions = not (is_empty task.actions); lines = [] }
 

@@ -1,4 +1,4 @@
--- What a full run leaves that ended well, and what is recorded of it.
+-- What a full run that ended well leaves, and what is recorded of it.
 use Rattle.std.specs.Prelude.{◌≡◌, Bool, true, false, not, cond, List, map, Option, None, Ok}
 use Rattle.std.specs.FinMap.Entries.{is_sorted}
 use Rattle.std.specs.List.{list_any}
@@ -70,7 +70,7 @@ module _ (kinds : Kinds) (task : Task) (out : list_any (λ (o : Output). is_own 
   right : IsRight task.outputs files
   right = made_of_is_right kinds task.outputs task.values (trees_of task taken) task.actions files makes
 
-  -- the trees are those before the record was taken out
+  -- the trees are those before the record was deleted
   pub trees_taken : trees_of task taken ≡ trees_of task (kept old)
   trees_taken = sym (trees_outside task taken) ∙ ap (trees_of task) same
 
@@ -118,7 +118,7 @@ module _ (kinds : Kinds) (task : Task) (out : list_any (λ (o : Output). is_own 
           ∙ by (is_output_of task q) (file_at files q) (file_at (kept old) q) (right.beside q)
           ∙ sym (at-where (λ q. not (is_output_of task q)) (kept old) q))
 
-  -- the record that is put in is that of the entry
+  -- the record that is stored is that of the entry
   pub said_entry : (inputs : List Prints) → inputs ≡ digests_in (trees_of task (kept old)) → IsSaidOf (run_now task inputs ran) (entry_of task (with_outputs task (kept old) files))
   said_entry inputs read =
       λ i. record {

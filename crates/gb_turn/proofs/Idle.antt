@@ -1,4 +1,4 @@
--- The turn of a task, settled by what it was prepared for.
+-- The execution of a task, decided by what it was prepared for.
 use Rattle.std.specs.Prelude.{ℕ, ◌≡◌, ◌||◌, ◌&&◌, Bool, true, false, not, List, [], if◌then◌else◌, Option, None, Some, Result, Ok, Err, OnErr, IfOk, IfErr, IsTrue}
 use Rattle.std.specs.List.{list_any}
 use Rattle.std.proofs.Common.{refl, sym, ap, subst, ◌∙◌, inl, inr}
@@ -40,7 +40,7 @@ not_failed : (fault : Fault) (outcome : Outcome) → is_failed outcome ≡ false
 not_failed fault outcome none is = not_true (sym none ∙ ap is_failed is)
 
 module _ (setting : Setting) (own : Files) (options : Options) (plan : Plan) (task : Task) (path : Path) (moment : Moment) (after : ℕ) where
-  -- how things stand as they stood
+  -- the state, unchanged
   abbrev unchanged : Stands
   unchanged = record { world = moment.world; failures = after }
 

@@ -1,4 +1,4 @@
--- What is read of a task is known of it, where records stood that are worth it.
+-- What is read of a task is known of it, where `AreWorth` holds of the records that existed.
 use Rattle.std.specs.Prelude.{◌≡◌, ◌⊎◌, ◌++◌, true, false, List, [], ◌∷◌, cond, Option, Some, None}
 use Rattle.std.specs.List.{AllByRecursion, flat_map}
 use Rattle.std.specs.Ordering.{eq_by_cmp}

@@ -1,4 +1,5 @@
--- A turn that is settled first: what holds from the moment at which it was settled holds from the one before.
+-- An execution that is decided first: what holds from the moment of the decision holds from the moment
+-- before.
 use Rattle.std.specs.Prelude.{ℕ, ◌≡◌, ◌≢◌, ◌≤◌, ◌⊎◌, Bool, true, false, is_some, List, Option, None, Some, Result, Ok, Err, IsTrue}
 use Rattle.std.specs.Borrow.{Bor}
 use Rattle.std.specs.Option.{option_copied}
@@ -40,7 +41,7 @@ pub due_in_full : (kinds : Kinds) (options : Options) (task : Task) (world : Wor
     → goes_by_changes kinds task decision ≡ false → IsDue kinds options task world
 due_in_full kinds options task world decision case runs none = record { case = case; not_current = runs.not_current; not_incremental = runs.full none }
 
--- of what nothing is known no run goes on
+-- without anything known of it a task has no incremental run
 pub due_anew : (kinds : Kinds) (options : Options) (task : Task) (world : World) (decision : Decision) → early_case task world.folder ≡ None → IsRunFor kinds options task world decision
     → IsKnown kinds task world None → IsDue kinds options task world
 due_anew kinds options task world decision case runs known = record { case = case; not_current = runs.not_current; not_incremental = λ since. none_some (sym known ∙ since.remembered) }
@@ -67,7 +68,7 @@ pub none_known : (kinds : Kinds) (task : Task) (world : World) (read : Option (B
 none_known kinds task world None none known = known
 none_known kinds task world (Some run) none known = absurd (none run refl)
 
--- a task that is to go on is due by the changes since its record
+-- a task that is to run incrementally is due by the changes since its record
 pub due_since : (kinds : Kinds) (options : Options) (task : Task) (world : World) (last : Record) (goes : IsToGoOn kinds options task world last)
     → IsDueByChanges kinds options task world (changes_from task goes.since.entry.inputs world.folder.files)
 due_since kinds options task world last goes = record {
@@ -136,7 +137,7 @@ cleared_started outcome told = subst (λ (o : Outcome). is_started o ≡ true) (
     by (Ok done) = refl
     by (Err fault) = refl
 
--- ---- what is told at once
+-- ---- what is reported at once
 
 pub told_turned : (kinds : Kinds) (registry_of : Registering) (may_leave : Tearing) (options : Options) (plan : Plan) (task : Task) (was_read : Bool) (moment : Moment) (report : TaskReport)
     (old : Contents) (before after : ℕ) (new : Contents) → ComesAt task was_read old before moment → new ≡ old

@@ -1,4 +1,4 @@
--- What actions make is a folder: no file of it lies beneath another.
+-- What actions make is a folder: no file of it is under another.
 use Rattle.std.specs.Prelude.{◌≡◌, ◌&&◌, ◌||◌, ◌++◌, ℕ, Bool, true, false, not, cond, List, [], ◌∷◌, length, nat_lt, Result, Ok, Err, ⊤}
 use Rattle.std.specs.List.{flat_map, fold, list_all}
 use Rattle.std.proofs.Common.{refl, sym, subst, ◌∙◌}
@@ -26,7 +26,7 @@ AllAt test files = list_all (λ (file : Place × Bytes). test file.0) files ≡ 
 both : (a b : Bool) → a ≡ true → b ≡ true → (a && b) ≡ true
 both a b p q = rw (p, q) refl
 
--- what all files that were put pass, each of them passes, and those beneath them
+-- if all written files pass, each of them passes, and those that they were written over
 held_pass : (test : Place → Bool) (held : Files) (files : List (Place × Bytes)) → AllAt test (put_over held files) → AllAt test held
 held_pass test held [] all = all
 held_pass test held (file ∷ files) all =

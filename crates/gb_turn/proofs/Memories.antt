@@ -25,7 +25,7 @@ sorted-remember memory path entry sorted = of_T _ (is_sorted-put byte_order tota
 same_memory : (one other : Memory) → is_sorted byte_order one ≡ true → is_sorted byte_order other ≡ true → ((path : Path) → recalled one path ≡ recalled other path) → one ≡ other
 same_memory one other first second is = same_entries byte_order total tied_same one other (T_of _ first) (T_of _ second) is
 
--- what is remembered anew needs not be forgotten before
+-- what is remembered again need not be forgotten before
 pub remember-forget : (memory : Memory) (path : Path) (entry : Entry) → is_sorted byte_order memory ≡ true → remember (forget memory path) path entry ≡ remember memory path entry
 remember-forget memory path entry sorted =
     same_memory _ _ (sorted-remember (forget memory path) path entry (sorted-forget memory path sorted)) (sorted-remember memory path entry sorted)

@@ -142,7 +142,7 @@ faults_of folder (property ∷ properties) = ap₂ (λ (x y : List Fault). x ++ 
 inputs_outside : (task : Task) (folder : Contents) → input_faults task (outside folder) ≡ input_faults task folder
 inputs_outside task folder = faults_of folder task.files
 
--- so the case before any record is looked at is the same
+-- so the case before any record is read is the same
 pub early_outside : (task : Task) (folder : Contents) → early_case task (outside folder) ≡ early_case task folder
 early_outside task folder =
     ap₂ (λ (hindrances : List Fault) (dry : Bool). if not task.runs then Some Skips

@@ -1,4 +1,4 @@
--- The tool's own folder: what lies in it, and what is not blocked by it.
+-- The tool's own folder: which places are in it, and which places it does not block.
 use Rattle.std.specs.Prelude.{ℕ, ◌≡◌, ◌++◌, ◌||◌, Bool, true, false, not, List, [], ◌∷◌, length, codes, cond, get_or}
 use Rattle.std.specs.List.{list_any}
 use Rattle.std.proofs.Common.{refl, sym, ap, ◌∙◌, inl, inr, arith, length-append}
@@ -19,7 +19,7 @@ no_slash (a ∷ []) rest e = absurd (omega (arith, ap (λ l. get_or l 1 0) e))
 no_slash (a ∷ b ∷ []) rest e = absurd (omega (arith, ap (λ l. get_or l 2 0) e))
 no_slash (a ∷ b ∷ c ∷ root) rest e = absurd (omega (arith, ap length e, length-append root (47 ∷ rest)))
 
--- the tool's folder lies in no other
+-- the tool's folder is in no other
 not_above : (root : Place) → is_own root ≡ false → is_under (codes ".gb") root ≡ true → ⊥
 not_above root out above = by (under_parts (codes ".gb") root above)
   where
@@ -27,7 +27,7 @@ not_above root out above = by (under_parts (codes ".gb") root above)
     by (inl same) = not_false (sym (own_place (codes ".gb")) ∙ ap (λ r. is_under r (codes ".gb")) same ∙ out)
     by (inr found) = no_slash root found.0 found.1
 
--- what lies under a place that is not the tool's own is none of it
+-- what is under a place that is not the tool's own is none of it
 pub kept_under : (root : Place) → is_own root ≡ false → (q : Place) → is_under q root ≡ true → is_kept q ≡ true
 kept_under root out q under = by (is_own q) refl
   where
@@ -35,7 +35,7 @@ kept_under root out q under = by (is_own q) refl
     by true own = absurd (not_above root out (open_in (is_own root) (is_under (codes ".gb") root) (under_both q root (codes ".gb") under own) out))
     by false own = refl
 
--- what lies under the tool's own is its own
+-- what is under the tool's own is its own
 own_under : (q root : Place) → is_under q root ≡ true → is_own root ≡ true → is_own q ≡ true
 own_under q root under own = by (under_parts q root under) (under_parts root (codes ".gb") own)
   where
@@ -44,7 +44,7 @@ own_under q root under own = by (under_parts q root under) (under_parts root (co
     by (inr found) (inl top) = ap is_own (found.1 ∙ ap (λ r. r ++ 47 ∷ found.0) top)
     by (inr found) (inr more) = ap is_own (found.1 ∙ ap (λ r. r ++ 47 ∷ found.0) more.1)
 
--- what lies at outputs that are not the tool's own is none of it
+-- what is at outputs that are not the tool's own is none of it
 pub kept_at : (outputs : List Output) → list_any (λ (o : Output). is_own o.place) outputs ≡ false → (q : Place)
     → list_any (λ (o : Output). is_under q o.place) outputs ≡ true → is_kept q ≡ true
 kept_at [] out q at = not_true at
@@ -73,7 +73,7 @@ turned a b e = neither b a (none_right a b e) (none_left a b e)
 pub not_in_own_way : (place kept : Place) → is_own place ≡ true → is_own kept ≡ false → (is_beneath place kept || is_beneath kept place) ≡ false
 not_in_own_way place kept own out = turned (is_beneath kept place) (is_beneath place kept) (not_in_way kept place out own)
 
--- files that are in no one's way may be left out
+-- files that are in no one's way may be removed
 pub blocked_where : (test : Place → Bool) (place : Place) → ((f : Place) → test f ≡ false → (is_beneath place f || is_beneath f place) ≡ false) → (files : Files)
     → is_blocked (files_where test files) place ≡ is_blocked files place
 blocked_where test place free [] = refl

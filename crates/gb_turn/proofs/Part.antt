@@ -14,7 +14,7 @@ use Rattle.gb_tree.specs.Tree.{Entries, bytes_at, contents_at, entries_from, fil
 use Rattle.gb_tree.specs.declared.fault.TreeFault.TheVariants as trees
 
 module _ (test : Place → Bool) where
-  -- all that stands at or beneath the root passes
+  -- everything at or under the root passes
   abbrev pub Within : Place → Type 0
   Within root = (q : Place) → is_under q root ≡ true → test q ≡ true
 
@@ -62,7 +62,7 @@ module _ (test : Place → Bool) where
             ∙ entries_same files (entries_from root (places_under files root)) (all_from files root within)
       ]
 
-  -- an output of a list whose places pass, and those behind it
+  -- an output of a list whose places pass, and those after it
   pub first_within : (output : Output) (outputs : List Output) → ((q : Place) → list_any (λ (o : Output). is_under q o.place) (output ∷ outputs) ≡ true → test q ≡ true) → Within output.place
   first_within output outputs within q under = within q (ap (λ b. b || list_any (λ (o : Output). is_under q o.place) outputs) under)
 

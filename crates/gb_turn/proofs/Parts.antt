@@ -77,7 +77,7 @@ outside_same path old new changes =
 pub blocked_by_own : (path : Path) (files : Files) → is_blocked files (record_place path) ≡ is_blocked (files_where is_own files) (record_place path)
 blocked_by_own path files = sym (blocked_where is_own (record_place path) (λ f not_own. not_in_own_way (record_place path) f refl not_own) files)
 
--- ---- what a turn changes
+-- ---- what an execution changes
 
 module _ (task : Task) (old new : Files) (differs : DiffersOnlyAt (is_of_turn task) old new) where
   abbrev turn_passes : Place → Bool

@@ -16,7 +16,7 @@ use Rattle.gb_turn.specs.Turned.{outcome_of}
 module _ {F : Type 0} (failures : F → ℕ) (may_leave : F → Tearing) (asked : F → Call → F → Type 0) where
   module _ (tells : Bool) (contents : F → Contents) (device : Device F)
       (said : (old : F) (call : Call) (new : F) → IsCalled device old call new → IsCalled (device_of failures may_leave asked tells contents) old call new) where
-    -- what is answered by the device is answered by what folders say of themselves, whatever they hold
+    -- an answer of the device is an answer by the folders' own relations, whatever contents they have
     one_answered : (old : F) (call : Call) (new : F) → IsCalled device old call new
         → IsCalled (device_of failures may_leave asked false (λ folder. record { files = []; odd = [] })) old call new
     one_answered old call new called =

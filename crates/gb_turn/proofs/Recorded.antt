@@ -1,4 +1,4 @@
--- A record put in: what is said of it, and what then stands.
+-- A stored record: what it has, and what exists then.
 use Rattle.std.specs.Prelude.{◌≡◌, false, List, [], ◌∷◌, Ok, map, if◌then◌else◌}
 use Rattle.std.proofs.Common.{refl, sym, ap, ap₂, subst, ◌∙◌}
 use Rattle.gb_action.specs.Files.{Trees}
@@ -21,16 +21,16 @@ use Rattle.gb_label.specs.Reading.{digests_in, recorded_of, records_with}
 use Rattle.gb_records.specs.Granted.{IsGranted}
 use Rattle.gb_turn.specs.Keeping.{IsRecordOf, run_now}
 
--- tears that are seen before a call are seen after it
+-- torn writes that are detected before a call are detected after it
 pub seen_later : (first second : Tearing) → SameTearing first second → TearsAreSeen IsText record_place first → TearsAreSeen IsText record_place second
 seen_later first second same seen path old new left good of_tool may = seen path old new left good of_tool ((same (record_place path) old new left).0 may)
 
--- and what is granted before it is granted after it
+-- and what is assumed before the call holds after it
 pub granted_later : {S : Type 0} {meanings : Meanings S} {rows : Rows S} {kinds : Kinds} (first second : Tearing) → SameTearing first second
     → IsGranted meanings rows kinds first → IsGranted meanings rows kinds second
 granted_later first second same given = record { agrees = given.agrees; tears = seen_later first second same given.tears }
 
--- the digests of what stands make the records of it
+-- the digests of what exists make the records of it
 records_at : (files : Files) (outputs : List Output) → records_with outputs (prints_at outputs files) ≡ map (recorded_of files) outputs
 records_at files [] = refl
 records_at files (output ∷ outputs) = ap (λ (l : List OutputRecord). recorded_of files output ∷ l) (records_at files outputs)
@@ -46,7 +46,7 @@ record_is kinds task trees inputs made outputs run is are with held makes stands
       (with ∙ ap (records_with task.outputs) stands ∙ records_at held task.outputs),
 )
 
--- it is that of what stands, where what was made does
+-- it is that of what exists, where what was made exists
 pub record_stands : (kinds : Kinds) (task : Task) (trees : Trees) (inputs : List Prints) (new : Files) (run : Record) → (of : IsRecordOf kinds task trees run) → inputs ≡ digests_in trees
     → ((held : Files) → made_of kinds task.actions task.values trees task.outputs ≡ Ok held → prints_at task.outputs new ≡ prints_at task.outputs held)
     → run ≡ run_now task inputs new

@@ -36,7 +36,7 @@ use Rattle.gb_turn.proofs.Given.{named_outputs}
 use Rattle.gb_turn.proofs.Outside.{early_outside}
 use Rattle.gb_turn.proofs.Later.{known_made}
 
--- the digests of what stands make the records of it
+-- the digests of what exists make the records of it
 records_seen : (files : Files) (outputs : List Output) → records_with outputs (prints_seen (map (seen_of files) outputs)) ≡ map (recorded_of files) outputs
 records_seen files [] = refl
 records_seen files (output ∷ outputs) = ap (λ (l : List OutputRecord). recorded_of files output ∷ l) (records_seen files outputs)
@@ -72,7 +72,7 @@ module _ (options : Options) (task : Task) (last : Record) (present : Present) (
       by (decisions.Incremental changes) same = (whole, whole_outputs, decided changes same)
       by decisions.Full same = whole
 
-  -- where the folder stands as it was read it is what was decided before
+  -- where the folder is as it was read, the result is the earlier decision
   module _ (kinds : Kinds) (world : World) (folder : Contents) (some : Seen) (out : list_any (λ (o : Output). is_own o.place) task.outputs ≡ false)
       (is_enough : OutsideIsEnough) (is_case : PreparedIsCase) (at : world.folder ≡ outside folder) (goes : IsToGoOn kinds options task world last)
       (trees : inputs.trees ≡ trees_of task folder.files) (seen : outputs.seen ≡ map (seen_of folder.files) task.outputs) where

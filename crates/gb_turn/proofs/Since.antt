@@ -1,4 +1,4 @@
--- What a run by changes goes on from, by what is remembered.
+-- What an incremental run is based on, by what is remembered.
 use Rattle.std.specs.Prelude.{ℕ, ◌≡◌, ◌&&◌, ◌||◌, Bool, true, false, not, cond, List, [], ◌∷◌, map, option_map, option_and_then, unwrap_or, is_some, Option, None, Some, Ok}
 use Rattle.std.specs.FinMap.Entries.{find, is_sorted}
 use Rattle.std.specs.List.{AllByRecursion, filter, list_all, list_any}
@@ -115,7 +115,7 @@ same_found name (x ∷ xs) (y ∷ ys) e =
     by true later = refl
     by false later = later
 
--- ---- what the lists tell
+-- ---- what the lists contain
 
 module _ (old : Trees) (g : FileProperty → Tree) (properties : List FileProperty)
     (rise : ascends (map (λ (property : FileProperty). property.name) properties) ≡ true)
@@ -223,7 +223,7 @@ module _ (old : Trees) (g : FileProperty → Tree) (properties : List FileProper
       by None is = none_some (sym (find_list name ∙ ap (λ o. option_map between (passes o)) is) ∙ e)
       by (Some p) is = at p is p.incremental refl
 
--- ---- what is remembered stands in order
+-- ---- what is remembered is in order
 
 names_kept : (digest : Bytes → List ℕ) (tree : Tree) → map (λ (file : Place × List ℕ). file.0) (map (λ (file : Place × Bytes). let print : Place × List ℕ = (file.0, digest file.1) in print) tree) ≡ map (λ (file : Place × Bytes). file.0) tree
 names_kept digest [] = refl
@@ -247,7 +247,7 @@ ordered_inputs files memory path entry standing is_path known =
         let text : IsText path (record_of sha256 entry) stored.0 = stored.2 in
         all_sorted sha256 entry.inputs text.held.inputs
 
--- ---- what a run by changes goes on from
+-- ---- what an incremental run is based on
 
 names_of_trees : (files : Files) (properties : List FileProperty)
     → map (λ (tree : List ℕ × Tree). tree.0) (map (λ (property : FileProperty). let tree : List ℕ × Tree = (property.name, tree_of property files) in tree) properties)

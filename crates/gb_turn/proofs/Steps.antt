@@ -1,4 +1,4 @@
--- A run step by step: how it ended is the task's turn, wherever it ended.
+-- A run step by step: its result is the task's execution, wherever it ended.
 use Rattle.std.specs.Prelude.{ℕ, ◌≡◌, ◌≢◌, ◌≤◌, ◌⊎◌, ◌||◌, ◌&&◌, Bool, true, false, not, cond, List, [], ◌∷◌, length, take, map, if◌then◌else◌, is_some, nat_lt, Option, None, Some, Result, Ok, Err, IsTrue}
 use Rattle.std.specs.FinMap.Entries.{is_sorted}
 use Rattle.std.specs.List.{AllByRecursion, list_any}
@@ -169,7 +169,7 @@ module _ (kinds : Kinds) (registry_of : Registering) (may_leave : Tearing) (opti
     blocked_own : is_blocked old.files (record_place task.path) ≡ is_blocked (own_files old) (record_place task.path)
     blocked_own = blocked_by_own task.path old.files
 
-    -- the record stood, and was not taken out
+    -- the record existed, and was not deleted
     pub kept_record : (fault : Fault) (early after : ℕ) (new : Contents) → before ≤ early → early ≤ after → IsKept task was_read memory early old fault after new → Turned (Err fault) [] after new
     kept_record fault early after new le more held = by held.why
       where
@@ -337,7 +337,7 @@ module _ (kinds : Kinds) (registry_of : Registering) (may_leave : Tearing) (opti
         gives_run_up : InventsNothing kinds task fault world (record { folder = outside new; memory = forget memory task.path }) → Keeps new → Turned (Err fault) lines after new
         gives_run_up invents keeps = gives_up fault lines after new changes invents keeps (ends_then fails.why) blamed records
 
-      -- ---- the run in full
+      -- ---- the full run
 
       module _ (fault : Fault) (lines : List Text) (between mid after : ℕ) (ran new : Contents) (early : before ≤ between) (rises : between ≤ mid) (late : mid ≤ after)
           (changes : ChangesOnly (is_of_turn task) old new) (blamed : (place : Place) → fault ≡ faults.Device place → is_output_of task place ≡ true)
@@ -357,7 +357,7 @@ module _ (kinds : Kinds) (registry_of : Registering) (may_leave : Tearing) (opti
         pub run_failed : Keeps new → Turned (Err fault) lines after new
         run_failed keeps = gives_run_up InFull fault lines between mid after ran new early rises late changes blamed records same tt fails invents_then keeps
 
-      -- ---- the run by changes
+      -- ---- the incremental run
 
       module _ (fault : Fault) (lines : List Text) (between mid after : ℕ) (ran new : Contents) (early : before ≤ between) (rises : between ≤ mid) (late : mid ≤ after)
           (changes : ChangesOnly (is_of_turn task) old new) (blamed : (place : Place) → fault ≡ faults.Device place → is_output_of task place ≡ true)
@@ -408,7 +408,7 @@ module _ (kinds : Kinds) (registry_of : Registering) (may_leave : Tearing) (opti
 
       module _ (lines : List Text) (ran : Contents) (sorted : is_sorted byte_order taken.files ≡ true)
           (well : EndsWell (course_in kinds task told taken.files) lines ran.files) where
-        -- it ended as one does that memory cut short behind its last action
+        -- it ended like a run that memory cut short after its last action
         as_cut : (between mid : ℕ) → Fails (course_in kinds task told taken.files) InFull may_leave between faults.OutOfMemory lines mid ran.files
         as_cut between mid = cut_at_end (course_in kinds task told taken.files) InFull may_leave between mid lines ran.files well refl
 
@@ -463,10 +463,10 @@ module _ (kinds : Kinds) (registry_of : Registering) (may_leave : Tearing) (opti
               by true stands = stands
               by false stands = subst (Standing new.files) (remember-forget memory task.path entry_made_then stood.in_order) stands
 
-          -- its record was not put in
+          -- its record was not stored
           module _ (inputs : List Prints) (inputs_are : inputs ≡ digests_in (trees_of task old.files)) (between mid : ℕ) (early : before ≤ between) (rises : between ≤ mid) (late : mid ≤ after)
               (before_record : ChangesOnly (is_of_turn task) old ran) (has_outputs : is_empty task.outputs ≡ false) where
-            -- what stands then at an output
+            -- what is then at an output
             stands_of : (records : Standing new.files (forget memory task.path)) (place : Place) (bytes : Bytes) → is_output_of task place ≡ true → file_at (kept new.files) place ≡ Some bytes
                 → (file_at (kept old.files) place ≡ Some bytes) ⊎ IsWritten kinds task (kept old.files) place bytes
             stands_of records place bytes output e =

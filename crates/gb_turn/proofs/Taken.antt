@@ -1,4 +1,4 @@
--- What holds of a folder once a task's record is taken out of it held before.
+-- What holds of a folder after a task's record is deleted from it held before.
 use Rattle.std.specs.Prelude.{◌≡◌, ◌⊎◌, true, false, cond, Option, None, Some}
 use Rattle.std.specs.List.{list_any}
 use Rattle.std.proofs.Common.{sym, ap, subst, ◌∙◌, inl, inr}
@@ -28,7 +28,7 @@ module _ (setting : Setting) (task : Task) (out : list_any (λ (o : Output). is_
   files_kept : kept taken.files ≡ kept old.files
   files_kept = taken_kept task old taken changed
 
-  -- what stood at an output
+  -- what was at an output
   pub taken_stood : (place : Place) (bytes : Bytes) → is_output_of task place ≡ true → file_at taken.files place ≡ Some bytes → file_at (kept old.files) place ≡ Some bytes
   taken_stood place bytes at e = ap (λ (fs : Files). file_at fs place) (sym files_kept) ∙ found_at task out taken.files place at ∙ e
 

@@ -74,7 +74,7 @@ unfolding Rattle.gb_turn.specs.Asking.IsInFull Rattle.gb_turn.specs.Asking.IsTex
 full_runs_are_true failures may_leave asked meanings old rows kinds task bytes agrees full =
     text_of_record failures may_leave asked old full.1 kinds task full.0 full.4.0 bytes full.2 full.3 (full.4.2 kinds agrees) full.4.1
 
--- ---- what the lists of changes tell of trees
+-- ---- what the lists of changes say of trees
 
 -- the changes of the properties of these names, tree by tree
 abbrev lists_of : List (List ℕ) → Trees → Trees → List Changes
@@ -133,7 +133,7 @@ others_same names (a ∷ old) (b ∷ new) same name none =
         ∙ later none
         ∙ sym (ap (λ t. cond t (Some b.1) (find byte_order name new)) is)
 
--- a list tells what became of its tree
+-- a list has the changes of its tree
 lists_tell : (names : List (List ℕ)) (old new : Trees) → Same names old new → (name : List ℕ) (list : List Change) → find byte_order name (lists_of names old new) ≡ Some list
     → list ≡ changes_between (tree_at old name) (tree_at new name)
 lists_tell names [] [] same name list some = absurd (let e = some in (cc))
@@ -220,7 +220,7 @@ seen_at all (file ∷ tree) h path bytes e = by (seen_at all tree h.1 path bytes
     by later true is = let same : file.1 ≡ bytes = cc in subst (Contains all) same h.0
     by later false is = later is
 
--- digests of trees tell the same changes
+-- digests of trees yield the same changes
 same_lists : (all : List Bytes) → ((a b : Bytes) → Contains all a → Contains all b → sha256 a ≡ sha256 b → a ≡ b) → (names : List (List ℕ)) (old new : Trees)
     → AllByRecursion (λ (tree : List ℕ × Tree). AllByRecursion (λ (file : Place × Bytes). Contains all file.1) tree.1) old
     → AllByRecursion (λ (tree : List ℕ × Tree). AllByRecursion (λ (file : Place × Bytes). Contains all file.1) tree.1) new
@@ -232,7 +232,7 @@ same_lists all apart names (a ∷ old) (b ∷ new) p q =
     (same_changes a.1 b.1 (λ path x y at to same. apart x y (seen_at all a.1 p.0 path x at) (seen_at all b.1 q.0 path y to) same))
     (same_lists all apart names old new p.1 q.1)
 
--- ---- what is known of a task whose record has the outputs that were seen
+-- ---- what is known of a task whose record has the outputs that were read
 
 module _ (kinds : Kinds) (task : Task) (last : Record) (trees : Trees) (seen : List OutputFiles) (lie : LieApart task)
     (formed : AreFormed seen task.outputs) (so : IsTrueBeside kinds last (contents_read trees seen))

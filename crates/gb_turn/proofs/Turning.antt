@@ -1,4 +1,4 @@
--- The turn of a task whose run is due, by how it ended.
+-- The execution of a task whose run is due, by how it ended.
 use Rattle.std.specs.Prelude.{ℕ, ◌≡◌, ◌⊎◌, ◌++◌, Bool, true, false, List, [], ◌∷◌, length, take, Option, Some, None, Result, Ok, Err}
 use Rattle.std.proofs.Common.{refl, sym, ap, subst, ◌∙◌, inl, inr}
 use Rattle.gb_action.specs.Changes.{Changes}
@@ -23,9 +23,9 @@ use Rattle.gb_run.proofs.Placed.{none_after, none_before}
 use Rattle.gb_turn.specs.Turned.{report_of}
 use Rattle.gb_label.proofs.Cases.{cased}
 
--- ---- the case before any record is looked at
+-- ---- the case before any record is read
 
--- what holds of a task that no case settles
+-- what holds of a task to which no early case applies
 pub record Goes (task : Task) (folder : Contents) : Type 0 where
   pub runs : task.runs ≡ true
   pub acts : is_empty task.actions ≡ false
@@ -80,7 +80,7 @@ same_fault one other e = cc
 abbrev pub lines_in : Kinds → Task → List Changes → Files → List Action → List Text
 lines_in kinds task told files actions = lines_of kinds task (trees_of task files) told actions
 
--- A run is due, and these are the changes that its actions are told.
+-- A run is due, and these are the changes that its actions get.
 pub record IsRun (kinds : Kinds) (options : Options) (task : Task) (world : World) (told : List Changes) : Type 0 where
   pub case : early_case task world.folder ≡ None
   pub not_current : ¬ IsCurrent options task world

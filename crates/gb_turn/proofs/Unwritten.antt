@@ -1,4 +1,4 @@
--- What a record's fault comes to, as a build tells it.
+-- The result of a record's fault, as a build reports it.
 use Rattle.std.specs.Prelude.{ℕ, ◌≡◌, ◌≢◌, true, Option, Err}
 use Rattle.std.specs.Cmp.Lexicographic.{bytes_decides}
 use Rattle.std.proofs.Common.{refl, inl, inr}

@@ -1,4 +1,4 @@
--- A full run, from what its calls answer to the task's turn.
+-- A full run, from the answers to its calls to the task's execution.
 use Rattle.gb_history.specs.Text.{record_text}
 use Rattle.std.specs.Prelude.{ℕ, ◌≡◌, ◌≤◌, ◌⊎◌, Bool, false, true, List, [], Result, Ok, Err, OnErr, IfErr, Some, ◌||◌}
 use Rattle.std.specs.FinMap.Entries.{is_sorted}
@@ -51,7 +51,7 @@ pub as_found : (task : Task) (was_read : Bool) (old : Contents) (before : ℕ) (
 as_found task was_read old before moment at = λ i.
     record { world = record { folder = sym at.folder i; memory = moment.world.memory }; outcomes = moment.outcomes; failures = sym at.failures i }
 
--- a run that failed under one tearing failed so under the same
+-- a run that failed under one relation of torn writes failed so under an equal one
 pub fails_before : (course : Course) (way : Way) (first second : Tearing) (before after : ℕ) (fault : Fault) (lines : List Text) (new : Files) → SameTearing first second → before ≤ after
     → Fails course way second before fault lines after new → Fails course way first before fault lines after new
 fails_before course way first second before after fault lines new same le fails = record { moment = fails.moment; printed = fails.printed; why = by fails.why }

@@ -1,4 +1,4 @@
--- What a task that may go on by changes comes to, on what was read of it whole.
+-- How a task that may run incrementally is to run, by what was read of it whole.
 use Rattle.std.specs.Prelude.{◌≡◌, List, map}
 use Rattle.gb_action.specs.Changes.{Changes}
 use Rattle.gb_action.specs.Files.{Trees}
@@ -40,20 +40,20 @@ pub record AreDecided (options : Options) (task : Task) (last : Record) (trees :
   pub is : IsPresentOf options task (digests_in trees) (records_with task.outputs (prints_seen seen)) present
   pub decides : DecidesFrom last present (decisions.Incremental changes)
 
--- what a task comes to by what was decided
+-- how a task is to run, by what was decided
 abbrev pub anew_by : Decision → Inputs → Outputs → Anew
 anew_by decisions.UpToDate inputs outputs = anew.InFull inputs
 anew_by (decisions.Incremental changes) inputs outputs = anew.ByChanges inputs outputs changes
 anew_by decisions.Full inputs outputs = anew.InFull inputs
 
--- What it comes to was decided on these very inputs and outputs.
+-- How the task is to run was decided on these very inputs and outputs.
 abbrev pub IsAnew : Options → Task → Record → Anew → Type 0
 IsAnew options task last (anew.ByChanges inputs outputs changes) =
     AreWhole task inputs × AreWholeOutputs task outputs
     × AreDecided options task last inputs.trees outputs.seen changes
 IsAnew options task last (anew.InFull inputs) = AreWhole task inputs
 
--- It goes on by changes, on what stands in these files.
+-- The task runs incrementally, based on what is in these files.
 abbrev pub IsAsBefore : Kinds → Options → Task → Files → World → Anew → Type 0
 IsAsBefore kinds options task files world (anew.ByChanges inputs outputs changes) =
     (inputs.trees ≡ trees_of task files) × (outputs.seen ≡ map (seen_of files) task.outputs)

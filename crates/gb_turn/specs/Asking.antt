@@ -1,4 +1,4 @@
--- What a task's turn asks of a folder, whichever it is: at which places, and which records it puts in.
+-- The calls that a task's execution makes, over any folder: at which places, and which records it stores.
 use Rattle.std.specs.Prelude.{ℕ, ◌≡◌, ◌⊎◌, List, map, Option, Some, None, IsTrue}
 use Rattle.gb_action.specs.Changes.{Changes}
 use Rattle.gb_action.specs.Files.{Trees}
@@ -23,36 +23,36 @@ use Rattle.gb_turn.specs.Anew.{AreDecided}
 use Rattle.gb_turn.specs.Keeping.{IsRecordOf}
 use Rattle.gb_turn.specs.Turned.{is_of_turn}
 
--- Files are taken away at the task's outputs and at its record; they are put at its outputs, and one with
--- such a text at its record.
+-- Files are removed at the task's outputs and at its record. Files are written at its outputs, and a file
+-- with such a text at its record.
 unfoldable pub in_turn_with : Task → (Bytes → Type 0) → Permit
 in_turn_with task text place None = IsTrue (is_of_turn task place)
 in_turn_with task text place (Some bytes) =
     IsTrue (is_output_of task place) ⊎ ((place ≡ record_place task.path) × text bytes)
 
--- What is permitted, once this holds.
+-- what is permitted once this holds
 unfoldable pub once : Type 0 → Permit → Permit
 once holds permit place next = holds × permit place next
 
--- What a turn goes by was answered on the way from a state of the folder, without a change: the whole trees
--- of its inputs; or that it has no source.
+-- Calls returned what the execution is based on, on the way from a state of the folder, without a change: the
+-- whole trees of its inputs; or that it has no source.
 unfoldable pub HasRead : {F : Type 0} → (F → ℕ) → (F → Tearing) → (F → Call → F → Type 0) → F → Task → Type 0
 HasRead {F = F} failures may_leave asked old task =
     ((trees : Trees) × (read : F) × AreInputsRead failures may_leave asked old read task trees
     × (map (λ tree. tree.0) trees ≡ seen_files task.files))
     ⊎ ((read : F) × WasSourceless failures may_leave asked old read task)
 
--- ---- The text of a record, by the run that it is put in for
+-- ---- The text of a record, by the run that stores it
 
--- of a run in full on these trees: whatever kinds the table agrees with, the record has the digests of what
--- the task's actions make of them
+-- of a full run on these trees: whatever kinds the table agrees with, the record has the digests of what the
+-- task's actions make of them
 unfoldable pub IsTextIn : {S : Type 0} → Meanings S → Rows S → Task → Trees → Bytes → Type 0
 IsTextIn meanings rows task trees bytes =
     (run : Record) × (bytes ≡ record_text task.path run)
     × ((kinds : Kinds) → Agrees meanings rows kinds → IsRecordOf kinds task trees run)
 
--- of a run by these changes from outputs as they were seen: the same, where these were made of old trees from
--- which the changes lead to the new ones
+-- of an incremental run by these changes from outputs as they were read: the same, where these were made from
+-- old trees and the changes lead from those to the new ones
 unfoldable pub IsTextBy : {S : Type 0} → Meanings S → Rows S → Task → Trees → List Changes → List OutputFiles
     → Bytes → Type 0
 IsTextBy meanings rows task trees changes seen bytes =
@@ -61,9 +61,9 @@ IsTextBy meanings rows task trees changes seen bytes =
     → IsTrue (are_placed standing) → GoesOn kinds task old trees changes seen standing
     → IsRecordOf kinds task trees run)
 
--- of a run that was decided anew from what a record says: on from outputs by the changes that the record
--- tells on the digests of just these trees and outputs, which were answered on the way from a state of the
--- folder before anything was changed
+-- of an incremental run that was decided again by a record: it starts from outputs, and its changes are those
+-- that the record yields on the digests of just these trees and outputs; calls returned these on the way from
+-- a state of the folder before anything was changed
 pub record IsTextOn {F S : Type 0} (failures : F → ℕ) (may_leave : F → Tearing)
     (asked : F → Call → F → Type 0) (old : F) (meanings : Meanings S) (rows : Rows S) (options : Options)
     (task : Task) (last : Record) (bytes : Bytes) : Type 0 where
@@ -78,21 +78,21 @@ pub record IsTextOn {F S : Type 0} (failures : F → ℕ) (may_leave : F → Tea
   pub decided : AreDecided options task last trees seen changes
   pub text : IsTextBy meanings rows task trees changes seen bytes
 
--- in full, on trees that were answered so
+-- of a full run on trees that calls returned so
 unfoldable pub IsInFull : {F S : Type 0} → (F → ℕ) → (F → Tearing) → (F → Call → F → Type 0) → F → Meanings S
     → Rows S → Task → Bytes → Type 0
 IsInFull {F = F} failures may_leave asked old meanings rows task bytes =
     (trees : Trees) × (read : F) × AreInputsRead failures may_leave asked old read task trees
     × (map (λ tree. tree.0) trees ≡ seen_files task.files) × IsTextIn meanings rows task trees bytes
 
--- in full, or on from what the record says
+-- of a full run, or of one based on the record
 unfoldable pub IsTextAnew : {F S : Type 0} → (F → ℕ) → (F → Tearing) → (F → Call → F → Type 0) → F
     → Meanings S → Rows S → Options → Task → Record → Bytes → Type 0
 IsTextAnew failures may_leave asked old meanings rows options task last bytes =
     IsInFull failures may_leave asked old meanings rows task bytes
     ⊎ IsTextOn failures may_leave asked old meanings rows options task last bytes
 
--- of a run of the task, from the record that was read of it: in full, or on from what that says, where one
+-- of a run of the task, by the record that was read of it: a full run, or one based on that record, where one
 -- action of the task writes files
 abbrev pub IsTextFrom : {F S : Type 0} → (F → ℕ) → (F → Tearing) → (F → Call → F → Type 0) → F → Meanings S
     → Rows S → Options → Task → Option Record → Bytes → Type 0
@@ -110,7 +110,7 @@ IsTextOf failures may_leave asked old meanings rows options task last bytes =
 
 -- ---- What is kept
 
--- a turn in which what it goes by was not answered asks for no change
+-- an execution whose inputs calls did not return requests no change
 abbrev pub UnreadTurnsKeep : {F S : Type 0} → (F → ℕ) → (F → Tearing) → (F → Call → F → Type 0) → Meanings S
     → Type 0
 UnreadTurnsKeep {F = F} {S = S} failures may_leave asked meanings =

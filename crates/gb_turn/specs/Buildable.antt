@@ -1,4 +1,4 @@
--- What a task has to be for its turn.
+-- What a task has to be for its execution.
 use Rattle.std.specs.Prelude.{◌≡◌, false}
 use Rattle.std.specs.List.{list_any}
 use Rattle.gb_action.specs.Meanings.{Meanings}
@@ -7,7 +7,7 @@ use Rattle.gb_label.specs.Deciding.{HasNamesInOrder}
 use Rattle.gb_plan.specs.Ready.{IsReady, Rows}
 use Rattle.gb_plan.specs.declared.task.TaskDeclaration.{TaskDeclaration as Task}
 
--- The actions of the task can be asked, its names rise, and none of its outputs is the tool's own.
+-- The actions of the task are ready, its names ascend, and none of its outputs is the tool's own.
 pub record IsBuildable {S : Type 0} (meanings : Meanings S) (rows : Rows S) (task : Task) : Type 0 where
   pub ready : IsReady meanings rows task
   pub in_order : HasNamesInOrder task

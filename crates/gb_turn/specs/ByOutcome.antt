@@ -1,4 +1,4 @@
--- What the execution of a task asks of a folder, whichever it is, by its outcome.
+-- The calls that the execution of a task makes, over any folder, by its outcome.
 use Rattle.std.specs.Prelude.{ℕ, ◌≡◌, false, List, Option}
 use Rattle.gb_action.specs.Meanings.{Meanings}
 use Rattle.gb_folder.specs.Calls.{Asks, Call, no_change}
@@ -16,19 +16,19 @@ use Rattle.gb_turn.specs.Ran.{WasExecuted}
 
 module _ {F S : Type 0} (failures : F → ℕ) (may_leave : F → Tearing) (asked : F → Call → F → Type 0)
     (meanings : Meanings S) (rows : Rows S) (options : Options) where
-  -- Files are changed at the task's outputs and its record alone, once what the execution goes by was answered
-  -- since it began; and its record is of what was answered so.
+  -- Files are changed only at the task's outputs and its record, and only once calls returned, since the
+  -- execution began, what it is based on. Its record is of what these calls returned.
   abbrev pub ChangesOnceRead : Task → Option Record → F → F → Type 0
   ChangesOnceRead task last old new =
       Asks failures may_leave asked
       (once (HasRead failures may_leave asked old task)
       (in_turn_with task (IsTextOf failures may_leave asked old meanings rows options task last))) old new
 
-  -- What the execution of a task asks for, from the state of the folder in which it begins to that in which it
-  -- ends, by its outcome, its lines and the record that was read of it: nothing if it was not run; no change if
-  -- it was skipped or is up to date, and then it was found so on what was answered since it began. If it was
-  -- executed, and has actions, just what these make of its inputs was written, and the record of just this was
-  -- stored.
+  -- The calls that the execution of a task makes, from the state of the folder in which it begins to that in
+  -- which it ends, by its outcome, its lines and the record that was read of it. A task that was not run
+  -- makes none. A task that was skipped or is up to date requests no change, and a task that is up to date
+  -- was found so on what calls returned since the execution began. If a task was executed, and has actions,
+  -- just what these make of its inputs was written, and the record of just this was stored.
   abbrev pub TurnAsks : Task → Option Record → Outcome → List Text → F → F → Type 0
   TurnAsks task last outcomes.NotRun lines old new = new ≡ old
   TurnAsks task last outcomes.Skipped lines old new = Asks failures may_leave asked no_change old new

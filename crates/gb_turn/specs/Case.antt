@@ -1,4 +1,5 @@
--- What a task's turn comes to by whole contents, in the words of builds; and that it is what digests tell.
+-- The case of a task's execution by whole contents, in the terms of builds; and that digests yield the same
+-- case.
 use Rattle.std.specs.Prelude.{◌≡◌, false, [], map, Option, Some, None, IsTrue}
 use Rattle.std.specs.List.{flat_map, list_any}
 use Rattle.gb_folder.specs.Files.{Contents, Files, is_own}
@@ -22,16 +23,16 @@ use Rattle.gb_records.specs.Digests.{IsClearTo, IsPresent}
 use Rattle.gb_records.specs.Said.{IsSaidOf}
 use Rattle.gb_report.specs.declared.report.Options.{Options}
 
--- What was read of the task is the record of what is remembered of it; and that is true and clear, by what
--- the task has now.
+-- What was read of the task is the record of what is remembered of it; and what is remembered is true, and
+-- collision-free with what the task has now.
 abbrev pub IsKnown : Kinds → Task → World → Option Record → Type 0
 IsKnown kinds task world None = recalled world.memory task.path ≡ None
 IsKnown kinds task world (Some run) =
     (entry : Entry) × (recalled world.memory task.path ≡ Some entry) × IsSaidOf run entry
     × IsClearTo kinds task world.folder.files entry
 
--- What a decision is by whole contents: the task is current; or it is not, and goes on by these changes where
--- one action writes; or it is neither current nor incremental.
+-- What a decision is by whole contents: the task is current; or it is not, and is incremental by these
+-- changes where one action writes; or it is neither current nor incremental.
 abbrev pub IsCaseFor : Kinds → Options → Task → World → Decision → Type 0
 IsCaseFor kinds options task world decisions.UpToDate = IsCurrent options task world
 IsCaseFor kinds options task world (decisions.Incremental changes) =
@@ -41,7 +42,7 @@ IsCaseFor kinds options task world (decisions.Incremental changes) =
 IsCaseFor kinds options task world decisions.Full =
     (¬ IsCurrent options task world) × (¬ IsIncremental kinds options task world)
 
--- what a turn is prepared for, by whole contents
+-- what an execution is prepared for, by whole contents
 abbrev pub IsCaseOf : Kinds → Options → Task → World → Prepared → Type 0
 IsCaseOf kinds options task world prepared.Skips = early_case task world.folder ≡ Some Skips
 IsCaseOf kinds options task world prepared.HasNoActions = early_case task world.folder ≡ Some HasNoActions
@@ -59,7 +60,7 @@ PresentIsOfContents =
     present
     → IsPresent options task files present
 
--- where the task's outputs stand as a run left them that ended well, and nothing odd does, they can be read
+-- where the task's outputs are as a run left them that ended well, without special files, they can be read
 abbrev pub MadeIsNotGrown : Type 0
 MadeIsNotGrown =
     (kinds : Kinds) (task : Task) (folder : Contents) (entry : Entry) → IsMade kinds entry
@@ -73,7 +74,7 @@ DecisionIsCase =
     (decision : Decision) → IsKnown kinds task world read → early_case task world.folder ≡ None
     → IsDecided options task world.folder read decision → IsCaseFor kinds options task world decision
 
--- what a turn is prepared for is its case
+-- what an execution is prepared for is its case
 abbrev pub PreparedIsCase : Type 0
 PreparedIsCase =
     (kinds : Kinds) (options : Options) (task : Task) (world : World) (read : Option Record)
@@ -87,7 +88,7 @@ DecidedOutside =
     → list_any (λ output. is_own output.place) task.outputs ≡ false
     → IsDecided options task folder read decision → IsDecided options task (outside folder) read decision
 
--- a turn is prepared in a whole folder as in the folder without the tool's own files, if no output is its own
+-- an execution is prepared in a whole folder as without the tool's own files, if no output is the tool's own
 abbrev pub OutsideIsEnough : Type 0
 OutsideIsEnough =
     (options : Options) (task : Task) (folder : Contents) (read : Option Record) (prepared : Prepared)

@@ -1,4 +1,4 @@
--- How a task's record and outputs were taken away.
+-- How a task's record and outputs were deleted.
 use Rattle.std.specs.Prelude.{ℕ, ◌≡◌, ◌⊎◌, Bool, true, None, Result, Ok, Err}
 use Rattle.gb_folder.specs.Files.{Contents, IsFolder, Tearing}
 use Rattle.gb_history.specs.Places.{record_place}
@@ -11,7 +11,7 @@ use Rattle.gb_run.specs.Emptying.{CannotEmpty}
 use Rattle.gb_store.specs.Changes.{ChangesOnly, is_at}
 use Rattle.gb_turn.specs.Keeping.{IsForgotten, IsUnwritten}
 
--- The record was taken out, and then the outputs were emptied.
+-- The record was deleted, and then the outputs were emptied.
 pub record IsCleared (task : Task) (memory : Memory) (old new : Contents) : Type 0 where
   pub taken : Contents
   pub is_folder : IsFolder taken.files
@@ -19,7 +19,7 @@ pub record IsCleared (task : Task) (memory : Memory) (old new : Contents) : Type
   pub emptied : new.files ≡ rest_of task taken.files
   pub records : Standing new.files (forget memory task.path)
 
--- The record was not taken out, though it was read.
+-- The record was not deleted, though it was read.
 pub record IsKept (task : Task) (was_read : Bool) (memory : Memory) (before : ℕ) (old : Contents)
     (fault : Fault) (after : ℕ) (new : Contents) : Type 0 where
   pub read : was_read ≡ true
@@ -27,7 +27,7 @@ pub record IsKept (task : Task) (was_read : Bool) (memory : Memory) (before : �
   pub changes : ChangesOnly (is_at (record_place task.path)) old new
   pub records : IsForgotten task.path memory (Err fault) new.files
 
--- The record was taken out, and then the outputs were not emptied.
+-- The record was deleted, and then the outputs were not emptied.
 pub record IsHalfCleared (task : Task) (memory : Memory) (may_leave : Tearing) (before : ℕ) (old : Contents)
     (fault : Fault) (after : ℕ) (new : Contents) : Type 0 where
   pub taken : Contents

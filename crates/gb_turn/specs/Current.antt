@@ -1,4 +1,4 @@
--- What a turn goes by, as calls answered it, over any folder.
+-- What an execution is based on, as calls returned it, over any folder.
 use Rattle.std.specs.Prelude.{ℕ, ◌≡◌, false, List, map, Option, Some}
 use Rattle.gb_action.specs.Files.{Trees}
 use Rattle.gb_action.specs.declared.output.OutputFiles.{OutputFiles}
@@ -22,7 +22,7 @@ use Rattle.gb_turn.specs.declared.anew.Anew.TheVariants as anew
 use Rattle.gb_turn.specs.declared.settle.Settled.{Settled}
 use Rattle.gb_turn.specs.declared.settle.Settled.TheVariants as settled
 
--- The record that was read of the task finds it up to date, on trees and files that calls answered.
+-- The record that was read of the task finds it up to date, on trees and files that calls returned.
 pub record IsCurrentOn {F : Type 0} (failures : F → ℕ) (may_leave : F → Tearing)
     (asked : F → Call → F → Type 0) (options : Options) (task : Task) (last : Option Record)
     (old new : F) : Type 0 where
@@ -38,14 +38,14 @@ pub record IsCurrentOn {F : Type 0} (failures : F → ℕ) (may_leave : F → Te
   pub has : IsPresentOf options task (digests_in trees) (records_with task.outputs (prints_seen seen)) present
   pub decides : DecidesFrom run present decisions.UpToDate
 
--- where a task that has actions is told up to date it was found so
+-- where a task that has actions is reported as up to date it was found so
 abbrev pub IsToldCurrent : {F : Type 0} → (F → ℕ) → (F → Tearing) → (F → Call → F → Type 0) → Options → Task
     → Option Record → F → F → Outcome → Type 0
 IsToldCurrent failures may_leave asked options task last old new outcome =
     outcome ≡ outcomes.UpToDate → is_empty task.actions ≡ false
     → IsCurrentOn failures may_leave asked options task last old new
 
--- what is settled goes by what was answered
+-- what is decided is based on what calls returned
 abbrev pub WasSettled : {F : Type 0} → (F → ℕ) → (F → Tearing) → (F → Call → F → Type 0) → F → F → Options
     → Task → Option Record → Settled → Type 0
 WasSettled failures may_leave asked old new options task last (settled.Told report) =
@@ -57,7 +57,7 @@ WasSettled failures may_leave asked old new options task last (settled.Due path 
     × WasDecided failures may_leave asked old new options task last seen.inputs.items decision
     seen.outputs.items
 
--- and so does what it comes to anew
+-- and so is the result of the recheck
 abbrev pub WasReadAnew : {F : Type 0} → (F → ℕ) → (F → Tearing) → (F → Call → F → Type 0) → F → F → Task
     → Anew → Type 0
 WasReadAnew failures may_leave asked old new task (anew.ByChanges inputs outputs changes) =

@@ -1,4 +1,4 @@
--- What becomes of a task's record.
+-- How a task's record changes.
 use Rattle.std.specs.Prelude.{ℕ, ◌≡◌, ◌⊎◌, List, Option, Result, Ok, Err, map, if◌then◌else◌}
 use Rattle.gb_action.specs.Files.{Trees}
 use Rattle.gb_folder.specs.Files.{Bytes, Files, HasRisen, is_empty}
@@ -22,7 +22,7 @@ run_now task inputs files = record {
   outputs = map (recorded_of files) task.outputs;
 }
 
--- Why a record was not taken out or put in: memory ran out; or it cannot stand there, or the device failed.
+-- Why a record was not deleted or stored: memory ran out; or it cannot be there, or the device failed.
 abbrev pub IsUnwritten : Path → Option Bytes → Files → ℕ → ℕ → Fault → Type 0
 IsUnwritten path next files before after fault =
     (fault ≡ faults.OutOfMemory)
@@ -34,14 +34,14 @@ IsRecordOf kinds task trees run =
     (files : Files) × (made_of kinds task.actions task.values trees task.outputs ≡ Ok files)
     × (run ≡ run_now task (digests_in trees) files)
 
--- which records stand once a task's was taken out, or that failed
+-- which records exist after the deletion of a task's record, or after its failure
 abbrev pub IsForgotten : Path → Memory → Result (Unit {0}) Fault → Files → Type 0
 IsForgotten path memory (Ok done) files = Standing files (forget memory path)
 IsForgotten path memory (Err faults.HistoryNotWritten) files =
     Standing files memory ⊎ Standing files (forget memory path)
 IsForgotten path memory (Err fault) files = Standing files memory
 
--- which records stand once a task's was put in, where it has outputs, or that failed
+-- which records exist after a task's record was stored, where it has outputs, or after that failed
 abbrev pub IsRemembered : Task → Entry → Memory → Result (Unit {0}) Fault → Files → Type 0
 IsRemembered task entry memory (Ok done) files =
     Standing files (if is_empty task.outputs then memory else remember memory task.path entry)

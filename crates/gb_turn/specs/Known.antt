@@ -1,4 +1,4 @@
--- What is known of a task by its record, where records stood and what was seen is clear.
+-- What is known of a task by its record, where true records existed and what was read is collision-free.
 use Rattle.std.specs.Prelude.{◌≡◌, ◌⊎◌, ◌++◌, false, Option, IsTrue}
 use Rattle.std.specs.List.{AllByRecursion, flat_map, list_any}
 use Rattle.sha2.specs.Sha256.{sha256}
@@ -13,8 +13,9 @@ use Rattle.gb_records.specs.Said.{IsReadAt}
 use Rattle.gb_records.specs.Standing.{Standing}
 use Rattle.gb_turn.specs.Case.{IsKnown}
 
--- The records of a memory stood in these files, and all of them are true; the task is remembered still as it
--- was; and no two contents that were remembered or stand now share a digest, if anything was remembered.
+-- The records of a memory existed in these files, and all of them are true. What is remembered of the task
+-- has not changed since. If anything was remembered, no two contents that were remembered or exist now share
+-- a digest.
 pub record AreWorth (kinds : Kinds) (task : Task) (files : Files) (memory : Memory)
     (world : World) : Type 0 where
   pub is_task : IsTrue (is_task_path task.path)
@@ -27,7 +28,7 @@ pub record AreWorth (kinds : Kinds) (task : Task) (files : Files) (memory : Memo
   pub clear : IsTrue (is_empty memory)
       ⊎ AreApart sha256 (flat_map (λ entry. contents_of entry.1) memory ++ folder_contents world)
 
--- what is read of a task where records stood that are worth it is known of the task
+-- what is read of a task is known of it, if such records existed
 abbrev pub WhatIsReadIsKnown : Type 0
 WhatIsReadIsKnown =
     (kinds : Kinds) (task : Task) (files : Files) (memory : Memory) (world : World) (read : Option Record)

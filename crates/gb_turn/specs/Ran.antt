@@ -1,4 +1,4 @@
--- What an execution did that ended well, over any folder: by which calls, and with which bytes.
+-- What an execution that ended well did, over any folder: by which calls, and with which bytes.
 use Rattle.std.specs.Prelude.{ℕ, ◌≡◌, ◌⊎◌, false, if◌then◌else◌, List, [], ◌∷◌, map, Option, Some, Ok, IsTrue}
 use Rattle.gb_action.specs.Changes.{Changes}
 use Rattle.gb_action.specs.Files.{Trees}
@@ -38,9 +38,9 @@ stores task run limit =
     if is_empty task.outputs then []
     else Writes (record_place task.path) (record_text task.path run) limit (Ok tt) ∷ []
 
--- In full on these trees: first nothing was removed but the record and files at the outputs; then came just
--- the calls that write what the actions make of these trees, each answered as done; these are the lines of
--- the actions; and the last call stored the record of just this.
+-- A full run on these trees: first nothing was removed but the record and files at the outputs. Then came
+-- just the calls that write what the actions make of these trees, each answered as done. These are the lines
+-- of the actions. The last call stored the record of just this.
 pub record RanInFull {F S : Type 0} (failures : F → ℕ) (may_leave : F → Tearing)
     (asked : F → Call → F → Type 0) (meanings : Meanings S) (rows : Rows S) (task : Task) (trees : Trees)
     (lines : List Text) (old new : F) : Type 0 where
@@ -56,10 +56,10 @@ pub record RanInFull {F S : Type 0} (failures : F → ℕ) (may_leave : F → Te
   pub limit : ℕ
   pub stored : AreAnswered failures may_leave asked done (stores task run limit) new
 
--- By these changes from outputs with these files: first nothing was removed but the record; then came just
--- the calls for what the actions answer to the changes, each answered as done (or that a file to be removed is
--- not there); these are their lines; and the last call stored the record of just this. The record is one of
--- these trees if the outputs were made of old trees from which the changes lead to the new ones.
+-- A run by these changes from outputs with these files: first nothing was removed but the record. Then came
+-- just the calls for what the actions answer to the changes, each answered as done (or that a file to be
+-- removed is not there). These are their lines. The last call stored the record of just this. The record is
+-- one of these trees if the outputs were made from old trees and the changes lead from those to the new ones.
 pub record RanByChanges {F S : Type 0} (failures : F → ℕ) (may_leave : F → Tearing)
     (asked : F → Call → F → Type 0) (meanings : Meanings S) (rows : Rows S) (task : Task) (trees : Trees)
     (changes : List Changes) (seen : List OutputFiles) (lines : List Text) (old new : F) : Type 0 where
@@ -76,15 +76,15 @@ pub record RanByChanges {F S : Type 0} (failures : F → ℕ) (may_leave : F →
   pub limit : ℕ
   pub stored : AreAnswered failures may_leave asked done (stores task run limit) new
 
--- These trees of the inputs were answered whole since this state of the folder, and nothing was changed.
+-- Calls returned these trees of the inputs whole, since this state of the folder, and nothing was changed.
 pub record HaveRead {F : Type 0} (failures : F → ℕ) (may_leave : F → Tearing)
     (asked : F → Call → F → Type 0) (task : Task) (trees : Trees) (first read : F) : Type 0 where
   pub asks : Asks failures may_leave asked no_change first read
   pub inputs : AreInputsRead failures may_leave asked first read task trees
   pub named : map (λ tree. tree.0) trees ≡ seen_files task.files
 
--- So were these files of its outputs, and the record decides on the digests of just these and of these trees
--- that the execution is one by these changes.
+-- Calls also returned these files of its outputs. The record decides, on the digests of just these and of
+-- these trees, that the execution is incremental by these changes.
 pub record GoesFrom {F : Type 0} (failures : F → ℕ) (may_leave : F → Tearing)
     (asked : F → Call → F → Type 0) (options : Options) (task : Task) (last : Record) (trees : Trees)
     (changes : List Changes) (seen : List OutputFiles) (first read : F) : Type 0 where
@@ -99,7 +99,7 @@ ExecutedInFull {F = F} failures may_leave asked meanings rows task lines first n
     (trees : Trees) × (read : F) × HaveRead failures may_leave asked task trees first read
     × RanInFull failures may_leave asked meanings rows task trees lines read new
 
--- Executed since this state of the folder, from the record that was read of the task: in full, or by the
+-- Executed since this state of the folder, by the record that was read of the task: in full, or by the
 -- changes since the record.
 abbrev pub WasExecuted : {F S : Type 0} → (F → ℕ) → (F → Tearing) → (F → Call → F → Type 0) → Meanings S
     → Rows S → Options → Task → Option Record → List Text → F → F → Type 0

@@ -1,4 +1,4 @@
--- What is settled of a task's turn before anything is changed.
+-- What is decided of a task's execution before anything is changed.
 use Rattle.std.specs.Prelude.{ℕ, ◌≡◌, ◌≢◌, ◌||◌, Bool, true, false, not, [], Result, Ok, Err, None, Some}
 use Rattle.std.specs.Prelude.{IsTrue, ⊤}
 use Rattle.std.specs.List.{list_any}
@@ -27,7 +27,7 @@ use Rattle.gb_turn.specs.Turns.{IsRunFor}
 use Rattle.gb_turn.specs.declared.settle.Settled.{Settled}
 use Rattle.gb_turn.specs.declared.settle.Settled.TheVariants as settled
 
--- what a task without actions is told as
+-- the outcome that is reported for a task without actions
 abbrev pub idle_outcome : Bool → Outcome
 idle_outcome true = outcomes.Executed
 idle_outcome false = outcomes.UpToDate
@@ -37,7 +37,7 @@ abbrev pub silent_report : Task → Path → Outcome → TaskReport
 silent_report task path outcome =
     record { path = path; outcome = outcome; has_actions = not (is_empty task.actions); lines = [] }
 
--- what is settled by what a turn was prepared for
+-- what is decided by what an execution was prepared for
 abbrev pub settled_as : Task → Path → Result Prepared Fault → Bool → Settled
 settled_as task path (Err fault) need = settled.Told (silent_report task path (outcomes.Failed fault))
 settled_as task path (Ok prepared.Skips) need = settled.Told (silent_report task path outcomes.Skipped)
@@ -48,9 +48,9 @@ settled_as task path (Ok (prepared.Decided decisions.UpToDate basis seen)) need 
     settled.Told (silent_report task path outcomes.UpToDate)
 settled_as task path (Ok (prepared.Decided decision basis seen)) need = settled.Due path decision seen
 
--- A report is of the task, has no line, says that it was started, and blames the device only if that failed
--- meanwhile; a task that is reported as executed here has no actions. A task without source has a property
--- that skips it; and what is due is not up to date.
+-- A report is of the task, has no line, and says that the task was started. It attributes a fault to the
+-- device only if the device failed meanwhile. A task that is reported as executed here has no actions. A task
+-- without source has a property that skips it; and a task that is due is not up to date.
 abbrev pub IsOfTask : Task → ℕ → ℕ → Settled → Type 0
 IsOfTask task before after (settled.Told report) =
     (report.path ≡ task.path) × (report.has_actions ≡ not (is_empty task.actions)) × (report.lines ≡ [])
@@ -63,35 +63,36 @@ IsOfTask task before after (settled.Sourceless path) =
 IsOfTask task before after (settled.Due path decision seen) =
     (path ≡ task.path) × (decision ≢ decisions.UpToDate) × IsReadFor task seen decision
 
--- all is told, with this outcome
+-- the whole execution is reported, with this outcome
 abbrev pub IsToldAs : Outcome → Settled → Type 0
 IsToldAs outcome (settled.Told report) = report.outcome ≡ outcome
 IsToldAs outcome other = ⊥
 
--- a task that is skipped, or has no actions, is told so; of others nothing is said
+-- a task that is skipped, or has no actions, is reported as such; the contract says nothing of others
 abbrev pub AnswersAlone : Bool → Bool → Bool → Settled → Type 0
 AnswersAlone false idle need result = IsToldAs outcomes.Skipped result
 AnswersAlone true true need result = IsToldAs (idle_outcome need) result
 AnswersAlone true false need result = ⊤
 
--- so it is told of a whole turn
+-- the same for the outcome of a whole execution
 abbrev pub IsAnsweredAlone : Bool → Bool → Bool → Outcome → Type 0
 IsAnsweredAlone false idle need outcome = outcome ≡ outcomes.Skipped
 IsAnsweredAlone true true need outcome = outcome ≡ idle_outcome need
 IsAnsweredAlone true false need outcome = ⊤
 
--- what is told of a task that runs and has actions is an outcome that it may answer
+-- a report of a task that runs and has actions has an outcome that is possible for it
 abbrev pub TellsAnswer : Options → Task → Settled → Type 0
 TellsAnswer options task (settled.Told report) =
     task.runs ≡ true → is_empty task.actions ≡ false → MayAnswer options task report.outcome
 TellsAnswer options task other = ⊤
 
--- so it is of a whole turn, which prints nothing where its outcome leaves no choice
+-- the same for a whole execution, which prints nothing where its outcome leaves no choice
 pub record IsAnswer (options : Options) (task : Task) (report : TaskReport) : Type 0 where
   pub lines : PrintsNothing report.outcome report
   pub answer : task.runs ≡ true → is_empty task.actions ≡ false → MayAnswer options task report.outcome
 
--- What is told is the task's turn, which changes nothing; and what is not is the task's case.
+-- A report is the result of the task's execution, which changes nothing; a result without a report is the
+-- task's case.
 abbrev pub SettlesTurn : Setting → Options → Plan → Task → Moment → Contents → ℕ → Settled → Type 0
 SettlesTurn setting options plan task moment old after (settled.Told report) =
     StartedTurn (rules_in setting (own_files old) options plan) moment task report

@@ -1,5 +1,5 @@
--- Records stay true, whoever else writes in the folder: what the text of a run's record says is what the
--- task's actions make.
+-- Records stay true, whoever else writes in the folder: the text of a run's record states what the task's
+-- actions make.
 use Rattle.std.specs.Prelude.{ℕ, ◌≡◌, ◌++◌, false, List, map, Ok, Option, IsTrue}
 use Rattle.std.specs.List.{list_any}
 use Rattle.sha2.specs.Sha256.{sha256}
@@ -28,7 +28,7 @@ use Rattle.gb_turn.specs.Asking.{IsInFull, IsTextOn}
 use Rattle.gb_turn.specs.Current.{IsCurrentOn}
 
 -- The bytes are the text of a true record of the task: there is an entry with its actions, values and
--- outputs, whose inputs calls answered on the way from a state of the folder, whose files are what these
+-- outputs. Calls returned the entry's inputs on the way from a state of the folder, its files are what these
 -- actions make of them, and the record has its digests.
 pub record IsTextOfTrue {F : Type 0} (failures : F → ℕ) (may_leave : F → Tearing)
     (asked : F → Call → F → Type 0) (old : F) (kinds : Kinds) (task : Task) (bytes : Bytes) : Type 0 where
@@ -48,19 +48,19 @@ pub record IsTextOfTrue {F : Type 0} (failures : F → ℕ) (may_leave : F → T
 abbrev pub contents_read : Trees → List OutputFiles → List Bytes
 contents_read trees seen = contents_in trees ++ contents_in (map (λ output. (output.name, output.files)) seen)
 
--- The record is that of a true entry, no two contents of which and of these share a digest.
+-- The record is that of a true entry, and no two contents among those of the entry and these share a digest.
 pub record IsTrueBeside (kinds : Kinds) (last : Record) (contents : List Bytes) : Type 0 where
   pub entry : Entry
   pub is_made : IsMade kinds entry
   pub said : IsSaidOf last entry
   pub apart : AreApart sha256 (contents_of entry ++ contents)
 
--- The outputs of the task lie apart, and outside of the tool's own.
+-- The outputs of the task do not overlap, and are outside of the tool's own files.
 pub record LieApart (task : Task) : Type 0 where
   pub apart : some_overlap (output_places task) ≡ false
   pub not_own : list_any (λ output. is_own output.place) task.outputs ≡ false
 
--- what is written of a run in full is true
+-- what a full run stores is true
 abbrev pub FullRunsAreTrue : {F S : Type 0} → (F → ℕ) → (F → Tearing) → (F → Call → F → Type 0) → Meanings S
     → Type 0
 FullRunsAreTrue {F = F} {S = S} failures may_leave asked meanings =
@@ -68,8 +68,8 @@ FullRunsAreTrue {F = F} {S = S} failures may_leave asked meanings =
     → IsInFull failures may_leave asked old meanings rows task bytes
     → IsTextOfTrue failures may_leave asked old kinds task bytes
 
--- What is written of a run by changes is true where the record that it went on from is, as far as no two
--- contents of that and of what was read share a digest.
+-- What an incremental run stores is true where the record that it is based on is true. The premise: no two
+-- contents among those of that record and what was read share a digest.
 abbrev pub RunsByChangesStayTrue : {F S : Type 0} → (F → ℕ) → (F → Tearing) → (F → Call → F → Type 0)
     → Meanings S → Type 0
 RunsByChangesStayTrue {F = F} {S = S} failures may_leave asked meanings =
@@ -87,7 +87,7 @@ pub record AreMadeOf (kinds : Kinds) (task : Task) (trees : Trees) (seen : List 
   pub stand : seen ≡ map (seen_of files) task.outputs
 
 -- Where a task is found up to date, what was read at its outputs is what its actions make of what was read at
--- its inputs: where the record that was read of it is true, as far as no two contents share a digest.
+-- its inputs. The premises: the record that was read of it is true, and no two contents share a digest.
 abbrev pub UpToDateIsMade : {F : Type 0} → (F → ℕ) → (F → Tearing) → (F → Call → F → Type 0) → Type 0
 UpToDateIsMade {F = F} failures may_leave asked =
     (kinds : Kinds) (options : Options) (task : Task) (last : Option Record) (old new : F) → LieApart task

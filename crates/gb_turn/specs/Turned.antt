@@ -1,4 +1,4 @@
--- A task's turn, over a folder that tells what it holds.
+-- A task's execution, over a folder whose contents are known.
 use Rattle.std.specs.Prelude.{ℕ, ◌≡◌, not, Bool, ◌||◌, List, Result, Ok, Err, None, Some, is_some}
 use Rattle.gb_action.specs.Changes.{Changes}
 use Rattle.gb_folder.specs.Files.{Contents, Files, Place, Tearing, is_empty}
@@ -23,11 +23,11 @@ use Rattle.gb_report.specs.declared.report.TaskReport.{TaskReport}
 use Rattle.gb_store.specs.Changes.{is_at}
 use Rattle.gb_turn.specs.Case.{IsKnown}
 
--- what scripts say, as a function of the files
+-- what scripts declare, as a function of the files
 abbrev pub Registering : Type 0
 Registering = Files → List (Name × Text) → Result Registry Fault
 
--- what a build is about, where scripts say it as a function of the files
+-- what a build is about, where what scripts declare is a function of the files
 abbrev pub setting_with : Kinds → Registering → Tearing → Setting
 setting_with kinds registry_of may_leave =
     setting_by kinds (λ files properties said. registry_of files properties ≡ said) may_leave
@@ -36,10 +36,10 @@ setting_with kinds registry_of may_leave =
 abbrev pub is_of_turn : Task → Place → Bool
 is_of_turn task place = is_output_of task place || is_at (record_place task.path) place
 
--- ---- Before the turn
+-- ---- Before the execution
 
--- The turn comes at this moment: its world is the folder without the tool's own files, with the memory whose
--- records stand there; and of the task something is remembered just where a record was read.
+-- The execution begins at this moment: its world is the folder without the tool's own files, with the memory
+-- whose records exist there; and something is remembered of the task just where a record was read.
 pub record ComesAt (task : Task) (was_read : Bool) (old : Contents) (before : ℕ)
     (moment : Moment) : Type 0 where
   pub folder : moment.world.folder ≡ outside old
@@ -47,14 +47,14 @@ pub record ComesAt (task : Task) (was_read : Bool) (old : Contents) (before : �
   pub records : Standing old.files moment.world.memory
   pub read : is_some (recalled moment.world.memory task.path) ≡ was_read
 
--- a full run is due: no case settles the turn before, and the task is neither current nor goes on by changes
+-- a full run is due: no early case applies, and the task is neither current nor incremental
 pub record IsDue (kinds : Kinds) (options : Options) (task : Task) (world : World) : Type 0 where
   pub case : early_case task world.folder ≡ None
   pub not_current : ¬ IsCurrent options task world
   pub not_incremental : ¬ IsIncremental kinds options task world
 
--- A run by these changes is due: no case settles the turn before, the task is not current, and they are the
--- changes since what is remembered of it, which is true.
+-- A run by these changes is due: no early case applies, the task is not current, and they are the changes
+-- since what is remembered of it, which is true.
 pub record IsDueByChanges (kinds : Kinds) (options : Options) (task : Task) (world : World)
     (changes : List Changes) : Type 0 where
   pub case : early_case task world.folder ≡ None
@@ -63,8 +63,8 @@ pub record IsDueByChanges (kinds : Kinds) (options : Options) (task : Task) (wor
   pub is_made : IsMade kinds since.entry
   pub are_changes : changes ≡ changes_from task since.entry.inputs world.folder.files
 
--- The task goes on from what its record says: no case settles the turn before, the task is not current, and
--- what is remembered, of which this is the record, differs from what it has in incremental properties alone.
+-- The task runs incrementally by its record: no early case applies, the task is not current, and what is
+-- remembered, with this record, differs from what the task has only in incremental properties.
 pub record IsToGoOn (kinds : Kinds) (options : Options) (task : Task) (world : World)
     (last : Record) : Type 0 where
   pub case : early_case task world.folder ≡ None
@@ -72,22 +72,22 @@ pub record IsToGoOn (kinds : Kinds) (options : Options) (task : Task) (world : W
   pub since : IsIncremental kinds options task world
   pub known : IsKnown kinds task world (Some last)
 
--- ---- After the turn
+-- ---- After the execution
 
 abbrev pub outcome_of : Result (Unit {0}) Fault → Outcome
 outcome_of (Ok done) = outcomes.Executed
 outcome_of (Err fault) = outcomes.Failed fault
 
--- what is told of a task without source, by how it was cleared
+-- the outcome reported for a task without source, by the result of deleting its record and outputs
 abbrev pub cleared_outcome : Result (Unit {0}) Fault → Outcome
 cleared_outcome (Ok done) = outcomes.NoSource
 cleared_outcome (Err fault) = outcomes.Failed fault
 
--- the outcome is what some end is told as
+-- the outcome is the one that is reported for some result
 abbrev pub IsToldOf : (Result (Unit {0}) Fault → Outcome) → Outcome → Type 0
 IsToldOf told outcome = (ended : Result (Unit {0}) Fault) × (outcome ≡ told ended)
 
--- what is told of a run with this result and these lines
+-- the report of a run with this result and these lines
 abbrev pub report_of : Task → Result (Unit {0}) Fault → List Text → TaskReport
 report_of task result lines = record {
   path = task.path;
@@ -96,7 +96,8 @@ report_of task result lines = record {
   lines = lines;
 }
 
--- It was the task's turn, from one folder to another, and the records of what is remembered after it stand.
+-- This was the task's execution, from one folder to another, and the records of what is remembered after it
+-- exist.
 pub record HasTurned (setting : Setting) (options : Options) (plan : Plan) (task : Task) (moment : Moment)
     (report : TaskReport) (old : Contents) (after : ℕ) (new : Contents) : Type 0 where
   pub memory : Memory

@@ -1,4 +1,4 @@
--- What follows for a task's turn from its case.
+-- What follows for a task's execution from its case.
 use Rattle.std.specs.Prelude.{◌≡◌, ◌≢◌, Bool, false, [], List, if◌then◌else◌}
 use Rattle.gb_action.specs.Changes.{Changes}
 use Rattle.gb_folder.specs.Files.{Files}
@@ -19,9 +19,9 @@ use Rattle.gb_report.specs.declared.report.Outcome.{Outcome}
 use Rattle.gb_report.specs.declared.report.Outcome.TheVariants as outcomes
 use Rattle.gb_turn.specs.Case.{IsCaseFor, IsCaseOf}
 
--- ---- Turns that change nothing
+-- ---- Executions that change nothing
 
--- what a turn answers that has nothing to do; of the others nothing is said
+-- the outcome of an execution that has nothing to do; the others are left open
 abbrev pub AnswersIdly : Plan → Moment → Task → Prepared → Outcome → Type 0
 AnswersIdly plan moment task prepared.Skips outcome = outcome ≡ outcomes.Skipped
 AnswersIdly plan moment task prepared.HasNoActions outcome =
@@ -31,7 +31,7 @@ AnswersIdly plan moment task (prepared.Decided decisions.UpToDate basis seen) ou
     outcome ≡ outcomes.UpToDate
 AnswersIdly plan moment task other outcome = ⊥
 
--- It is the task's label, no failure, and leaves all as it was without a line.
+-- It is the task's label, no failure, and leaves everything as it was, without a line.
 pub record IsIdleTurn (kinds : Kinds) (options : Options) (plan : Plan) (task : Task) (moment : Moment)
     (outcome : Outcome) : Type 0 where
   pub label : IsLabel kinds options plan task moment outcome
@@ -47,19 +47,19 @@ IdleTurnsAreTurns =
 
 -- ---- Runs
 
--- a run goes on by changes where that is decided, and one action writes
+-- a run is incremental where that is decided, and one action writes
 abbrev pub goes_by_changes : Kinds → Task → Decision → Bool
 goes_by_changes kinds task (decisions.Incremental changes) = has_one_writer kinds task.actions
 goes_by_changes kinds task other = false
 
--- the changes that a run's actions are told: where it does not go on by changes, every path is added
+-- the changes that a run's actions get: where it is not incremental, every path is added
 abbrev pub told_changes : Kinds → Task → Files → Decision → List Changes
 told_changes kinds task files (decisions.Incremental changes) =
     if has_one_writer kinds task.actions then changes else changes_from task [] files
 told_changes kinds task files other = changes_from task [] files
 
--- What holds of a run that is decided: the task is not current, these are the changes that its actions are
--- told, and where it does not go on by changes it is not incremental.
+-- What holds of a run that is decided: the task is not current, these are the changes that its actions get,
+-- and where the run is not by changes the task is not incremental.
 pub record IsRunFor (kinds : Kinds) (options : Options) (task : Task) (world : World)
     (decision : Decision) : Type 0 where
   pub not_current : ¬ IsCurrent options task world

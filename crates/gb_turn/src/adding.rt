@@ -12,8 +12,8 @@ use gb_tree::changes::compare;
 use gb_tree::prints::Prints;
 use std::alloc::{AllocError, Global};
 
-/// The changes of a task's incremental properties from no file to those of these digests, of which there are
-/// as many as properties.
+/// The changes of a task's incremental properties from no file to those of these digests, one for
+/// each property.
 pub(crate) fn all_added(
     alloc: Global,
     task: &TaskDeclaration,
@@ -31,7 +31,7 @@ pub(crate) fn all_added(
     Ok(changes)
 }
 
-/// Adds what one property gives, where it is incremental.
+/// Adds the changes of one property, where it is incremental.
 fn add(
     alloc: Global,
     changes: &mut ChangeLists,

@@ -1,8 +1,9 @@
-//! What a task that may go on by changes comes to, on the very contents that its run works on.
+//! The recheck of a task that may run incrementally, on the very contents that its run works on.
 //!
-//! What the label read is taken, and what it did not keep is read now. So the decision is made once more, on
-//! the digests of exactly these contents: a file that somebody saved in between is a change like any other,
-//! and where outputs or other properties were changed the run is one in full.
+//! The executor takes the contents that the label has read, and reads now those that it did not
+//! keep. Then it decides once more, on the digests of exactly these contents: a file that somebody
+//! saved in between is a change like any other, and where outputs or other properties were changed
+//! the run is a full one.
 ghost use Rattle.std.specs.Prelude.{◌≡◌, ◌||◌, false, map, IsTrue, IfOk, IfErr, OnOk};
 ghost use Rattle.std.specs.List.{list_any};
 ghost use Rattle.gb_folder.specs.Calls.{Asks, no_change};
@@ -33,17 +34,18 @@ use gb_report::fault::Fault;
 use gb_report::report::Options;
 use std::alloc::Global;
 
-/// What a task comes to on what was read of it whole.
+/// How a task is to run, by what was read of it whole.
 #[derive(Drop)]
 pub enum Anew {
-    /// It goes on from these outputs by these changes.
+    /// It runs incrementally by these changes, starting from these outputs.
     ByChanges(Inputs, Outputs, ChangeLists),
     /// It runs in full on these inputs.
     InFull(Inputs),
 }
 
-/// Reads what was not kept of the inputs and the outputs, and decides on the digests of all. Nothing is
-/// changed, also not by an error: the machine's, or that a file is gone or has grown since it was seen.
+/// Reads the contents of inputs and outputs that were not kept, and decides on the digests of all.
+/// Nothing is changed, also not by an error: the machine's, or that a file is gone or has grown
+/// since it was first read.
 pub(crate) fn settle_anew<F: Folder>(
     alloc: Global,
     folder: &mut F,
@@ -59,15 +61,16 @@ pub(crate) fn settle_anew<F: Folder>(
     ensures asks { Asks F.failures F.may_leave F.asked no_change folder.old folder.new }
     ensures blame { Blames result (F.failures folder.old) (F.failures folder.new) }
     ensures blamed { BlamesOnly (λ place. is_input_of task.now place || is_output_of task.now place) result }
-    // Over any folder: the digests are those of what is worked on, and the changes are decided on them.
+    // Over any folder: the digests are those of what the run works on, and the changes are decided
+    // on them.
     ensures anew { IfOk result (IsAnew options task.now last.now) }
-    // And they are what calls answered, before and now.
+    // And they are what calls returned, before and now.
     ensures answered { (first : _) → Asks F.failures F.may_leave F.asked no_change first folder.old
         → AreInputsAnswered F.failures F.may_leave F.asked first folder.old task.now seen.inputs.items
         → AreOutputsAnswered F.failures F.may_leave F.asked first folder.old task.now seen.outputs.items
         → IfOk result (WasReadAnew F.failures F.may_leave F.asked first folder.new task.now) }
     ensures same { IsTrue F.tells → F.contents folder.new ≡ F.contents folder.old }
-    // Where nobody else writes it is what was decided before.
+    // Where nobody else writes, the result is the earlier decision.
     ensures as_before { IsTrue F.tells → (kinds : Kinds) (world : World)
         → world.folder ≡ outside (F.contents folder.old)
         → AreInputsSeen task.now (F.contents folder.old).files seen.inputs.items
@@ -96,7 +99,7 @@ pub(crate) fn settle_anew<F: Folder>(
     Ok(anew_by(decision, inputs, outputs))
 }
 
-/// What a task comes to by what was decided on these inputs and outputs.
+/// How a task is to run, by what was decided on these inputs and outputs.
 fn anew_by(decision: Decision, inputs: Inputs, outputs: Outputs) -> Anew
     ensures { result ≡ anew_by decision inputs outputs }
 {

@@ -1,4 +1,4 @@
-//! Laws of what a turn comes to, each the contract of a function that does nothing.
+//! Laws of the case of a task's execution, each the contract of a function that does nothing.
 ghost use Rattle.gb_turn.specs.Case.{DecidedOutside, DecisionIsCase, MadeIsNotGrown, OutsideIsEnough};
 ghost use Rattle.gb_turn.specs.Case.{PreparedIsCase, PresentIsOfContents};
 ghost use Rattle.gb_turn.specs.Known.{WhatIsReadIsKnown};
@@ -9,7 +9,8 @@ pub fn present_is_of_contents()
     ensures { PresentIsOfContents }
 {}
 
-/// What a run left that ended well can be read: no file is too large, and no output has too many.
+/// The outputs of a run that ended well can be read: no file is too large, and no output has too
+/// many.
 pub fn made_is_not_grown()
     ensures { MadeIsNotGrown }
 {}
@@ -19,7 +20,7 @@ pub fn decision_is_case()
     ensures { DecisionIsCase }
 {}
 
-/// What a turn is prepared for is its case by whole contents.
+/// What an execution is prepared for is its case by whole contents.
 pub fn prepared_is_case()
     ensures { PreparedIsCase }
 {}
@@ -29,22 +30,23 @@ pub fn decided_outside()
     ensures { DecidedOutside }
 {}
 
-/// A turn is prepared in a whole folder as it is without the tool's own files.
+/// An execution is prepared in a whole folder as it is without the tool's own files.
 pub fn outside_is_enough()
     ensures { OutsideIsEnough }
 {}
 
-/// What is read of a task is known of it, where true records stood and what was seen is clear.
+/// What is read of a task is known of it, where true records existed and what was read is
+/// collision-free.
 pub fn what_is_read_is_known()
     ensures { WhatIsReadIsKnown }
 {}
 
-/// Where a turn has nothing to do, its answer is the task's label and changes nothing.
+/// Where an execution has nothing to do, its outcome is the task's label and it changes nothing.
 pub fn idle_turns_are_turns()
     ensures { IdleTurnsAreTurns }
 {}
 
-/// What is decided for a run holds of it: what it is told, and whether it goes on by changes.
+/// What is decided for a run holds of it: the changes that it gets, and whether it is incremental.
 pub fn runs_are_of_case()
     ensures { RunsAreOfCase }
 {}

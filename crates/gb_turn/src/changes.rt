@@ -1,4 +1,5 @@
-//! The turn of a task that may go on from what its last run left.
+//! The execution of a task that may run incrementally, starting from the outputs of its previous
+//! execution.
 ghost use Rattle.std.specs.Prelude.{◌≡◌, ◌||◌, [], ℕ, List, Some, false, true, not, IsTrue, OnOk};
 ghost use Rattle.std.specs.List.{AllByRecursion};
 ghost use Rattle.gb_folder.specs.Calls.{Asks, no_change};
@@ -35,8 +36,9 @@ use gb_report::fault::Fault;
 use gb_report::report::{Options, TaskReport};
 use std::alloc::Global;
 
-/// Takes the turn of a task that may go on from what its last run left, whose record this is: on its inputs
-/// and outputs as they were read. The path is the task's own, so that a report needs no memory.
+/// Executes a task that may run incrementally, starting from the outputs of its previous execution
+/// (`last` is its record), on its inputs and outputs as they were read. The path is the task's own,
+/// so that a report needs no memory.
 pub fn take_turn_by_changes<A: Actions, F: Folder>(
     alloc: Global,
     folder: &mut F,
@@ -57,8 +59,8 @@ pub fn take_turn_by_changes<A: Actions, F: Folder>(
     ensures path { result.path ≡ task.now.path }
     ensures has_actions { result.has_actions ≡ not (is_empty task.now.actions) }
     ensures outcome { IsToldOf outcome_of result.outcome }
-    // Nothing is changed before its inputs were answered whole. Where inputs and outputs were on the way
-    // from a state of the folder, records are of these.
+    // Nothing is changed before calls returned its inputs whole. Where calls returned the inputs
+    // and outputs on the way from a state of the folder, records are of these.
     ensures asks { (first : _) → Asks F.failures F.may_leave F.asked no_change first folder.old
         → AreInputsAnswered F.failures F.may_leave F.asked first folder.old task.now seen.inputs.items
         → AreOutputsAnswered F.failures F.may_leave F.asked first folder.old task.now seen.outputs.items
@@ -66,7 +68,8 @@ pub fn take_turn_by_changes<A: Actions, F: Folder>(
         (in_turn_with task.now
         (IsTextAnew F.failures F.may_leave F.asked first A.meanings table.now options task.now last.now)))
         folder.old folder.new }
-    // It is executed only where each write was answered as done, with just the bytes that its actions make.
+    // The task is executed only where each write was answered as done, with just the bytes that its
+    // actions make.
     ensures ran { (first : _) → Asks F.failures F.may_leave F.asked no_change first folder.old
         → AreInputsAnswered F.failures F.may_leave F.asked first folder.old task.now seen.inputs.items
         → AreOutputsAnswered F.failures F.may_leave F.asked first folder.old task.now seen.outputs.items
@@ -78,7 +81,7 @@ pub fn take_turn_by_changes<A: Actions, F: Folder>(
         → IsTrue (is_input_of task.now place || is_output_of task.now place) }
     ensures changes { IsTrue F.tells
         → ChangesOnly (is_of_turn task.now) (F.contents folder.old) (F.contents folder.new) }
-    // Where the task goes on from what its record says, this is its turn.
+    // Where the task runs incrementally, based on its record, this is its execution.
     ensures turn { IsTrue F.tells → (kinds : Kinds) (registry_of : Registering)
         (plan : Plan) (moment : Moment) → IsGranted A.meanings table.now kinds (F.may_leave folder.old)
         → ComesAt task.now true (F.contents folder.old) (F.failures folder.old) moment
@@ -99,7 +102,7 @@ pub fn take_turn_by_changes<A: Actions, F: Folder>(
     }
 }
 
-/// Reads what is left, decides once more, and runs as that says.
+/// Reads the remaining contents, decides once more, and runs according to that decision.
 fn go_on<A: Actions, F: Folder>(
     alloc: Global,
     folder: &mut F,
@@ -117,8 +120,8 @@ fn go_on<A: Actions, F: Folder>(
     requires inputs { AreInputs task.now seen.inputs.items }
     requires outputs { AreOutputs task.now seen.outputs.items }
     requires no_lines { lines.old ≡ [] }
-    // Nothing is changed before its inputs were answered whole. Where inputs and outputs were on the way
-    // from a state of the folder, records are of these.
+    // Nothing is changed before calls returned its inputs whole. Where calls returned the inputs
+    // and outputs on the way from a state of the folder, records are of these.
     ensures asks { (first : _) → Asks F.failures F.may_leave F.asked no_change first folder.old
         → AreInputsAnswered F.failures F.may_leave F.asked first folder.old task.now seen.inputs.items
         → AreOutputsAnswered F.failures F.may_leave F.asked first folder.old task.now seen.outputs.items

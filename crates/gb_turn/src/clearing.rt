@@ -1,4 +1,4 @@
-//! What was left of a task's last run, taken away.
+//! Deletes the record and the outputs of a task's previous execution.
 ghost use Rattle.std.specs.Prelude.{◌≡◌, None, false, IsTrue};
 ghost use Rattle.std.specs.List.{list_any};
 ghost use Rattle.gb_folder.specs.Calls.{Asks, takes_at};
@@ -21,7 +21,7 @@ use gb_report::fault::Fault;
 use gb_run::emptying::empty_outputs;
 use std::alloc::Global;
 
-/// Takes the record of a task out, where one was read, and then the files at its outputs away.
+/// Deletes the record of a task, where one was read, and then the files at its outputs.
 pub fn clear<F: Folder>(
     alloc: Global,
     folder: &mut F,

@@ -50,8 +50,8 @@ use gb_tree::kept::Reading;
 use gb_tree::prints::Prints;
 use std::alloc::Global;
 
-/// Takes the turn of a task that is to run in full, on its inputs as they were read. `was_read` says whether
-/// a record of it was read; the path is the task's own, so that a report needs no memory.
+/// Executes a task in full, on its inputs as they were read. `was_read` says whether a record of it
+/// was read; the path is the task's own, so that a report needs no memory.
 pub fn take_full_turn<A: Actions, F: Folder>(
     alloc: Global,
     folder: &mut F,
@@ -68,15 +68,16 @@ pub fn take_full_turn<A: Actions, F: Folder>(
     ensures path { result.path ≡ task.now.path }
     ensures has_actions { result.has_actions ≡ not (is_empty task.now.actions) }
     ensures outcome { IsToldOf outcome_of result.outcome }
-    // Nothing is changed before its inputs were answered whole. Where they were on the way from a state of
-    // the folder, the record is of these.
+    // Nothing is changed before calls returned its inputs whole. Where calls returned them on the
+    // way from a state of the folder, the record is of these.
     ensures asks { (first : _) → Asks F.failures F.may_leave F.asked no_change first folder.old
         → AreInputsAnswered F.failures F.may_leave F.asked first folder.old task.now inputs.items
         → Asks F.failures F.may_leave F.asked (once (HasRead F.failures F.may_leave F.asked first task.now)
         (in_turn_with task.now
         (IsInFull F.failures F.may_leave F.asked first A.meanings table.now task.now)))
         folder.old folder.new }
-    // It is executed only where each write was answered as done, with just the bytes that its actions make.
+    // The task is executed only where each write was answered as done, with just the bytes that its
+    // actions make.
     ensures ran { (first : _) → Asks F.failures F.may_leave F.asked no_change first folder.old
         → AreInputsAnswered F.failures F.may_leave F.asked first folder.old task.now inputs.items
         → result.outcome ≡ Executed → ExecutedInFull F.failures F.may_leave F.asked A.meanings table.now
@@ -87,7 +88,7 @@ pub fn take_full_turn<A: Actions, F: Folder>(
         → IsTrue (is_input_of task.now place || is_output_of task.now place) }
     ensures changes { IsTrue F.tells
         → ChangesOnly (is_of_turn task.now) (F.contents folder.old) (F.contents folder.new) }
-    // Where the full run is due, this is the task's turn.
+    // Where the full run is due, this is the task's execution.
     ensures turn { IsTrue F.tells → (kinds : Kinds) (registry_of : Registering) (options : Options)
         (plan : Plan) (moment : Moment) → IsGranted A.meanings table.now kinds (F.may_leave folder.old)
         → ComesAt task.now was_read (F.contents folder.old) (F.failures folder.old) moment
@@ -107,7 +108,7 @@ pub fn take_full_turn<A: Actions, F: Folder>(
     }
 }
 
-/// What a run that ended so is told as.
+/// The outcome that is reported for a run that ended so.
 pub(crate) fn outcome_of(ended: Result<(), Fault>) -> Outcome
     ensures { result ≡ outcome_of ended }
 {
@@ -117,7 +118,7 @@ pub(crate) fn outcome_of(ended: Result<(), Fault>) -> Outcome
     }
 }
 
-/// Reads what is left of the inputs, and runs on them.
+/// Reads the remaining inputs, and runs on them.
 fn run_with_record<A: Actions, F: Folder>(
     alloc: Global,
     folder: &mut F,
@@ -131,8 +132,8 @@ fn run_with_record<A: Actions, F: Folder>(
     requires apart { reads_output_of task.now task.now ≡ false }
     requires inputs { AreInputs task.now inputs.items }
     requires no_lines { lines.old ≡ [] }
-    // Nothing is changed before its inputs were answered whole. Where they were on the way from a state of
-    // the folder, the record is of these.
+    // Nothing is changed before calls returned its inputs whole. Where calls returned them on the
+    // way from a state of the folder, the record is of these.
     ensures asks { (first : _) → Asks F.failures F.may_leave F.asked no_change first folder.old
         → AreInputsAnswered F.failures F.may_leave F.asked first folder.old task.now inputs.items
         → Asks F.failures F.may_leave F.asked (once (HasRead F.failures F.may_leave F.asked first task.now)
@@ -160,7 +161,8 @@ fn run_with_record<A: Actions, F: Folder>(
     run_on::<A, F>(alloc, folder, task, table, inputs, was_read, lines)
 }
 
-/// Takes the record out, empties the outputs, runs the actions on these inputs, and puts the new record in.
+/// Deletes the record, empties the outputs, runs the actions on these inputs, and stores the new
+/// record.
 pub(crate) fn run_on<A: Actions, F: Folder>(
     alloc: Global,
     folder: &mut F,
@@ -178,7 +180,7 @@ pub(crate) fn run_on<A: Actions, F: Folder>(
     ensures asks { Asks F.failures F.may_leave F.asked
         (in_turn_with task.now (IsTextIn A.meanings table.now task.now inputs.trees))
         folder.old folder.new }
-    // Over any folder: it ends well only once all of this was answered as done.
+    // Over any folder: the run ends well only once all of this was answered as done.
     ensures ran { OnOk result (RanInFull F.failures F.may_leave F.asked A.meanings table.now task.now
         inputs.trees lines.new folder.old folder.new) }
     ensures blame { Blames result (F.failures folder.old) (F.failures folder.new) }
@@ -201,7 +203,8 @@ pub(crate) fn run_on<A: Actions, F: Folder>(
     remember(alloc, folder, task, &run)
 }
 
-/// Runs the actions in full over a folder without the task's files: the record of the run, by what it made.
+/// Runs the actions in full over a folder without the task's files and returns the record of the
+/// run, by what it made.
 fn make_anew<A: Actions, F: Folder>(
     alloc: Global,
     folder: &mut F,

@@ -1,4 +1,4 @@
-//! A run of a task by changes that were decided on what it works on.
+//! An incremental run of a task, by changes that were decided on what it works on.
 ghost use Rattle.std.specs.Prelude.{◌≡◌, [], ℕ, List, Ok, false, true, map, IsTrue, IfOk, IfErr, OnOk};
 ghost use Rattle.std.specs.List.{AllByRecursion};
 ghost use Rattle.gb_action.specs.Files.{Trees};
@@ -45,8 +45,8 @@ use gb_report::fault::Fault;
 use gb_run::by_changes::run_by_changes;
 use std::alloc::Global;
 
-/// Takes the record out, runs the actions by these changes over what stands at the outputs, and puts the new
-/// record in.
+/// Deletes the record, runs the actions by these changes over the files that are at the outputs,
+/// and stores the new record.
 pub(crate) fn go_by<A: Actions, F: Folder>(
     alloc: Global,
     folder: &mut F,
@@ -70,14 +70,14 @@ pub(crate) fn go_by<A: Actions, F: Folder>(
     ensures asks { Asks F.failures F.may_leave F.asked
         (in_turn_with task.now (IsTextBy A.meanings table.now task.now inputs.trees changes outputs.seen))
         folder.old folder.new }
-    // Over any folder: it ends well only once all of this was answered as done.
+    // Over any folder: the run ends well only once all of this was answered as done.
     ensures ran { OnOk result (RanByChanges F.failures F.may_leave F.asked A.meanings table.now task.now
         inputs.trees changes outputs.seen lines.new folder.old folder.new) }
     ensures blame { Blames result (F.failures folder.old) (F.failures folder.new) }
     ensures blamed { BlamesOnly (is_output_of task.now) result }
     ensures changes { IsTrue F.tells
         → ChangesOnly (is_of_turn task.now) (F.contents folder.old) (F.contents folder.new) }
-    // Where the run by these changes is due, this is the task's turn.
+    // Where the incremental run by these changes is due, this is the task's execution.
     ensures turn { IsTrue F.tells → (kinds : Kinds) (registry_of : Registering) (options : Options)
         (plan : Plan) (moment : Moment) → IsGranted A.meanings table.now kinds (F.may_leave folder.old)
         → ComesAt task.now true (F.contents folder.old) (F.failures folder.old) moment
@@ -88,14 +88,15 @@ pub(crate) fn go_by<A: Actions, F: Folder>(
         (report_of task.now result lines.new)
         (F.contents folder.old) (F.failures folder.new) (F.contents folder.new) }
 {
-    // Of paths of tasks alone records stand, which this shows to be one.
+    // Records exist only for paths of tasks; this shows that the path is one.
     let _path = task.path.as_str();
     forget(alloc, folder, &task.path, true)?;
     let run = make_by_changes::<A, F>(alloc, folder, task, table, inputs, outputs, changes, lines)?;
     remember(alloc, folder, task, &run)
 }
 
-/// Runs the actions by these changes: the record of the run, by what stood with the reply put over it.
+/// Runs the actions by these changes and returns the record of the run; its outputs are the former
+/// files with the reply written over them.
 fn make_by_changes<A: Actions, F: Folder>(
     alloc: Global,
     folder: &mut F,
@@ -124,8 +125,9 @@ fn make_by_changes<A: Actions, F: Folder>(
         × ((kinds : Kinds) → Agrees A.meanings table.now kinds
         → RunsByChanges (increment_of kinds task.now inputs.trees changes outputs.seen) calls lines.new
         (Ok tt))) }
-    // Over any folder, whoever else writes in it: the record is true, where what was read at the outputs was
-    // made of old trees from which the changes lead to these.
+    // Over any folder, whoever else writes in it: the record is true. The premise: what was read at
+    // the outputs was made from old trees, and the changes lead from these to the trees of this
+    // run.
     ensures made { IfOk result (λ run. (kinds : Kinds) → Agrees A.meanings table.now kinds
         → (old : Trees) (standing : Files) → IsFolder standing → IsTrue (are_placed standing)
         → GoesOn kinds task.now old inputs.trees changes outputs.seen standing

@@ -1,4 +1,4 @@
-//! The record of a task, taken out as its run begins and put in as it ends.
+//! The record of a task: deleted as its run begins, and stored as it ends.
 ghost use Rattle.std.specs.Prelude.{◌≡◌, ◌≢◌, ℕ, List, None, Some, Err, false, true, IsTrue, IfErr, OnErr};
 ghost use Rattle.std.specs.Prelude.{OnOk};
 ghost use Rattle.gb_folder.specs.Calls.{Asks, put_at, taken_at};
@@ -21,7 +21,7 @@ use gb_records::keeping::{put_in, take_out};
 use gb_report::fault::Fault;
 use std::alloc::Global;
 
-/// Takes the record of a task out, where one was read.
+/// Deletes the record of a task, where one was read.
 pub fn forget<F: Folder>(
     alloc: Global,
     folder: &mut F,
@@ -42,7 +42,7 @@ pub fn forget<F: Folder>(
         → (was_read ≡ false → recalled memory path.now ≡ None)
         → IsForgotten path.now memory result (F.contents folder.new).files }
 {
-    // Of paths of tasks alone something is said, which this shows to be one.
+    // The contract speaks only of paths of tasks; this shows that the path is one.
     let _path = path.as_str();
     if !was_read {
         return Ok(());
@@ -53,7 +53,7 @@ pub fn forget<F: Folder>(
     }
 }
 
-/// Puts the record of a run that ended well in, of a task with outputs. Nothing is read.
+/// Stores the record of a run that ended well, of a task with outputs. Nothing is read.
 pub fn remember<F: Folder>(
     alloc: Global,
     folder: &mut F,
@@ -62,7 +62,8 @@ pub fn remember<F: Folder>(
 ) -> Result<(), Fault>
     ensures asks { Asks F.failures F.may_leave F.asked (put_at (record_place task.now.path)
         (record_text task.now.path run.now)) folder.old folder.new }
-    // Over any folder: by one call, which was answered as done; by none where the task has no outputs.
+    // Over any folder: by one call, which was answered as done; by none where the task has no
+    // outputs.
     ensures stored { OnOk result ((limit : ℕ) × AreAnswered F.failures F.may_leave F.asked folder.old
         (stores task.now run.now limit) folder.new) }
     ensures blame { (place : List ℕ) → result ≢ Err (Fault.Device place) }

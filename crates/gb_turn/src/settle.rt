@@ -1,4 +1,4 @@
-//! What is settled of a task's turn before anything is changed.
+//! The part of a task's execution that is decided before anything is changed.
 ghost use Rattle.std.specs.Prelude.{◌≡◌, ◌||◌, false, IsTrue, option_copied};
 ghost use Rattle.std.specs.List.{list_any};
 ghost use Rattle.gb_folder.specs.Calls.{Asks, no_change};
@@ -29,20 +29,21 @@ use gb_report::fault::Fault;
 use gb_report::report::{Options, Outcome, TaskReport};
 use std::alloc::Global;
 
-/// What is settled of a started task's turn before anything is changed.
+/// What is decided of a started task's execution before anything is changed.
 #[derive(Drop)]
 pub enum Settled {
-    /// All of it: there is nothing to do, or what the task has cannot be read.
+    /// The whole execution: there is nothing to do, or what the task has cannot be read.
     Told(TaskReport),
     /// The task has no source.
     Sourceless(TaskPath),
-    /// It is to run, as was decided on what was read of it: by changes or in full.
+    /// The task is to run, as was decided on what was read of it: incrementally or in full.
     Due(TaskPath, Decision, Seen),
 }
 
-/// Finds what a started task's turn comes to, and tells of it where nothing is to be done. Nothing is
-/// changed. `last` is the record that was read of the task, and `has_executed_need` says whether a task that
-/// it needs was executed in this build; the path is the task's own, so that a report needs no memory.
+/// Decides how a started task is executed, and reports its outcome where nothing is to be done.
+/// Nothing is changed. `last` is the record that was read of the task, and `has_executed_need` says
+/// whether a task that it needs was executed in this build. The path is the task's own, so that a
+/// report needs no memory.
 pub fn settle<F: Folder>(
     alloc: Global,
     folder: &mut F,
@@ -56,16 +57,17 @@ pub fn settle<F: Folder>(
     requires not_own { list_any (λ output. is_own output.place) task.now.outputs ≡ false }
     requires path { path ≡ task.now.path }
     ensures asks { Asks F.failures F.may_leave F.asked no_change folder.old folder.new }
-    // Over any folder: what is told is of the task, what is skipped or has no actions is told so, and of what
-    // has actions and runs no other outcome is told than it may answer.
+    // Over any folder: a report is of the task. A task that is skipped or has no actions is
+    // reported as such. A task that has actions and runs is reported with no other outcome than
+    // those possible for it.
     ensures of_task { IsOfTask task.now (F.failures folder.old) (F.failures folder.new) result }
     ensures alone { AnswersAlone task.now.runs (is_empty task.now.actions) has_executed_need result }
     ensures answer { TellsAnswer options task.now result }
-    // And it goes by what calls answered.
+    // And the decision is based on what calls returned.
     ensures answered { WasSettled F.failures F.may_leave F.asked folder.old folder.new options task.now
         (option_copied last.entry) result }
     ensures same { IsTrue F.tells → F.contents folder.new ≡ F.contents folder.old }
-    // What is told is the task's turn; what is not told is its case.
+    // A report is the result of the task's execution; a result without a report is the task's case.
     ensures settled { IsTrue F.tells → (kinds : Kinds) (registry_of : Registering) (plan : Plan)
         (moment : Moment) → moment.world.folder ≡ outside (F.contents folder.old)
         → moment.failures ≡ F.failures folder.old
@@ -82,7 +84,7 @@ pub fn settle<F: Folder>(
     settled_by(alloc, task, path, prepared, has_executed_need)
 }
 
-/// What is settled by what the turn was prepared for.
+/// The decision that follows from what the execution was prepared for.
 fn settled_by(
     alloc: Global,
     task: &TaskDeclaration,
@@ -107,7 +109,7 @@ fn settled_by(
     }
 }
 
-/// What a task without actions is told as.
+/// The outcome that is reported for a task without actions.
 fn idle_outcome(has_executed_need: bool) -> Outcome
     ensures { result ≡ idle_outcome has_executed_need }
 {

@@ -1,4 +1,4 @@
-//! The turn of a task without source.
+//! The execution of a task without source.
 ghost use Rattle.std.specs.Prelude.{◌≡◌, [], ℕ, List, Some, false, not, IsTrue};
 ghost use Rattle.std.specs.List.{list_any};
 ghost use Rattle.gb_folder.specs.Calls.{Asks, takes_at};
@@ -25,8 +25,8 @@ use gb_report::fault::Fault;
 use gb_report::report::{Outcome, TaskReport};
 use std::alloc::Global;
 
-/// Takes the turn of a task without source: nothing is kept of its last run. `was_read` says whether a record
-/// of it was read; the path is the task's own, so that a report needs no memory.
+/// Executes a task without source: nothing of its previous execution is kept. `was_read` says
+/// whether a record of it was read; the path is the task's own, so that a report needs no memory.
 pub fn take_turn_without_source<F: Folder>(
     alloc: Global,
     folder: &mut F,
@@ -48,7 +48,7 @@ pub fn take_turn_without_source<F: Folder>(
         → IsTrue (is_output_of task.now place) }
     ensures changes { IsTrue F.tells
         → ChangesOnly (is_of_turn task.now) (F.contents folder.old) (F.contents folder.new) }
-    // Where it has no source, this is the task's turn.
+    // Where the task has no source, this is its execution.
     ensures turn { IsTrue F.tells → (kinds : Kinds) (registry_of : Registering) (options : Options)
         (plan : Plan) (moment : Moment) → TearsAreSeen IsText record_place (F.may_leave folder.old)
         → ComesAt task.now was_read (F.contents folder.old) (F.failures folder.old) moment
@@ -66,7 +66,8 @@ pub fn take_turn_without_source<F: Folder>(
     }
 }
 
-/// What a task without source that was cleared so is told as.
+/// The outcome that is reported for a task without source, by the result of deleting its record and
+/// outputs.
 fn outcome_of(cleared: Result<(), Fault>) -> Outcome
     ensures { result ≡ cleared_outcome cleared }
 {

@@ -1,4 +1,4 @@
-//! A started task's turn.
+//! The execution of a started task.
 ghost use Rattle.std.specs.Prelude.{◌≡◌, ◌≢◌, ◌||◌, ℕ, List, None, false, not, is_some, IsTrue};
 ghost use Rattle.std.specs.Prelude.{option_copied};
 ghost use Rattle.std.specs.List.{AllByRecursion};
@@ -48,9 +48,9 @@ use gb_report::report::{Options, TaskReport};
 use gb_run::asking_changes::has_one_writer;
 use std::alloc::Global;
 
-/// Takes the turn of a started task. `last` is the record that was read of it, and `has_executed_need` says
-/// whether a task that it needs was executed in this build; the path is the task's own, so that a report
-/// needs no memory.
+/// Executes a started task. `last` is the record that was read of it, and `has_executed_need` says
+/// whether a task that it needs was executed in this build. The path is the task's own, so that a
+/// report needs no memory.
 pub fn take_turn<A: Actions, F: Folder>(
     alloc: Global,
     folder: &mut F,
@@ -67,10 +67,11 @@ pub fn take_turn<A: Actions, F: Folder>(
     requires path { path ≡ task.now.path }
     ensures path { result.path ≡ task.now.path }
     ensures has_actions { result.has_actions ≡ not (is_empty task.now.actions) }
-    // Over any folder: a task that is skipped or up to date asks for no change, and it is up to date only if
-    // it was found so on what was answered in this execution. Else changes are asked for at its outputs and
-    // its record, but none before its inputs were answered whole, or that it has no source; and a record is
-    // of trees that were answered so. It is executed only if each write was answered as done, with just the
+    // Over any folder: a task that is skipped or up to date requests no change, and it is up to
+    // date only if it was found so on what the calls of this execution returned. Every other task
+    // requests changes only at its outputs and its record, and none before calls returned its
+    // inputs whole, or that it has no source. A record that it stores is of the trees that these
+    // calls returned. A task is executed only if each write was answered as done, with just the
     // bytes that its actions make.
     ensures asks { TurnAsks F.failures F.may_leave F.asked A.meanings table.now options task.now
         (option_copied last.entry) result.outcome result.lines folder.old folder.new }
@@ -79,14 +80,15 @@ pub fn take_turn<A: Actions, F: Folder>(
     ensures blamed { (place : List ℕ) → result.outcome ≡ Failed (Fault.Device place)
         → IsTrue (is_input_of task.now place || is_output_of task.now place) }
     ensures started { IsTrue (is_started result.outcome) }
-    // Over any folder: what is skipped or has no actions is told so; what has actions and runs answers as it
-    // may, and prints nothing where its outcome leaves no choice.
+    // Over any folder: a task that is skipped or has no actions is reported as such. A task that
+    // has actions and runs gets one of the outcomes that are possible for it, and prints nothing
+    // where its outcome leaves no choice.
     ensures alone { IsAnsweredAlone task.now.runs (is_empty task.now.actions) has_executed_need
         result.outcome }
     ensures answer { IsAnswer options task.now result }
     ensures changes { IsTrue F.tells
         → ChangesOnly (is_of_turn task.now) (F.contents folder.old) (F.contents folder.new) }
-    // Where what was read of the task is known of it, this is its turn.
+    // Where the record that was read of the task is known of it, this is its execution.
     ensures turn { IsTrue F.tells → (kinds : Kinds) (registry_of : Registering) (plan : Plan)
         (moment : Moment) → IsGranted A.meanings table.now kinds (F.may_leave folder.old)
         → ComesAt task.now (is_some (option_copied last.entry)) (F.contents folder.old)
@@ -107,7 +109,7 @@ pub fn take_turn<A: Actions, F: Folder>(
     }
 }
 
-/// Runs a task that is due: from what its record says, where it goes on by changes, or else in full.
+/// Runs a task that is due: incrementally, based on its record, where it can, or else in full.
 fn run<A: Actions, F: Folder>(
     alloc: Global,
     folder: &mut F,
@@ -178,7 +180,8 @@ fn run<A: Actions, F: Folder>(
     )
 }
 
-/// Whether a run goes on by changes: where that was decided, and one action writes that can answer them.
+/// Whether a run is incremental: where that was decided, and one action writes that supports
+/// changes.
 pub fn goes_by_changes<A: Actions>(
     table: &ActionTable<A::Stored>,
     task: &TaskDeclaration,

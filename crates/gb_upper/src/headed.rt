@@ -7,7 +7,7 @@ use gb_kinds::edit::FileMaker;
 use gb_with::file_kind::FileKind;
 use std::alloc::{AllocError, Global};
 
-/// Puts a line in front of each file: the first argument of the call.
+/// Puts a line before each file: the first argument of the call.
 #[derive(Drop)]
 pub struct Headed {
     line: String,

@@ -1,5 +1,6 @@
-//! `gb` with three kinds of its own: `upperCase` makes of each file the same in capital letters, `headed`
-//! puts a line in front of each, and `wholeLines` fails where the last line of one has no end.
+//! `gb` with three kinds of its own: `upperCase` makes of each file the same in capital letters,
+//! `headed` puts a line before each file, and `wholeLines` fails if the last line of a file has no
+//! end.
 #![tactic(auto)]
 
 mod headed;

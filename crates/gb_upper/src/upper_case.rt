@@ -6,7 +6,7 @@ use gb_kinds::edit::FileMaker;
 use gb_with::file_kind::FileKind;
 use std::alloc::{AllocError, Global};
 
-/// Makes a file in capital letters. Bytes that are no ASCII letters stay as they are.
+/// Makes a file in capital letters. Bytes that are not ASCII letters stay unchanged.
 #[derive(Drop)]
 pub struct UpperCase;
 

@@ -7,7 +7,7 @@ use gb_core::text::Text;
 use gb_with::try_file_kind::TryFileKind;
 use std::alloc::{AllocError, Global};
 
-/// Makes the same file where each line has its end, and fails where the last has none.
+/// Makes the same file if each line has its end, and fails if the last has none.
 #[derive(Drop)]
 pub struct WholeLines;
 

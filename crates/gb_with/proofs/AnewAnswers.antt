@@ -1,4 +1,4 @@
--- The answers of kinds that make all their files anew.
+-- The results of kinds that make all their files again.
 use Rattle.std.proofs.Common.{◌≡◌, ◌≢◌, ℕ, Bool, true, false, true≢false, ◌&&◌, ◌||◌, if◌then◌else◌, List, [], ◌∷◌, Ok, Option, None, is_some, not, refl, sym, ap, subst, ◌∙◌, bytes_eq, IsTrue, T}
 use Rattle.std.proofs.lemmas.List.Folds.{list_all-append, list_any-append}
 use Rattle.std.specs.List.{list_any}
@@ -30,7 +30,7 @@ true_T b e = subst T (sym e) tt
 -- ---- What is removed
 
 module _ (made : Tree) (output path : List ℕ) where
-  -- what is made there stays
+  -- a file made there stays
   abbrev stays : List ℕ → Bool
   stays p = not (is_some (file_at made p))
 

@@ -36,14 +36,14 @@ ordered (e ∷ es) h = both _ _ (below es h.0) (ordered es h.1)
 
 -- ---- One more file
 
--- a file over what was there, and under what comes later
+-- a file over the files before it, and under the files after it
 over : (later : Option (List ℕ)) (is_here : Bool) (bytes : List ℕ) (before : Option (List ℕ))
     → option_or later (cond is_here (Some bytes) before) ≡ option_or (option_or later (cond is_here (Some bytes) None)) before
 over None true bytes before = refl
 over None false bytes before = refl
 over (Some x) is_here bytes before = refl
 
--- files that were put into a map one after another, the first of them and others
+-- files that were inserted into a map one after another, the first of them and others
 pub put_one : (before after : Tree) (path bytes : List ℕ) (others : Tree) (q : List ℕ)
     → lookup (is_at (byte_order q)) after ≡ cond (is_at (byte_order path) q) (Some bytes) (lookup (is_at (byte_order q)) before)
     → option_or (written_at (as_made others) target q) (file_at after q) ≡ option_or (written_at (as_made ((path, bytes) ∷ others)) target q) (file_at before q)

@@ -1,4 +1,4 @@
--- Replies that name what stands otherwise, path by path, take what stands to what is made.
+-- Replies that list the files that differ, path by path, turn the existing files into the files made.
 use Rattle.std.proofs.Common.{◌≡◌, ℕ, Bool, true, false, true≢false, not, ◌&&◌, ◌||◌, if◌then◌else◌, List, [], ◌∷◌, Ok, Option, Some, None, is_some, refl, sym, ap, subst, ◌∙◌, bytes_eq}
 use Rattle.std.specs.Option.{option_or}
 use Rattle.std.specs.Cmp.Lexicographic.{bytes_decides}
@@ -18,7 +18,7 @@ both_true true true c e = (refl, e)
 both_true true false c e = absurd (true≢false (sym e))
 both_true false b c e = absurd (true≢false (sym e))
 
--- files of the output that kinds write leave nothing in another
+-- files of the output that kinds write leave no file in another output
 pub not_elsewhere : (output path : List ℕ) → bytes_eq target output ≡ false → (files : List Written) → are_own true files ≡ true → written_at files output path ≡ None
 not_elsewhere output path apart [] own = refl
 not_elsewhere output path apart (file ∷ files) own =
@@ -27,7 +27,7 @@ not_elsewhere output path apart (file ∷ files) own =
     ap (λ w. option_or w (if bytes_eq file.output output && bytes_eq file.path path then Some file.bytes else None)) (not_elsewhere output path apart files parts.1)
     ∙ ap (λ b. if b && bytes_eq file.path path then Some file.bytes else None) here
 
--- what a reply writes and removes at each path, by what stands and is made there
+-- the writes and removals of a reply at each path, by the existing file and the file made there
 pub record NamesDifferences (request : Request) (reply : Reply) (now : List ℕ → Option (List ℕ)) : Type 0 where
   pub writes : (output path : List ℕ) → written_at reply.writes output path ≡ (if bytes_eq target output then new_at (stands_at request.outputs target path) (now path) else None)
   pub removes : (output path : List ℕ) → is_removed reply.removes output path ≡ (bytes_eq target output && (is_some (stands_at request.outputs target path) && not (is_some (now path))))

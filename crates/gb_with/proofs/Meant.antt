@@ -1,4 +1,4 @@
--- A function of one of two naming types means what it means there.
+-- A function of one of two implementations has the meaning that it has there.
 use Rattle.std.proofs.Common.{◌≡◌, sym, ap, ◌∙◌}
 use Rattle.gb_provider.specs.Meanings.{Kinds, meaning_of}
 use Rattle.gb_with.specs.declared.both.Either.{Either}

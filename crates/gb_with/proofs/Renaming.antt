@@ -11,13 +11,13 @@ use Rattle.gb_action.specs.declared.reply.ActionFault.TheVariants.{ActionFailed,
 use Rattle.gb_with.specs.Renamed.{Taken, all_renamed, behind, made_at, new_path, onto, taking}
 use Rattle.gb_with.specs.TreeKinds.{IsFailure}
 
--- a failure of something is one of what fails where that does
+-- a failure of something is one of a result that fails if it does
 pub fails_too : {A B : Type 0} (fault : ActionFault) (one : Result A (List ℕ)) (other : Result B (List ℕ))
     → ((text : List ℕ) → one ≡ Err text → other ≡ Err text) → IsFailure fault one → IsFailure fault other
 fails_too (ActionFailed text) one other leads failed = leads text failed
 fails_too OutOfMemory one other leads failed = tt
 
--- a path that is put into a map is taken
+-- a path that is inserted into a map is taken
 pub taken_more : (taken after : Taken) (key new path value : List ℕ) → key ≡ new → value ≡ path
     → ((q : List ℕ) → after q ≡ cond (is_at (byte_order key) q) (Some value) (taken q)) → (q : List ℕ) → after q ≡ taking taken new path q
 taken_more taken after key new path value key_is value_is puts q =

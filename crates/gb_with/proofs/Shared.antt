@@ -1,4 +1,4 @@
--- Where names of two tables meet.
+-- The common names of two tables.
 use Rattle.std.proofs.Common.{◌≡◌, ℕ, Bool, true, false, true≢false, not, ◌&&◌, ◌||◌, cond, List, [], ◌∷◌, ◌++◌, map, Some, is_some, Result, Err, refl, sym, ap, ◌∙◌, append_assoc}
 use Rattle.std.proofs.lemmas.List.{append-nil}
 use Rattle.std.specs.Ordering.{eq_by_cmp}
@@ -44,7 +44,7 @@ module _ {S : Type 0} where
       ∙ ap (λ all. are_new (before ++ x ∷ []) xs && are_new all ys) (append_assoc before (x ∷ []) xs))
       ∙ sym (and_assoc (not (has before x.0)) (are_new (before ++ x ∷ []) xs) (are_new (before ++ x ∷ xs) ys))
 
-  -- entries are new behind two tables where they are behind the second, and share no name with the first
+  -- entries are new after two tables if they are new after the second, and share no name with the first
   are_new-behind : (a b ys : List (List ℕ × S)) → are_new (a ++ b) ys ≡ (not (share a ys) && are_new b ys)
   are_new-behind a b [] = refl
   are_new-behind a b (y ∷ ys) =
@@ -98,7 +98,7 @@ module _ {A B S : Type 0} (one : A → S) (other : B → S) where
       ∙ ap (λ found. not found && are_new [] (named other second)) (share-named first second)
       ∙ ap (λ rest. not (share first second) && rest) (are_new-named other [] second)
 
--- entries that stand once are those of a table, and those that are new behind it
+-- a table with each name once, and entries that are new after it, have each name once together
 pub once-together : {S : Type 0} (xs ys : List (List ℕ × S)) → stand_once xs ≡ true → are_new xs ys ≡ true
     → stand_once (xs ++ ys) ≡ true
 once-together xs ys e f = are_new-append [] xs ys ∙ ap (λ b. b && are_new xs ys) e ∙ f
@@ -107,7 +107,7 @@ pub once-named : {A S : Type 0} (one : A → S) (table : List (List ℕ × A))
     → stand_once (named one table) ≡ stand_once table
 once-named one table = are_new-named one [] table
 
--- ---- What is known of them
+-- ---- What is known about them
 
 not_both : (b c : Bool) → (not b && c) ≡ true → b ≡ false
 not_both true c e = absurd (cc)
@@ -127,12 +127,12 @@ module _ {A B S : Type 0} (one : A → S) (other : B → S) (first : List (List 
   shared-where_not e once =
       some_one (share first second) (stand_once second) (sym (new-behind one other first second) ∙ e) once
 
--- ---- Two tables, one put behind the other
+-- ---- Two tables, one appended to the other
 
 same_fault : {X Y : Type 0} (one other : Y) → ◌≡◌ {A = Result X Y} (Err one) (Err other) → one ≡ other
 same_fault one other e = cc
 
--- a fault that is handed on is the one that was told
+-- a fault that is passed on is the one that was returned
 pub handed : {X Y Z : Type 0} (r : Result X Z) (s : Result Y Z) (fault told what : Z) → r ≡ Err fault
     → fault ≡ told → s ≡ Err told → r ≡ Err what → s ≡ Err what
 handed {X = X} r s fault told what a b c d = c ∙ ap Err (sym b ∙ same_fault {X = X} fault what (sym a ∙ d))

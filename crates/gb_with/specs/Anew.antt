@@ -21,12 +21,12 @@ abbrev pub unless_made : Tree → List ℕ → List OutputPath
 unless_made made path =
     if is_some (file_at made path) then [] else record { output = target; path = path } ∷ []
 
--- of the files that are there, those that are made no more
+-- the existing files that are no longer made
 abbrev pub made_no_more : Tree → Tree → List OutputPath
 made_no_more stood made = flat_map (λ file. unless_made made file.0) stood
 
--- The reply that leaves exactly these files: it removes those that are there and are made no more, and
--- writes those that differ from what is there. Each path is looked at once, by what is made there in the end,
+-- The reply that leaves exactly these files: it removes the existing ones that are no longer made, and writes
+-- those that differ from the existing ones. Each path is considered once, by the file made there in the end,
 -- in the order of paths.
 pub record IsDifference (files : Tree) (lines : List (List ℕ)) (outputs : List OutputFiles)
     (reply : Reply) : Type 0 where
@@ -37,8 +37,8 @@ pub record IsDifference (files : Tree) (lines : List (List ℕ)) (outputs : List
   pub writes : reply.writes ≡ renewed outputs made
   pub prints : reply.lines ≡ lines
 
--- The reply of a kind that makes these files and prints these lines: all of them, or the difference to what
--- is there.
+-- The reply of a kind that makes these files and prints these lines: all of them, or the difference to the
+-- existing files.
 pub record IsAnew (files : Tree) (lines : List (List ℕ)) (request : Request) (reply : Reply) : Type 0 where
   pub in_full : request.changes.incremental ≡ false → reply ≡ all_of files lines
   pub by_changes : request.changes.incremental ≡ true → IsDifference files lines request.outputs reply

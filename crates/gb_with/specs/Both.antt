@@ -1,11 +1,11 @@
--- The meanings of two naming types as one.
+-- The meanings of two implementations of `Actions` as one.
 use Rattle.std.specs.Prelude.{ℕ, suc, zero, List, map}
 use Rattle.gb_action.specs.Meanings.{Meanings, Making, Printing}
 use Rattle.gb_action.specs.declared.shape.Shape.{Shape}
 use Rattle.gb_with.specs.declared.both.Either.{Either}
 use Rattle.gb_with.specs.declared.both.Either.TheVariants.{First, Second}
 
--- whose kind has a number, and by which number there
+-- the implementation whose kind has a number, and the number of the kind there
 pub data Whose : Type 0 where
   OfFirst : ℕ → Whose
   OfSecond : ℕ → Whose
@@ -52,7 +52,7 @@ module _ {A B : Type 0} (first : Meanings A) (second : Meanings B) where
     prints = λ n. both_prints (whose n);
   }
 
--- the actions of a table as such of both
+-- the actions of a table as actions of both
 abbrev pub firsts : {A B : Type 0} → List (List ℕ × A) → List (List ℕ × Either A B)
 firsts table = map (λ entry. (entry.0, First entry.1)) table
 

@@ -1,5 +1,5 @@
--- What a kind makes and prints that makes a file of each file by a function of its arguments and the file's
--- bytes.
+-- The files and printed lines of a kind that makes a file from each file by a function of its arguments and
+-- the file's bytes.
 use Rattle.std.specs.Prelude.{ℕ, ◌≡◌, List, Ok, true}
 use Rattle.gb_core.specs.declared.value.Value.{Value}
 use Rattle.gb_action.specs.Files.{Trees, tree_at}
@@ -9,15 +9,15 @@ use Rattle.gb_action.specs.declared.reply.Written.{Written}
 use Rattle.gb_kinds.specs.ByFile.{by_file}
 use Rattle.gb_kinds.specs.Own.{are_own, moved, own_by_file}
 
--- what is made of the arguments of a call and the bytes of one file
+-- the result for the arguments of a call and the bytes of one file
 abbrev pub Edit : Type 0
 Edit = List Value → List ℕ → List ℕ
 
--- each file of `src`, at the same path, with what is made of its bytes
+-- each file of `src`, at the same path, with the result for its bytes
 abbrev pub makes_by_file : Edit → Making
 makes_by_file edit arguments values trees = Ok (by_file (edit arguments) (tree_at trees source))
 
--- all of it is the output's own
+-- it writes only to its own output
 pub by_file-own : (edit : Edit) (arguments : List Value) (values : Values) (trees : Trees)
     (written : List Written)
     → makes_by_file edit arguments values trees ≡ Ok written → are_own true written ≡ true

@@ -1,4 +1,4 @@
--- The meanings of functions of values of two naming types as one.
+-- The meanings of functions of values of two implementations as one.
 use Rattle.std.specs.Prelude.{ℕ, suc}
 use Rattle.gb_provider.specs.Meanings.{Kinds, Meanings}
 use Rattle.gb_with.specs.Both.{Whose, OfFirst, OfSecond, twice, whose}
@@ -18,7 +18,7 @@ module _ {S T A : Type 0} (first : Kinds S A) (second : Kinds T A) where
   use_means (OfFirst n) = first.means n
   use_means (OfSecond n) = second.means n
 
-  -- functions of one use
+  -- the functions of one use
   abbrev pub both_kinds : Kinds (Either S T) A
   both_kinds = record { kind = use_kind; arity = use_arity; means = λ n. use_means (whose n) }
 

@@ -13,10 +13,10 @@ abbrev pub are_new : {S : Type 0} → List (List ℕ × S) → List (List ℕ ×
 are_new before [] = true
 are_new before (entry ∷ others) = not (has before entry.0) && are_new (before ++ entry ∷ []) others
 
--- each name stands once
+-- each name occurs once
 abbrev pub stand_once : {S : Type 0} → List (List ℕ × S) → Bool
 stand_once table = are_new [] table
 
--- a name stands in both
+-- a name occurs in both
 abbrev pub share : {A B : Type 0} → List (List ℕ × A) → List (List ℕ × B) → Bool
 share first second = list_any (λ entry. has first entry.0) second

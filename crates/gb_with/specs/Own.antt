@@ -1,4 +1,4 @@
--- Kinds of both keep to their own outputs, and each stored action has the meaning that it has by itself.
+-- Kinds of both write only to their own outputs, and each stored action has the meaning that it has alone.
 use Rattle.std.specs.Prelude.{ℕ, suc, zero, ◌≡◌, true, ◌&&◌, List, Ok, bytes_eq, is_some}
 use Rattle.std.specs.List.{list_all}
 use Rattle.std.proofs.Common.{refl, ap, subst, sym}

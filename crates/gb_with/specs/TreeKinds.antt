@@ -1,4 +1,4 @@
--- What kinds make that work on all files at once.
+-- The files of kinds that work on all files at once.
 use Rattle.std.specs.Prelude.{ℕ, ◌≡◌, true, false, List, [], Option, None, Some, Result, Ok, Err}
 use Rattle.gb_core.specs.declared.value.Value.{Value}
 use Rattle.gb_action.specs.Files.{Tree, Trees}
@@ -13,7 +13,7 @@ use Rattle.gb_kinds.specs.Own.{are_own, moved, own_by_file}
 use Rattle.gb_kinds.specs.Remade.{as_made}
 use Rattle.std.proofs.Common.{refl}
 
--- the failure is the one that is meant, unless it is want of memory
+-- the failure is that of the meaning, unless memory runs out
 abbrev pub IsFailure : {A : Type 0} → ActionFault → Result A (List ℕ) → Type 0
 IsFailure (ActionFailed text) meant = meant ≡ Err text
 IsFailure OutOfMemory meant = Unit {0}
@@ -33,7 +33,7 @@ written_or (Err text) = Err text
 abbrev pub makes_of_trees : (List Value → Trees → Result Tree (List ℕ)) → Making
 makes_of_trees makes arguments values trees = written_or (makes arguments trees)
 
--- nothing is made where nothing is found
+-- nothing is made if nothing is found
 abbrev pub nothing_or : Option (List ℕ) → Result (List Written) (List ℕ)
 nothing_or None = Ok []
 nothing_or (Some text) = Err text
@@ -44,7 +44,7 @@ makes_nothing finds arguments values trees = nothing_or (finds arguments trees)
 abbrev pub prints_nothing : Printing
 prints_nothing arguments values trees changes = []
 
--- ---- All of it is the output's own
+-- ---- It writes only to its own output
 
 written-own : (made : Result Tree (List ℕ)) (written : List Written) → written_or made ≡ Ok written
     → are_own true written ≡ true

@@ -1,4 +1,4 @@
-//! The replies of kinds that make all their files anew, whatever changed.
+//! The replies of kinds that make all their files again after any change.
 ghost use Rattle.std.specs.Prelude.{◌≡◌, [], is_some, unwrap_or, IfOk, IsTrue};
 ghost use Rattle.std.specs.FinMap.Entries.{is_sorted};
 ghost use Rattle.gb_core.specs.Lists.{byte_order};
@@ -21,8 +21,8 @@ use std::collections::BTreeMap;
 /// Files by their paths.
 type Made = BTreeMap<RelPath, Bytes>;
 
-/// The reply of a kind that makes these files, of which the later counts where two have one path, and prints
-/// these lines. Asked for changes it looks at none of them: it goes by the files that are there.
+/// The reply of a kind that makes these files, the later of two with the same path, and prints
+/// these lines. Given changes it examines none of them: it compares with the existing files.
 pub fn reply_anew(
     alloc: Global,
     request: &Request,
@@ -57,7 +57,8 @@ fn all_of(alloc: Global, files: Vec<(RelPath, Bytes)>, lines: Lines) -> Result<R
     })
 }
 
-/// The reply that takes what stands to these files. Takes n log n steps in the paths of both.
+/// The reply that turns the existing files into these files. Takes n log n steps in the paths of
+/// both.
 fn difference(
     alloc: Global,
     request: &Request,
@@ -98,7 +99,7 @@ fn standing<'a>(request: &'a Request, output: &Name) -> &'a [(RelPath, Bytes)]
     }
 }
 
-/// Of the files that stand those that are made no more.
+/// The existing files that are no longer made.
 fn outdated(alloc: Global, stood: &[(RelPath, Bytes)], made: &Made) -> Result<Removals, AllocError>
     ensures { IfOk result (λ removes. removes ≡ made_no_more stood.now made.now.entries) }
 {
@@ -120,7 +121,7 @@ fn is_made(made: &Made, path: &RelPath) -> bool
     made.contains_key(path)
 }
 
-/// Of the files that are made those that do not stand so already.
+/// The files made that the output does not have already.
 fn renewed(alloc: Global, request: &Request, made: Made) -> Result<Writes, AllocError>
     ensures { IfOk result (λ writes. writes ≡ renewed request.now.outputs made.entries) }
 {

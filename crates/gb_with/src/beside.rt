@@ -1,4 +1,4 @@
-//! Two tables of actions as one.
+//! Combines two tables of actions into one.
 ghost use Rattle.std.specs.Prelude.{◌≡◌, ◌≤◌, ◌∷◌, ◌++◌, [], false, true, IfErr, IfOk, IsErrOf, IsTrue, OnOk};
 ghost use Rattle.gb_core.specs.Name.{is_name};
 ghost use Rattle.gb_action.specs.declared.table.TableFault.TheVariants.{OutOfMemory};
@@ -11,7 +11,7 @@ use crate::stored::{Call, OwnAction};
 use gb_action::table::{ActionTable, TableFault};
 use std::alloc::Global;
 
-/// The table that has one kind of one's own alone, in this version.
+/// The table with one own kind only, in this version.
 pub fn only<C: Call>(
     alloc: Global,
     name: &str,
@@ -27,8 +27,8 @@ pub fn only<C: Call>(
     Ok(table)
 }
 
-/// The actions of two tables in one, with one space of names. Tables whose names each stand once are refused
-/// (41) exactly where a name stands in both, unless memory runs out.
+/// The actions of two tables in one, with one namespace. If each table has each name once, the
+/// tables are refused (41) exactly if a name occurs in both, unless memory runs out.
 pub fn beside<A: Drop, B: Drop>(
     alloc: Global,
     first: ActionTable<A>,

@@ -1,4 +1,4 @@
-//! The naming type of a kind that makes a file of each file.
+//! The implementation of `Actions` for a kind that makes a file from each file.
 ghost use Rattle.std.specs.Prelude.{◌≡◌, ◌≤◌, ℕ};
 ghost use Rattle.gb_action.specs.Meanings.{shape_of, makes_of, prints_of};
 ghost use Rattle.gb_action.specs.Replies.{Answers};
@@ -17,8 +17,8 @@ use gb_kinds::shapes::of_files;
 use std::alloc::{AllocError, Global};
 use std::marker::PhantomData;
 
-/// The one kind that makes a file of each file as `K` does. It follows the changes of `src`, and prints a
-/// line for each.
+/// The one kind that makes a file from each file as `K` does. It is incremental in the changes of
+/// `src`, and prints a line for each.
 #[derive(Drop)]
 pub struct ByFile<K>(PhantomData<K>);
 

@@ -1,4 +1,4 @@
-//! Functions of values of two naming types as one.
+//! Combines two implementations of `Transforms`, which are functions of values, into one.
 ghost use Rattle.std.specs.Prelude.{◌≡◌};
 ghost use Rattle.gb_provider.specs.Meanings.{IsReply, meaning_of};
 

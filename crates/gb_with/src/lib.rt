@@ -1,12 +1,13 @@
-//! Kinds of a program's own, beside the built-in ones and each other.
+//! A program's own kinds, which it combines with the built-in ones and with each other.
 //!
-//! Who has a function on bytes writes it as a [`file_kind::FileKind`] and has with it a kind of actions:
-//! [`by_file::ByFile`] gives its shape, what it makes and prints, its answers to changes, and that it
-//! writes nothing but its own output, all proved here once. [`try_by_file::TryByFile`] does the same for a
-//! [`try_file_kind::TryFileKind`], whose function may fail, and [`of_trees::OfTrees`] for a
-//! [`tree_kind::TreeKind`], which works on all files at once; [`renamed::Renamed`] is one that makes a file
-//! of each file at a path of its own. [`both::Both`] puts naming types side by side, so that one table holds
-//! the kinds of all.
+//! A function on bytes that is written as a [`file_kind::FileKind`] gives a kind of actions:
+//! [`by_file::ByFile`] provides its signature, what it makes and prints, its replies to changes,
+//! and the fact that it writes only to its own output, all proved here once.
+//! [`try_by_file::TryByFile`] does the same for a [`try_file_kind::TryFileKind`], whose function
+//! may fail, and [`of_trees::OfTrees`] for a [`tree_kind::TreeKind`], which works on all files at
+//! once; [`renamed::Renamed`] is a `TreeKind` that makes a file from each file at a path of its
+//! own. [`both::Both`] combines two implementations of `Actions`, so that one table holds the kinds
+//! of all.
 #![tactic(auto)]
 
 mod anew;

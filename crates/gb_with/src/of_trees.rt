@@ -1,4 +1,4 @@
-//! The naming types of kinds that work on all their files at once.
+//! The implementations of `Actions` for kinds that work on all their files at once.
 ghost use Rattle.std.specs.Prelude.{◌≡◌, ◌≤◌, ℕ};
 ghost use Rattle.gb_action.specs.Meanings.{shape_of, makes_of, prints_of};
 ghost use Rattle.gb_action.specs.Replies.{Answers};
@@ -18,16 +18,16 @@ use gb_kinds::shapes::of_files;
 use std::alloc::{AllocError, Global};
 use std::marker::PhantomData;
 
-/// The one kind that makes files of all files as `K` does. Asked for changes it writes those that do not
-/// stand so already, and removes what it makes no more.
+/// The one kind that makes files from all files as `K` does. Given changes it writes those that the
+/// output does not have already, and removes those that it no longer makes.
 #[derive(Drop)]
 pub struct OfTrees<K>(PhantomData<K>);
 
-/// The one kind that fails with what `K` finds.
+/// The one kind that fails with the text that `K` finds.
 #[derive(Drop)]
 pub struct Checks<K>(PhantomData<K>);
 
-/// The shape of a kind that reads files, and makes none.
+/// The signature of a kind that reads files, and makes none.
 fn of_checks(args: ArgList) -> Shape
     ensures { result ≡ of_checks args }
 {

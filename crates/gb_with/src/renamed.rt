@@ -1,4 +1,4 @@
-//! Files that are made of files, at paths of their own.
+//! A kind that makes a file from each file, at a path of its own.
 ghost use Rattle.std.specs.Prelude.{◌≡◌, ◌++◌, ◌∷◌, [], None, Ok, MatchResult, OnOk};
 ghost use Rattle.std.specs.BTreeMap.{get};
 ghost use Rattle.gb_core.specs.Lists.{byte_order};
@@ -19,15 +19,15 @@ use std::alloc::{AllocError, Global};
 use std::collections::BTreeMap;
 use std::marker::PhantomData;
 
-/// The kind of whole trees that makes a file of each file of `src` as `K` does, at the path that `K` gives
-/// it. It fails where a file has no path, and where two files have one.
+/// The kind of whole trees that makes a file from each file of `src` as `K` does, at the path that
+/// `K` gives it. It fails if a file has no path, and if two files have the same one.
 #[derive(Drop)]
 pub struct Renamed<K>(PhantomData<K>);
 
 /// Files by their paths.
 type Made = Vec<(RelPath, Bytes)>;
 
-/// For each path at which a file is made, the path of the file that it is made of.
+/// For each path at which a file is made, the path of the file from which it is made.
 type Taken = BTreeMap<RelPath, RelPath>;
 
 impl<K: Renaming> TreeKind for Renamed<K> {
@@ -47,7 +47,7 @@ impl<K: Renaming> TreeKind for Renamed<K> {
     }
 }
 
-/// A file of each of the files.
+/// A file from each of the files.
 fn all_renamed<K: Renaming>(
     alloc: Global,
     maker: &K,
@@ -67,7 +67,7 @@ fn all_renamed<K: Renaming>(
     Ok(made)
 }
 
-/// Puts a file with these bytes at a new path, which is made of the one at another path.
+/// Adds a file with these bytes at a new path, made from the file at another path.
 fn put(
     taken: &mut Taken,
     made: &mut Made,
@@ -84,7 +84,7 @@ fn put(
     Ok(())
 }
 
-/// The path of the file that is made of the one at a path: one at which none is made yet.
+/// The path of the file that is made from the file at a path: one at which none is made yet.
 fn new_path<K: Renaming>(
     alloc: Global,
     taken: &Taken,

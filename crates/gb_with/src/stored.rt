@@ -1,24 +1,24 @@
-//! Stored actions of kinds of one's own.
+//! Stored actions of a program's own kinds.
 ghost use Rattle.std.specs.Prelude.{◌≡◌, ◌≤◌, IfOk};
 
 use gb_action::shape::Shape;
 use std::alloc::{AllocError, Global};
 use std::marker::{Model, PhantomData};
 
-/// What the call of a kind looks like.
+/// The signature of a kind's calls.
 pub trait Call: Drop {
     ghost use Rattle.std.specs.Prelude.{◌≡◌, IfOk};
     ghost use Rattle.gb_action.specs.declared.shape.Shape.{Shape as Looks};
 
-    /// The shape, as contracts see it.
+    /// The signature, as contracts see it.
     ghost shape: { Looks };
 
-    /// What a call of the kind has to be like.
+    /// The requirements on a call of the kind.
     fn shape(alloc: Global) -> Result<Shape, AllocError>
         ensures { IfOk result (λ made. made ≡ shape) };
 }
 
-/// An action of a kind of one's own, of which contracts see the version.
+/// An action of a program's own kind. Contracts see its version.
 #[derive(Drop)]
 pub struct OwnAction<C: Call> {
     version: u32,
@@ -37,8 +37,8 @@ impl<C: Call> Model for OwnAction<C> {
 }
 
 impl<C: Call> OwnAction<C> {
-    /// The action, in a version of its kind: 1, and one more each time that the kind comes to make something
-    /// else of the same, since what was made by another version is made again.
+    /// The action, in a version of its kind: 1, and one more each time that the kind changes what
+    /// it makes of the same input, since outputs of another version are made again.
     pub fn new(alloc: Global, version: u32) -> Result<OwnAction<C>, AllocError>
         requires { 1 ≤ version }
         ensures { IfOk result (λ action. action ≡ version) }
@@ -51,7 +51,7 @@ impl<C: Call> OwnAction<C> {
         })
     }
 
-    /// What a call of its kind has to be like.
+    /// The requirements on a call of its kind.
     pub fn shape(&self) -> &Shape
         ensures { result.now ≡ C.shape }
     {

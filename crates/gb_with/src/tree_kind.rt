@@ -1,4 +1,4 @@
-//! What one writes for a kind that works on all its files at once.
+//! The traits that a program implements for a kind that works on all its files at once.
 ghost use Rattle.std.specs.Prelude.{◌≡◌};
 ghost use Rattle.gb_action.specs.Files.{tree_at};
 
@@ -12,9 +12,10 @@ use gb_core::place::RelPath;
 use gb_core::text::Text;
 use std::alloc::{AllocError, Global};
 
-/// A kind that makes files beneath `out` of all files that its task has, or fails. It reads `src`, and other
-/// properties of the task by their names. Where anything changed it makes all of them; where the properties
-/// that changed are incremental, those alone are written that do not stand so already.
+/// A kind that makes files under `out` from all files of its task, or fails. It reads `src`, and
+/// other properties of the task by their names. If anything changed it makes all of them; if the
+/// properties that changed are incremental, only those are written that the output does not have
+/// already.
 pub trait TreeKind: Drop {
     ghost use Rattle.std.specs.Prelude.{◌≡◌, ℕ, List, Result, true, Ok, IfOk, MatchResult};
     ghost use Rattle.gb_core.specs.declared.value.Value.{Value};
@@ -23,13 +24,14 @@ pub trait TreeKind: Drop {
     ghost use Rattle.gb_action.specs.declared.shape.Parameter.{Parameter};
     ghost use Rattle.gb_with.specs.TreeKinds.{IsFailure};
 
-    /// What its arguments have to be.
+    /// The requirements on its arguments.
     ghost takes: { List Parameter };
 
-    /// The files that it makes, in the order in which they are written, or the text with which it fails.
+    /// The files that it makes, in the order in which they are written, or the text with which it
+    /// fails.
     ghost makes: { List Value → Trees → Result Tree (List ℕ) };
 
-    /// What its arguments have to be.
+    /// The requirements on its arguments.
     fn takes(alloc: Global) -> Result<ArgList, AllocError>
         ensures { IfOk result (λ list. list ≡ takes) };
 
@@ -45,7 +47,7 @@ pub trait TreeKind: Drop {
             (λ fault. IsFailure fault (makes arguments.now trees.now)) };
 }
 
-/// A kind that makes no file, and fails with what it finds in the files that its task has.
+/// A kind that makes no file, and fails with a problem that it finds in the files of its task.
 pub trait CheckKind: Drop {
     ghost use Rattle.std.specs.Prelude.{◌≡◌, ℕ, List, Option, true, IfOk};
     ghost use Rattle.gb_core.specs.declared.value.Value.{Value};
@@ -53,13 +55,13 @@ pub trait CheckKind: Drop {
     ghost use Rattle.gb_action.specs.Shapes.{args_fit};
     ghost use Rattle.gb_action.specs.declared.shape.Parameter.{Parameter};
 
-    /// What its arguments have to be.
+    /// The requirements on its arguments.
     ghost takes: { List Parameter };
 
     /// The text with which it fails, if there is something to find.
     ghost finds: { List Value → Trees → Option (List ℕ) };
 
-    /// What its arguments have to be.
+    /// The requirements on its arguments.
     fn takes(alloc: Global) -> Result<ArgList, AllocError>
         ensures { IfOk result (λ list. list ≡ takes) };
 

@@ -1,4 +1,4 @@
-//! The naming type of a kind that makes a file of each file, or fails.
+//! The implementation of `Actions` for a kind that makes a file from each file, or fails.
 ghost use Rattle.std.specs.Prelude.{◌≡◌, ◌≤◌, ℕ, [], Ok, map, unwrap_or, IfOk, MatchResult};
 ghost use Rattle.std.specs.FinMap.Entries.{find};
 ghost use Rattle.gb_core.specs.Lists.{byte_order};
@@ -28,9 +28,9 @@ use gb_kinds::shapes::of_files;
 use std::alloc::{AllocError, Global};
 use std::marker::PhantomData;
 
-/// The one kind that makes a file of each file as `K` does, or fails. It follows the changes of `src`, and
-/// prints a line for each. Asked for changes it tries all files, since each of them may fail, writes those
-/// that differ, and removes what it makes no more.
+/// The one kind that makes a file from each file as `K` does, or fails. It is incremental in the
+/// changes of `src`, and prints a line for each. Given changes it tries all files, since each of
+/// them may fail, writes those that differ, and removes those that it no longer makes.
 #[derive(Drop)]
 pub struct TryByFile<K>(PhantomData<K>);
 
@@ -80,7 +80,7 @@ impl<K: TryFileKind> Actions for TryByFile<K> {
     }
 }
 
-/// A file of each of the files, or the failure of the first that fails.
+/// A file from each of the files, or the failure of the first that fails.
 fn all_tried<K: TryFileKind>(
     alloc: Global,
     maker: &K,
@@ -98,7 +98,7 @@ fn all_tried<K: TryFileKind>(
     Ok(made)
 }
 
-/// The file at a path that is made of these bytes, or a failure with the path in front.
+/// The file at a path with the bytes that were made, or a failure with the path before it.
 fn try_at<K: TryFileKind>(
     alloc: Global,
     maker: &K,

@@ -10,17 +10,17 @@ use Rattle.gb_report.specs.declared.fault.Fault.{Fault}
 use Rattle.gb_report.specs.declared.fault.Fault.TheVariants.{Usage}
 use Rattle.gb_words.specs.Faults.{IsFirstFault, TellsFirst}
 
--- the first of some is the first of them and more
+-- the first of some faults is also the first of these faults followed by more
 pub first_among : (faults more whole : List Fault) (fault : Fault) → whole ≡ faults ++ more → IsFirstFault faults fault → IsFirstFault whole fault
 first_among faults more whole fault same (inl memory) = inl memory
 first_among [] more whole fault same (inr first) = absurd (cc)
 first_among (one ∷ faults) more whole fault same (inr first) = inr (ap first_of same ∙ first)
 
--- what the exit of a `?` hands on
+-- the error that the exit of a `?` returns
 pub told_on : {T : Type 0} (faults : List Fault) (answer : Result T Fault) (fault : Fault) → IsErrAnd answer (λ handed. handed ≡ fault) → IsFirstFault faults fault → TellsFirst faults answer
 told_on faults answer fault handed first = let p = err_from_is_err_and answer handed in rw (p.1, p.2) first
 
--- where `clap` tells some kind of error, the words are refused
+-- where `clap` reports some kind of error, the arguments are refused
 pub usage_first : (kinds : Kinds) (kind : ErrorKind) → IsAmong kind kinds → IsFirstFault (if not (is_empty kinds) then Usage ∷ [] else []) Usage
 usage_first [] kind among = absurd among
 usage_first (one ∷ kinds) kind among =

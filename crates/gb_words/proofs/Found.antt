@@ -1,4 +1,4 @@
--- What is read of matches is what their rows have.
+-- What is read from matches is what their rows have.
 use Rattle.std.proofs.Common.{◌≡◌, ◌∙◌, ap, refl, ℕ, List, [], Bor, Option, Some, None}
 use Rattle.std.specs.Prelude.{option_map, unwrap_or}
 use Rattle.clap.proofs.WalkLemmas.{raw_values-rows}

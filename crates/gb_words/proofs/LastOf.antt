@@ -1,4 +1,4 @@
--- What is kept by names, one text more; and that it rises.
+-- The values kept by name after one more text, and that their names rise.
 use Rattle.std.proofs.Common.{◌≡◌, ◌≢◌, ℕ, ◌+◌, ◌<◌, Bool, true, ◌&&◌, cond, List, [], ◌∷◌, ◌++◌, Bor, length, take, drop, get_or, reverse, refl, sym, ap, ◌∙◌, ◌≤◌, add-one, arith, Some}
 use Rattle.std.specs.Prelude.{AllPairs, map}
 use Rattle.std.proofs.Math.Seq.{drop-cons}
@@ -50,7 +50,7 @@ module _ (texts : List (Bor (List ℕ))) (i : ℕ) (d : Bor (List ℕ)) (within 
       ∙ ap reverse (map-append part (texts_behind (take i texts)) (text ∷ []))
       ∙ reverse-append (map part (texts_behind (take i texts))) (part text ∷ [])
 
-  -- what is put by the name of a text is the last of this name
+  -- the value stored under the name of a text is the last of this name
   pub last_more : (before after : Entries) → after ≡ insert_entry byte_order before (name_in text) (value_in text)
       → IsLastOf (texts_behind (take i texts)) before → IsLastOf (texts_behind (take (i + 1) texts)) after
   last_more before after added so_far name =

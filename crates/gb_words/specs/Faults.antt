@@ -1,4 +1,4 @@
--- Which of several faults is told.
+-- Which of several faults is reported.
 use Rattle.std.specs.Prelude.{◌≡◌, ◌⊎◌, false, List, [], Some, Result, MatchResult}
 use Rattle.gb_core.specs.Lists.{first_of}
 use Rattle.gb_core.specs.Name.{is_name}
@@ -10,13 +10,13 @@ use Rattle.gb_report.specs.declared.fault.Limited.TheVariants.{Values}
 abbrev pub IsFirstFault : List Fault → Fault → Type 0
 IsFirstFault faults fault = (fault ≡ OutOfMemory) ⊎ (first_of faults ≡ Some fault)
 
--- There are no such faults where the call succeeds, and else it tells the first of them, or that memory ran
+-- If the call succeeds, there are no such faults. Otherwise it returns the first of them, or that memory ran
 -- out.
 abbrev pub TellsFirst : {T : Type 0} → List Fault → Result T Fault → Type 0
 TellsFirst faults answer = MatchResult answer (λ _. faults ≡ []) (IsFirstFault faults)
 
--- Memory ran out, or the words are at fault: they are none of the command, they give too many values, or a
--- value to what is no name.
+-- Memory ran out, or the arguments are at fault: they do not fit the command, they give too many values, or
+-- they give a value to an invalid name.
 abbrev pub IsOfWords : Fault → Type 0
 IsOfWords OutOfMemory = Unit {0}
 IsOfWords Usage = Unit {0}

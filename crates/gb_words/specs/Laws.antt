@@ -1,8 +1,8 @@
--- What follows from the definitions alone.
+-- Consequences of the definitions alone.
 use Rattle.std.specs.Prelude.{ℕ, ◌≡◌, List}
 use Rattle.gb_words.specs.Values.{AreLast}
 
--- Texts give one list of values.
+-- The same texts always give the same list of values.
 abbrev pub ValuesAreOne : Type 0
 ValuesAreOne =
     (texts : List (List ℕ)) (one other : List (List ℕ × List ℕ)) → AreLast texts one → AreLast texts other

@@ -10,11 +10,11 @@ use Rattle.gb_report.specs.declared.fault.Fault.{Fault}
 use Rattle.gb_report.specs.declared.fault.Fault.TheVariants as faults
 use Rattle.gb_report.specs.declared.fault.Limited.TheVariants as limited
 
--- what stands before the first `=` (61), or the whole text where there is none
+-- the part before the first `=` (61), or the whole text where there is no `=`
 abbrev pub name_in : List ℕ → List ℕ
 name_in text = before_first (λ byte. byte == 61) text
 
--- what stands behind the first `=`, and nothing where there is none
+-- the part after the first `=`, and nothing where there is no `=`
 abbrev pub value_in : List ℕ → List ℕ
 value_in text = after_first (λ byte. byte == 61) text
 
@@ -22,12 +22,12 @@ value_in text = after_first (λ byte. byte == 61) text
 abbrev pub part : List ℕ → List ℕ × List ℕ
 part text = (name_in text, value_in text)
 
--- each name that a text has is found with the value of the last text that has it, and no other name is found
+-- each name that a text has maps to the value of the last text with that name, and no other name is present
 abbrev pub IsLastOf : List (List ℕ) → List (List ℕ × List ℕ) → Type 0
 IsLastOf texts given =
     (name : List ℕ) → find byte_order name given ≡ find byte_order name (reverse (map part texts))
 
--- the last value of each name; the names rise, so each stands once
+-- the last value of each name; the names rise, so each occurs once
 pub record AreLast (texts : List (List ℕ)) (given : List (List ℕ × List ℕ)) : Type 0 where
   pub rising : IsTrue (is_sorted byte_order given)
   pub last : IsLastOf texts given
@@ -35,15 +35,15 @@ pub record AreLast (texts : List (List ℕ)) (given : List (List ℕ × List ℕ
 abbrev pub names_of : List (List ℕ × List ℕ) → List (List ℕ)
 names_of given = map (λ entry. entry.0) given
 
--- the texts behind references
+-- the texts to which references point
 abbrev pub texts_behind : List (Bor (List ℕ)) → List (List ℕ)
 texts_behind texts = map (λ text. text.now) texts
 
--- a text whose name is none
+-- a text with an invalid name
 abbrev pub part_faults : List ℕ → List Fault
 part_faults text = if is_name (name_in text) then [] else faults.BadName (name_in text) ∷ []
 
--- more than 256 texts, and then each text whose name is none
+-- more than 256 texts, and then each text with an invalid name
 abbrev pub values_faults : List (List ℕ) → List Fault
 values_faults texts =
     (if nat_lt 256 (length texts) then faults.TooMany limited.Values ∷ [] else [])

@@ -1,7 +1,8 @@
-//! What follows from the definitions alone, each the contract of a function that does nothing.
+//! Consequences of the definitions alone. Each one is the contract of a function with an empty
+//! body.
 ghost use Rattle.gb_words.specs.Laws.{ValuesAreOne};
 
-/// Texts give one list of values.
+/// The same texts always give the same list of values.
 pub fn values_are_one()
     ensures { ValuesAreOne }
 {}

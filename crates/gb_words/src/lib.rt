@@ -1,7 +1,8 @@
-//! The words of a command line, read as what a build is asked for.
+//! Reads the arguments of a command line as the invocation of a build.
 //!
-//! How words are split into options and tasks is `clap`'s: its definitions say what it finds in words for a
-//! command that it knows. Here stands which command that is, and what is made of what is found.
+//! `clap` splits the arguments into options and tasks. Its definitions specify what it finds in the
+//! arguments for a command that it knows. This crate defines that command, and what is made of the
+//! matches.
 #![tactic(auto)]
 
 pub mod laws;

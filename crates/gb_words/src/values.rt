@@ -18,9 +18,9 @@ use std::collections::BTreeMap;
 /// The most values that a command line gives.
 const MOST_VALUES: usize = 256;
 
-/// The values that the texts `NAME=VALUE` give: of each name its last one. They stand in the order of their
-/// names, whatever the order of the texts.
-/// Refused where there are too many texts (58), or else with the first name that is none (1).
+/// The values that the texts `NAME=VALUE` give: for each name the last value. They are sorted by
+/// name, whatever the order of the texts.
+/// Refused where there are too many texts (58), otherwise with the first invalid name (1).
 pub fn properties(alloc: Global, texts: &[&str]) -> Result<Properties, Fault>
     ensures last { IfOk result (AreLast (texts_behind texts.now)) }
     ensures faults { TellsFirst (values_faults (texts_behind texts.now)) result }
@@ -52,7 +52,7 @@ fn by_name(alloc: Global, texts: &[&str]) -> Result<BTreeMap<Name, Text>, Fault>
     Ok(given)
 }
 
-/// Puts the value of a text by its name, in place of the one that stands there.
+/// Stores the value of a text under its name, and replaces an earlier value of that name.
 fn put(alloc: Global, given: &mut BTreeMap<Name, Text>, text: &str) -> Result<(), Fault>
     ensures put { OnOk result (given.new.entries
         ≡ insert_entry byte_order given.old.entries (name_in text.now) (value_in text.now)) }
@@ -65,7 +65,7 @@ fn put(alloc: Global, given: &mut BTreeMap<Name, Text>, text: &str) -> Result<()
     Ok(())
 }
 
-/// The name in front of the first `=` and the value behind it; without one the value is empty.
+/// The name before the first `=` and the value after it. Without a `=` the value is empty.
 fn parted(alloc: Global, text: &str) -> Result<(Name, Text), Fault>
     ensures parted { IfOk result (λ parted. parted ≡ part text.now) }
     ensures name { OnOk result (IsTrue (is_name (name_in text.now))) }

@@ -1,4 +1,4 @@
-//! The words of a command line.
+//! The arguments of a command line.
 ghost use Rattle.std.specs.Prelude.{◌≡◌, ◌≢◌, ◌≤◌, ◌∷◌, [], None, false, if◌then◌else◌, IfErr, IfOk, IsTrue};
 ghost use Rattle.std.specs.Prelude.{All, AllPairs, codes, length, map, string_bytes};
 ghost use Rattle.clap.specs.Matches.{found_of};
@@ -19,9 +19,9 @@ use gb_report::fault::Fault;
 use gb_report::report::Options;
 use std::alloc::{AllocError, Global};
 
-/// What the words of a command line ask for, without the program's name.
-/// Refused are words that are no options and values of the command (96), then more than 256 values of
-/// properties (58), then the first name of a property that is none (1).
+/// The invocation that the arguments of a command line request, without the program's name.
+/// Refused are arguments that are no options or values of the command (96), then more than 256
+/// values of properties (58), then the first invalid name of a property (1).
 pub fn read(alloc: Global, words: Vec<String>) -> Result<Invocation, Fault>
     ensures asked { IfOk result (IsAsked (map string_bytes words.items)) }
     ensures faults { TellsFirst (words_faults (map string_bytes words.items)) result }
@@ -39,7 +39,7 @@ pub fn read(alloc: Global, words: Vec<String>) -> Result<Invocation, Fault>
     })
 }
 
-/// What `clap` finds in the words.
+/// What `clap` finds in the arguments.
 fn found<'a>(alloc: Global, words: &'a [String]) -> Result<ArgMatches<'a>, Fault>
     ensures rows { IfOk result (λ matches.
         rows_of (found_of matches) ≡ rows_in (map string_bytes words.entry.now)) }
@@ -56,7 +56,7 @@ fn found<'a>(alloc: Global, words: &'a [String]) -> Result<ArgMatches<'a>, Fault
     }
 }
 
-/// The options that there are. No help and no version is among them.
+/// The options of the command. There is no help option and no version option.
 fn command<'a>(alloc: Global) -> Result<Command<'a>, AllocError>
     ensures { IfOk result (λ command. app_of command ≡ gb_command) }
 {
@@ -72,7 +72,7 @@ fn command<'a>(alloc: Global) -> Result<Command<'a>, AllocError>
         .arg(Arg::new(alloc, "task").action(ArgAction::Append))
 }
 
-/// An option that takes a value each time that it is used.
+/// An option that takes a value each time it is used.
 fn valued<'a>(alloc: Global, id: &'a str, short: char, long: &'a str) -> Arg<'a>
     ensures rule { rule_of result ≡ valued id.entry.now short long.entry.now }
     ensures own { result.global ≡ false }

@@ -1,4 +1,4 @@
-//! A listener of one's own: it counts the tasks that were executed, beside all that it hears.
+//! A custom listener: it counts the tasks that were executed, and keeps all its notifications.
 ghost use Rattle.std.specs.Prelude.{◌≡◌, ◌∷◌, [], OnErr, OnOk};
 ghost use Rattle.gb_exec.specs.Telling.{Refuses};
 ghost use Rattle.gb_meaning.specs.Headline.{HearsAll};
@@ -9,7 +9,7 @@ use gb_exec::listener::{Recorder, TaskListener};
 use gb_report::report::{Heard, Outcome};
 use std::alloc::{AllocError, Global};
 
-/// It keeps what it hears in a recorder, which is its ear.
+/// It keeps its notifications in a recorder, which is its ear.
 #[derive(Drop)]
 pub struct Counting {
     recorder: Recorder,
@@ -17,7 +17,7 @@ pub struct Counting {
 }
 
 impl Counting {
-    /// It has heard nothing yet.
+    /// A listener without notifications.
     pub fn new(alloc: Global) -> Counting {
         Counting {
             recorder: Recorder::new(alloc),

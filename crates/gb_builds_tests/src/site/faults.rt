@@ -1,4 +1,5 @@
-//! Sites that cannot be built: each is told by its number, and nothing that is half written counts as right.
+//! Sites that cannot be built: each fault is reported with its number, and no half-written output
+//! counts as valid.
 use crate::site::offering::{Kinds, offered};
 use crate::site::sites::{FIRST, IDLE, written};
 use crate::site::steps::{Step, go_on};
@@ -18,12 +19,12 @@ const NO_HEADING: &str =
     "> Task :all\n> Task :html FAILED\nFAILED :html: 42 b.md:1: no heading\nBUILD FAILED\n\
 2 actionable tasks: 2 executed\n";
 
-/// What is built behind a fault of the first build: the page that is mended is made with all others.
+/// The build after a fault of the first build: the repaired page is made with all others.
 const MENDED: &str =
     "> Task :all\n> Task :html\nADDED a.md\nADDED b.md\n> Task :laidOut\n> Task :site\n\
 ADDED a.html\nADDED b.html\nADDED index.html\nBUILD SUCCESSFUL\n4 actionable tasks: 4 executed\n";
 
-/// A page that is no text, one without a heading, and both mended.
+/// A page that is not text, one without a heading, and both repaired.
 const BAD_PAGES: [Step<'static>; 7] = [
     Step::Put("pages/b.md", b"# B\n\xff\n"),
     Step::Run("site", 1, NOT_TEXT),
@@ -34,7 +35,7 @@ const BAD_PAGES: [Step<'static>; 7] = [
     Step::Run("site", 0, IDLE),
 ];
 
-/// A page that goes bad behind a good build, and is then put back.
+/// A page that becomes invalid after a successful build, and is then restored.
 const GONE_BAD: [Step<'static>; 5] = [
     Step::Run("site", 4, FIRST),
     Step::Put("pages/b.md", b"# B\n\xff\n"),
@@ -47,7 +48,7 @@ const GONE_BAD: [Step<'static>; 5] = [
     ),
 ];
 
-/// A layout without a place for pages, and none.
+/// A layout without a place for pages, and no layout.
 const LAYOUTS: [Step<'static>; 4] = [
     Step::Put("layout.html", b"<body></body>\n"),
     Step::Run(
@@ -65,7 +66,7 @@ FAILED :laidOut: 42 layout.html: no {{page}}\nBUILD FAILED\n2 actionable tasks: 
     ),
 ];
 
-/// Two pages of one output name: one that is written, and the one that links all.
+/// Two pages with one output name: one that is written, and the one that links to all.
 const TWO_OF_ONE_NAME: [Step<'static>; 2] = [
     Step::Put("pages/index.md", b"# I\n"),
     Step::Run(
@@ -77,7 +78,7 @@ const TWO_OF_ONE_NAME: [Step<'static>; 2] = [
     ),
 ];
 
-/// Fails where these steps behind those of the site tell something else.
+/// Fails if these steps after those of the site have other results.
 fn are_told<A: Actions, T: Transforms>(
     alloc: Global,
     tables: &Tables<A, T>,

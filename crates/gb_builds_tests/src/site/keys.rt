@@ -1,4 +1,4 @@
-//! What pages say of themselves: keys in a layout, titles, and the order of dates.
+//! Front matter of pages: keys in a layout, titles, and the order of dates.
 use crate::site::offering::{Kinds, offered};
 use crate::site::steps::{Step, go_on, stands};
 use gb_action::actions::Actions;
@@ -9,7 +9,7 @@ use gb_registry::tables::Tables;
 use std::alloc::Global;
 use std::test::Fail;
 
-/// A site of three pages, of which one has no date and no title but its heading.
+/// A site of three pages; one has no date and no title other than its heading.
 const PAGES: [Step<'static>; 6] = [
     Step::Put(
         "build.gb",
@@ -43,7 +43,7 @@ outputDir out = dir(\"build/all\") }
     ),
 ];
 
-/// A page without a key of the layout, and one whose front matter has no end; then it goes.
+/// A page without a key of the layout, and one whose front matter has no end; then it is removed.
 const FAULTS: [Step<'static>; 6] = [
     Step::Put("pages/c.md", b"# C\n"),
     Step::Run(
@@ -78,7 +78,7 @@ const ALL: &str = "<h1>All</h1>
 </ul>
 ";
 
-/// The same without the page that has gone.
+/// The same without the removed page.
 const LEFT: &str = "<h1>All</h1>
 <ul>
 <li><a href=\"d/b.html\">B</a></li>
@@ -86,7 +86,7 @@ const LEFT: &str = "<h1>All</h1>
 </ul>
 ";
 
-/// Fails where something else is told or stands.
+/// Fails if the results or the files differ.
 fn are_filled<A: Actions, T: Transforms>(alloc: Global, tables: &Tables<A, T>) -> Result<(), Fail> {
     let mut folder = MemoryFolder::new(alloc);
     are_filled_in(alloc, &mut folder, tables)

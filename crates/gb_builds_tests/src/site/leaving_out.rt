@@ -11,7 +11,7 @@ use std::test::Fail;
 
 const DONE: &str = "> Task :t\nBUILD SUCCESSFUL\n1 actionable task: 1 executed\n";
 
-/// It is left out.
+/// The argument is left out.
 const LEFT_OUT: [Step<'static>; 4] = [
     Step::Put("pages/a.md", b"A"),
     Step::Put("layout.html", b"<p>{{page}}</p>\n"),
@@ -23,7 +23,8 @@ inputFiles layout from file(\"layout.html\") outputDir out = dir(\"build/t\") }"
     Step::Run("t", 1, DONE),
 ];
 
-/// The one that is meant then is given: the task runs, as its action differs, and makes the same.
+/// The default is then given explicitly: the task is executed because its action differs, and makes
+/// the same.
 const GIVEN: [Step<'static>; 2] = [
     Step::Put(
         "build.gb",
@@ -33,7 +34,7 @@ inputFiles layout from file(\"layout.html\") outputDir out = dir(\"build/t\") }"
     Step::Run("t", 1, DONE),
 ];
 
-/// Another one is given, and then one too many.
+/// Another argument is given, and then one too many.
 const OTHERS: [Step<'static>; 4] = [
     Step::Put(
         "build.gb",
@@ -58,7 +59,7 @@ inputFiles layout from file(\"layout.html\") outputDir out = dir(\"build/t\") }"
     ),
 ];
 
-/// Fails where something else is told or stands.
+/// Fails if the results or the files differ.
 fn may_be_left_out<A: Actions, T: Transforms>(
     alloc: Global,
     tables: &Tables<A, T>,

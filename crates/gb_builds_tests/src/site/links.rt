@@ -1,4 +1,5 @@
-//! Addresses on pages: those that could run code are none, and those of files lead to the files.
+//! Addresses on pages: those that could run code are left out, and those of files refer to the
+//! files.
 use crate::site::offering::{Kinds, offered};
 use crate::site::steps::{Step, go_on, stands};
 use gb_action::actions::Actions;
@@ -9,7 +10,7 @@ use gb_registry::tables::Tables;
 use std::alloc::Global;
 use std::test::Fail;
 
-/// A page of links, and pages whose names have signs that mean something in an address.
+/// A page of links, and pages whose names have signs with a meaning in an address.
 const PAGES: [Step<'static>; 8] = [
     Step::Put(
         "build.gb",
@@ -33,7 +34,7 @@ register all : index(\"All\") { inputFiles src from dir(\"pages\") outputDir out
     ),
 ];
 
-/// Files with links to each other; then one that leads to no file, and one to no fragment.
+/// Files with links to each other; then one to a missing file, and one to a missing fragment.
 const LED: [Step<'static>; 8] = [
     Step::Put(
         "build.gb",
@@ -104,7 +105,7 @@ const ALL: &str = "<h1>All</h1>
 </ul>
 ";
 
-/// Fails where a page has other addresses.
+/// Fails if the addresses of a page differ.
 fn are_safe<A: Actions, T: Transforms>(alloc: Global, tables: &Tables<A, T>) -> Result<(), Fail> {
     let mut folder = MemoryFolder::new(alloc);
     go_on(alloc, &mut folder, tables, &PAGES)?;

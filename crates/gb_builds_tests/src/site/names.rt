@@ -1,4 +1,4 @@
-//! Kinds of two tables under one name.
+//! Two tables with a kind of the same name.
 use crate::building::is_told;
 use crate::site::offering::builtin;
 use gb_action::table::TableFault;
@@ -9,13 +9,13 @@ use gb_with::by_file::ByFile;
 use std::alloc::Global;
 use std::test::Fail;
 
-/// Why the kind of pages cannot stand beside the built-in kind under its name.
+/// Why the kind of pages cannot be added next to the built-in kind with its name.
 fn refusal(alloc: Global) -> Result<Option<TableFault>, Fail> {
     let own = only::<ByFile<Markdown>>(alloc, "copyFiles", 1)?;
     Ok(beside(alloc, builtin(alloc)?, own).err())
 }
 
-/// What is printed of a refusal.
+/// The output for a refusal.
 fn printed(alloc: Global, fault: TableFault) -> Result<String, Fail> {
     let mut out = Vec::new(alloc);
     if !print_refused(&mut out, fault) {

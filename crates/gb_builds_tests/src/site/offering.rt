@@ -1,4 +1,5 @@
-//! What a site is built with: a built-in kind and those of pages in one table, and one function of values.
+//! The tables for a site: a built-in kind and those of pages in one table, and one function of
+//! values.
 use gb_action::actions::Actions;
 use gb_action::table::ActionTable;
 use gb_core::name::Name;
@@ -24,7 +25,8 @@ fn copying(alloc: Global) -> Result<StoredAction, Fail> {
     Ok(StoredAction::new(COPY_FILES, 1, shape, run))
 }
 
-/// The one built-in kind that the site asks for. With a closure at hand each way out is dear to check.
+/// The one built-in kind that the site uses. With a closure in scope each exit is expensive to
+/// check.
 pub fn builtin(alloc: Global) -> Result<ActionTable<StoredAction>, Fail> {
     let name = Name::read(alloc, "copyFiles")?;
     let mut table = ActionTable::new(alloc);
@@ -37,7 +39,7 @@ fn choosing(alloc: Global) -> Result<StoredFlat, Fail> {
     Ok(StoredFlat::new(OUTPUT, 1, run))
 }
 
-/// The one function of values that the site asks for.
+/// The one function of values that the site uses.
 fn functions(alloc: Global) -> Result<FunctionTable, Fail> {
     let name = Name::read(alloc, "output")?;
     let mut table = FunctionTable::new(alloc);
@@ -45,7 +47,7 @@ fn functions(alloc: Global) -> Result<FunctionTable, Fail> {
     Ok(table)
 }
 
-/// What a build of the site is handed.
+/// The tables for a build of the site.
 pub fn offered(
     alloc: Global,
 ) -> Result<(ActionTable<<Kinds as Actions>::Stored>, FunctionTable), Fail> {

@@ -23,7 +23,7 @@ outputDir out = dir(\"build/p\") }",
 
 const DONE: &str = "> Task :pages\nBUILD SUCCESSFUL\n1 actionable task: 1 executed\n";
 
-/// Two pages of one name, and what stands behind that; then one of them goes.
+/// Two pages with one output path, and the resulting failure; then one of them is removed.
 const MET: [Step<'static>; 4] = [
     Step::Put("pages/d/b.md", b"# B\n"),
     Step::Run(
@@ -36,7 +36,7 @@ const MET: [Step<'static>; 4] = [
     Step::Run("pages", 1, DONE),
 ];
 
-/// A file that is no page, and a page that goes.
+/// A file that is not a page, and a page that is removed.
 const OTHERS: [Step<'static>; 6] = [
     Step::Put("pages/notes.txt", b"N\n"),
     Step::Run(
@@ -55,7 +55,7 @@ const OTHERS: [Step<'static>; 6] = [
     ),
 ];
 
-/// Fails where something else is told or stands.
+/// Fails if the results or the files differ.
 fn are_renamed<A: Actions, T: Transforms>(
     alloc: Global,
     tables: &Tables<A, T>,

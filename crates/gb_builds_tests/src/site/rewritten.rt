@@ -1,4 +1,4 @@
-//! What builds of an edited site write, read off a folder that notes it.
+//! The files that builds of an edited site write, read from a folder that notes its calls.
 use crate::building::is_told;
 use crate::site::offering::{Kinds, offered};
 use crate::site::sites::written;
@@ -27,7 +27,7 @@ ADDED a.html\nADDED b.html\nADDED c.html\nADDED index.html\nBUILD SUCCESSFUL\n\
 /// One page is edited.
 const EDITED: [Step<'static>; 1] = [Step::Put("pages/b.md", b"# B\n*new*\n")];
 
-/// What is told of it.
+/// Its result.
 const AFTER_EDIT: [Step<'static>; 1] = [Step::Run(
     "site",
     4,
@@ -38,7 +38,7 @@ BUILD SUCCESSFUL\n4 actionable tasks: 4 executed\n",
 /// One page is removed.
 const REMOVED: [Step<'static>; 1] = [Step::Delete("pages/a.md")];
 
-/// What is told of it.
+/// Its result.
 const AFTER_REMOVAL: [Step<'static>; 1] = [Step::Run(
     "site",
     4,
@@ -46,10 +46,11 @@ const AFTER_REMOVAL: [Step<'static>; 1] = [Step::Run(
 MODIFIED index.html\nBUILD SUCCESSFUL\n4 actionable tasks: 4 executed\n",
 )];
 
-/// The layout is edited, which is no property whose changes are told: all pages are made anew.
+/// The layout is edited. It is not a property whose changes are given to the action, so all pages
+/// are made again.
 const LAID_OUT: [Step<'static>; 1] = [Step::Put("layout.html", b"<html>{{page}}</html>\n")];
 
-/// What is told of it.
+/// Its result.
 const AFTER_LAYOUT: [Step<'static>; 1] = [Step::Run(
     "laidOut",
     1,
@@ -57,7 +58,7 @@ const AFTER_LAYOUT: [Step<'static>; 1] = [Step::Run(
 2 actionable tasks: 1 executed, 1 up-to-date\n",
 )];
 
-/// The changes that were asked for beneath `build`, each on a line.
+/// The requested changes under `build`, each on a line.
 fn shown(alloc: Global, notes: &[Note]) -> Result<String, AllocError> {
     let mut out = String::new(alloc);
     for note in notes {
@@ -72,7 +73,7 @@ fn shown(alloc: Global, notes: &[Note]) -> Result<String, AllocError> {
     Ok(out)
 }
 
-/// Fails where a build behind this edit tells or changes something else.
+/// Fails if the result or the changes of a build after this edit differ.
 fn changes<A: Actions, T: Transforms>(
     alloc: Global,
     mut folder: MemoryFolder,
@@ -109,7 +110,7 @@ fn built<A: Actions, T: Transforms>(
     Ok(folder)
 }
 
-/// Fails where an edit of a page writes more than that page, or its removal something else.
+/// Fails if an edit of a page writes more than that page, or its removal changes something else.
 fn page_alone<A: Actions, T: Transforms>(alloc: Global, tables: &Tables<A, T>) -> Result<(), Fail> {
     let folder = built(alloc, tables)?;
     let folder = changes(
@@ -142,7 +143,7 @@ fn an_edit_writes_its_page_alone(rt: HostRuntime) -> Result<(), Fail> {
     page_alone::<Kinds, Builtin>(rt.alloc(), &tables)
 }
 
-/// Fails where another layout leaves a page as it was.
+/// Fails if another layout leaves a page unchanged.
 fn in_full<A: Actions, T: Transforms>(alloc: Global, tables: &Tables<A, T>) -> Result<(), Fail> {
     let folder = built(alloc, tables)?;
     changes(

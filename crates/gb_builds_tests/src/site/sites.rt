@@ -40,20 +40,20 @@ pub const PAGES: [Step<'static>; 4] = [
     Step::Put("pages/b.md", b"# B\n"),
 ];
 
-/// What is printed of its first build.
+/// The output of its first build.
 pub const FIRST: &str =
     "> Task :all\n> Task :html\nADDED a.md\nADDED b.md\n> Task :laidOut\n> Task :site\n\
 ADDED a.html\nADDED b.html\nADDED index.html\nBUILD SUCCESSFUL\n4 actionable tasks: 4 executed\n";
 
-/// What is printed where nothing is to do.
+/// The output if there is nothing to do.
 pub const IDLE: &str =
     "> Task :all UP-TO-DATE\n> Task :html UP-TO-DATE\n> Task :laidOut UP-TO-DATE\n\
 > Task :site UP-TO-DATE\nBUILD SUCCESSFUL\n4 actionable tasks: 4 up-to-date\n";
 
-/// It is built, and then nothing is to do.
+/// It is built, and then there is nothing to do.
 const BUILDS: [Step<'static>; 2] = [Step::Run("site", 4, FIRST), Step::Run("site", 0, IDLE)];
 
-/// One page is edited: it alone is made again of its text, and copied.
+/// One page is edited: it alone is made again from its text, and copied.
 const EDIT: [Step<'static>; 3] = [
     Step::Put("pages/b.md", b"# B\n*new*\n"),
     Step::Run(
@@ -87,7 +87,7 @@ pub fn written<A: Actions, T: Transforms>(
     Ok(folder)
 }
 
-/// Fails where the pages of the first build are others.
+/// Fails if the pages of the first build differ.
 fn is_first<A: Actions, T: Transforms>(
     alloc: Global,
     folder: &mut MemoryFolder,
@@ -108,7 +108,7 @@ fn is_first<A: Actions, T: Transforms>(
     )
 }
 
-/// Fails where an edit makes something else, or a removed page stays.
+/// Fails if an edit has another result, or a removed page stays.
 fn follows<A: Actions, T: Transforms>(
     alloc: Global,
     folder: &mut MemoryFolder,

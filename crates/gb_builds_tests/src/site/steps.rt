@@ -1,4 +1,4 @@
-//! Edits of a site in memory and builds of it, and what becomes of them.
+//! Edits of a site in memory and builds of it, and their results.
 use crate::building::{is_told, put_bytes, words_of};
 use crate::site::counting::Counting;
 use gb_action::actions::Actions;
@@ -16,15 +16,15 @@ use gb_words::words::read;
 use std::alloc::Global;
 use std::test::Fail;
 
-/// `put PLACE` with bytes, or `del PLACE`, of which nothing is told; or `run WORD..`, how many tasks are
-/// executed as the listener counts, and what is printed.
+/// `put PLACE` with bytes, or `del PLACE`, without a result; or `run WORD..`, how many tasks are
+/// executed by the listener's count, and the output.
 pub enum Step<'a> {
     Put(&'a str, &'a [u8]),
     Delete(&'a str),
     Run(&'a str, u64, &'a str),
 }
 
-/// Takes these steps, and fails at the first build that tells something else.
+/// Performs these steps, and fails at the first build with another result.
 pub fn go_on<A: Actions, T: Transforms, F: Folder>(
     alloc: Global,
     folder: &mut F,
@@ -55,7 +55,7 @@ fn delete<F: Folder>(alloc: Global, folder: &mut F, place: &str) -> Result<(), F
     Ok(folder.remove(&place)?)
 }
 
-/// Builds what the words ask for, beside one listener, and fails where something else is told.
+/// Runs the build that the arguments request, with one listener, and fails if the result differs.
 fn build<A: Actions, T: Transforms, F: Folder>(
     alloc: Global,
     folder: &mut F,
@@ -70,7 +70,7 @@ fn build<A: Actions, T: Transforms, F: Folder>(
     have_counted(executed, listeners.as_slice())
 }
 
-/// What is told of the words, while these listen.
+/// The result of the arguments, with these listeners.
 fn told_beside<A: Actions, T: Transforms, F: Folder>(
     alloc: Global,
     folder: &mut F,
@@ -84,14 +84,14 @@ fn told_beside<A: Actions, T: Transforms, F: Folder>(
     told(alloc, answer)
 }
 
-/// What is told of an answer.
+/// The text of an answer.
 fn told(alloc: Global, answer: Result<Report, Fault>) -> Result<String, Fail> {
     let text = answer_text(alloc, &answer);
     drop(answer);
     Ok(String::from_utf8(text?)?)
 }
 
-/// Fails where another count was counted.
+/// Fails if the count differs.
 fn have_counted(executed: u64, listeners: &[Counting]) -> Result<(), Fail> {
     match listeners {
         [listener] if listener.executed == executed => Ok(()),
@@ -99,7 +99,7 @@ fn have_counted(executed: u64, listeners: &[Counting]) -> Result<(), Fail> {
     }
 }
 
-/// Fails where other bytes stand at a place.
+/// Fails if the bytes at a place differ.
 pub fn stands(
     alloc: Global,
     folder: &mut MemoryFolder,
@@ -111,7 +111,7 @@ pub fn stands(
     is_told(expected, text.as_str())
 }
 
-/// Fails where other files stand beneath a place, each with a line feed behind it.
+/// Fails if the files under a place differ; each name is followed by a line feed.
 pub fn stand(
     alloc: Global,
     folder: &mut MemoryFolder,

@@ -1,4 +1,4 @@
-//! A kind of one's own in its next version, in a table without built-in kinds.
+//! The next version of a custom kind, in a table without built-in kinds.
 ghost use Rattle.std.specs.Prelude.{◌≤◌};
 
 use crate::site::steps::{Step, go_on};
@@ -37,7 +37,7 @@ const SITE: [Step<'static>; 2] = [
     Step::Put("pages/a.md", b"# A\n"),
 ];
 
-/// The task runs in full, once.
+/// The task is executed in full, once.
 const ONCE: [Step<'static>; 2] = [
     Step::Run(
         "html",
@@ -51,7 +51,7 @@ const ONCE: [Step<'static>; 2] = [
     ),
 ];
 
-/// Takes these steps with the kind in this version.
+/// Performs these steps with the kind in this version.
 fn go_on_with(
     alloc: Global,
     folder: &mut MemoryFolder,

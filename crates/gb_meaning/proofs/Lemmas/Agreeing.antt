@@ -1,4 +1,4 @@
--- The kinds that a table gives agree with it, where no name stands twice in it.
+-- The kinds that a table gives agree with it, where no name occurs twice in it.
 use Rattle.std.specs.Prelude.{◌≡◌, not, ◌∷◌, [], List, ℕ, Bool, true, false, cond, Option, Some, None, Err, is_some, map, bytes_eq}
 use Rattle.std.specs.List.{AllByRecursion}
 use Rattle.std.specs.FinMap.Entries.{find}
@@ -55,7 +55,7 @@ module _ {S : Type 0} (meanings : Meanings S) where
   abbrev names_of : Rows S → List (List ℕ)
   names_of rows = map (λ row. row.0) rows
 
-  -- a row is found by its name behind one of another name
+  -- a row is found by its name after one of another name
   found_behind : (name other : List ℕ) (stored first : S) (rows : Rows S) → bytes_eq other name ≡ false → find byte_order name rows ≡ Some stored
       → find byte_order name ((other, first) ∷ rows) ≡ Some stored
   found_behind name other stored first rows differs is = by (eq_by_cmp byte_order name other) refl

@@ -1,5 +1,5 @@
--- A task that is skipped or has no actions fails by the machine for want of memory alone; so a build that the
--- machine may hinder is one by its outline.
+-- A task that is skipped or has no actions has only one machine fault: out of memory. So a build that the
+-- machine may stop is one by its outline.
 use Rattle.std.specs.Prelude.{ℕ, ◌≡◌, ◌⊎◌, Bool, true, false, not, cond, ◌&&◌, ◌||◌, ◌++◌, List, [], Option, Some, None}
 use Rattle.std.specs.List.{list_any}
 use Rattle.std.proofs.Common.{refl, sym, subst, ◌∙◌, inl, inr}

@@ -1,5 +1,5 @@
--- Where what stood before and after a build is as granted, all its turns hold: nothing else stands between
--- them.
+-- Where the contents before and after a build satisfy the guard, all its executions hold: no other contents
+-- exist between them.
 use Rattle.gb_meaning.proofs.Standing.{rules_of, standing, with_turn}
 use Rattle.gb_meaning.specs.TrueRecord.{AreApart}
 use Rattle.std.specs.Cmp.Lexicographic.{bytes_decides}
@@ -100,7 +100,7 @@ module _ (P : Place × Bytes → Bool) (t : Place → Bool) where
         ]
       ]
 
--- contents of the middle stand before, or afterwards
+-- contents in the middle exist before, or afterwards
 pub stood : (out : Place → Bool) (old mid new : Files) → files_where (λ q. not (out q)) mid ≡ files_where (λ q. not (out q)) old → files_where out new ≡ files_where out mid
     → (c : Bytes) → has_path (map (λ file. file.1) mid) c ≡ true → (has_path (map (λ file. file.1) old) c ≡ true) ⊎ (has_path (map (λ file. file.1) new) c ≡ true)
 stood out old mid new before afterwards c h =
@@ -111,7 +111,7 @@ stood out old mid new before afterwards c h =
       | inr there ↦ inl (any_map (bytes_eq c) snd old ∙ part_of P (λ q. not (out q)) old (ap (list_any P) (sym before) ∙ there))
     ]
 
--- ---- Turns (rules_of -- no later has) task an output place in (standing common with) this one
+-- ---- Executions: no later task has an output place in common with this one
 pub later_apart : (task : Task) (rest : List Planned) → ((q : Place) → is_output_of task q ≡ true → list_any (is_under q) (places_of rest) ≡ false)
     → AllByRecursion (λ (later : Planned). (q : Place) → is_output_of task q ≡ true → is_output_of later.task q ≡ false) rest
 later_apart task [] h = tt
@@ -121,7 +121,7 @@ later_apart task (later ∷ rest) h = (
 )
 
 module _ (kinds : Kinds) (options : Options) (may_come : May) (plan : Plan) (granted : Guard) where
-  -- turns leave the places that are no outputs of theirs
+  -- executions leave the places that are no outputs of theirs
   pub rest_leave : (test : Place → Bool) (seen : List Bytes) (rest : List Planned) (moment : Moment) (reports : List TaskReport) (new : World) (failures : ℕ)
       → AllByRecursion (λ (later : Planned). (q : Place) → test q ≡ true → is_output_of later.task q ≡ false) rest
       → Turns (rules_of kinds options may_come plan) granted seen rest moment reports (standing new failures) → files_where test new.folder.files ≡ files_where test moment.world.folder.files
@@ -167,7 +167,7 @@ module _ (kinds : Kinds) (options : Options) (may_come : May) (plan : Plan) (gra
         ]
       ]
 
--- over contents of which no two have one digest, all turns of a build hold
+-- over contents where no two share a digest, all executions of a build hold
 pub clear_build : (kinds : Kinds) (options : Options) (may_come : May) (digest : Bytes → List ℕ) (plan : Plan) (seen : List Bytes) (before after : ℕ) (old new : World) (reports : List TaskReport)
     → some_overlap (places_of plan) ≡ false → AreApart digest (seen ++ folder_contents old ++ folder_contents new)
     → Builds (rules_of kinds options may_come plan) (AreApart digest) seen (standing old before) reports (standing new after)

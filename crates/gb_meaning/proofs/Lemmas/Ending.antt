@@ -1,4 +1,4 @@
--- A run that came to its end made what the actions make.
+-- A run that reached its end made what the actions make.
 use Rattle.std.specs.Prelude.{ℕ, ◌≡◌, ◌++◌, Bool, true, false, cond, ◌||◌, List, [], ◌∷◌, map, Some, None, Result, Ok, Err}
 use Rattle.std.specs.List.{filter, fold, list_any}
 use Rattle.std.specs.declared.cmp.Ordering.TheVariants.{Less, Equal, Greater}

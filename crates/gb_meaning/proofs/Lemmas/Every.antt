@@ -1,4 +1,4 @@
--- What a step says of a build in which no task failed, and which contents are among those of a run.
+-- What a step implies for a build in which no task failed, and which contents are among those of a run.
 use Rattle.std.specs.Prelude.{List, [], ◌∷◌, ◌++◌, ⊤}
 use Rattle.std.proofs.Common.{inl, inr}
 use Rattle.gb_meaning.specs.declared.events.Event.{Event}
@@ -12,7 +12,7 @@ use Rattle.gb_meaning.specs.Headline.{seen_with}
 use Rattle.gb_meaning.specs.Every.{Succeeds}
 use Rattle.gb_meaning.proofs.Lemmas.Clear.{Among, apart_of_fewer, in_left, in_right, in_one}
 
--- what was seen, and stands before and after an event, is among all
+-- the contents so far, and those before and after an event, are among all
 pub up_to_here : (seen here next rest : List Bytes) → Among (seen ++ here ++ next) (seen ++ (here ++ (next ++ rest)))
 up_to_here seen here next rest c h = elim (in_one c (seen ++ here) next h) [
   | inl earlier ↦ elim (in_one c seen here earlier) [

@@ -1,4 +1,4 @@
--- What file maps answer after files are put in and taken out.
+-- What file maps return after files are added and removed.
 use Rattle.std.specs.Prelude.{◌≡◌, Bool, true, false, cond, ◌&&◌, T, [], ◌∷◌, Option, Some, None}
 use Rattle.std.specs.Ordering.{is_lt, is_eq, eq_by_cmp}
 use Rattle.std.specs.declared.cmp.Ordering.{Ordering}
@@ -17,7 +17,7 @@ use Rattle.gb_meaning.specs.Made.{put_over}
 pub total : IsTotalOrder byte_order
 total = nat_list_cmp_total
 
--- places that tie are one place
+-- places that compare as equal are one place
 pub tied_same : (p q : Place) → byte_order p q ≡ Equal → p ≡ q
 tied_same = slice_cmp-IsAntisymmetric nat_cmp-IsAntisymmetric
 
@@ -53,7 +53,7 @@ not_tied Less e = refl
 not_tied Equal e = absurd (true≢false (sym e))
 not_tied Greater e = refl
 
--- nothing stands at a place below all of the list
+-- no file is at a place below all of the list
 pub none_below : (p : Place) (files : Files) → below_all byte_order p files ≡ true → file_at files p ≡ None
 none_below p [] h = refl
 none_below p (f ∷ files) h =
@@ -64,7 +64,7 @@ later : (eq : Bool) (b : Bytes) (rest old : Option Bytes) → (eq ≡ true → r
 later true b rest old h = ap (λ r. or_else r (Some b)) (h refl)
 later false b rest old h = refl
 
--- files of a map put over another stand before it
+-- files of a map added to another hide its files at the same places
 pub at-put_over : (held files : Files) (q : Place) → is_sorted byte_order files ≡ true → file_at (put_over held files) q ≡ or_else (file_at files q) (file_at held q)
 at-put_over held [] q h = refl
 at-put_over held (f ∷ files) q h =
@@ -83,6 +83,6 @@ pub sorted-put_over : (held files : Files) → is_sorted byte_order held ≡ tru
 sorted-put_over held [] h = h
 sorted-put_over held (f ∷ files) h = sorted-put_over (with_file held f.0 f.1) files (sorted-with held f.0 f.1 h)
 
--- maps in order that answer alike are one
+-- maps in order that return the same are equal
 pub same_files : (a b : Files) → is_sorted byte_order a ≡ true → is_sorted byte_order b ≡ true → ((q : Place) → file_at a q ≡ file_at b q) → a ≡ b
 same_files a b g h is = same_entries byte_order total tied_same a b (T_of _ g) (T_of _ h) is

@@ -1,4 +1,4 @@
--- Whatever a turn answers, failures among them, memory that was true is true after it.
+-- Whatever the outcome of an execution, also a failure, memory that was true is true after it.
 use Rattle.gb_meaning.proofs.Standing.{rules_of, standing}
 use Rattle.gb_meaning.proofs.Common.{all_granted}
 use Rattle.std.specs.Prelude.{ℕ, ◌++◌, ◌≡◌, true, false, not, cond, List, [], ◌∷◌, Option, Some, None}
@@ -65,11 +65,11 @@ module _ (kinds : Kinds) (options : Options) (task : Task) (old new : World) whe
   leaves_keep all folder unseen (outcomes.Failed fault) leaves = failure_keeps all folder unseen fault (early_case task old.folder) leaves
   leaves_keep all folder unseen outcomes.NotRun leaves = moved old.memory (ap memory_of leaves) all
 
--- no task reads its own outputs, so it sees none of their files
+-- no task reads its own outputs, so it reads none of their files
 own_unseen : (task : Task) → reads_output_of task task ≡ false → AllUnseen (λ q. not (is_output_of task q)) task
 own_unseen task e = unseen_of task (λ q. not (is_output_of task q)) (output_places task) (λ q none. ap not (out_of task q ∙ none)) e
 
--- Over all turns, stopped and failed ones among them.
+-- The same over all executions, also stopped and failed ones.
 pub turns_keep : (kinds : Kinds) (options : Options) (may_come : May) (plan : Plan) (seen : List Bytes) (rest : List Planned) (moment : Moment) (reports : List TaskReport) (new : World) (failures : ℕ)
     → AllMade kinds moment.world.memory → IsFolder moment.world.folder.files → AllByRecursion (λ (planned : Planned). reads_output_of planned.task planned.task ≡ false) rest
     → Turns (rules_of kinds options may_come plan) all_granted seen rest moment reports (standing new failures) → AllMade kinds new.memory

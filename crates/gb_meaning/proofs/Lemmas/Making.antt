@@ -1,4 +1,4 @@
--- What a task makes stands in order and under its output places.
+-- What a task makes is in order and under its output places.
 use Rattle.std.specs.Prelude.{ℕ, ◌≡◌, Bool, true, false, cond, ◌&&◌, ◌||◌, List, [], ◌∷◌, ◌++◌, Some, None, Result, Ok, Err, bytes_eq, ⊤}
 use Rattle.std.specs.List.{list_any, list_all, fold}
 use Rattle.std.specs.Ordering.{eq_by_cmp}
@@ -51,7 +51,7 @@ or_right : (a b : Bool) → b ≡ true → (a || b) ≡ true
 or_right true b e = refl
 or_right false b e = e
 
--- a file goes beneath an output, whatever stands before that output
+-- a file goes under an output, whatever comes before that output
 places_out : (outputs part : List Output) (file : Written)
     → ((q : Place) → list_any (λ output. is_under q output.place) part ≡ true → is_out outputs q ≡ true)
     → list_all (λ (f : Place × Bytes). is_out outputs f.0) (placed_in (output_named part file.output) file) ≡ true
@@ -69,7 +69,7 @@ placed_out outputs [] = refl
 placed_out outputs (file ∷ written) =
     all_append (λ (f : Place × Bytes). is_out outputs f.0) (placed_in (output_named outputs file.output) file) (placed outputs written) (places_out outputs outputs file (λ q e. e)) (placed_out outputs written)
 
--- in order, and nothing beside the outputs
+-- in order, and nothing outside the outputs
 pub record IsRight (outputs : List Output) (files : Files) : Type 0 where
   pub in_order : is_sorted byte_order files ≡ true
   pub beside : (q : Place) → is_out outputs q ≡ false → file_at files q ≡ None

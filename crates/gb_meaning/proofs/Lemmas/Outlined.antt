@@ -1,4 +1,4 @@
--- A build by turns is one by its outline: the outline asks nothing that a right build does not do.
+-- A build by executions is one by its outline: the outline requires nothing that a correct build does not do.
 use Rattle.std.specs.Prelude.{ℕ, ◌≡◌, ◌⊎◌, Bool, true, false, not, cond, List, [], ◌∷◌, ◌++◌, Option, Some, None}
 use Rattle.std.specs.List.{list_any, list_all, filter}
 use Rattle.std.proofs.Common.{refl, sym, ap, subst, ◌∙◌, inl, inr}

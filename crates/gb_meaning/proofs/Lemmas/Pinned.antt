@@ -1,4 +1,4 @@
--- The states of a run are settled by its answers, as long as no task failed and nothing was hindered.
+-- The results of a run determine its states, where no task failed and nothing was stopped.
 use Rattle.std.specs.Prelude.{ℕ, ◌≡◌, Bool, true, false, not, cond, ◌++◌, List, [], ◌∷◌, map, Option, Some, None, Result, Ok, Err, bytes_eq, ⊤}
 use Rattle.std.specs.List.{list_any, AllZip}
 use Rattle.std.proofs.Common.{refl, sym, ap, subst, ◌∙◌, inl, inr}
@@ -72,7 +72,7 @@ turn_leaves rules moment planned report new turn = elim turn.2 [
   | inr passed ↦ subst (λ (o : Outcome). Leaves rules.kinds rules.options planned.task moment.world o new.world) (sym passed.1.outcome) passed.1.unchanged
 ]
 
--- ---- Turns
+-- ---- Executions
 
 module _ (kinds : Kinds) (options : Options) (plan : Plan) (may other_may : May) (granted : Guard) (spreads : Spreads granted) where
   turns_one : (seen other_seen : List Bytes) (rest : List Planned) (moment real : Moment) (reports : List TaskReport) (new left : World) (after later : ℕ)
@@ -125,7 +125,7 @@ abbrev not_own : Place → Bool
 not_own place = not (is_own place)
 
 module _ (one other : Files) (sorted : is_sorted byte_order one ≡ true) (other_sorted : is_sorted byte_order other ≡ true) where
-  -- files that answer alike outside are the same there
+  -- files that return the same outside are the same there
   alike : ((q : Place) → not_own q ≡ true → file_at one q ≡ file_at other q) → files_where not_own one ≡ files_where not_own other
   alike same = same_files (files_where not_own one) (files_where not_own other) (sorted-where not_own one sorted) (sorted-where not_own other other_sorted)
       (λ q. at-where not_own one q ∙ by q (not_own q) refl ∙ sym (at-where not_own other q))
@@ -192,7 +192,7 @@ where_alike : (test : Place → Bool) (one other : Files) → ((q : Place) → n
     → (q : Place) → not_own q ≡ true → file_at (files_where test one) q ≡ file_at (files_where test other) q
 where_alike test one other same q e = at-where test one q ∙ ap (λ (rest : Option Bytes). cond (test q) rest None) (same q e) ∙ sym (at-where test other q)
 
--- a refused edit that the device did not hinder changes nothing
+-- a refused edit that the device did not stop changes nothing
 device_not : (place : Place) (fault : Fault) → is_of_device fault ≡ false → fault ≡ faults.Device place → ⊥
 device_not place fault not_device is = not_false (sym (ap is_of_device is) ∙ not_device)
 

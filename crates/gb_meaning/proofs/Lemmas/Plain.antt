@@ -1,5 +1,5 @@
--- Where no two contents of a run have one digest, no step of it has a premise; and success follows from what
--- the other clauses of a build say.
+-- Where no two contents of a run share a digest, every step of it is unconditional; and success follows from
+-- the other clauses of a build.
 use Rattle.std.specs.Prelude.{ℕ, List, [], ◌∷◌, ◌++◌, ⊤}
 use Rattle.std.proofs.Common.{inl, inr}
 use Rattle.gb_report.specs.declared.report.Options.{Options}
@@ -25,13 +25,13 @@ use Rattle.gb_meaning.specs.Every.{contents_of_all, always}
 use Rattle.gb_meaning.proofs.Lemmas.Clear.{Among, apart_of_fewer, all_hold}
 use Rattle.gb_meaning.proofs.Lemmas.Every.{up_to_here, joined, step_succeeds}
 
--- ---- A build with no word on digests
+-- ---- A build without a condition on digests
 
--- a guard that holds of fewer contents where it holds of more
+-- a guard that holds for fewer contents where it holds for more
 abbrev pub Spreads : Guard → Type 0
 Spreads granted = (all some : List Bytes) → Among some all → granted all → granted some
 
--- where nothing has a premise, it does not count what was seen
+-- where nothing has a premise, the contents so far do not matter
 any_seen : (kinds : Kinds) (options : Options) (may : May) (plan : Plan) (seen other : List Bytes) (rest : List Planned) (moment : Moment) (reports : List TaskReport) (new : World) (failures : ℕ)
     → Turns (rules_of kinds options may plan) always seen rest moment reports (standing new failures) → Turns (rules_of kinds options may plan) always other rest moment reports (standing new failures)
 any_seen kinds options may plan seen other [] moment [] new failures turns = turns

@@ -58,7 +58,7 @@ pub all_flat_map : {X Y : Type 0} (P : Y → Type 0) (f : X → List Y) (xs : Li
 all_flat_map P f [] h = tt
 all_flat_map P f (x ∷ xs) h = all_append P (f x) (flat_map f xs) h.0 (all_flat_map P f xs h.1)
 
--- what holds of each entry holds of each once they stand in order
+-- what holds of each entry holds of each once they are in order
 all_inserted : (P : List ℕ × Place → Type 0) (entry : List ℕ × Place) (entries : Entries) → P entry → AllByRecursion P entries → AllByRecursion P (inserted entry entries)
 all_inserted P entry [] here h = (here, tt)
 all_inserted P entry (other ∷ others) here h =
@@ -92,7 +92,7 @@ all_where P inner h (f ∷ files) =
       | false ↦ λ _. all_where P inner h files
     ] refl
 
--- what holds of each place beneath the roots holds of each entry of a property
+-- what holds of each place under the roots holds of each entry of a property
 pub all_entries : (P : Place → Type 0) (naming : Naming) (include exclude : List (List ℕ)) (files : Files) (roots : List Place)
     → AllByRecursion (λ root. AllByRecursion P (places_under files root)) roots → AllByRecursion (λ (entry : List ℕ × Place). P entry.1) (found naming include exclude files roots)
 all_entries P naming include exclude files roots h =

@@ -36,7 +36,7 @@ any_out tasks place = list_any (λ task. is_output_of task place) tasks
 abbrev pub no_out : List Task → Place → Bool
 no_out tasks place = not (any_out tasks place)
 
--- What a sound plan gives of a task and those that run after it: outputs apart, inputs that none of them
+-- What a sound plan gives for a task and those that run after it: disjoint outputs, inputs that none of them
 -- writes, and no outputs without actions.
 pub record Fits (task : Task) (others : List Task) : Type 0 where
   pub apart : (q : Place) → is_output_of task q ≡ true → any_out others q ≡ false
@@ -60,7 +60,7 @@ pub where_all : (test : Place → Bool) → ((q : Place) → test q ≡ true) �
 where_all test h [] = refl
 where_all test h (f ∷ files) = ap (λ b. cond b (f ∷ files_where test files) (files_where test files)) (h f.0) ∙ ap (λ fs. f ∷ fs) (where_all test h files)
 
--- to put the files of a task in, and then to clear the others' places, is to do it the other way round
+-- adding the files of a task and then clearing the others' places can be done in either order
 put_then_clear : (task : Task) (others : List Task) (files new : Files) → is_sorted byte_order files ≡ true → IsRight task.outputs new → Fits task others
     → put_over (cleared (task ∷ others) files) new ≡ cleared others (with_outputs task files new)
 put_then_clear task others files new sorted right fits =
@@ -133,7 +133,7 @@ room_stays task test files new h =
     (λ f. is_blocked (files_where (λ q. not (is_output_of task q)) (files_where test files)) f.0)
     (λ f e. any_fewer (λ g. is_beneath f.0 g.0 || is_beneath g.0 f.0) (λ q. not (is_output_of task q)) test files e) new h
 
--- ---- A task more
+-- ---- One task more
 
 module _ (kinds : Kinds) (folder : Contents) where
   add_worked : (task : Task) (others : List Task) (old new : World) → folder.odd ≡ old.folder.odd → is_sorted byte_order old.folder.files ≡ true → Fits task others → Worked kinds task old new

@@ -1,5 +1,5 @@
--- What is remembered after a build was seen: it stood before the build, or stands after it, or was
--- remembered.
+-- What is remembered after a build is among known contents: it existed before the build, or exists after it,
+-- or was remembered.
 use Rattle.std.specs.Prelude.{ℕ, ◌≡◌, Bool, true, false, not, cond, ◌||◌, List, [], ◌∷◌, ◌++◌, map, Option, Some, None, bytes_eq, is_some, unwrap_or}
 use Rattle.std.specs.List.{AllByRecursion, list_any, flat_map}
 use Rattle.std.specs.FinMap.Entries.{by_order}
@@ -44,7 +44,7 @@ stands_at f files place e = elim (eq_by_cmp byte_order place f.0) as (λ b. is_s
 stands_here : (f : Place × Bytes) (files : Files) → is_some (file_at (f ∷ files) f.0) ≡ true
 stands_here f files = ap (λ b. is_some (cond b (Some f.1) (file_at files f.0))) (is_eq-slice_cmp f.0 f.0 ∙ itself f.0)
 
--- at each place of these files one of them stands
+-- at each place of these files there is one of them
 all_stand : (inner : Place → Bool) (files : Files) → AllByRecursion (λ place. is_some (file_at files place) ≡ true) (map (λ (file : Place × Bytes). file.0) (files_where inner files))
 all_stand inner [] = tt
 all_stand inner (f ∷ files) =
@@ -58,7 +58,7 @@ module _ (c : Bytes) where
   abbrev P : Place × Bytes → Bool
   P file = bytes_eq c file.1
 
-  -- the bytes that stand at a place stand among the files
+  -- the bytes at a place are among the files
   any_at : (files : Files) (place : Place) → is_some (file_at files place) ≡ true → bytes_eq c (bytes_at files place) ≡ true → list_any P files ≡ true
   any_at [] place stands e = not_true stands
   any_at (f ∷ files) place stands e =
@@ -93,7 +93,7 @@ module _ (c : Bytes) where
         | inr later ↦ any_trees files properties later
       ]
 
--- all contents of an entry that is made now stand now
+-- all contents of an entry that is made now exist now
 pub entry_seen : (task : Task) (files : Files) → Among (contents_of (entry_of task files)) (map (λ (file : Place × Bytes). file.1) files)
 entry_seen task files c h = any_map (bytes_eq c) (λ (file : Place × Bytes). file.1) files ∙ elim (in_one c (contents_in (trees_of task files)) (map (λ (file : Place × Bytes). file.1) (output_files task files)) h) [
   | inl read ↦ any_trees c files task.files read
@@ -132,10 +132,10 @@ remember_seen path entry (m ∷ memory) c h =
       ]
     ] h
 
--- ---- A turn
+-- ---- One execution
 
 module _ (kinds : Kinds) (options : Options) (task : Task) (old new : World) where
-  -- what the new memory speaks of was remembered, or stands now
+  -- what the new memory contains was remembered, or exists now
   abbrev IsSeen : World → Type 0
   IsSeen w = Among (told_by w.memory) (told_by old.memory ++ folder_contents w)
 
@@ -180,7 +180,7 @@ module _ (kinds : Kinds) (options : Options) (task : Task) (old new : World) whe
   leaves_seen (outcomes.Failed fault) leaves = failure_seen fault (early_case task old.folder) leaves
   leaves_seen outcomes.NotRun leaves = same_seen leaves
 
--- ---- All turns
+-- ---- All executions
 
 module _ (kinds : Kinds) (options : Options) (may_come : May) (plan : Plan) where
   pub turns_seen : (seen : List Bytes) (rest : List Planned) (moment : Moment) (reports : List TaskReport) (new : World) (failures : ℕ) → some_overlap (places_of rest) ≡ false
@@ -225,8 +225,8 @@ module _ (kinds : Kinds) (options : Options) (may_come : May) (plan : Plan) wher
         ]
       ]
 
--- Over a build: what is remembered after it was among what was seen, or stood before it, or stands after it,
--- if that was so before.
+-- Over a build: what is remembered after it was among the contents so far, or existed before it, or exists
+-- after it, if that held before.
 pub remembered_was_seen : (kinds : Kinds) (options : Options) (may_come : May) (plan : Plan) (seen : List Bytes) (before after : ℕ) (old new : World) (reports : List TaskReport)
     → some_overlap (places_of plan) ≡ false → Among (memory_contents old) seen
     → Builds (rules_of kinds options may_come plan) all_granted seen (standing old before) reports (standing new after)

@@ -31,7 +31,7 @@ some_hold test P (entry ∷ entries) h =
     ]
 
 module _ (setting : Setting) where
-  -- the record of one task, where its file stands as it did, or is gone
+  -- the record of one task, where its file is as it was, or is gone
   stores : (path : Path) (old new : Option Bytes) (entry : Option Entry) → Stores setting.digest setting.says path old entry
       → new ≡ old → Stores setting.digest setting.says path new (cond (is_some new) entry None)
   stores path old None entry h same = tt
@@ -41,7 +41,7 @@ module _ (setting : Setting) where
   gone path None entry is_none = tt
   gone path (Some bytes) entry is_none = none_some (sym is_none)
 
-  -- after an edit the records that still stand are those of what is still remembered
+  -- after an edit the records that still exist are those of what is still remembered
   still_stands : (old new : Contents) (remembered : Memory) → IsEdited setting old new → Stands setting old remembered
       → Stands setting new (still_remembered setting new remembered)
   still_stands old new remembered edited stands = record {

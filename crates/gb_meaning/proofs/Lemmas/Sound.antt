@@ -1,4 +1,4 @@
--- A sound plan in order gives each task what the law on building from scratch asks of it.
+-- A sound plan in order gives each task what the law on building from scratch requires of it.
 use Rattle.std.specs.Prelude.{◌≡◌, Bool, true, false, not, cond, ◌||◌, List, [], ◌∷◌, ◌++◌, map, bytes_eq}
 use Rattle.std.specs.List.{list_any, filter, flat_map, AllByRecursion}
 use Rattle.std.proofs.Common.{refl, sym, ap, subst, ◌∙◌}
@@ -54,7 +54,7 @@ roots_each p (property ∷ files) e =
     each_root [] e = tt
     each_root (root ∷ roots) e = (none_left (p root) (list_any p roots) e, each_root roots (none_right (p root) (list_any p roots) e))
 
--- what reads none of the places sees none of the files there
+-- what reads none of the places reads none of the files there
 pub unseen_of : (task : Task) (test : Place → Bool) (places : List Place) → ((q : Place) → list_any (is_under q) places ≡ false → test q ≡ true) → ReadsNone task places → AllUnseen test task
 unseen_of task test places passes e =
     each_all _ _ (λ property h. each_all _ _ (λ root h q under. passes q (none_under q root places under h)) property.roots h)

@@ -1,4 +1,4 @@
--- Success is no clause of its own: it follows from the plan, the turns, registries and true records.
+-- Success is no clause of its own: it follows from the plan, the executions, registries and true records.
 use Rattle.std.specs.Prelude.{ℕ, ◌≡◌, Bool, true, false, not, cond, ◌&&◌, ◌||◌, List, [], ◌∷◌, ◌++◌, Some, None, Result, Ok, Err, IsTrue, refl}
 use Rattle.std.specs.List.{AllByRecursion, list_any, list_all, flat_map}
 use Rattle.std.proofs.Common.{sym, ap, subst, ◌∙◌, inl, inr}
@@ -97,8 +97,8 @@ success_follows setting granted spreads registries old stands invocation plan pl
     shaped : AllByRecursion (λ (p : Planned). IsShaped p.task) plan
     shaped = planned_shaped planned.request plan (subst IsRegistry (registry_is planned.registry invocation.requested invocation.excluded planned.request planned.asked) is_registry) planned.planned.schedule
 
--- What is remembered after a build is true, whatever it answered: of what a folder stands for, this part
--- follows too.
+-- What is remembered after a build is true, whatever the result: this part of what a folder holds follows
+-- too.
 pub truth_follows : (setting : Setting) (granted : Guard) → Spreads granted → (old : State) → Stands setting old.contents old.remembered
     → (invocation : Invocation) (plan : Plan) → HasPlan setting (outside old.contents) invocation plan
     → (may : May) (seen : List Bytes) (after : ℕ) (new : World) (reports : List TaskReport)

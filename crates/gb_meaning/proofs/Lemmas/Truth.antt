@@ -36,7 +36,7 @@ recalled_made kinds (m ∷ memory) path entry all found =
 
 -- ---- Files at the outputs, and elsewhere
 
--- a folder is its files at the outputs, put over the others
+-- a folder is its files at the outputs, added to the others
 split : (task : Task) (files : Files) → is_sorted byte_order files ≡ true → files ≡ with_outputs task files (output_files task files)
 split task files sorted =
     same_files files (with_outputs task files (output_files task files)) sorted
@@ -89,7 +89,7 @@ room_for task files folder =
 
 -- ---- Trust
 
--- Where memory is true, a task that is current has at its outputs what its actions make: of every folder.
+-- Where memory is true, a task that is current has at its outputs what its actions make, in every folder.
 pub trusted_in : (kinds : Kinds) (memory : Memory) (task : Task) → AllMade kinds memory
     → IsTrusted kinds memory task
 trusted_in kinds memory task all files folder e = record {

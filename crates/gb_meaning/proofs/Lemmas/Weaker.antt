@@ -1,4 +1,4 @@
--- A build is one too where more faults may come and less is granted.
+-- A build remains one where more faults may occur and less is assumed.
 use Rattle.std.specs.Prelude.{ℕ, List, [], ◌∷◌, ◌++◌}
 use Rattle.std.proofs.Common.{inl, inr}
 use Rattle.gb_report.specs.declared.fault.Fault.{Fault}
@@ -14,7 +14,7 @@ use Rattle.gb_plan.specs.declared.plan.Planned.{Planned}
 use Rattle.gb_meaning.specs.Label.{Moment}
 use Rattle.gb_meaning.specs.Turn.{May, Standing, Guard, Turn, Turns, Builds, moment_after}
 
--- a turn is one too where more faults may come in it
+-- an execution remains one where more faults may occur in it
 pub turn_weaker : (kinds : Kinds) (options : Options) (plan : Plan) (may wider : May) (moment : Moment) (planned : Planned) (report : TaskReport) (new : Standing)
     → ((fault : Fault) → may planned.task moment new fault → wider planned.task moment new fault)
     → Turn (rules_of kinds options may plan) moment planned report new → Turn (rules_of kinds options wider plan) moment planned report new

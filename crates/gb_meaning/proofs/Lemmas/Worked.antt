@@ -1,5 +1,5 @@
--- What a turn that did not fail did: the task was skipped, or had nothing to do, or its outputs are now what
--- its actions make.
+-- What an execution that did not fail did: the task was skipped, or had nothing to do, or its outputs are now
+-- what its actions make.
 use Rattle.std.specs.Prelude.{ℕ, ◌≡◌, ◌⊎◌, Bool, true, false, not, cond, List, [], ◌∷◌, ◌++◌, Option, Some, None, Ok}
 use Rattle.std.specs.Result.{result_unwrap_or}
 use Rattle.std.proofs.Common.{refl, sym, ap, subst, ◌∙◌, inl, inr}

@@ -1,4 +1,4 @@
--- What the definitions refuse of losses, of folders that do not tell, and of failed tasks.
+-- What the definitions refuse: for losses, for folders whose contents are not known, and for failed tasks.
 use Rattle.std.specs.Prelude.{bytes_eq, ℕ, zero, suc, ◌≡◌, Bool, true, false, List, [], ◌∷◌, ◌++◌, codes, refl, Some, None, Result, Ok, Err, Contains, take, ◌⊎◌, cond, length, not}
 use Rattle.std.proofs.Common.{inl, inr, ap, sym, arith, subst, lit≤, ◌∙◌}
 use Rattle.gb_report.specs.declared.fault.Fault.TheVariants as faults
@@ -58,14 +58,14 @@ no_place : (gone left : List Bytes) (place : Bytes) → [] ≡ gone ++ place ∷
 no_place [] left place e = not_false (ap is_empty e)
 no_place (other ∷ gone) left place e = not_false (ap is_empty e)
 
--- refused for want of memory, the loss leaves the sources
+-- refused because memory ran out, the loss leaves the sources
 pub loss_keeps_sources : ¬ LossStep (λ place stood next left. ⊥) (shown_in (state_of sources)) (answers.Refused faults.OutOfMemory) (shown_in (state_of less_sources))
 loss_keeps_sources step = elim step [
   | inl kept ↦ not_true (ap has_a kept.0)
   | inr cut ↦ no_place cut.1.gone cut.1.left cut.1.place cut.1.all
 ]
 
--- ---- Where the folder does not tell, a started task is neither passed over nor skipped
+-- ---- Where the folder's contents are not known, a started task is neither passed over nor skipped
 
 pub not_passed_over : ¬ Outlines plain_run (only gen) (told gen outcomes.NotRun [] ∷ [])
 not_passed_over outlines = elim outlines [
@@ -95,7 +95,7 @@ abbrev has_files : Result (List Written) Text → Bool
 has_files (Ok written) = true
 has_files (Err text) = false
 
--- the action that fails is the only one that is come to, and makes no files
+-- the action that fails is the only one that is reached, and makes no files
 fails_alone : (x : Action) (written : List Written) → Contains (action (codes "fail") (codes "no") ∷ []) x
     → row_kinds.makes (kind_of x) x.args [] [] ≡ Ok written → ⊥
 fails_alone x written (zero, less, e) makes =
@@ -114,7 +114,7 @@ nothing_is_picked a b leaves = elim (leaves.0.invents_nothing (codes "build/o/x"
 abbrev text_stands : World
 text_stands = folder ((codes "build.gb", codes "..") ∷ (codes "build/a.txt", codes "abc") ∷ []) []
 
--- no file of an action behind the one that failed
+-- no file of an action after the one that failed
 abbrev first_fails : Task
 first_fails = record gen { actions = action (codes "fail") (codes "no") ∷ action (codes "writeText") (codes "abc") ∷ [] }
 
@@ -140,7 +140,7 @@ none_without_source leaves = elim leaves [
   ]
 ]
 
--- ---- A device that may leave any front of a text
+-- ---- A device that may leave any prefix of a text
 
 abbrev says_r : RecordTexts
 says_r path told bytes = bytes ≡ codes "R"
@@ -148,7 +148,7 @@ says_r path told bytes = bytes ≡ codes "R"
 abbrev fronts : Tearing
 fronts place old new left = (bytes : Bytes) × (count : ℕ) × (new ≡ Some bytes) × (left ≡ Some (take count bytes))
 
--- A front of what the tool writes is that text or no text of a record, though a front of other bytes may be
+-- A prefix of what the tool writes is that text or no text of a record, though a prefix of other bytes may be
 -- one.
 pub fronts_are_seen : TearsAreSeen says_r (λ path. path) fronts
 fronts_are_seen path old None left is of_tool torn = none_some torn.2
@@ -162,7 +162,7 @@ fronts_are_seen path old (Some text) left is of_tool torn = by_count torn.1 (tor
     by_count zero e = inr (inr (subst (SaysNoRecord says_r path) (sym e) (λ told same. not_true (sym (ap is_empty same)))))
     by_count (suc n) e = inr (inl (e ∙ ap (λ (more : Bytes). Some (82 ∷ more)) (none_left n) ∙ ap Some (sym of_tool.1)))
 
--- ---- Where one listener refuses a call, the others are told all the same
+-- ---- Where one listener refuses a call, the others are notified all the same
 
 abbrev is_silent : List Heard → Bool
 is_silent hears = is_empty hears
@@ -187,7 +187,7 @@ second_is_told have =
     let some = have.each.1.0 in
     not_false (ap (λ (ear : Ear). is_empty ear.0) some.2 ∙ ap (λ (hears : List Heard). is_empty hears) (both_kept some.0 some.1 (ap (λ (ear : Ear). ear.1) some.2)))
 
--- ---- Who refused one call was told the others
+-- ---- A listener that refused one call was notified of the others
 
 one_kept : (kept : List Bool) → length kept ≡ 2 → 1 ≡ counted 0 (count_by not kept) → is_empty (items_where_true kept one_task) ≡ false
 one_kept (true ∷ true ∷ []) long one = absurd (omega (arith, one))
@@ -203,7 +203,7 @@ one_refusal_frees_no_other have =
     let some = have.each.0 in
     not_false (ap (λ (ear : Ear). is_empty ear.0) some.2 ∙ one_kept some.0 some.1 (ap (λ (ear : Ear). ear.1) some.2))
 
--- ---- A right run that the device stopped as it wrote its file: what is torn stands at the place that is told
+-- ---- A correct run that the device stopped as it wrote its file: the torn file is at the reported place
 
 abbrev torn_files : Files
 torn_files = (codes "build.gb", codes "..") ∷ (codes "build/a.txt", codes "ab") ∷ []
@@ -229,7 +229,7 @@ torn_write = (
   inr (inl (record { files = refl; invents_nothing = torn_invents_nothing; odd = refl; memory = refl }, λ incremental. none_some incremental.remembered)),
 )
 
--- ---- Where the device failed in a write, there stands what stood, what was written, or what it may leave
+-- ---- Where the device failed in a write: the place has what it had, what was written, or what it may leave
 
 abbrev with_device : Tearing → Setting
 with_device may_leave = record {
@@ -248,7 +248,7 @@ gen_writes = (refl, action (codes "writeText") (codes "abc"), record { output = 
 pub front_may_stand : (own : Files) → may_come (with_device fronts) own plain_run gen (at_first before) (standing (folder torn_files []) 1) stopped
 front_may_stand own = (inl (omega arith), refl, inr (None, Some (codes "abc"), tt, inr gen_writes, (codes "abc", 2, refl, refl)))
 
--- leaves what stood, or what was to stand
+-- leaves what was there, or what was being written
 abbrev whole : Tearing
 whole place stood next left = (left ≡ stood) ⊎ (left ≡ next)
 
@@ -280,7 +280,8 @@ nothing_else_stands own comes = elim comes.2 [
   ]
 ]
 
--- ---- A refused build blames the device where a script or a record is read, and in a dry run at no record
+-- ---- A refused build's device fault names a place where a script or a record is read, in a dry run no
+-- record
 
 abbrev asks_for : Bool → Invocation
 asks_for dry_run = record { requested = []; excluded = []; properties = []; options = record plain_run { dry_run = dry_run } }
@@ -311,7 +312,7 @@ no_source_is_read_first count = not_read false (codes "src/a") count refl
 pub dry_run_reads_no_record : (count : ℕ) → ¬ IsNotBuilt (with_device whole).registers (shown_in (state_of sources)) (asks_for true) (faults.Device (codes ".gb/x")) count
 dry_run_reads_no_record count = not_read true (codes ".gb/x") count refl
 
--- ---- A record of which the place is none cannot be written
+-- ---- A record whose place is invalid cannot be written
 
 pub no_place_is_told : may_come (record (with_device whole) { record_place = λ path. [] }) [] plain_run gen (at_first before) (standing before 0) faults.HistoryNotWritten
 no_place_is_told = ((λ current. none_some current.same, inl refl), inr (inl refl))

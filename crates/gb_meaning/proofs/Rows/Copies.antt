@@ -1,4 +1,4 @@
--- One task: a text that is written, and files that are copied, from scratch and by changes.
+-- One task: a text that is written, and files that are copied, from scratch and incrementally.
 use Rattle.std.specs.Prelude.{◌≡◌, Bool, true, false, [], ◌∷◌, codes, refl, Option, Some, Ok, bytes_eq}
 use Rattle.std.specs.List.{list_any}
 use Rattle.std.specs.Option.{unwrap_or}
@@ -92,7 +92,7 @@ gen_is_current = record {
   begun = λ fault is printed. absurd (cc);
 }
 
--- asked to run again, it runs
+-- with a requested rerun, it runs
 abbrev pub rerun : Options
 rerun = record { keep_going = false; rerun = true; dry_run = false }
 

@@ -1,4 +1,4 @@
--- A task whose need fails, its finalizer, and a task behind both.
+-- A task whose need fails, its finalizer, and a task after both.
 use Rattle.std.specs.Prelude.{◌≡◌, true, false, List, [], ◌∷◌, codes, refl, Ok}
 use Rattle.gb_report.specs.declared.fault.Fault.TheVariants as faults
 use Rattle.gb_report.specs.declared.report.Outcome.{Outcome}

@@ -1,5 +1,5 @@
--- A folder without room, a record that nothing touches, lines that nothing printed, words, and small things
--- of trees.
+-- A folder without room, a record that nothing touches, lines that nothing printed, requested names, and
+-- small examples of trees.
 use Rattle.gb_tree.specs.declared.property.Naming.TheVariants.{NameOnly}
 use Rattle.gb_plan.specs.Refusal.{request_of}
 use Rattle.gb_plan.specs.Graph.{absolute}
@@ -32,7 +32,7 @@ use Rattle.gb_meaning.proofs.Rows.Graphs.{action, told, p, registry}
 use Rattle.gb_meaning.proofs.Rows.Finalized.{plain_run, no_fault_comes}
 use Rattle.gb_meaning.proofs.Rows.Copies.{only, at_first, folder, gen, before, after_gen, gen_entry, two_roots}
 
--- ---- A file at `build`: the first action meets it, before the second fails
+-- ---- A file at `build`: it blocks the first action, before the second fails
 
 abbrev pub gen_fail : Task
 gen_fail = record gen { actions = action (codes "writeText") (codes "abc") ∷ action (codes "fail") (codes "boom") ∷ [] }
@@ -61,7 +61,7 @@ touches_none touches = elim touches.1 [ inl outputs ↦ not_false outputs | inr 
 pub none_unwritten : (setting : Setting) (own : Files) → ¬ may_come setting own plain_run p (at_first before) (standing before 0) faults.HistoryNotWritten
 none_unwritten setting own come = touches_none come.0
 
--- ---- After one failure of the device, a later turn may not blame it again
+-- ---- After one failure of the device, a later execution may not report it again
 
 pub second_blame : (setting : Setting) (own : Files) → ¬ may_come setting own plain_run p (record { world = before; outcomes = []; failures = 1 }) (standing before 1) (faults.Device (codes "src"))
 second_blame setting own come = elim come.0 [ inl risen ↦ omega arith | inr last ↦ omega arith ]
@@ -86,7 +86,7 @@ prints_none prints = elim prints [
     is_empty_of : List Bytes → Rattle.std.specs.Prelude.Bool
     is_empty_of lines = Rattle.std.specs.Prelude.not (is_empty lines)
 
--- ---- Without memory a label is right, though all contents have one digest
+-- ---- Without memory a label is right, though all contents have the same digest
 
 abbrev pub all_collide : Guard
 all_collide contents = IsTrue (is_empty before.memory) ⊎ AreApart (λ bytes. []) contents
@@ -103,7 +103,7 @@ no_lie new turns = elim (turns.1.turn (inl refl)).2 [
   | inr passed ↦ not_false (ap is_started passed.1.outcome)
 ]
 
--- ---- Words that are no path
+-- ---- Requested names that are no path
 
 pub bad_words : (request_of registry (codes "1a" ∷ []) [] ≡ Err (faults.BadName (codes "1a")))
     × (request_of registry (codes ":" ∷ []) [] ≡ Err (faults.BadName (codes ":")))

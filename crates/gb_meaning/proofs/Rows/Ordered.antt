@@ -1,4 +1,4 @@
--- A reader behind a skipped task.
+-- A reader after a skipped task.
 use Rattle.std.specs.Prelude.{◌≡◌, true, false, List, [], ◌∷◌, codes, refl, Some}
 use Rattle.std.proofs.Common.{inl, inr, lit≤}
 use Rattle.gb_report.specs.declared.report.Outcome.TheVariants as outcomes

@@ -1,4 +1,4 @@
--- What the definitions refuse: wrong labels, outputs left behind, a finalizer left out.
+-- What the definitions refuse: wrong labels, outputs left over, a finalizer left out.
 use Rattle.std.specs.Prelude.{◌≡◌, Bool, true, false, [], ◌∷◌, codes, refl, Option, bytes_eq, is_some}
 use Rattle.std.specs.List.{list_any}
 use Rattle.std.specs.Option.{unwrap_or}
@@ -50,7 +50,7 @@ current_is_not_run label = elim label [
   | inr run ↦ run.0 (record { has_outputs = refl; not_stale = refl; no_rerun = refl; same = refl })
 ]
 
--- a run by changes that leaves the output of a removed file
+-- an incremental run that leaves the output of a removed file
 abbrev pub b_left : Files
 b_left = (codes "build/o/a", codes "X") ∷ (codes "build/o/b", codes "B") ∷ (codes "build/o/c", codes "C") ∷ (codes "build/o/d", codes "D")
     ∷ (codes "src/a", codes "X") ∷ (codes "src/c", codes "C") ∷ (codes "src/d", codes "D") ∷ []
@@ -67,7 +67,7 @@ removed_is_not_left leaves = elim leaves [
   | inr ended ↦ not_false (ap holds_b ended.1.2 ∙ ap (λ files. holds_b (Rattle.gb_meaning.specs.Turn.world_with cp edited files [])) (sym (ap (λ r. result_unwrap_or r []) ended.1.1)))
 ]
 
--- lines of a run that never began, told with want of memory
+-- lines of a run that never began, reported as out of memory
 abbrev wants_memory : May
 wants_memory task moment new fault = fault ≡ faults.OutOfMemory
 
@@ -81,7 +81,7 @@ unbegun_prints_nothing turn = elim (turn.begun faults.OutOfMemory refl refl) [
   | inr ended ↦ not_true (ap is_unwritten ended.0)
 ]
 
--- a run that began and failed is not remembered as what stood before it
+-- a run that began and failed is not remembered as what was there before it
 abbrev pub failing_gen : Task
 failing_gen = record gen { actions = action (codes "fail") (codes "no") ∷ [] }
 
@@ -101,7 +101,7 @@ finalizer_is_not_passed_over turn = elim turn.2 [
   | inr passed ↦ passed.0 (record { needs_ended_well = refl; is_called = refl; goes_on = inr (start refl refl) })
 ]
 
--- a task that wants memory is not remembered as if it had ended well
+-- a task that ran out of memory is not remembered as if it had ended well
 pub unended_is_not_remembered : ¬ Leaves row_kinds plain_run gen before (outcomes.Failed faults.OutOfMemory) after_gen
 unended_is_not_remembered leaves = elim leaves.1 [
   | inl same ↦ not_true (ap (λ world. is_empty world.memory) same)

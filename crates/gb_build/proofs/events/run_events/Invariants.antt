@@ -32,7 +32,7 @@ invariant-loop-event g l =
       heard : HaveHeardAll l.answers.items (map g.L.TaskListener.ear l.fn.listeners.items) (map g.L.TaskListener.ear l.listeners.items);
       outlined : AllZip AnswerIsOutlined (take l.event-index l.events) l.answers.items;
       elsewhere : IsTrue F.tells → AllKeepElsewhere (registers_in tables) (take l.event-index l.events) l.answers.items (F.contents l.fn.folder) (F.contents l.folder);
-      -- whatever run goes on from here, these events and it are one run
+      -- with any run that continues from here, these events are one run
       holds : IsTrue F.tells → (kinds : Kinds) → IsGranted g.A.Actions.meanings l.tables.actions kinds (F.may_leave l.fn.folder)
           → (rest : List Event) (others : List Answer) (end : Shown)
           → RunsFrom (setting_by kinds (registers_in tables) (F.may_leave l.fn.folder)) (shows (F.contents l.folder) (F.failures l.folder)) rest others end

@@ -238,7 +238,7 @@ returns-clause-promise g c = λ tells kinds granted.
     (shows (F.contents c.build_registered-answered.new.folder) (F.failures c.build_registered-answered.new.folder)) (events.Invoke c.args.invocation.now ∷ []) (answer_of c.build_registered-answered.result ∷ [])
     (returns-clause-holds g c tells kinds granted)
 
--- ---- What it asks
+-- ---- The calls that it makes
 
 pub returns-in_err-copied-clause-asks : goal.returns-in_err-copied-clause-asks
 returns-in_err-copied-clause-asks g c =

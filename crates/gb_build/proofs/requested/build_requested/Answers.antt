@@ -166,7 +166,7 @@ returns-clause-holds g c = λ tells kinds registry_of granted scripts.
     led_holds (setting_with kinds registry_of (F.may_leave c.args.folder.now)) old new c.args.invocation.now (Ok c.in_ok-report.report) (omega (arith, c.records_for.ensures.asks.count, c.execute.ensures.count))
     (returns-clause-leads g c tells kinds registry_of granted scripts)
 
--- ---- What it asks
+-- ---- The calls that it makes
 
 pub returns-in_err-plan-clause-asks : goal.returns-in_err-plan-clause-asks
 returns-in_err-plan-clause-asks g c =

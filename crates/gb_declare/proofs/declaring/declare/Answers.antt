@@ -12,7 +12,7 @@ use Rattle.gb_declare.proofs.ViewLemmas.{text_clear, only_memory, known_path}
 use Rattle.gb_registry.specs.Wrong.{task_faults_in}
 use Rattle.gb_declare.proofs.declaring.declare.Goals as goal
 
--- each text is a path, so that memory alone can run out
+-- each text is a path, so the only fault left is that memory runs out
 pub returns-in_err-said-clause-faults : goal.returns-in_err-said-clause-faults
 returns-in_err-said-clause-faults g c =
     let p = err_from_is_err_and c.from_residual-in_err-said.result c.from_residual-in_err-said.ensures.1 in

@@ -6,7 +6,7 @@ use Rattle.gb_declare.specs.Joined.{first_in, last_in}
 use Rattle.gb_declare.proofs.JoinLemmas.{round}
 use Rattle.gb_declare.proofs.joining.actions.Given as goal
 
--- the actions read, with those of the clauses that are left round them
+-- the actions read, with those of the remaining clauses around them
 abbrev pub invariant-loop-clause : goal.invariant-loop-clause
 invariant-loop-clause l =
     round (now_of (drop l.clause-index l.clauses)) (now_of l.actions)

@@ -6,7 +6,7 @@ use Rattle.gb_declare.specs.Borrowed.{now_of, named_in}
 use Rattle.gb_declare.specs.Joined.{by_name, value_in}
 use Rattle.gb_declare.proofs.joining.values.Given as goal
 
--- those that are left go over those found
+-- those that are left override those found
 abbrev pub invariant-loop-clause : goal.invariant-loop-clause
 invariant-loop-clause l =
     fold (λ there entry. put byte_order entry.0 entry.1 there) (named_in l.values) (filter_map value_in (now_of (drop l.clause-index l.clauses)))

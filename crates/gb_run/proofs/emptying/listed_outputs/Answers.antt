@@ -19,7 +19,7 @@ use Rattle.gb_meaning.specs.Tree.{told_of_tree}
 use Rattle.gb_run.specs.Emptying.{is_at_output, odd_faults, places_at}
 use Rattle.gb_run.proofs.emptying.listed_outputs.Goals as goal
 
--- the faults at an output and at others, by whether something odd stands at it
+-- the faults at an output and at others, by whether there is an unsupported entry at it
 odd_by : (output : Output) (outputs : List Output) (folder : Contents) (is : Bool) → is_odd_under folder output.place ≡ is
     → odd_faults (output ∷ outputs) folder ≡ cond is (faults.BadFileName output.place ∷ odd_faults outputs folder) (odd_faults outputs folder)
 odd_by output outputs folder is same =
@@ -47,7 +47,7 @@ returns-in_err-listed-clause-odd g c = λ tells.
           ∙ ap Some (sym odd.1))
     ])
 
--- what stands beneath an output stands at the outputs
+-- what is under an output is at the outputs
 at_outputs : (outputs : List Output) (i : ℕ) (output : Output) → i < length outputs → output ≡ get_or outputs i output → (places : List (List ℕ))
     → list_all (λ at. is_under at output.place) places ≡ true → list_all (is_at_output outputs) places ≡ true
 at_outputs outputs i output within is [] all = refl

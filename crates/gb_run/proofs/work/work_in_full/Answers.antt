@@ -74,7 +74,7 @@ loop-action-preserved g c =
           (c.in-Ok.ensures.ok kinds agrees held is))));
     }
 
--- what holds of a value and beside it
+-- what holds of a value together with another
 ok_both : {T E : Type 0} (P Q : T → Type 0) (X : Type 0) (r : Result T E) → IfOk r P → OnOk r X → ((x : T) → P x → X → Q x) → IfOk r Q
 ok_both P Q X (Ok x) p beside so = so x p beside
 ok_both P Q X (Err e) p beside so = tt

@@ -17,7 +17,7 @@ use Rattle.gb_run.proofs.Fitting.{agreed_writes}
 use Rattle.gb_run.proofs.Writer.{fits_writer}
 use Rattle.gb_run.proofs.work_by_changes.part_of.Goals as goal
 
--- what is found to write does so by its kind
+-- an action that is found to write does so by its kind
 found_writes : {S : Type 0} (meanings : Meanings S) (kinds : Kinds) (rows : Rows S) (task : Task) (action : Action) (ready : IsReadyAction meanings rows task action) (result : Bool) → Agrees meanings rows kinds
     → result ≡ writes_stored meanings ready.stored → kinds.writes (kind_of action) ≡ result
 found_writes meanings kinds rows task action ready result agrees is = agreed_writes meanings kinds rows task action ready agrees ready.stored ready.found ∙ sym is

@@ -55,7 +55,7 @@ loop-action-init g c = record {
       ∙ digests_owned c.args.task.now standing c.args.outputs c.as_slice-2.result.now sorted good goes_on.not_own goes_on.stands (c.as_slice-2.ensures.value ∙ c.requires.prints));
 }
 
--- what is said of the request at hand is said of the run
+-- what holds of the current request holds of the run
 same_run : (P : Increment → Type 0) (kinds : Kinds) (task : _) (files trees : Trees) (lists changes : List Changes) (seen outputs : List OutputFiles) → files ≡ trees → lists ≡ changes → seen ≡ outputs
     → P (increment_of kinds task files lists seen) → P (increment_of kinds task trees changes outputs)
 same_run P kinds task files trees lists changes seen outputs a b c is =
@@ -104,7 +104,7 @@ loop-action-preserved g c =
           (subst (λ (seen : List OutputFiles). IsItsTurn kinds task action c.args.files c.args.changes seen standing) (sym old.invariant.seen) turn))) is));
     }
 
--- what holds of a value and beside it
+-- what holds of a value together with another
 ok_both : {T E : Type 0} (P Q : T → Type 0) (X : Type 0) (r : Result T E) → IfOk r P → OnOk r X → ((x : T) → P x → X → Q x) → IfOk r Q
 ok_both P Q X (Ok x) p beside so = so x p beside
 ok_both P Q X (Err e) p beside so = tt

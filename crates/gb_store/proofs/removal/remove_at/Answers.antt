@@ -14,11 +14,11 @@ use Rattle.gb_store.proofs.removal.remove_at.Goals as goal
 pub returns-in-Ok-clause-changes : goal.returns-in-Ok-clause-changes
 returns-in-Ok-clause-changes g c = λ tells test holds. changes_without test _ _ c.args.place.now (c.in-Ok.ensures.removed tells) holds
 
--- where no file stands the folder is as without one
+-- where there is no file, the folder is the same without one
 none_left : (old new : Contents) (place : Place) → IsFolder old.files → new ≡ old → file_at old.files place ≡ None → new ≡ without_all old (place ∷ [])
 none_left old new place sound same none = same ∙ ap (λ files. record old { files = files }) (sym (without_none old.files place sound none))
 
--- a fault that is neither of these is the device's or want of memory
+-- a fault that is neither of these is a device fault or an out-of-memory fault
 other_fault : (fault : FolderFault) → fault ≢ folders.Missing → fault ≢ folders.Blocked → fault ≢ folders.TooLarge → fault ≢ folders.BadFileName → fault ≢ folders.OutOfMemory → fault ≢ folders.Device → ⊥
 other_fault folders.OutOfMemory a b d e f h = f refl
 other_fault folders.Device a b d e f h = h refl

@@ -20,7 +20,7 @@ use Rattle.gb_tree.proofs.entries.entries_of.Goals as goal
 these : (include : List (List ℕ)) (roots kept : List Place) (starts made : List (Place × Place)) → starts ≡ made → made ≡ starts_in include kept → kept ≡ distinct roots → starts ≡ starts_in include (distinct roots)
 these include roots kept starts made same are once = same ∙ are ∙ ap (starts_in include) once
 
--- beneath one of the starts is beneath one of the roots
+-- under one of the starts is under one of the roots
 of_roots : (include : List (List ℕ)) (roots : List Place) (starts : List (Place × Place)) → starts ≡ starts_in include (distinct roots) → (at : Place) → IsTrue (is_under_any (places_of starts) at) → IsTrue (is_under_any roots at)
 of_roots include roots starts same at h =
     distinct_under roots at (beneath_roots include (distinct roots) at (subst (λ (starts : List (Place × Place)). IsTrue (is_under_any (places_of starts) at)) same h))

@@ -6,7 +6,7 @@ use Rattle.gb_core.specs.Place.{is_beneath}
 use Rattle.gb_tree.specs.Starts.{HoldsPlaces}
 use Rattle.gb_tree.proofs.starts.lies_in_any.Given as goal
 
--- the place lies beneath one of them where what is left of it does
+-- the place lies under one of them where what is left of it does
 abbrev pub invariant-loop-folder : goal.invariant-loop-folder
 invariant-loop-folder l = record {
   utf8 : shadow (Utf8 l.rest);

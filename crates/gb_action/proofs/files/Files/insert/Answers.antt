@@ -5,7 +5,7 @@ use Rattle.gb_core.specs.Lists.{byte_order}
 use Rattle.gb_action.proofs.Ordered.{put-at, put-insert, searchable, ordered-put}
 use Rattle.gb_action.proofs.files.Files.insert.Goals as goal
 
--- what was put is what a write to the place found leaves
+-- the result of `put` is what a write at the index found leaves
 replaced : (c : goal.After-drop-index_mut-in-Ok) → put byte_order c.args.path c.args.bytes c.self.inside.entries.items ≡ set c.self.inside.entries.items c.in-Ok.index (c.args.path, c.args.bytes)
 replaced c =
     let es = c.as_slice.result.now in
@@ -15,7 +15,7 @@ replaced c =
     subst (λ x. put byte_order c.args.path c.args.bytes x ≡ set x c.in-Ok.index d) is
     (put-at es c.args.path c.args.bytes c.in-Ok.index d ordered c.in-Ok.ensures.within (c.in-Ok.ensures.position d))
 
--- what was put is what an insert at the place to stand leaves
+-- the result of `put` is what an insert at the index for the path leaves
 inserted : (c : goal.In_ok-insert-in-Err) → put byte_order c.args.path c.args.bytes c.self.inside.entries.items ≡ c.insert.new.self.items
 inserted c =
     let es = c.as_slice.result.now in

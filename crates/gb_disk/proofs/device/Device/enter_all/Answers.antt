@@ -2,7 +2,7 @@ use Rattle.std.proofs.Common.{IsTrue, ℕ, List, IfSome, subst}
 use Rattle.gb_core.specs.Place.{is_under}
 use Rattle.gb_disk.proofs.device.Device.enter_all.Goals as goal
 
--- each folder that was met lies under the root
+-- each folder that was found lies under the root
 pub enter-requires-clause-folder : goal.enter-requires-clause-folder
 enter-requires-clause-folder g c =
     let root = c.args.root.now in

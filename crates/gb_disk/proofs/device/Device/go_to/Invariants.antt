@@ -4,7 +4,7 @@ use Rattle.gb_core.specs.Place.{is_segment}
 use Rattle.gb_disk.specs.Disk.{is_reached, path_in}
 use Rattle.gb_disk.proofs.device.Device.go_to.Given as goal
 
--- the path is that of the segments so far, unless the walk has come to an end above
+-- the path is that of the segments so far, unless the walk ended above
 abbrev pub invariant-loop-segment : goal.invariant-loop-segment
 invariant-loop-segment g l =
     let so_far = map (λ segment. segment.now) l.yielded in

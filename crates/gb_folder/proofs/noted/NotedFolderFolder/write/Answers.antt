@@ -6,7 +6,7 @@ use Rattle.gb_folder.specs.declared.folder.FolderFault.TheVariants.{OutOfMemory}
 use Rattle.gb_folder.proofs.Asked.{one_call, put_permitted}
 use Rattle.gb_folder.proofs.noted.NotedFolderFolder.write.Goals as goal
 
--- the notes with that of these bytes
+-- the notes, with the note of these bytes
 abbrev noted : List Note → List ℕ → List ℕ → List Note
 noted notes place bytes = notes ++ (record { place = place; next = Some bytes }) ∷ []
 

@@ -6,7 +6,7 @@ use Rattle.gb_history.specs.declared.record.Edition.TheVariants.{Second}
 use Rattle.gb_history.proofs.Lists.{all_true}
 use Rattle.gb_history.proofs.history.History.through_text.Goals as goal
 
--- the second edition tells all versions
+-- the second edition expresses all versions
 all_fit : (records : List (List ℕ × Record)) → AllByRecursion (RecordFits Second) records
 all_fit [] = tt
 all_fit (one ∷ records) = (all_true one.1.actions, all_fit records)

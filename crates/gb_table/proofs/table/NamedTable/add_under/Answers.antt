@@ -9,7 +9,7 @@ use Rattle.gb_table.proofs.table.NamedTable.add_under.Given.{Over}
 use Rattle.gb_table.proofs.table.NamedTable.add_under.Goals as goal
 use Rattle.gb_table.proofs.table.NamedTable.add_under.Goals.{After-contains_key}
 
--- the test tells whether the name is taken
+-- the test returns whether the name is taken
 is_taken : (g : Over) (c : After-contains_key g) → is_some (find byte_order c.args.name.now c.args.self.now) ≡ c.contains_key.result
 is_taken g c =
     found-by string_bytes c.args.name.now c.args.name.now c.self.inside.entries.entries c.args.self.now c.self.view_is refl ∙ sym c.contains_key.ensures
