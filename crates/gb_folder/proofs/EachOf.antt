@@ -1,4 +1,4 @@
--- Something done with one item after another: these items and then those, one item more, and a stop at an item.
+-- Items processed one after another: these items and then those, one item more, and a stop at an item.
 use Rattle.std.specs.Prelude.{ℕ, ◌≡◌, ◌<◌, ◌+◌, ◌++◌, List, [], ◌∷◌, Ok, Err, length, get_or, take, drop}
 use Rattle.std.proofs.Common.{refl, sym, ap, subst, ◌∙◌, append_assoc}
 use Rattle.std.proofs.lemmas.List.{append-nil, at_drop_more, take-append-drop, take_more}

@@ -4,7 +4,6 @@
 //! execution of its task has ended, the rest once the report is complete. A printer also decides
 //! what happens to values that a build no longer needs: [`last::Last`], for a program that ends
 //! after the build, does not drop them.
-//! build needs no more: [`last::Last`], for a program that ends after the build, does not drop them.
 #![tactic(auto)]
 
 pub mod last;
