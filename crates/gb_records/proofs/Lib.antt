@@ -9,3 +9,4 @@ pub mod Since
 pub mod Going
 pub mod Asked
 pub mod Answering
+mod Called

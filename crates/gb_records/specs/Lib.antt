@@ -6,3 +6,4 @@ pub mod Standing
 pub mod Laws
 pub mod Digests
 pub mod Answered
+pub mod Called

@@ -3,12 +3,13 @@ ghost use Rattle.std.specs.Prelude.{◌≡◌, ◌∷◌, [], ℕ, List, Some, N
 ghost use Rattle.std.specs.Prelude.{IfErr, IsErrOf, OnOk};
 ghost use Rattle.gb_core.specs.Path.{is_task_path};
 ghost use Rattle.gb_core.specs.Place.{is_place};
-ghost use Rattle.gb_folder.specs.Calls.{Asks, Writes, put_at, taken_at};
+ghost use Rattle.gb_folder.specs.Calls.{Asks, Call, put_at, taken_at};
 ghost use Rattle.gb_folder.specs.Device.{Leads};
 ghost use Rattle.gb_history.specs.Places.{record_place};
 ghost use Rattle.gb_history.specs.Text.{record_text};
 ghost use Rattle.gb_meaning.specs.Headline.{TearsAreSeen};
 ghost use Rattle.gb_meaning.specs.Memory.{Entry, Memory, recalled};
+ghost use Rattle.gb_records.specs.Called.{Deletion, Storing};
 ghost use Rattle.gb_records.specs.Faults.{removed_by};
 ghost use Rattle.gb_records.specs.Said.{IsText, IsSaidOf};
 ghost use Rattle.gb_records.specs.Standing.{ComesToNothing, Standing, StandsWithout};
@@ -31,6 +32,9 @@ pub fn take_out<F: Folder>(
     path: &TaskPath,
     was_read: bool,
 ) -> Result<(), Unwritten>
+    // Over any folder: by one call, or by none if no record was read.
+    ensures calls { (calls : List Call) × Leads F.device folder.old calls folder.new
+        × Deletion path.now was_read calls result }
     ensures asks { Asks F.failures F.may_leave F.asked (taken_at (record_place path.now)) folder.old
         folder.new }
     ensures unread { was_read ≡ false → folder.new ≡ folder.old }
@@ -76,9 +80,9 @@ pub fn put_in<F: Folder>(
 ) -> Result<(), Unwritten>
     ensures asks { Asks F.failures F.may_leave F.asked (put_at (record_place path.now) (record_text
         path.now run.now)) folder.old folder.new }
-    // Over any folder: it was stored by one call, which was answered as done.
-    ensures stored { OnOk result ((limit : ℕ) × Leads F.device folder.old
-        (Writes (record_place path.now) (record_text path.now run.now) limit (Ok tt) ∷ []) folder.new) }
+    // Over any folder: by one call, with its very text.
+    ensures calls { (calls : List Call) × Leads F.device folder.old calls folder.new
+        × Storing path.now run.now calls result }
     ensures written { IsTrue F.tells → OnOk result
         (F.contents folder.new ≡ written_in path.now run.now (F.contents folder.old)) }
     ensures said { OnOk result (IsText path.now run.now (record_text path.now run.now)) }

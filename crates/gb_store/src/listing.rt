@@ -6,6 +6,7 @@ ghost use Rattle.gb_folder.specs.Calls.{Asks, no_change};
 ghost use Rattle.gb_folder.specs.Files.{is_odd_under, places_under};
 ghost use Rattle.gb_store.specs.Changes.{is_at};
 ghost use Rattle.gb_store.specs.Faults.{Blames, BlamesOnly, IsOfMachine};
+ghost use Rattle.gb_store.specs.Removals.{WasListed};
 
 use crate::faults::fault_at;
 use gb_core::place::Place;
@@ -19,6 +20,8 @@ pub fn listed_at<F: Folder>(
     folder: &mut F,
     place: &Place,
 ) -> Result<Vec<Place>, Fault>
+    // Over any folder: by one call.
+    ensures call { WasListed F.device place.now folder.old result folder.new }
     ensures asks { Asks F.failures F.may_leave F.asked no_change folder.old folder.new }
     ensures blame { Blames result (F.failures folder.old) (F.failures folder.new) }
     ensures blamed { BlamesOnly (is_at place.now) result }
@@ -31,7 +34,8 @@ pub fn listed_at<F: Folder>(
         (λ fault. IsOfMachine (F.failures folder.old) (F.failures folder.new) fault
         ⊎ (IsTrue (is_odd_under (F.contents folder.old) place.now) × (fault ≡ Fault.BadFileName place.now))) }
 {
-    folder
-        .list(alloc, place)
-        .map_err(|fault| fault_at(fault, place))
+    match folder.list(alloc, place) {
+        Ok(places) => Ok(places),
+        Err(fault) => Err(fault_at(fault, place)),
+    }
 }

@@ -1,9 +1,11 @@
 //! Removing files.
 ghost use Rattle.std.specs.Prelude.{◌≡◌, ◌≢◌, ◌⊎◌, Bool, List, ℕ, [], ◌∷◌, None, true, IsTrue, IfErr, OnOk};
 ghost use Rattle.std.specs.List.{AllByRecursion};
-ghost use Rattle.gb_folder.specs.Calls.{Asks, taken_at, takes_at};
+ghost use Rattle.gb_folder.specs.Calls.{Asks, Call, taken_at, takes_at};
+ghost use Rattle.gb_folder.specs.Device.{Leads};
 ghost use Rattle.gb_store.specs.Changes.{ChangesOnly, IsCutShort, IsHindered, is_among, is_at, without_all};
-ghost use Rattle.gb_store.specs.Faults.{Blames, BlamesOnly, IsOfMachine, told_at};
+ghost use Rattle.gb_store.specs.Faults.{Blames, BlamesOnly, IsOfMachine};
+ghost use Rattle.gb_store.specs.Removals.{Removals, WasRemoved, unless_absent};
 
 use crate::faults::fault_of;
 use gb_core::place::Place;
@@ -12,6 +14,9 @@ use gb_report::fault::Fault;
 
 /// Removes the files at these places, one after another. A place without a file counts as done.
 pub fn remove_all<F: Folder>(folder: &mut F, places: &[Place]) -> Result<(), Fault>
+    // Over any folder: by these calls.
+    ensures calls { (calls : List Call) × Leads F.device folder.old calls folder.new
+        × Removals places.now calls result }
     ensures asks { Asks F.failures F.may_leave F.asked (takes_at (is_among places.now)) folder.old
         folder.new }
     ensures blame { Blames result (F.failures folder.old) (F.failures folder.new) }
@@ -35,7 +40,9 @@ pub fn remove_all<F: Folder>(folder: &mut F, places: &[Place]) -> Result<(), Fau
 
 /// Removes the file at a place, if there is one. The place is copied first, so that a failure of
 /// the device is reported with its place whatever memory is left.
-fn remove_at<F: Folder>(folder: &mut F, place: &Place) -> Result<(), Fault>
+pub fn remove_at<F: Folder>(folder: &mut F, place: &Place) -> Result<(), Fault>
+    // Over any folder: by one call.
+    ensures call { WasRemoved F.device place.now folder.old result folder.new }
     ensures asks { Asks F.failures F.may_leave F.asked (taken_at place.now) folder.old folder.new }
     ensures blame { Blames result (F.failures folder.old) (F.failures folder.new) }
     ensures blamed { BlamesOnly (is_at place.now) result }
@@ -58,9 +65,7 @@ fn remove_at<F: Folder>(folder: &mut F, place: &Place) -> Result<(), Fault>
 
 /// The fault of a removal, unless it says that there is no file to remove.
 fn unless_absent(fault: FolderFault, place: Place) -> Result<(), Fault>
-    ensures ok { OnOk result ((fault ≡ FolderFault.Missing) ⊎ (fault ≡ FolderFault.Blocked)) }
-    ensures err { IfErr result (λ told. (fault ≢ FolderFault.Missing) × (fault ≢ FolderFault.Blocked)
-        × (told ≡ told_at place fault)) }
+    ensures { result ≡ unless_absent place fault }
 {
     match fault {
         FolderFault::Missing | FolderFault::Blocked => Ok(()),

@@ -8,7 +8,14 @@ use Rattle.gb_folder.specs.declared.folder.FolderFault.TheVariants as folders
 use Rattle.gb_meaning.specs.Events.{max_record}
 use Rattle.gb_history.specs.Places.{record_place}
 use Rattle.gb_history.specs.Text.{record_text}
+use Rattle.gb_records.specs.Called.{storing_ending}
 use Rattle.gb_records.specs.Said.{IsText}
+use Rattle.gb_records.specs.declared.fault.Unwritten.{Unwritten}
+use Rattle.gb_records.specs.declared.fault.Unwritten.TheVariants as unwritten
+use Rattle.gb_records.proofs.Called.{StoringLed, storing_called, storing_hindered, storing_too_long}
+use Rattle.gb_store.proofs.Machine.{at_err}
+use Rattle.std.proofs.lemmas.Result.{err_from_is_err_and}
+use Rattle.gb_folder.specs.Each.{Ended}
 use Rattle.gb_records.specs.Standing.{StandsWith}
 use Rattle.gb_records.proofs.Calls.{LeftAt, put, stands_in, text_said}
 use Rattle.gb_records.proofs.Asked.{put_as}
@@ -53,31 +60,66 @@ returns-clause-asks g c =
     put_as c.in_ok-place.place (record_place c.args.path.now) c.as_slice.result.now (record_text c.args.path.now c.args.run.now)
     c.in_ok-place.ensures.place (c.as_slice.ensures.value ∙ c.in_ok-text.ensures.text) c.write.ensures.asks
 
-pub returns-in-Ok-clause-stored : goal.returns-in-Ok-clause-stored
-returns-in-Ok-clause-stored g c =
+pub returns-in-Ok-clause-calls : goal.returns-in-Ok-clause-calls
+returns-in-Ok-clause-calls g c =
     let F = g.F.Folder in
     let old = c.args.folder.now in
     let new = c.write.new.self in
     let place = c.in_ok-place.place in
     let bytes = c.as_slice.result.now in
     let said = c.write.ensures in
-    let limit = max_record in
-    let called : IsCalled F.device old (Writes place bytes limit c.write.result) new =
-    g.met.F.Folder.called old (Writes place bytes limit c.write.result) new (record {
+    let path = c.args.path.now in
+    let text = record_text path c.args.run.now in
+    let called : IsCalled F.device old (Writes place bytes max_record c.write.result) new =
+    g.met.F.Folder.called old (Writes place bytes max_record c.write.result) new (record {
       asked = said.call;
-      well = writes_well bytes limit c.write.result said.within said.large said.not_missing said.not_named;
+      well = writes_well bytes max_record c.write.result said.within said.large said.not_missing said.not_named;
       count = said.asks.count;
       tearing = said.asks.tearing;
       risen = λ is. said.device (change_failed c.write.result is);
-      exact = λ tells. wrote (F.may_leave old) (F.contents old) place bytes limit c.write.result (F.contents new) said.within
+      exact = λ tells. wrote (F.may_leave old) (F.contents old) place bytes max_record c.write.result (F.contents new) said.within
           said.large said.not_missing said.not_named (said.written tells) (said.free tells) (said.blocked tells) (said.same tells) (said.torn tells);
-    }) in (
-      limit,
-      (
-        new,
-        subst (λ (p : Place). IsCalled F.device old (Writes p (record_text c.args.path.now c.args.run.now) limit (Ok tt)) new) c.in_ok-place.ensures.place
-            (subst (λ (b : Bytes). IsCalled F.device old (Writes place b limit (Ok tt)) new) (c.as_slice.ensures.value ∙ c.in_ok-text.ensures.text)
-            (subst (λ (answer : Answer). IsCalled F.device old (Writes place bytes limit answer) new) c.in-Ok.is called)),
-        refl,
-      ),
-    )
+    }) in
+    storing_called F.device path c.args.run.now place bytes old new c.write.result (Ok tt)
+    c.in_ok-place.ensures.place (c.as_slice.ensures.value ∙ c.in_ok-text.ensures.text) called (ap storing_ending (sym c.in-Ok.is))
+
+pub returns-clause-calls : goal.returns-clause-calls
+returns-clause-calls g c =
+    let F = g.F.Folder in
+    let old = c.args.folder.now in
+    let new = c.write.new.self in
+    let place = c.in_ok-place.place in
+    let bytes = c.as_slice.result.now in
+    let said = c.write.ensures in
+    let path = c.args.path.now in
+    let text = record_text path c.args.run.now in
+    let called : IsCalled F.device old (Writes place bytes max_record c.write.result) new =
+    g.met.F.Folder.called old (Writes place bytes max_record c.write.result) new (record {
+      asked = said.call;
+      well = writes_well bytes max_record c.write.result said.within said.large said.not_missing said.not_named;
+      count = said.asks.count;
+      tearing = said.asks.tearing;
+      risen = λ is. said.device (change_failed c.write.result is);
+      exact = λ tells. wrote (F.may_leave old) (F.contents old) place bytes max_record c.write.result (F.contents new) said.within
+          said.large said.not_missing said.not_named (said.written tells) (said.free tells) (said.blocked tells) (said.same tells) (said.torn tells);
+    }) in
+    storing_called F.device path c.args.run.now place bytes old new c.write.result (Err c.unwritten_by.result)
+    c.in_ok-place.ensures.place (c.as_slice.ensures.value ∙ c.in_ok-text.ensures.text) called (ap Err c.unwritten_by.ensures ∙ ap storing_ending (sym c.in-Err.is))
+
+
+pub returns-in_err-text-clause-calls : goal.returns-in_err-text-clause-calls
+returns-in_err-text-clause-calls g c =
+    let F = g.F.Folder in
+    let p = err_from_is_err_and c.from_residual.result c.from_residual.ensures.1 in
+    at_err (λ (r : Ended Unwritten). StoringLed F.device c.args.path.now c.args.run.now c.args.folder.now r c.args.folder.now) c.from_residual.result p.0 unwritten.OutOfMemory p.1 p.2
+    (storing_hindered F.device c.args.path.now c.args.run.now c.args.folder.now unwritten.OutOfMemory (λ e. absurd (cc)))
+
+pub returns-then-clause-calls : goal.returns-then-clause-calls
+returns-then-clause-calls g c = ?
+
+pub returns-in_err-place-clause-calls : goal.returns-in_err-place-clause-calls
+returns-in_err-place-clause-calls g c =
+    let F = g.F.Folder in
+    let p = err_from_is_err_and c.from_residual-in_err-place.result c.from_residual-in_err-place.ensures.1 in
+    at_err (λ (r : Ended Unwritten). StoringLed F.device c.args.path.now c.args.run.now c.args.folder.now r c.args.folder.now) c.from_residual-in_err-place.result p.0 c.in_err-place.field-0.0 p.1 p.2
+    (storing_hindered F.device c.args.path.now c.args.run.now c.args.folder.now c.in_err-place.field-0.0 c.in_err-place.ensures.shut)

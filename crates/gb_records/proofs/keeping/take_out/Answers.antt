@@ -1,7 +1,16 @@
-use Rattle.std.proofs.Common.{◌≡◌, true, true≢false, Err, None, OnOk, IfErr, ap, subst, sym, ◌∙◌}
+use Rattle.std.proofs.Common.{◌≡◌, true, true≢false, Ok, Err, None, OnOk, IfErr, ap, subst, sym, ◌∙◌}
+use Rattle.gb_folder.specs.Calls.{Removes}
+use Rattle.gb_folder.specs.Device.{IsCalled}
+use Rattle.gb_folder.specs.Each.{Ended}
+use Rattle.gb_folder.proofs.Exact.{change_failed, removed, removes_well}
 use Rattle.gb_folder.specs.Files.{file_at, is_blocked, without}
 use Rattle.gb_history.specs.Places.{record_place}
+use Rattle.gb_records.specs.Called.{deletion_ending}
 use Rattle.gb_records.specs.Faults.{removed_by}
+use Rattle.gb_records.specs.declared.fault.Unwritten.{Unwritten}
+use Rattle.gb_records.proofs.Called.{DeletionLed, deletion_called, deletion_hindered, deletion_none}
+use Rattle.gb_store.proofs.Machine.{at_err}
+use Rattle.std.proofs.lemmas.Result.{err_from_is_err_and}
 use Rattle.gb_records.specs.Standing.{ComesToNothing, StandsWithout, taken_out}
 use Rattle.gb_records.proofs.Standing.{not_there}
 use Rattle.gb_records.proofs.Calls.{LeftAt, out_of, nothing_of, gone, stands_out}
@@ -34,7 +43,20 @@ returns g c =
     let at : c.in_ok-place.place ≡ record_place path = c.in_ok-place.ensures.place in
     let sound = g.met.F.Folder.sound c.args.folder.now in
     let asked = c.remove.ensures in
+    let said = c.remove.ensures in
+    let called : IsCalled F.device c.args.folder.now (Removes c.in_ok-place.place c.remove.result) c.remove.new.self =
+    g.met.F.Folder.called c.args.folder.now (Removes c.in_ok-place.place c.remove.result) c.remove.new.self (record {
+      asked = said.call;
+      well = removes_well c.remove.result said.not_large said.not_named;
+      count = said.asks.count;
+      tearing = said.asks.tearing;
+      risen = λ is. said.device (change_failed c.remove.result is);
+      exact = λ tells. removed (F.may_leave c.args.folder.now) (F.contents c.args.folder.now) c.in_ok-place.place c.remove.result (F.contents c.remove.new.self)
+          said.not_large said.not_named (said.removed tells) (said.stood tells) (said.missing tells) (said.missing_free tells) (said.blocked tells) (said.same tells) (said.torn tells);
+    }) in
     record {
+      calls = deletion_called F.device path c.args.was_read c.in_ok-place.place c.args.folder.now c.remove.new.self c.remove.result c.unless_missing.result c.if-not-was_read.false at called
+          (c.unless_missing.ensures ∙ ap deletion_ending (sym c.in-Err.is));
       asks = taken_as c.in_ok-place.place (record_place path) at asked.asks;
       unread = λ e. absurd (true≢false (sym c.if-not-was_read.false ∙ e));
       out = λ tells.
@@ -57,3 +79,30 @@ returns g c =
 
 pub returns-in-Ok-clause-asks : goal.returns-in-Ok-clause-asks
 returns-in-Ok-clause-asks g c = taken_as c.in_ok-place.place (record_place c.args.path.now) c.in_ok-place.ensures.place c.remove.ensures.asks
+
+pub returns-in-Ok-clause-calls : goal.returns-in-Ok-clause-calls
+returns-in-Ok-clause-calls g c =
+    let F = g.F.Folder in
+    let said = c.remove.ensures in
+    let called : IsCalled F.device c.args.folder.now (Removes c.in_ok-place.place c.remove.result) c.remove.new.self =
+    g.met.F.Folder.called c.args.folder.now (Removes c.in_ok-place.place c.remove.result) c.remove.new.self (record {
+      asked = said.call;
+      well = removes_well c.remove.result said.not_large said.not_named;
+      count = said.asks.count;
+      tearing = said.asks.tearing;
+      risen = λ is. said.device (change_failed c.remove.result is);
+      exact = λ tells. removed (F.may_leave c.args.folder.now) (F.contents c.args.folder.now) c.in_ok-place.place c.remove.result (F.contents c.remove.new.self)
+          said.not_large said.not_named (said.removed tells) (said.stood tells) (said.missing tells) (said.missing_free tells) (said.blocked tells) (said.same tells) (said.torn tells);
+    }) in
+    deletion_called F.device c.args.path.now c.args.was_read c.in_ok-place.place c.args.folder.now c.remove.new.self c.remove.result (Ok tt) c.if-not-was_read.false c.in_ok-place.ensures.place called
+    (ap deletion_ending (sym c.in-Ok.is))
+
+pub returns-then-not-was_read-clause-calls : goal.returns-then-not-was_read-clause-calls
+returns-then-not-was_read-clause-calls g c = deletion_none g.F.Folder.device c.args.path.now c.args.was_read c.args.folder.now c.if-not-was_read.true
+
+pub returns-in_err-place-clause-calls : goal.returns-in_err-place-clause-calls
+returns-in_err-place-clause-calls g c =
+    let F = g.F.Folder in
+    let p = err_from_is_err_and c.from_residual.result c.from_residual.ensures.1 in
+    at_err (λ (r : Ended Unwritten). DeletionLed F.device c.args.path.now c.args.was_read c.args.folder.now r c.args.folder.now) c.from_residual.result p.0 c.in_err-place.field-0.0 p.1 p.2
+    (deletion_hindered F.device c.args.path.now c.args.was_read c.args.folder.now c.in_err-place.field-0.0 c.if-not-was_read.false c.in_err-place.ensures.shut)

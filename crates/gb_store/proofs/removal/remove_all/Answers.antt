@@ -1,9 +1,14 @@
-use Rattle.std.proofs.Common.{◌≡◌, true, IfErr, ◌∙◌, ap}
+use Rattle.std.proofs.Common.{◌≡◌, [], true, IfErr, List, Ok, ◌∙◌, ap, subst}
 use Rattle.std.proofs.lemmas.Result.{err_from_is_err_and}
 use Rattle.std.proofs.lemmas.List.{take_all}
+use Rattle.gb_folder.specs.Each.{Ended}
+use Rattle.gb_folder.specs.Files.{Place}
 use Rattle.gb_folder.proofs.Asked.{asks_then}
+use Rattle.gb_folder.proofs.EachOf.{EachLed, each_more, each_short}
 use Rattle.gb_report.specs.declared.fault.Fault.{Fault}
 use Rattle.gb_store.specs.Changes.{IsCutShort, is_at, without_all}
+use Rattle.gb_store.specs.Removals.{Removal, WasRemoved}
+use Rattle.gb_store.proofs.Called.{removal_led}
 use Rattle.gb_store.proofs.Machine.{at_err, changes_chain, handed_on}
 use Rattle.gb_store.proofs.Loops.{all_at, any_here}
 use Rattle.gb_store.proofs.Asking.{taken_among}
@@ -13,6 +18,8 @@ use Rattle.gb_store.proofs.removal.remove_all.Goals as goal
 pub loop-place-preserved : goal.loop-place-preserved
 loop-place-preserved g c =
     record {
+      led = each_more Removal _ c.args.places.now c.loop-place.place-index c.place-item.result c.loop-place-test.true c.place-item.is _ _ _ [] [] c.loop-place.invariant.led
+          (removal_led _ _ _ _ _ (subst (λ (r : Ended Fault). WasRemoved g.F.Folder.device c.place-item.result c.loop-place.folder r c.remove_at.new.folder) c.in_ok-remove_at.was c.remove_at.ensures.call));
       asks = asks_then c.loop-place.invariant.asks
           (taken_among c.args.places.now c.loop-place.place-index c.place-item.result c.loop-place-test.true c.place-item.is c.remove_at.ensures.asks);
       removed = λ tells.
@@ -48,3 +55,17 @@ returns-clause-ok g c = λ tells. c.loop-place.invariant.removed tells ∙ ap (w
 
 pub returns-clause-changes : goal.returns-clause-changes
 returns-clause-changes g c = λ tells test all. changes_so_far test c.args.places.now c.loop-place.place-index _ _ all (c.loop-place.invariant.removed tells)
+
+pub returns-in_err-remove_at-clause-calls : goal.returns-in_err-remove_at-clause-calls
+returns-in_err-remove_at-clause-calls g c =
+    let F = g.F.Folder in
+    let p = err_from_is_err_and c.from_residual.result c.from_residual.ensures.1 in
+    at_err (λ (r : Ended Fault). EachLed Removal F.device c.args.places.now c.args.folder.now [] r c.remove_at.new.folder) c.from_residual.result p.0 c.in_err-remove_at.field-0.0 p.1 p.2
+    (each_short Removal _ c.args.places.now c.loop-place.place-index c.place-item.result c.loop-place-test.true c.place-item.is _ _ _ [] [] c.in_err-remove_at.field-0.0 c.loop-place.invariant.led
+    (removal_led _ _ _ _ _ (subst (λ (r : Ended Fault). WasRemoved F.device c.place-item.result c.loop-place.folder r c.remove_at.new.folder) c.in_err-remove_at.was c.remove_at.ensures.call)))
+
+pub returns-clause-calls : goal.returns-clause-calls
+returns-clause-calls g c =
+    let F = g.F.Folder in
+    subst (λ (places : List Place). EachLed Removal F.device places c.args.folder.now [] (Ok tt) c.loop-place.folder)
+    (take_all c.loop-place.place-index c.args.places.now c.loop-place-test.false) c.loop-place.invariant.led

@@ -3,13 +3,35 @@ use Rattle.std.specs.Cmp.Lexicographic.{bytes_decides}
 use Rattle.std.proofs.lemmas.Result.{on_ok_weaker, IfErr-weaker, IfErr-at_err}
 use Rattle.gb_folder.specs.declared.folder.FolderFault.{FolderFault}
 use Rattle.gb_folder.specs.declared.folder.FolderFault.TheVariants as folders
+use Rattle.gb_folder.specs.Calls.{Removes}
+use Rattle.gb_folder.specs.Device.{IsCalled}
+use Rattle.gb_folder.proofs.Exact.{change_failed, removed, removes_well}
 use Rattle.gb_folder.specs.Files.{Contents, IsFolder, Place, file_at}
 use Rattle.gb_store.specs.Changes.{IsHindered, without_all}
 use Rattle.gb_store.specs.Faults.{told_at}
+use Rattle.gb_store.specs.Removals.{removal_ending, unless_absent}
+use Rattle.gb_store.proofs.Called.{at_ok, at_place}
 use Rattle.gb_store.proofs.Removing.{hindered_by, told_place}
 use Rattle.gb_store.proofs.Emptied.{without_none, blocked_none}
 use Rattle.gb_store.proofs.Machine.{blames_device, changes_without, changes_none, changes_left, is_device, of_machine}
 use Rattle.gb_store.proofs.removal.remove_at.Goals as goal
+
+pub returns-in-Ok-clause-call : goal.returns-in-Ok-clause-call
+returns-in-Ok-clause-call g c =
+    let F = g.F.Folder in
+    let place = c.args.place.now in
+    let said = c.remove.ensures in
+    let called : IsCalled F.device c.args.folder.now (Removes place c.remove.result) c.remove.new.self =
+    g.met.F.Folder.called c.args.folder.now (Removes place c.remove.result) c.remove.new.self (record {
+      asked = said.call;
+      well = removes_well c.remove.result said.not_large said.not_named;
+      count = said.asks.count;
+      tearing = said.asks.tearing;
+      risen = λ is. said.device (change_failed c.remove.result is);
+      exact = λ tells. removed (F.may_leave c.args.folder.now) (F.contents c.args.folder.now) place c.remove.result (F.contents c.remove.new.self)
+          said.not_large said.not_named (said.removed tells) (said.stood tells) (said.missing tells) (said.missing_free tells) (said.blocked tells) (said.same tells) (said.torn tells);
+    }) in
+    inr (c.remove.result, called, ap (removal_ending place) (sym c.in-Ok.is))
 
 pub returns-in-Ok-clause-changes : goal.returns-in-Ok-clause-changes
 returns-in-Ok-clause-changes g c = λ tells test holds. changes_without test _ _ c.args.place.now (c.in-Ok.ensures.removed tells) holds
@@ -37,26 +59,42 @@ returns-in-Err g c =
     let sound = g.met.F.Folder.sound c.args.folder.now in
     let asked = c.remove.ensures in
     let as_told : told_at c.in_ok-at.at fault ≡ told_at place fault = ap (λ p. told_at p fault) c.in_ok-at.ensures in
+    let said = c.remove.ensures in
+    let called : IsCalled F.device c.args.folder.now (Removes place c.remove.result) c.remove.new.self =
+    g.met.F.Folder.called c.args.folder.now (Removes place c.remove.result) c.remove.new.self (record {
+      asked = said.call;
+      well = removes_well c.remove.result said.not_large said.not_named;
+      count = said.asks.count;
+      tearing = said.asks.tearing;
+      risen = λ is. said.device (change_failed c.remove.result is);
+      exact = λ tells. removed (F.may_leave c.args.folder.now) (F.contents c.args.folder.now) place c.remove.result (F.contents c.remove.new.self)
+          said.not_large said.not_named (said.removed tells) (said.stood tells) (said.missing tells) (said.missing_free tells) (said.blocked tells) (said.same tells) (said.torn tells);
+    }) in
     record {
+      call = inr (
+        c.remove.result,
+        called,
+        c.unless_absent.ensures ∙ ap (λ p. unless_absent p fault) c.in_ok-at.ensures ∙ ap (removal_ending place) (sym c.in-Err.is),
+      );
       asks = asked.asks;
       blame = λ at is.
-          let told = IfErr-at_err _ is c.unless_absent.ensures.err in
+          let told = IfErr-at_err _ is (at_place c.in_ok-at.at fault c.unless_absent.result c.unless_absent.ensures) in
           asked.device (c.in-Err.is ∙ ap Err (blames_device place fault _ (inr (told.2 ∙ as_told)) at refl));
       blamed = λ at is.
-          let told = IfErr-at_err _ is c.unless_absent.ensures.err in
+          let told = IfErr-at_err _ is (at_place c.in_ok-at.at fault c.unless_absent.result c.unless_absent.ensures) in
           (bytes_decides at place).1 (sym (told_place place at fault (sym (told.2 ∙ as_told))));
       ok = λ tells. on_ok_weaker c.unless_absent.result (λ absent.
           elim absent [
             | inl missing ↦ none_left old new place sound (c.in-Err.ensures.same tells (λ e. cc)) (asked.missing tells (c.in-Err.is ∙ ap Err missing))
             | inr blocked ↦ none_left old new place sound (c.in-Err.ensures.same tells (λ e. cc)) (blocked_none old.files place sound (asked.blocked tells (c.in-Err.is ∙ ap Err blocked)))
-          ]) c.unless_absent.ensures.ok;
+          ]) (at_ok c.in_ok-at.at fault c.unless_absent.result c.unless_absent.ensures);
       err = λ tells. IfErr-weaker c.unless_absent.result _ _ (λ told h.
           of_machine _ _ place fault told (inr (h.2 ∙ as_told)) (λ d. asked.device (c.in-Err.is ∙ ap Err d))
-          (λ a b. other_fault fault h.0 h.1 (λ e. asked.not_large (c.in-Err.is ∙ ap Err e)) (λ e. asked.not_named (c.in-Err.is ∙ ap Err e)) a b)) c.unless_absent.ensures.err;
+          (λ a b. other_fault fault h.0 h.1 (λ e. asked.not_large (c.in-Err.is ∙ ap Err e)) (λ e. asked.not_named (c.in-Err.is ∙ ap Err e)) a b)) (at_place c.in_ok-at.at fault c.unless_absent.result c.unless_absent.ensures);
       hindered = λ tells. IfErr-weaker c.unless_absent.result _ _ (λ told h.
           subst (λ t. IsHindered (F.may_leave c.args.folder.now) place None old t new) (sym (h.2 ∙ as_told))
           (hindered_by (F.may_leave c.args.folder.now) place None old new fault h.0 h.1 (λ e. asked.not_large (c.in-Err.is ∙ ap Err e)) (λ e. asked.not_named (c.in-Err.is ∙ ap Err e))
-          (c.in-Err.ensures.same tells) (λ d. asked.torn tells (c.in-Err.is ∙ ap Err d)))) c.unless_absent.ensures.err;
+          (c.in-Err.ensures.same tells) (λ d. asked.torn tells (c.in-Err.is ∙ ap Err d)))) (at_place c.in_ok-at.at fault c.unless_absent.result c.unless_absent.ensures);
       changes = λ tells test holds.
           elim (is_device fault) [
             | inl device ↦ let torn = asked.torn tells (c.in-Err.is ∙ ap Err device) in changes_left test old new place torn.0 torn.2 holds
