@@ -1,4 +1,4 @@
 pub mod Answering
 pub mod Asked
 pub mod Ordered
-pub mod Told
+pub mod Reported

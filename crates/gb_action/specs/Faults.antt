@@ -16,6 +16,6 @@ table_fault_number tables.DuplicateAction = 41
 table_fault_number tables.OutOfMemory = 3
 
 -- why a table did not accept an action
-abbrev pub told_of : AddFault → TableFault
-told_of adding.Taken = tables.DuplicateAction
-told_of adding.OutOfMemory = tables.OutOfMemory
+abbrev pub reported_of : AddFault → TableFault
+reported_of adding.Taken = tables.DuplicateAction
+reported_of adding.OutOfMemory = tables.OutOfMemory

@@ -25,7 +25,7 @@ pub record TellsChangesFrom (old : Trees) (request : Request) : Type 0 where
   pub same_names : map (λ tree. tree.0) old ≡ map (λ tree. tree.0) request.files
   pub same_others : (name : List ℕ) → find byte_order name request.changes.lists ≡ None
       → find byte_order name old ≡ find byte_order name request.files
-  pub told : (name : List ℕ) (list : List Change) → find byte_order name request.changes.lists ≡ Some list
+  pub reported : (name : List ℕ) (list : List Change) → find byte_order name request.changes.lists ≡ Some list
       → AreChanges (tree_at old name) (tree_at request.files name) list
 
 -- The request's arguments and values made these files of old trees: the request describes the changes from

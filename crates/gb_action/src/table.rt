@@ -47,9 +47,9 @@ impl From<AllocError> for TableFault {
 
 impl From<AddFault> for TableFault {
     ghost use Rattle.std.specs.Prelude.{◌≡◌};
-    ghost use Rattle.gb_action.specs.Faults.{told_of};
+    ghost use Rattle.gb_action.specs.Faults.{reported_of};
 
-    ghost from_gives = { λ fault told. told ≡ told_of fault };
+    ghost from_gives = { λ fault reported. reported ≡ reported_of fault };
 
     fn from(fault: AddFault) -> TableFault {
         match fault {

@@ -59,12 +59,12 @@ none_again tables files given source scripts fault (settings, (first, says_first
     no_fault files (script_of_project unread.script.0) readable.1.0 fault readable.0 readable.1.1 unread.has
 
 -- what holds of a fault that is returned holds of the result
-pub handed : {T : Type 0} (Good : T → Type 0) (Bad : Fault → Type 0) (result : Result T Fault) (fault : Fault) → IsErrAnd result (λ told. told ≡ fault) → Bad fault → MatchResult result Good Bad
+pub handed : {T : Type 0} (Good : T → Type 0) (Bad : Fault → Type 0) (result : Result T Fault) (fault : Fault) → IsErrAnd result (λ reported. reported ≡ fault) → Bad fault → MatchResult result Good Bad
 handed Good Bad (Ok x) fault is bad = absurd is
-handed Good Bad (Err told) fault is bad = subst Bad (sym is) bad
+handed Good Bad (Err reported) fault is bad = subst Bad (sym is) bad
 
 -- what holds of a result and what holds of an error, as one
 pub match_of : {T : Type 0} (result : Result T Fault) (Good Better : T → Type 0) (tells : Bool) (Bad Worse : Fault → Type 0) → ((x : T) → Good x → Better x)
     → ((fault : Fault) → IsTrue tells → Bad fault → Worse fault) → IfOk result Good → (IsTrue tells → IfErr result Bad) → MatchResult result Better (λ fault. IsTrue tells → Worse fault)
 match_of (Ok x) Good Better tells Bad Worse better worse good bad = better x good
-match_of (Err fault) Good Better tells Bad Worse better worse good bad = λ told. worse fault told (bad told)
+match_of (Err fault) Good Better tells Bad Worse better worse good bad = λ reported. worse fault reported (bad reported)

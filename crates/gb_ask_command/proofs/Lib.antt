@@ -1,4 +1,4 @@
-mod Told
+mod Reported
 pub mod Numbers
 pub mod Writing
 pub mod Treating

@@ -36,7 +36,7 @@ sites_of_same tells old new same (script ∷ scripts) sites marks (lines, others
   lines,
   others,
   words,
-  λ told. subst (λ (files : Files). AreLinesAt files (script_of_project script.0) lines) (same told) (at told),
+  λ reported. subst (λ (files : Files). AreLinesAt files (script_of_project script.0) lines) (same reported) (at reported),
   sites_of_same tells old new same scripts others words rest,
   is,
   of,
@@ -48,12 +48,12 @@ pub found_of_same : (tells : Bool) (old new : Contents) → (IsTrue tells → ne
 found_of_same tells old new same registry scripts findings are = record {
   sites = are.sites;
   marks = are.marks;
-  are_sites = sites_of_same tells old.files new.files (λ told. ap (λ (c : Contents). c.files) (same told)) scripts are.sites are.marks are.are_sites;
+  are_sites = sites_of_same tells old.files new.files (λ reported. ap (λ (c : Contents). c.files) (same reported)) scripts are.sites are.marks are.are_sites;
   faults = are.faults;
   silent = are.silent;
   warnings = record {
     bare = are.warnings.bare;
-    are_bare = λ told. subst (λ (contents : Contents). are.warnings.bare ≡ bare_roots_text are.sites contents (declared_in registry)) (same told) (are.warnings.are_bare told);
+    are_bare = λ reported. subst (λ (contents : Contents). are.warnings.bare ≡ bare_roots_text are.sites contents (declared_in registry)) (same reported) (are.warnings.are_bare reported);
     text_is = are.warnings.text_is;
   };
 }

@@ -3,9 +3,9 @@ use Rattle.std.proofs.Common.{ℕ, ◌≤◌, List, [], ◌∷◌, Option, Some,
 use Rattle.serde_json.specs.Data.{Data, array, depth, items_depth}
 use Rattle.serde_json.specs.Read.{max_depth}
 use Rattle.serde_json.specs.View.{items_of}
-use Rattle.gb_foretell.specs.declared.coming.Coming.{Coming}
-use Rattle.gb_foretell.specs.declared.coming.Coming.TheVariants as comings
-use Rattle.gb_foretell.specs.declared.coming.Foretold.{Foretold}
+use Rattle.gb_predict.specs.declared.coming.Coming.{Coming}
+use Rattle.gb_predict.specs.declared.coming.Coming.TheVariants as comings
+use Rattle.gb_predict.specs.declared.coming.Prediction.{Prediction}
 use Rattle.gb_plan.specs.Task.{Path}
 use Rattle.gb_query.proofs.Depths.{items_low}
 use Rattle.gb_ask_command.specs.WhyJson.{reason_data, reasons_data, task_data, why_data, why_object}
@@ -23,12 +23,12 @@ task_low : (task : Option Path) → depth (task_data task) ≤ 0
 task_low (Some path) = omega arith
 task_low None = omega arith
 
-object_low : (told : Foretold) → depth (why_object told) ≤ 2
-object_low told =
-    let reasons = reasons_low told.coming in
-    let needs = task_low told.needs in
-    let after = task_low told.after in
+object_low : (reported : Prediction) → depth (why_object reported) ≤ 2
+object_low reported =
+    let reasons = reasons_low reported.coming in
+    let needs = task_low reported.needs in
+    let after = task_low reported.after in
     omega arith
 
-pub why_shallow : (told : List Foretold) → depth (why_data told) ≤ max_depth
-why_shallow told = let low = items_low why_object 2 object_low told in omega arith
+pub why_shallow : (reported : List Prediction) → depth (why_data reported) ≤ max_depth
+why_shallow reported = let low = items_low why_object 2 object_low reported in omega arith

@@ -21,7 +21,7 @@ use Rattle.gb_report.specs.declared.fault.Fault.TheVariants as faults
 use Rattle.gb_script.specs.Script.{Says, SaysAsSettings}
 use Rattle.gb_script.specs.declared.fault.ScriptFault.{ScriptFault}
 use Rattle.gb_script.specs.declared.fault.ScriptFault.TheVariants as scripts
-use Rattle.gb_store.specs.Faults.{told_at}
+use Rattle.gb_store.specs.Faults.{reported_at}
 use Rattle.gb_ask_command.specs.declared.words.Mode.{Mode}
 use Rattle.gb_ask_command.specs.declared.words.Mode.TheVariants as modes
 
@@ -37,7 +37,7 @@ is_settings place = bytes_eq place (codes "settings.gb") || ends_with eqb place 
 -- the fault of a call; a file above the limit is too long (21)
 abbrev pub fault_at : Place → FolderFault → Fault
 fault_at place folders.TooLarge = faults.TooLong place
-fault_at place fault = told_at place fault
+fault_at place fault = reported_at place fault
 
 -- the fault of a text
 abbrev pub fault_in : Place → ScriptFault → Fault

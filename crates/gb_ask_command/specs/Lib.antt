@@ -1,5 +1,5 @@
 pub mod Line
-pub mod Told
+pub mod Reported
 pub mod WhyJson
 pub mod Words
 pub mod Reply

@@ -1,9 +1,9 @@
 -- The line of a task: the outcome of executing it now, and the reasons for an execution.
 use Rattle.std.specs.Prelude.{ℕ, ◌==◌, Bool, List, [], ◌∷◌, ◌++◌, Option, Some, None, if◌then◌else◌}
 use Rattle.std.specs.Prelude.{codes, decimal, length}
-use Rattle.gb_foretell.specs.declared.coming.Coming.{Coming}
-use Rattle.gb_foretell.specs.declared.coming.Coming.TheVariants as comings
-use Rattle.gb_foretell.specs.declared.coming.Foretold.{Foretold}
+use Rattle.gb_predict.specs.declared.coming.Coming.{Coming}
+use Rattle.gb_predict.specs.declared.coming.Coming.TheVariants as comings
+use Rattle.gb_predict.specs.declared.coming.Prediction.{Prediction}
 use Rattle.gb_plan.specs.Task.{Path}
 use Rattle.gb_reason.specs.Text.{reason_text}
 use Rattle.gb_reason.specs.declared.reason.Reason.{Reason}
@@ -42,5 +42,6 @@ mark_text (Some path) after = codes " (needs " ++ path ++ codes ")"
 mark_text None (Some path) = codes " (after " ++ path ++ codes ")"
 mark_text None None = []
 
-abbrev pub line_text : Foretold → List ℕ
-line_text told = line (told.path ++ coming_text told.coming ++ mark_text told.needs told.after)
+abbrev pub line_text : Prediction → List ℕ
+line_text reported = line (reported.path ++ coming_text reported.coming ++ mark_text reported.needs
+    reported.after)

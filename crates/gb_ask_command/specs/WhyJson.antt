@@ -2,9 +2,9 @@
 use Rattle.std.specs.Prelude.{ℕ, Bool, List, [], ◌∷◌, Option, Some, None, codes, if◌then◌else◌, map}
 use Rattle.serde_json.specs.Data.{Data, array, member, no_members, null, object, string}
 use Rattle.serde_json.specs.View.{items_of}
-use Rattle.gb_foretell.specs.declared.coming.Coming.{Coming}
-use Rattle.gb_foretell.specs.declared.coming.Coming.TheVariants as comings
-use Rattle.gb_foretell.specs.declared.coming.Foretold.{Foretold}
+use Rattle.gb_predict.specs.declared.coming.Coming.{Coming}
+use Rattle.gb_predict.specs.declared.coming.Coming.TheVariants as comings
+use Rattle.gb_predict.specs.declared.coming.Prediction.{Prediction}
 use Rattle.gb_plan.specs.Task.{Path}
 use Rattle.gb_reason.specs.Text.{reason_text}
 use Rattle.gb_reason.specs.declared.reason.Reason.{Reason}
@@ -47,11 +47,12 @@ outcome_object task outcome reasons needs after =
     (member (codes "reasons") reasons
     (member (codes "task") (string task) no_members)))))
 
-abbrev pub why_object : Foretold → Data
-why_object told =
-    outcome_object told.path (outcome_word told.coming) (array (items_of (reasons_data told.coming)))
-    (task_data told.needs) (task_data told.after)
+abbrev pub why_object : Prediction → Data
+why_object reported =
+    outcome_object reported.path (outcome_word reported.coming) (array (items_of (reasons_data
+    reported.coming)))
+    (task_data reported.needs) (task_data reported.after)
 
 -- all tasks, in the order of the plan
-abbrev pub why_data : List Foretold → Data
-why_data told = array (items_of (map why_object told))
+abbrev pub why_data : List Prediction → Data
+why_data reported = array (items_of (map why_object reported))

@@ -5,58 +5,58 @@ ghost use Rattle.std.specs.List.{flat_map};
 ghost use Rattle.gb_printer.specs.Printing.{Prints};
 ghost use Rattle.gb_ask_command.specs.Line.{line_text};
 ghost use Rattle.gb_ask_command.specs.Reply.{reply_status};
-ghost use Rattle.gb_ask_command.specs.Told.{IsWhyText, IsWritten, why_text};
+ghost use Rattle.gb_ask_command.specs.Reported.{IsWhyText, IsWritten, why_text};
 
 use crate::line::push_line;
 use crate::reply::{Reply, reply_status};
 use crate::why_json::why_json;
 use gb_answer::answer::not_built_text;
-use gb_foretell::coming::Foretold;
+use gb_predict::coming::Prediction;
 use gb_printer::printer::Printer;
 use gb_query::notation::Notation;
 use gb_report::fault::Fault;
 use std::alloc::{AllocError, Global};
 
 /// The report of each task, or why a build would be refused.
-pub(crate) type Answer = Result<Vec<Foretold>, Fault>;
+pub(crate) type Answer = Result<Vec<Prediction>, Fault>;
 
 /// The text of an answer, or the refusal; also if memory is insufficient for the text.
 pub(crate) fn write_answer(alloc: Global, notation: Notation, answer: Answer) -> Reply
     ensures { IsWritten notation answer result }
 {
     match answer {
-        Ok(told) => write_told(alloc, notation, told),
+        Ok(reported) => write_reported(alloc, notation, reported),
         Err(fault) => Err(fault),
     }
 }
 
 /// The text of reports, which are dropped.
-fn write_told(alloc: Global, notation: Notation, told: Vec<Foretold>) -> Reply
-    ensures { IsWritten notation (Ok told) result }
+fn write_reported(alloc: Global, notation: Notation, reported: Vec<Prediction>) -> Reply
+    ensures { IsWritten notation (Ok reported) result }
 {
-    let text = told_text(alloc, notation, told.as_slice());
-    drop(told);
+    let text = reported_text(alloc, notation, reported.as_slice());
+    drop(reported);
     match text {
         Ok(text) => Ok(text),
         Err(_) => Err(Fault::OutOfMemory),
     }
 }
 
-fn told_text(alloc: Global, notation: Notation, told: &[Foretold]) -> Result<String, AllocError>
-    ensures { IfOk result (λ text. IsWhyText notation told.now (string_bytes text)) }
+fn reported_text(alloc: Global, notation: Notation, reported: &[Prediction]) -> Result<String, AllocError>
+    ensures { IfOk result (λ text. IsWhyText notation reported.now (string_bytes text)) }
 {
     match notation {
-        Notation::Lines => lines(alloc, told),
-        Notation::Json => why_json(alloc, told),
+        Notation::Lines => lines(alloc, reported),
+        Notation::Json => why_json(alloc, reported),
     }
 }
 
 /// The lines of the tasks.
-fn lines(alloc: Global, told: &[Foretold]) -> Result<String, AllocError>
-    ensures { IfOk result (λ text. string_bytes text ≡ flat_map line_text told.now) }
+fn lines(alloc: Global, reported: &[Prediction]) -> Result<String, AllocError>
+    ensures { IfOk result (λ text. string_bytes text ≡ flat_map line_text reported.now) }
 {
     let mut text = String::new(alloc);
-    for one in told {
+    for one in reported {
         push_line(&mut text, one)?;
     }
     Ok(text)

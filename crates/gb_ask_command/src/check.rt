@@ -49,7 +49,7 @@ pub fn run<A: Actions, T: Transforms, F: Folder, W: Printer>(
     // Over any folder: no change is requested.
     ensures asks { Asks F.failures F.may_leave F.asked no_change folder.old folder.new }
     ensures same { IsTrue F.tells → F.contents folder.new ≡ F.contents folder.old }
-    ensures told { (reply : CheckReply)
+    ensures reported { (reply : CheckReply)
         × RepliesCheck (tables_of T.meanings A.meanings tables.now) F.tells
         (given_of (λ words. map string_bytes words.items) words) (F.contents folder.old)
         (F.failures folder.old) (F.failures folder.new) reply

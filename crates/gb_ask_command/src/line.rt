@@ -4,20 +4,20 @@ ghost use Rattle.gb_ask_command.specs.Line.{coming_text, line_text, mark_text, m
 ghost use Rattle.gb_ask_command.specs.Line.{runs_text, way};
 
 use gb_core::path::TaskPath;
-use gb_foretell::coming::{Coming, Foretold};
+use gb_predict::coming::{Coming, Prediction};
 use gb_reason::reason::Reason;
 use gb_reason::text::push_reason;
 use std::alloc::AllocError;
 use std::fmt::Write;
 
 /// Adds the line of a task to a text.
-pub(crate) fn push_line(text: &mut String, told: &Foretold) -> Result<(), AllocError>
-    ensures { OnOk result (string_bytes text.new ≡ string_bytes text.old ++ line_text told.now) }
+pub(crate) fn push_line(text: &mut String, reported: &Prediction) -> Result<(), AllocError>
+    ensures { OnOk result (string_bytes text.new ≡ string_bytes text.old ++ line_text reported.now) }
 {
-    let path = &told.path;
+    let path = &reported.path;
     write!(text, "{path}")?;
-    push_coming(text, &told.coming)?;
-    push_mark(text, &told.needs, &told.after)?;
+    push_coming(text, &reported.coming)?;
+    push_mark(text, &reported.needs, &reported.after)?;
     text.push('\n')
 }
 

@@ -44,7 +44,7 @@ pub fn run<A: Actions, T: Transforms, F: Folder, W: Printer>(
     // Over any folder: no change is requested.
     ensures asks { Asks F.failures F.may_leave F.asked no_change folder.old folder.new }
     ensures same { IsTrue F.tells → F.contents folder.new ≡ F.contents folder.old }
-    ensures told { (reply : Replied)
+    ensures reported { (reply : Replied)
         × Replies (IsStatusReply (tables_of T.meanings A.meanings tables.now) F.tells
         (record { contents = F.contents folder.old; failures = F.failures folder.old })
         (F.failures folder.new) notation activity)

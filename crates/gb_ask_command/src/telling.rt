@@ -1,14 +1,14 @@
 //! The prediction of a request.
 ghost use Rattle.std.specs.Prelude.{◌≡◌, false, IfErr, IfOk, IsTrue};
 ghost use Rattle.std.specs.List.{AllByRecursion};
-ghost use Rattle.gb_turn.specs.Buildable.{IsBuildable};
+ghost use Rattle.gb_task.specs.Buildable.{IsBuildable};
 ghost use Rattle.gb_folder.specs.Calls.{Asks, no_change};
 ghost use Rattle.gb_build.specs.Asking.{AreBuildable};
 ghost use Rattle.gb_build.specs.Refusing.{IsUnread};
 ghost use Rattle.gb_plan.specs.Graph.{IsRegistry, order};
 ghost use Rattle.gb_declare.specs.Registered.{registry_said};
 ghost use Rattle.gb_registry.specs.Tables.{tables_of};
-ghost use Rattle.gb_ask_command.specs.Told.{AreTold, AreToldOf, IsAnswerTo, IsNotTold};
+ghost use Rattle.gb_ask_command.specs.Reported.{AreReported, AreReportedOf, IsAnswerTo, IsNotReported};
 
 use crate::answer::Answer;
 use gb_action::actions::Actions;
@@ -18,7 +18,7 @@ use gb_core::name::Name;
 use gb_core::path::TaskPath;
 use gb_core::text::Text;
 use gb_folder::folder::Folder;
-use gb_foretell::foretell::foretell;
+use gb_predict::predict::predict;
 use gb_graph::plan::plan;
 use gb_graph::tasks::Tasks;
 use gb_meaning::events::{Invocation, Properties};
@@ -62,14 +62,14 @@ fn tell_registered<A: Actions, T: Transforms, F: Folder>(
     ensures same { IsTrue F.tells → F.contents folder.new ≡ F.contents folder.old }
     ensures sound { let tables = tables_of T.meanings A.meanings configured.now.tables.now in
         IfOk result (λ _. IsRegistry (registry_said tables configured.now.registry)) }
-    ensures told { let tables = tables_of T.meanings A.meanings configured.now.tables.now in
-        IfOk result (λ told. AreToldOf F.tells A.meanings configured.now.tables.now.actions
+    ensures reported { let tables = tables_of T.meanings A.meanings configured.now.tables.now in
+        IfOk result (λ reported. AreReportedOf F.tells A.meanings configured.now.tables.now.actions
         (registry_said tables configured.now.registry)
         asked.now.requested asked.now.excluded asked.now.options
         (record { contents = F.contents folder.old; failures = F.failures folder.old })
-        (F.failures folder.new) told.items) }
-    ensures not_told { let tables = tables_of T.meanings A.meanings configured.now.tables.now in
-        IfErr result (IsNotTold (registry_said tables configured.now.registry)
+        (F.failures folder.new) reported.items) }
+    ensures not_reported { let tables = tables_of T.meanings A.meanings configured.now.tables.now in
+        IfErr result (IsNotReported (registry_said tables configured.now.registry)
         asked.now.requested asked.now.excluded (F.failures folder.old) (F.failures folder.new)) }
 {
     let _scripts = configured.registry.scripts();
@@ -100,11 +100,12 @@ fn tell_requested<A: Actions, F: Folder, Ts: Tasks>(
     requires { AreBuildable A.meanings table.now (Ts.registry tasks.old) }
     ensures asks { Asks F.failures F.may_leave F.asked no_change folder.old folder.new }
     ensures same { IsTrue F.tells → F.contents folder.new ≡ F.contents folder.old }
-    ensures told { IfOk result (λ told. AreToldOf F.tells A.meanings table.now (Ts.registry tasks.old)
+    ensures reported { IfOk result (λ reported. AreReportedOf F.tells A.meanings table.now
+        (Ts.registry tasks.old)
         requested.now excluded.now options
         (record { contents = F.contents folder.old; failures = F.failures folder.old })
-        (F.failures folder.new) told.items) }
-    ensures not_told { IfErr result (IsNotTold (Ts.registry tasks.old) requested.now excluded.now
+        (F.failures folder.new) reported.items) }
+    ensures not_reported { IfErr result (IsNotReported (Ts.registry tasks.old) requested.now excluded.now
         (F.failures folder.old) (F.failures folder.new)) }
 {
     let plan = plan(alloc, tasks, requested, excluded)?;
@@ -122,14 +123,14 @@ fn tell_planned<A: Actions, F: Folder>(
     requires { AllByRecursion (λ planned. IsBuildable A.meanings table.now planned.task) plan.now }
     ensures asks { Asks F.failures F.may_leave F.asked no_change folder.old folder.new }
     ensures same { IsTrue F.tells → F.contents folder.new ≡ F.contents folder.old }
-    ensures told { IfOk result (λ told. AreTold F.tells A.meanings table.now options
+    ensures reported { IfOk result (λ reported. AreReported F.tells A.meanings table.now options
         (record { contents = F.contents folder.old; failures = F.failures folder.old })
-        (F.failures folder.new) plan.now told.items) }
+        (F.failures folder.new) plan.now reported.items) }
     ensures unread { IfErr result
         (IsUnread false (F.failures folder.old) (F.failures folder.new)) }
 {
     let paths = paths_of(alloc, plan)?;
     let records = read_records(alloc, folder, paths.as_slice())?;
-    let told = foretell::<A, F>(alloc, folder, plan, table, options, records.as_slice())?;
-    Ok(told)
+    let reported = predict::<A, F>(alloc, folder, plan, table, options, records.as_slice())?;
+    Ok(reported)
 }

@@ -6,7 +6,7 @@ ghost use Rattle.gb_folder.specs.Calls.{Asks, no_change};
 ghost use Rattle.gb_printer.specs.Printing.{Prints};
 ghost use Rattle.gb_registry.specs.Tables.{tables_of};
 ghost use Rattle.gb_ask_command.specs.Reply.{Reply as Replied, reply_status};
-ghost use Rattle.gb_ask_command.specs.Told.{Answer as Answered, Answers, IsWritten, why_text};
+ghost use Rattle.gb_ask_command.specs.Reported.{Answer as Answered, Answers, IsWritten, why_text};
 
 use crate::answer::{Answer, print_answer, write_answer};
 use crate::telling::tell;
@@ -39,7 +39,7 @@ pub fn run<A: Actions, T: Transforms, F: Folder, W: Printer>(
     ensures same { IsTrue F.tells → F.contents folder.new ≡ F.contents folder.old }
     // There is an answer, whether it could be printed or not. If it could, exactly its text is
     // printed, and the status is its own; if not, a beginning of its text is printed.
-    ensures told { (answer : Answered)
+    ensures reported { (answer : Answered)
         × Answers (tables_of T.meanings A.meanings tables.now) F.tells
         (given_of (λ words. map string_bytes words.items) words)
         (record { contents = F.contents folder.old; failures = F.failures folder.old })

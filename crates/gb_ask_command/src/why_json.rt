@@ -8,7 +8,7 @@ ghost use Rattle.gb_ask_command.specs.WhyJson.{outcome_object, outcome_word, rea
 ghost use Rattle.gb_ask_command.specs.WhyJson.{task_data, why_data, why_object};
 
 use gb_core::path::TaskPath;
-use gb_foretell::coming::{Coming, Foretold};
+use gb_predict::coming::{Coming, Prediction};
 use gb_query::objects::{json_line, text_value};
 use gb_reason::reason::Reason;
 use gb_reason::text::push_reason;
@@ -18,55 +18,56 @@ use std::alloc::{AllocError, Global};
 use std::fmt::Write;
 
 /// A line of JSON: an array with an object for each task.
-pub(crate) fn why_json(alloc: Global, told: &[Foretold]) -> Result<String, AllocError>
-    ensures { IfOk result (λ text. IsJsonOf (why_data told.now) (string_bytes text)) }
+pub(crate) fn why_json(alloc: Global, reported: &[Prediction]) -> Result<String, AllocError>
+    ensures { IfOk result (λ text. IsJsonOf (why_data reported.now) (string_bytes text)) }
 {
-    let values = objects(alloc, told)?;
+    let values = objects(alloc, reported)?;
     json_line(alloc, Value::Array(values))
 }
 
-fn objects(alloc: Global, told: &[Foretold]) -> Result<Vec<Value>, AllocError>
-    ensures { IfOk result (λ values. map view values.items ≡ map why_object told.now) }
+fn objects(alloc: Global, reported: &[Prediction]) -> Result<Vec<Value>, AllocError>
+    ensures { IfOk result (λ values. map view values.items ≡ map why_object reported.now) }
 {
     let mut values = Vec::new(alloc);
-    for one in told {
+    for one in reported {
         values.push(why_object(alloc, one)?)?;
     }
     Ok(values)
 }
 
-fn why_object(alloc: Global, told: &Foretold) -> Result<Value, AllocError>
-    ensures { IfOk result (λ value. view value ≡ why_object told.now) }
+fn why_object(alloc: Global, reported: &Prediction) -> Result<Value, AllocError>
+    ensures { IfOk result (λ value. view value ≡ why_object reported.now) }
 {
-    let reasons = Value::Array(reasons(alloc, &told.coming)?);
-    let value = with_reasons(alloc, told, &reasons);
+    let reasons = Value::Array(reasons(alloc, &reported.coming)?);
+    let value = with_reasons(alloc, reported, &reasons);
     drop(reasons);
     value
 }
 
-fn with_reasons(alloc: Global, told: &Foretold, reasons: &Value) -> Result<Value, AllocError>
-    ensures { IfOk result (λ value. view value ≡ outcome_object told.now.path
-        (outcome_word told.now.coming) (view reasons.now)
-        (task_data told.now.needs) (task_data told.now.after)) }
+fn with_reasons(alloc: Global, reported: &Prediction, reasons: &Value) -> Result<Value, AllocError>
+    ensures { IfOk result (λ value. view value ≡ outcome_object reported.now.path
+        (outcome_word reported.now.coming) (view reasons.now)
+        (task_data reported.now.needs) (task_data reported.now.after)) }
 {
-    let needs = task_value(alloc, &told.needs)?;
-    let value = with_needs(alloc, told, reasons, &needs);
+    let needs = task_value(alloc, &reported.needs)?;
+    let value = with_needs(alloc, reported, reasons, &needs);
     drop(needs);
     value
 }
 
 fn with_needs(
     alloc: Global,
-    told: &Foretold,
+    reported: &Prediction,
     reasons: &Value,
     needs: &Value,
 ) -> Result<Value, AllocError>
-    ensures { IfOk result (λ value. view value ≡ outcome_object told.now.path
-        (outcome_word told.now.coming) (view reasons.now) (view needs.now) (task_data told.now.after)) }
+    ensures { IfOk result (λ value. view value ≡ outcome_object reported.now.path
+        (outcome_word reported.now.coming) (view reasons.now) (view needs.now)
+        (task_data reported.now.after)) }
 {
-    let after = task_value(alloc, &told.after)?;
-    let outcome = outcome_word(&told.coming);
-    let value = outcome_object(alloc, told.path.as_str(), outcome, reasons, needs, &after);
+    let after = task_value(alloc, &reported.after)?;
+    let outcome = outcome_word(&reported.coming);
+    let value = outcome_object(alloc, reported.path.as_str(), outcome, reasons, needs, &after);
     drop(after);
     value
 }

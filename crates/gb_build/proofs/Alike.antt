@@ -11,7 +11,7 @@ use Rattle.gb_meaning.specs.Events.{State, Step, may_come, own_files, shown_in, 
 use Rattle.gb_meaning.specs.Headline.{Registering}
 use Rattle.gb_meaning.specs.Kinds.{Kinds}
 use Rattle.gb_meaning.specs.Label.{Moment}
-use Rattle.gb_meaning.specs.Turn.{Guard, Standing}
+use Rattle.gb_meaning.specs.Execution.{Guard, Standing}
 use Rattle.gb_meaning.proofs.Lemmas.Weaker.{builds_weaker}
 use Rattle.gb_plan.specs.declared.task.TaskDeclaration.{TaskDeclaration as Task}
 use Rattle.gb_report.specs.declared.fault.Fault.{Fault}
@@ -28,7 +28,7 @@ module _ (first second : Tearing) (same : SameTearing first second) where
       inr (record {
         outside = stopped.outside;
         rose = stopped.rose;
-        told = stopped.told;
+        reported = stopped.reported;
         torn = (stopped.torn.0, (same place (file_at old.contents.files place) next stopped.torn.0).0 stopped.torn.1, stopped.torn.2);
       })
 
@@ -68,15 +68,15 @@ module _ (first second : Tearing) (same : SameTearing first second) where
     may_alike own options task moment new faults.HistoryNotWritten may = may
     may_alike own options task moment new other may = absurd may
 
-    step_alike : (granted : Guard) (seen : List Bytes) (old : State) (event : Event) (answer : Answer) (new : State)
-        → Step (setting_by kinds registers second) granted seen old event answer new → Step (setting_by kinds registers first) granted seen old event answer new
-    step_alike granted seen old (events.Put place bytes) answer new step = (put_before place bytes (shown_in old) (shown_in new) answer step.0, step.1)
-    step_alike granted seen old (events.Remove place) answer new step = (remove_before place (shown_in old) (shown_in new) answer step.0, step.1)
-    step_alike granted seen old events.Lost answers.Edited new step = (loss_before (shown_in old) (shown_in new) answers.Edited step.0, step.1)
-    step_alike granted seen old events.Lost (answers.Refused fault) new step = (loss_before (shown_in old) (shown_in new) (answers.Refused fault) step.0, step.1)
-    step_alike granted seen old events.Lost (answers.Built report) new step = absurd step.0
-    step_alike granted seen old events.Lost (answers.NotBuilt fault) new step = absurd step.0
-    step_alike granted seen old (events.Invoke invocation) (answers.Built report) new step = record {
+    step_alike : (assumed : Guard) (seen : List Bytes) (old : State) (event : Event) (answer : Answer) (new : State)
+        → Step (setting_by kinds registers second) assumed seen old event answer new → Step (setting_by kinds registers first) assumed seen old event answer new
+    step_alike assumed seen old (events.Put place bytes) answer new step = (put_before place bytes (shown_in old) (shown_in new) answer step.0, step.1)
+    step_alike assumed seen old (events.Remove place) answer new step = (remove_before place (shown_in old) (shown_in new) answer step.0, step.1)
+    step_alike assumed seen old events.Lost answers.Edited new step = (loss_before (shown_in old) (shown_in new) answers.Edited step.0, step.1)
+    step_alike assumed seen old events.Lost (answers.Refused fault) new step = (loss_before (shown_in old) (shown_in new) (answers.Refused fault) step.0, step.1)
+    step_alike assumed seen old events.Lost (answers.Built report) new step = absurd step.0
+    step_alike assumed seen old events.Lost (answers.NotBuilt fault) new step = absurd step.0
+    step_alike assumed seen old (events.Invoke invocation) (answers.Built report) new step = record {
       plan = step.plan;
       planned = record {
         registry = step.planned.registry;
@@ -90,12 +90,12 @@ module _ (first second : Tearing) (same : SameTearing first second) where
       dry_keeps = step.dry_keeps;
       builds = builds_weaker kinds invocation.options step.plan (may_come (setting_by kinds registers second) (own_files old.contents) invocation.options)
           (may_come (setting_by kinds registers first) (own_files old.contents) invocation.options) (may_alike (own_files old.contents) invocation.options)
-          granted granted (λ contents given. given) seen old.failures new.failures (world_in old) (world_in new) report.tasks step.builds;
+          assumed assumed (λ contents given. given) seen old.failures new.failures (world_in old) (world_in new) report.tasks step.builds;
       success = step.success;
     }
-    step_alike granted seen old (events.Invoke invocation) (answers.NotBuilt fault) new step = step
-    step_alike granted seen old (events.Invoke invocation) answers.Edited new step = absurd step
-    step_alike granted seen old (events.Invoke invocation) (answers.Refused fault) new step = absurd step
+    step_alike assumed seen old (events.Invoke invocation) (answers.NotBuilt fault) new step = step
+    step_alike assumed seen old (events.Invoke invocation) answers.Edited new step = absurd step
+    step_alike assumed seen old (events.Invoke invocation) (answers.Refused fault) new step = absurd step
 
     pub leads_alike : (old : Shown) (event : Event) (answer : Answer) (new : Shown) → Leads (setting_by kinds registers second) old event answer new
         → Leads (setting_by kinds registers first) old event answer new

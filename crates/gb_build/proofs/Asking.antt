@@ -31,5 +31,5 @@ module _ {F S : Type 0} {failures : F → ℕ} {may_leave : F → Tearing} {aske
     begun = by.begun;
     first = asks_then before by.first;
     answered = λ wet. all_answered_longer first old by.begun by.begun before (asks_nothing by.begun) (order plan) by.records (by.answered wet);
-    turns = by.turns;
+    executions = by.executions;
   }

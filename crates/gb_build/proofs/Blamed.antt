@@ -24,22 +24,22 @@ device_or_not (faults.Device place) = inl (place, refl)
 device_or_not other = inr refl
 
 -- a result that is an error attributes what its fault does
-told_so : (result : Result Report Fault) (fault : Fault) (before after : ℕ) → result ≡ Err fault → RefusedFails fault before after → HasFailed (times_blamed (answer_of result)) before after
-told_so result fault before after is fails = subst (λ (r : Result Report Fault). HasFailed (times_blamed (answer_of r)) before after) (sym is) fails
+reported_so : (result : Result Report Fault) (fault : Fault) (before after : ℕ) → result ≡ Err fault → RefusedFails fault before after → HasFailed (times_blamed (answer_of result)) before after
+reported_so result fault before after is fails = subst (λ (r : Result Report Fault). HasFailed (times_blamed (answer_of r)) before after) (sym is) fails
 
 -- where memory ran out, no fault is attributed to the device
 pub memory_blames_none : (result : Result Report Fault) (fault : Fault) (before after : ℕ) → before ≤ after → result ≡ Err fault → fault ≡ faults.OutOfMemory
     → HasFailed (times_blamed (answer_of result)) before after
-memory_blames_none result fault before after count is out = told_so result fault before after is (unblamed fault before after count (ap is_of_device out))
+memory_blames_none result fault before after count is out = reported_so result fault before after is (unblamed fault before after count (ap is_of_device out))
 
 -- where scripts could not be read, a fault is attributed to the device at most once, and then the device
 -- failed
-pub reading_fails : {X : Type 0} (read : Result X Fault) (fault told : Fault) (before after : ℕ) → before ≤ after → read ≡ Err fault → told ≡ fault → Blames read before after
-    → (result : Result Report Fault) → result ≡ Err told → HasFailed (times_blamed (answer_of result)) before after
-reading_fails read fault told before after count was same blames result is = told_so result told before after is (elim (device_or_not fault) [
+pub reading_fails : {X : Type 0} (read : Result X Fault) (fault reported : Fault) (before after : ℕ) → before ≤ after → read ≡ Err fault → reported ≡ fault → Blames read before after
+    → (result : Result Report Fault) → result ≡ Err reported → HasFailed (times_blamed (answer_of result)) before after
+reading_fails read fault reported before after count was same blames result is = reported_so result reported before after is (elim (device_or_not fault) [
   | inl device ↦
       subst (λ (b : Bool). HasFailed (cond b 1 0) before after) (sym (ap is_of_device (same ∙ device.1))) (risen_once before after count (blames device.0 (was ∙ ap Err device.1)))
-  | inr none ↦ unblamed told before after count (ap is_of_device same ∙ none)
+  | inr none ↦ unblamed reported before after count (ap is_of_device same ∙ none)
 ])
 
 -- what failed since later failed since before

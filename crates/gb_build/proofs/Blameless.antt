@@ -58,7 +58,7 @@ first_blameless (x ∷ xs) fault all is = subst (λ f. is_of_device f ≡ false)
 
 -- a result with the first of such faults attributes none to the device
 pub none_blamed : {T : Type 0} (xs : List Fault) (result : Result T Fault) (place : Place) → AreBlameless xs → TellsFirst xs result → result ≡ Err (faults.Device place) → ⊥
-none_blamed xs (Ok x) place all told is = cc
+none_blamed xs (Ok x) place all reported is = cc
 none_blamed xs (Err fault) place all (inl memory) is = let e : faults.OutOfMemory ≡ faults.Device place = cc in cc
 none_blamed xs (Err fault) place all (inr first) is =
     let e : fault ≡ faults.Device place = cc in true≢false (sym (ap is_of_device e) ∙ first_blameless xs fault all first)

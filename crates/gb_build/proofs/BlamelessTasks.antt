@@ -15,7 +15,7 @@ use Rattle.gb_plan.specs.declared.task.Output.{Output}
 use Rattle.gb_plan.specs.declared.task.TaskDeclaration.{TaskDeclaration}
 use Rattle.gb_declare.specs.Declaring.{block_scope, call_faults, clash, clash_faults, clause_faults, clauses_faults, condition_faults, declared, declaring_faults, faults_within, files_faults, heading, is_misshapen, main_faults, pattern_faults, shape_faults, trees_faults, unless}
 use Rattle.gb_declare.specs.Joined.{Joined, Made, Named, joined}
-use Rattle.gb_declare.specs.Realised.{Endless, Plain, Trouble, action_of, and_then, answered, as_flag, as_place, asked, built, each_of, entry_of, evaluated, files_under, first_or, fitting, given_by, is_enabled, no_output, output_under, passes, place_of, present, realised, realised_at, realised_if, refused, required, told, truth_of, unknown_output, value_under}
+use Rattle.gb_declare.specs.Realised.{Endless, Plain, Trouble, action_of, and_then, answered, as_flag, as_place, asked, built, each_of, entry_of, evaluated, files_under, first_or, fitting, given_by, is_enabled, no_output, output_under, passes, place_of, present, realised, realised_at, realised_if, refused, required, reported, truth_of, unknown_output, value_under}
 use Rattle.gb_declare.specs.Spots.{Spot}
 use Rattle.gb_declare.specs.Whole.{build_folder, spots, table_of}
 use Rattle.gb_provider.specs.Answers.{value_of}
@@ -180,14 +180,14 @@ module _ {M F Z S A : Type 0} (tables : Tables M F Z S A) (source : Source) wher
       first_or_blameless (faults.TaskNotFound chosen.task) (lookup_faults source.names root_path chosen.task) refl (lookup_blameless source.names root_path chosen.task)
   no_output_blameless chosen (Some task) = unknown_blameless chosen (declared tables source.names source.said task) (declared_fine task)
 
-  told_blameless : (fault : ValueFault) → is_of_device (told tables source fault) ≡ false
-  told_blameless (value_faults.Refused function refusal) = refused_blameless function refusal
-  told_blameless (value_faults.Unrealised chosen) = no_output_blameless chosen (task_at source.said chosen.task)
+  reported_blameless : (fault : ValueFault) → is_of_device (reported tables source fault) ≡ false
+  reported_blameless (value_faults.Refused function refusal) = refused_blameless function refusal
+  reported_blameless (value_faults.Unrealised chosen) = no_output_blameless chosen (task_at source.said chosen.task)
 
   given_calm : (entry : ℕ) (outcome : Option Outcome) → IsCalm (given_by tables source entry outcome)
   given_calm entry (Some (outcomes.Given value)) = tt
   given_calm entry (Some outcomes.Absent) = tt
-  given_calm entry (Some (outcomes.Refused fault)) = told_blameless fault
+  given_calm entry (Some (outcomes.Refused fault)) = reported_blameless fault
   given_calm entry None = tt
 
   -- ---- A task

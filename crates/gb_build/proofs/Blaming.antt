@@ -8,9 +8,9 @@ use Rattle.gb_store.specs.Faults.{Blames}
 use Rattle.gb_build.specs.Answers.{Edit, edit_answer}
 use Rattle.gb_build.proofs.Blamed.{risen_once}
 
-sum_more : (told : List Answer) (answer : Answer) → times_blamed_in_all (told ++ answer ∷ []) ≡ times_blamed_in_all told + times_blamed answer
+sum_more : (reported : List Answer) (answer : Answer) → times_blamed_in_all (reported ++ answer ∷ []) ≡ times_blamed_in_all reported + times_blamed answer
 sum_more [] answer = omega arith
-sum_more (a ∷ told) answer = let rest = sum_more told answer in omega arith
+sum_more (a ∷ reported) answer = let rest = sum_more reported answer in omega arith
 
 failed_more : (first second third m n : ℕ) → HasFailed m first second → HasFailed n second third → second ≤ third → HasFailed (m + n) first third
 failed_more first second third m n (inl a) (inl b) le = inl (omega arith)
@@ -18,10 +18,10 @@ failed_more first second third m n (inl a) (inr b) le = inr b
 failed_more first second third m n (inr a) b le = inr (omega arith)
 
 -- with one answer more, faults are attributed as often more as that answer does
-pub blamed_more : (told : List Answer) (answer : Answer) (first second third : ℕ) → HasFailed (times_blamed_in_all told) first second → HasFailed (times_blamed answer) second third → second ≤ third
-    → HasFailed (times_blamed_in_all (told ++ answer ∷ [])) first third
-blamed_more told answer first second third a b le =
-    subst (λ n. HasFailed n first third) (sym (sum_more told answer)) (failed_more first second third (times_blamed_in_all told) (times_blamed answer) a b le)
+pub blamed_more : (reported : List Answer) (answer : Answer) (first second third : ℕ) → HasFailed (times_blamed_in_all reported) first second → HasFailed (times_blamed answer) second third → second ≤ third
+    → HasFailed (times_blamed_in_all (reported ++ answer ∷ [])) first third
+blamed_more reported answer first second third a b le =
+    subst (λ n. HasFailed n first third) (sym (sum_more reported answer)) (failed_more first second third (times_blamed_in_all reported) (times_blamed answer) a b le)
 
 -- an edit that attributes a fault to the device only where the device failed
 pub edit_blames : (edit : Edit) (before after : ℕ) → before ≤ after → Blames edit before after → HasFailed (times_blamed (edit_answer edit)) before after

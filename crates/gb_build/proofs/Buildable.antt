@@ -9,7 +9,7 @@ use Rattle.std.proofs.lemmas.Map.Keys.{sorted_head, sorted_tail}
 use Rattle.gb_core.specs.Lists.{byte_order}
 use Rattle.gb_core.specs.Path.{is_project_path, is_task_path, project_of}
 use Rattle.gb_core.specs.Place.{is_beneath, joined}
-use Rattle.gb_turn.specs.Buildable.{IsBuildable}
+use Rattle.gb_task.specs.Buildable.{IsBuildable}
 use Rattle.gb_folder.specs.Files.{Place, is_own}
 use Rattle.gb_history.specs.Ascending.{ascends, ascends_from}
 use Rattle.gb_build.specs.Asking.{AreBuildable}

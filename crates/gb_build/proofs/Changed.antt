@@ -16,13 +16,13 @@ use Rattle.gb_plan.specs.declared.plan.Planned.{Planned}
 use Rattle.gb_plan.specs.declared.task.Output.{Output}
 use Rattle.gb_plan.specs.declared.task.TaskDeclaration.{TaskDeclaration as Task}
 use Rattle.gb_plan.proofs.Tests.{left_of, neither, no_longer, none_left, none_right, not_false, not_true, or_right, right_of}
-use Rattle.gb_records.proofs.Told.{texts_are_records}
+use Rattle.gb_records.proofs.Reported.{texts_are_records}
 use Rattle.gb_store.specs.Changes.{ChangesOnly, is_at}
 use Rattle.gb_tree.proofs.Under.{IsUnder, under_parts}
-use Rattle.gb_turn.specs.Turned.{is_of_turn}
-use Rattle.gb_turn.proofs.Own.{kept_at}
-use Rattle.gb_turn.proofs.Parts.{widened}
-use Rattle.gb_exec.specs.Building.{is_of_turns}
+use Rattle.gb_task.specs.Executing.{is_of_execution}
+use Rattle.gb_task.proofs.Own.{kept_at}
+use Rattle.gb_task.proofs.Parts.{widened}
+use Rattle.gb_exec.specs.Building.{is_of_executions}
 
 -- ---- Records
 
@@ -35,13 +35,13 @@ abbrev pub is_record_of : List Planned → Place → Bool
 is_record_of plan place = list_any (λ planned. bytes_eq place (record_place planned.task.path)) plan
 
 -- no execution of these tasks changes the tool's own files, except their records
-none_of_turns : (plan : List Planned) → HaveOwnPlaces plan → (q : Place) → is_own q ≡ true → is_record_of plan q ≡ false → is_of_turns plan q ≡ false
-none_of_turns [] places q own none = refl
-none_of_turns (planned ∷ plan) places q own none =
-    neither (is_of_turn planned.task q) (is_of_turns plan q)
+none_of_executions : (plan : List Planned) → HaveOwnPlaces plan → (q : Place) → is_own q ≡ true → is_record_of plan q ≡ false → is_of_executions plan q ≡ false
+none_of_executions [] places q own none = refl
+none_of_executions (planned ∷ plan) places q own none =
+    neither (is_of_execution planned.task q) (is_of_executions plan q)
     (neither (is_output_of planned.task q) (is_at (record_place planned.task.path) q) (by (is_output_of planned.task q) refl)
     (none_left (bytes_eq q (record_place planned.task.path)) (is_record_of plan q) none))
-    (none_of_turns plan places.1 q own (none_right (bytes_eq q (record_place planned.task.path)) (is_record_of plan q) none))
+    (none_of_executions plan places.1 q own (none_right (bytes_eq q (record_place planned.task.path)) (is_record_of plan q) none))
   where
     by : (b : Bool) → is_output_of planned.task q ≡ b → b ≡ false
     by true at = not_false (sym own ∙ no_longer (is_own q) (kept_at planned.task.outputs places.0 q at))
@@ -66,20 +66,20 @@ abbrev is_outside_or_record : List Planned → Place → Bool
 is_outside_or_record plan place = not (is_own place) || not (not (is_record_of plan place))
 
 -- in the tool's own files, executions change only records of their tasks
-pub records_differ : (plan : List Planned) → HaveOwnPlaces plan → (old new : Contents) → ChangesOnly (is_of_turns plan) old new
+pub records_differ : (plan : List Planned) → HaveOwnPlaces plan → (old new : Contents) → ChangesOnly (is_of_executions plan) old new
     → DiffersOnlyAt (is_record_of plan) (own_files old) (own_files new)
 records_differ plan places old new changes =
     one_then_other (λ q. not (is_record_of plan q)) is_own new.files
-    ∙ (widened (is_of_turns plan) (is_outside_or_record plan) within old new changes).elsewhere
+    ∙ (widened (is_of_executions plan) (is_outside_or_record plan) within old new changes).elsewhere
     ∙ sym (one_then_other (λ q. not (is_record_of plan q)) is_own old.files)
   where
-    within : (q : Place) → is_of_turns plan q ≡ true → is_outside_or_record plan q ≡ true
+    within : (q : Place) → is_of_executions plan q ≡ true → is_outside_or_record plan q ≡ true
     within q at = by (is_own q) refl (is_record_of plan q) refl
       where
         by : (own : Bool) → is_own q ≡ own → (record_there : Bool) → is_record_of plan q ≡ record_there → (not own || not (not record_there)) ≡ true
         by false _ record_there _ = refl
         by true own true _ = refl
-        by true own false none = not_false (sym at ∙ none_of_turns plan places q own none)
+        by true own false none = not_false (sym at ∙ none_of_executions plan places q own none)
 
 -- ---- Build folders
 
@@ -120,8 +120,8 @@ module _ (registry : Registry) where
         | inr later ↦ or_right (is_under q (build_folder first)) others (of_project projects project q later under)
       ]
 
-  turn_in_build : (task : Task) → IsDeclared registry task.path task → (q : Place) → is_of_turn task q ≡ true → is_of_build registry.projects q ≡ true
-  turn_in_build task declared q at = elim (either (is_output_of task q) (is_at (record_place task.path) q) at) [
+  execution_in_build : (task : Task) → IsDeclared registry task.path task → (q : Place) → is_of_execution task q ≡ true → is_of_build registry.projects q ≡ true
+  execution_in_build task declared q at = elim (either (is_output_of task q) (is_at (record_place task.path) q) at) [
     | inl output ↦
         or_right (is_own q) (list_any (λ project. is_under q (build_folder project)) registry.projects)
         (of_project registry.projects (project_of task.path) q declared.in_project (in_folder (build_folder (project_of task.path)) q task.outputs declared.in_build_folder output))
@@ -131,14 +131,14 @@ module _ (registry : Registry) where
   ]
 
   -- the executions of declared tasks change files only in `.gb` and in build folders
-  pub turns_in_build : (plan : List Planned) → AllByRecursion (λ (planned : Planned). IsDeclared registry planned.task.path planned.task) plan
-      → (q : Place) → is_of_turns plan q ≡ true → is_of_build registry.projects q ≡ true
-  turns_in_build [] declared q at = not_true at
-  turns_in_build (planned ∷ plan) declared q at = elim (either (is_of_turn planned.task q) (is_of_turns plan q) at) [
-    | inl here ↦ turn_in_build planned.task declared.0 q here
-    | inr later ↦ turns_in_build plan declared.1 q later
+  pub executions_in_build : (plan : List Planned) → AllByRecursion (λ (planned : Planned). IsDeclared registry planned.task.path planned.task) plan
+      → (q : Place) → is_of_executions plan q ≡ true → is_of_build registry.projects q ≡ true
+  executions_in_build [] declared q at = not_true at
+  executions_in_build (planned ∷ plan) declared q at = elim (either (is_of_execution planned.task q) (is_of_executions plan q) at) [
+    | inl here ↦ execution_in_build planned.task declared.0 q here
+    | inr later ↦ executions_in_build plan declared.1 q later
   ]
 
   pub elsewhere : (plan : List Planned) → AllByRecursion (λ (planned : Planned). IsDeclared registry planned.task.path planned.task) plan
-      → (old new : Contents) → ChangesOnly (is_of_turns plan) old new → ChangesOnly (is_of_build registry.projects) old new
-  elsewhere plan declared old new changes = widened (is_of_turns plan) (is_of_build registry.projects) (turns_in_build plan declared) old new changes
+      → (old new : Contents) → ChangesOnly (is_of_executions plan) old new → ChangesOnly (is_of_build registry.projects) old new
+  elsewhere plan declared old new changes = widened (is_of_executions plan) (is_of_build registry.projects) (executions_in_build plan declared) old new changes

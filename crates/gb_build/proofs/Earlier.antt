@@ -6,7 +6,7 @@ use Rattle.gb_folder.proofs.Changes.{HasRisen-before}
 use Rattle.gb_meaning.specs.Events.{Setting, may_come, rules_in}
 use Rattle.gb_meaning.specs.Label.{Moment}
 use Rattle.gb_meaning.specs.Memory.{World}
-use Rattle.gb_meaning.specs.Turn.{Builds, DoesStart, Guard, Standing, Turn, Turns, first_moment}
+use Rattle.gb_meaning.specs.Execution.{Builds, DoesStart, Guard, Standing, Execution, Executions, first_moment}
 use Rattle.gb_plan.specs.Graph.{Plan}
 use Rattle.gb_plan.specs.declared.plan.Planned.{Planned}
 use Rattle.gb_plan.specs.declared.task.TaskDeclaration.{TaskDeclaration as Task}
@@ -35,12 +35,12 @@ module _ (setting : Setting) (own : Files) (options : Options) (plan : Plan) (lo
   started_before : (moment : Moment) (planned : Planned) → DoesStart options plan (lowered moment) planned → DoesStart options plan moment planned
   started_before moment planned starts = record { needs_ended_well = starts.needs_ended_well; is_called = starts.is_called; goes_on = starts.goes_on }
 
-  turn_since : (moment : Moment) (planned : Planned) (report : TaskReport) (new : Standing) → lower ≤ moment.failures → moment.failures ≤ new.failures
-      → Turn (rules_in setting own options plan) moment planned report new → Turn (rules_in setting own options plan) (lowered moment) planned report new
-  turn_since moment planned report new earlier count turn = (
-    turn.0,
-    turn.1,
-    elim turn.2 [
+  execution_since : (moment : Moment) (planned : Planned) (report : TaskReport) (new : Standing) → lower ≤ moment.failures → moment.failures ≤ new.failures
+      → Execution (rules_in setting own options plan) moment planned report new → Execution (rules_in setting own options plan) (lowered moment) planned report new
+  execution_since moment planned report new earlier count execution = (
+    execution.0,
+    execution.1,
+    elim execution.2 [
       | inl started ↦ inl (
         starts_since moment planned started.0,
         record {
@@ -55,28 +55,28 @@ module _ (setting : Setting) (own : Files) (options : Options) (plan : Plan) (lo
     ],
   )
 
-  turns_since : (granted : Guard) (seen : List Bytes) (rest : List Planned) (moment : Moment) (reports : List TaskReport) (new : Standing) → lower ≤ moment.failures
-      → Turns (rules_in setting own options plan) granted seen rest moment reports new → Turns (rules_in setting own options plan) granted seen rest (lowered moment) reports new
-  turns_since granted seen [] moment [] new earlier turns = (turns.0, omega (arith, earlier, turns.1))
-  turns_since granted seen [] moment (report ∷ reports) new earlier turns = absurd turns
-  turns_since granted seen (planned ∷ rest) moment [] new earlier turns = absurd turns
-  turns_since granted seen (planned ∷ rest) moment (report ∷ reports) new earlier turns = (
-    turns.0,
+  executions_since : (assumed : Guard) (seen : List Bytes) (rest : List Planned) (moment : Moment) (reports : List TaskReport) (new : Standing) → lower ≤ moment.failures
+      → Executions (rules_in setting own options plan) assumed seen rest moment reports new → Executions (rules_in setting own options plan) assumed seen rest (lowered moment) reports new
+  executions_since assumed seen [] moment [] new earlier executions = (executions.0, omega (arith, earlier, executions.1))
+  executions_since assumed seen [] moment (report ∷ reports) new earlier executions = absurd executions
+  executions_since assumed seen (planned ∷ rest) moment [] new earlier executions = absurd executions
+  executions_since assumed seen (planned ∷ rest) moment (report ∷ reports) new earlier executions = (
+    executions.0,
     record {
-      folder = turns.1.folder;
-      files = turns.1.files;
-      odd = turns.1.odd;
-      count = omega (arith, earlier, turns.1.count);
-      turn = λ given. turn_since moment planned report turns.0 earlier turns.1.count (turns.1.turn given);
+      folder = executions.1.folder;
+      files = executions.1.files;
+      odd = executions.1.odd;
+      count = omega (arith, earlier, executions.1.count);
+      execution = λ given. execution_since moment planned report executions.0 earlier executions.1.count (executions.1.execution given);
     },
-    turns.2,
+    executions.2,
   )
 
   -- a build that began when the device had failed more often
-  pub builds_since : (granted : Guard) (seen : List Bytes) (world : World) (later : ℕ) (reports : List TaskReport) (new : Standing) → lower ≤ later
-      → Builds (rules_in setting own options plan) granted seen (record { world = world; failures = later }) reports new
-      → Builds (rules_in setting own options plan) granted seen (record { world = world; failures = lower }) reports new
-  builds_since granted seen world later reports new earlier builds = elim builds [
+  pub builds_since : (assumed : Guard) (seen : List Bytes) (world : World) (later : ℕ) (reports : List TaskReport) (new : Standing) → lower ≤ later
+      → Builds (rules_in setting own options plan) assumed seen (record { world = world; failures = later }) reports new
+      → Builds (rules_in setting own options plan) assumed seen (record { world = world; failures = lower }) reports new
+  builds_since assumed seen world later reports new earlier builds = elim builds [
     | inl dry ↦ inl dry
-    | inr run ↦ inr (run.0, turns_since granted seen plan (first_moment (record { world = world; failures = later })) reports new earlier run.1)
+    | inr run ↦ inr (run.0, executions_since assumed seen plan (first_moment (record { world = world; failures = later })) reports new earlier run.1)
   ]

@@ -8,7 +8,7 @@ use Rattle.gb_folder.specs.Limits.{max_file}
 use Rattle.gb_report.specs.declared.fault.Fault.{Fault}
 use Rattle.gb_report.specs.declared.fault.Fault.TheVariants as faults
 use Rattle.gb_store.specs.Changes.{IsCutShort, is_at, without_all}
-use Rattle.gb_store.specs.Faults.{IsOfMachine, told_at}
+use Rattle.gb_store.specs.Faults.{IsOfMachine, reported_at}
 use Rattle.gb_store.proofs.Emptied.{emptied_place}
 use Rattle.gb_store.proofs.Machine.{machine_before}
 use Rattle.gb_store.proofs.Removing.{hindered_before}
@@ -26,28 +26,28 @@ shows contents failures = record { contents = contents; failures = failures }
 -- ---- Edits that are refused
 
 -- a write that was refused
-pub put_failed : (may_leave : Tearing) (place bytes : List ℕ) (before after : ℕ) (old new : Contents) (fault : FolderFault) (told : Fault) → is_own place ≡ false → told ≡ told_at place fault
+pub put_failed : (may_leave : Tearing) (place bytes : List ℕ) (before after : ℕ) (old new : Contents) (fault : FolderFault) (reported : Fault) → is_own place ≡ false → reported ≡ reported_at place fault
     → (fault ≡ folders.Device → HasRisen before after) → (fault ≢ folders.Device → new ≡ old) → (fault ≡ folders.Blocked → IsTrue (is_blocked old.files place))
     → (fault ≡ folders.TooLarge → max_file < length bytes) → (fault ≢ folders.Missing) → (fault ≢ folders.BadFileName)
-    → (fault ≡ folders.Device → IsTorn may_leave place (Some bytes) old new) → PutStep may_leave place bytes (shows old before) (edit_answer (Err told)) (shows new after)
-put_failed may_leave place bytes before after old new folders.OutOfMemory told out is rose same blocked large a b torn = inl (inl (same (λ e. cc), is))
-put_failed may_leave place bytes before after old new folders.Device told out is rose same blocked large a b torn = inl (inr (record { outside = out; rose = rose refl; told = is; torn = torn refl }))
-put_failed may_leave place bytes before after old new folders.Missing told out is rose same blocked large a b torn = absurd (a refl)
-put_failed may_leave place bytes before after old new folders.Blocked told out is rose same blocked large a b torn = inr (inl (same (λ e. cc), inr (out, blocked refl, is)))
-put_failed may_leave place bytes before after old new folders.TooLarge told out is rose same blocked large a b torn = inr (inr (same (λ e. cc), out, large refl, is))
-put_failed may_leave place bytes before after old new folders.BadFileName told out is rose same blocked large a b torn = absurd (b refl)
+    → (fault ≡ folders.Device → IsTorn may_leave place (Some bytes) old new) → PutStep may_leave place bytes (shows old before) (edit_answer (Err reported)) (shows new after)
+put_failed may_leave place bytes before after old new folders.OutOfMemory reported out is rose same blocked large a b torn = inl (inl (same (λ e. cc), is))
+put_failed may_leave place bytes before after old new folders.Device reported out is rose same blocked large a b torn = inl (inr (record { outside = out; rose = rose refl; reported = is; torn = torn refl }))
+put_failed may_leave place bytes before after old new folders.Missing reported out is rose same blocked large a b torn = absurd (a refl)
+put_failed may_leave place bytes before after old new folders.Blocked reported out is rose same blocked large a b torn = inr (inl (same (λ e. cc), inr (out, blocked refl, is)))
+put_failed may_leave place bytes before after old new folders.TooLarge reported out is rose same blocked large a b torn = inr (inr (same (λ e. cc), out, large refl, is))
+put_failed may_leave place bytes before after old new folders.BadFileName reported out is rose same blocked large a b torn = absurd (b refl)
 
 -- a removal that was refused
-pub remove_failed : (may_leave : Tearing) (place : Place) (before after : ℕ) (old new : Contents) (fault : FolderFault) (told : Fault) → is_own place ≡ false → told ≡ told_at place fault
+pub remove_failed : (may_leave : Tearing) (place : Place) (before after : ℕ) (old new : Contents) (fault : FolderFault) (reported : Fault) → is_own place ≡ false → reported ≡ reported_at place fault
     → (fault ≡ folders.Device → HasRisen before after) → (fault ≢ folders.Device → new ≡ old) → (fault ≡ folders.Blocked → IsTrue (is_blocked old.files place))
     → (fault ≡ folders.Missing → file_at old.files place ≡ None) → (fault ≡ folders.Missing → is_blocked old.files place ≡ false)
-    → (fault ≢ folders.TooLarge) → (fault ≢ folders.BadFileName) → (fault ≡ folders.Device → IsTorn may_leave place None old new) → RemoveStep may_leave place (shows old before) (edit_answer (Err told)) (shows new after)
-remove_failed may_leave place before after old new folders.OutOfMemory told out is rose same blocked gone free a b torn = inl (inl (same (λ e. cc), is))
-remove_failed may_leave place before after old new folders.Device told out is rose same blocked gone free a b torn = inl (inr (record { outside = out; rose = rose refl; told = is; torn = torn refl }))
-remove_failed may_leave place before after old new folders.Missing told out is rose same blocked gone free a b torn = inr (inr (same (λ e. cc), out, free refl, gone refl, is))
-remove_failed may_leave place before after old new folders.Blocked told out is rose same blocked gone free a b torn = inr (inl (same (λ e. cc), inr (out, blocked refl, is)))
-remove_failed may_leave place before after old new folders.TooLarge told out is rose same blocked gone free a b torn = absurd (a refl)
-remove_failed may_leave place before after old new folders.BadFileName told out is rose same blocked gone free a b torn = absurd (b refl)
+    → (fault ≢ folders.TooLarge) → (fault ≢ folders.BadFileName) → (fault ≡ folders.Device → IsTorn may_leave place None old new) → RemoveStep may_leave place (shows old before) (edit_answer (Err reported)) (shows new after)
+remove_failed may_leave place before after old new folders.OutOfMemory reported out is rose same blocked gone free a b torn = inl (inl (same (λ e. cc), is))
+remove_failed may_leave place before after old new folders.Device reported out is rose same blocked gone free a b torn = inl (inr (record { outside = out; rose = rose refl; reported = is; torn = torn refl }))
+remove_failed may_leave place before after old new folders.Missing reported out is rose same blocked gone free a b torn = inr (inr (same (λ e. cc), out, free refl, gone refl, is))
+remove_failed may_leave place before after old new folders.Blocked reported out is rose same blocked gone free a b torn = inr (inl (same (λ e. cc), inr (out, blocked refl, is)))
+remove_failed may_leave place before after old new folders.TooLarge reported out is rose same blocked gone free a b torn = absurd (a refl)
+remove_failed may_leave place before after old new folders.BadFileName reported out is rose same blocked gone free a b torn = absurd (b refl)
 
 -- ---- The loss of the tool's own
 

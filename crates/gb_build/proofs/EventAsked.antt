@@ -16,14 +16,14 @@ use Rattle.gb_report.specs.declared.report.Report.{Report}
 use Rattle.gb_build.specs.EventAsked.{EventAsks, EventsAsk}
 
 module _ {F S : Type 0} (failures : F → ℕ) (may_leave : F → Tearing) (asked : F → Call → F → Type 0) (meanings : Meanings S) (rows : Rows S) where
-  pub asks_more_events : (all : List Event) (told : List Answer) (event : Event) (answer : Answer) (old mid new : F) → length all ≡ length told
-      → EventsAsk failures may_leave asked meanings rows all told old mid → EventAsks failures may_leave asked meanings rows event answer mid new
-      → EventsAsk failures may_leave asked meanings rows (all ++ event ∷ []) (told ++ answer ∷ []) old new
+  pub asks_more_events : (all : List Event) (reported : List Answer) (event : Event) (answer : Answer) (old mid new : F) → length all ≡ length reported
+      → EventsAsk failures may_leave asked meanings rows all reported old mid → EventAsks failures may_leave asked meanings rows event answer mid new
+      → EventsAsk failures may_leave asked meanings rows (all ++ event ∷ []) (reported ++ answer ∷ []) old new
   asks_more_events [] [] event answer old mid new same asks more = (new, subst (λ (f : F). EventAsks failures may_leave asked meanings rows event answer f new) asks more, refl)
-  asks_more_events [] (a ∷ told) event answer old mid new same asks more = absurd (cc)
+  asks_more_events [] (a ∷ reported) event answer old mid new same asks more = absurd (cc)
   asks_more_events (e ∷ all) [] event answer old mid new same asks more = absurd (cc)
-  asks_more_events (e ∷ all) (a ∷ told) event answer old mid new same asks more =
-      (asks.0, asks.1, asks_more_events all told event answer asks.0 mid new (omega (arith, same)) asks.2 more)
+  asks_more_events (e ∷ all) (a ∷ reported) event answer old mid new same asks more =
+      (asks.0, asks.1, asks_more_events all reported event answer asks.0 mid new (omega (arith, same)) asks.2 more)
 
   pub invocation_asks : (invocation : Invocation) (result : Result Report Fault) (old new : F) → InvocationAsks failures may_leave asked meanings rows invocation result old new
       → EventAsks failures may_leave asked meanings rows (events.Invoke invocation) (answer_of result) old new

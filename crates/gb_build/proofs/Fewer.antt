@@ -5,10 +5,10 @@ use Rattle.std.proofs.Common.{sym, ap, inl, inr, arith}
 use Rattle.gb_folder.specs.Files.{Bytes}
 use Rattle.gb_meaning.specs.Label.{Moment}
 use Rattle.gb_meaning.specs.Memory.{folder_contents}
-use Rattle.gb_meaning.specs.Turn.{Builds, Guard, Rules, Standing, Turns, first_moment, moment_after}
+use Rattle.gb_meaning.specs.Execution.{Builds, Guard, Rules, Standing, Executions, first_moment, moment_after}
 use Rattle.gb_meaning.proofs.Lemmas.Clear.{Among, found, in_left, in_one, in_right, listed}
 use Rattle.gb_meaning.proofs.Lemmas.Plain.{Spreads}
-use Rattle.gb_meaning.proofs.Standing.{with_turn}
+use Rattle.gb_meaning.proofs.Standing.{with_execution}
 use Rattle.gb_plan.specs.Task.{has_path}
 use Rattle.gb_plan.specs.declared.plan.Planned.{Planned}
 use Rattle.gb_report.specs.declared.report.TaskReport.{TaskReport}
@@ -31,29 +31,29 @@ both_more some all more among c h = elim (in_one c some more h) [ inl a ↦ in_l
 pub once_more : (seen here more : List Bytes) → Among (seen ++ here ++ here ++ more) (seen ++ here ++ more)
 once_more seen here more = both_more (seen ++ here ++ here) (seen ++ here) more (here_again seen here)
 
-module _ (rules : Rules) (granted : Guard) (spreads : Spreads granted) where
+module _ (rules : Rules) (assumed : Guard) (spreads : Spreads assumed) where
   -- executions that count more of the contents read are executions that count fewer, if both are the same
   -- together with those in the folder
-  turns_fewer : (more seen : List Bytes) (rest : List Planned) (moment : Moment) (reports : List TaskReport) (new : Standing)
+  executions_fewer : (more seen : List Bytes) (rest : List Planned) (moment : Moment) (reports : List TaskReport) (new : Standing)
       → Among (more ++ folder_contents moment.world) (seen ++ folder_contents moment.world)
-      → Turns rules granted more rest moment reports new → Turns rules granted seen rest moment reports new
-  turns_fewer more seen [] moment [] new among turns = turns
-  turns_fewer more seen [] moment (report ∷ reports) new among turns = turns
-  turns_fewer more seen (planned ∷ rest) moment [] new among turns = turns
-  turns_fewer more seen (planned ∷ rest) moment (report ∷ reports) new among turns = (
-    turns.0,
-    with_turn turns.1 (λ given. turns.1.turn (spreads (seen ++ folder_contents moment.world) (more ++ folder_contents moment.world) among given)),
-    turns_fewer (more ++ folder_contents moment.world) (seen ++ folder_contents moment.world) rest (moment_after moment report turns.0) reports new
-        (both_more (more ++ folder_contents moment.world) (seen ++ folder_contents moment.world) (folder_contents turns.0.world) among) turns.2,
+      → Executions rules assumed more rest moment reports new → Executions rules assumed seen rest moment reports new
+  executions_fewer more seen [] moment [] new among executions = executions
+  executions_fewer more seen [] moment (report ∷ reports) new among executions = executions
+  executions_fewer more seen (planned ∷ rest) moment [] new among executions = executions
+  executions_fewer more seen (planned ∷ rest) moment (report ∷ reports) new among executions = (
+    executions.0,
+    with_execution executions.1 (λ given. executions.1.execution (spreads (seen ++ folder_contents moment.world) (more ++ folder_contents moment.world) among given)),
+    executions_fewer (more ++ folder_contents moment.world) (seen ++ folder_contents moment.world) rest (moment_after moment report executions.0) reports new
+        (both_more (more ++ folder_contents moment.world) (seen ++ folder_contents moment.world) (folder_contents executions.0.world) among) executions.2,
   )
 
   -- a build that counts the contents in the folder before it among those read is one that does not
   pub builds_fewer : (seen : List Bytes) (old : Standing) (reports : List TaskReport) (new : Standing)
-      → Builds rules granted (seen ++ folder_contents old.world) old reports new → Builds rules granted seen old reports new
+      → Builds rules assumed (seen ++ folder_contents old.world) old reports new → Builds rules assumed seen old reports new
   builds_fewer seen old reports new builds = elim builds [
     | inl dry ↦ inl dry
     | inr run ↦ inr (
       run.0,
-      turns_fewer (seen ++ folder_contents old.world) seen rules.plan (first_moment old) reports new (here_again seen (folder_contents old.world)) run.1,
+      executions_fewer (seen ++ folder_contents old.world) seen rules.plan (first_moment old) reports new (here_again seen (folder_contents old.world)) run.1,
     )
   ]

@@ -20,12 +20,12 @@ module _ {X : Type 0} (SaysAs : Bytes → Result (List X) ScriptFault → Type 0
       inr (free_at files place bytes sound stands, subst (λ o. FileSays SaysAs place o said) (sym stands) says)
 
   -- the file exists, and what its bytes declare is returned
-  pub told_there : (before after : ℕ) (bytes : Bytes) (result : Result (List X) Fault) → IsFolder files → file_at files place ≡ Some bytes
+  pub reported_there : (before after : ℕ) (bytes : Bytes) (result : Result (List X) Fault) → IsFolder files → file_at files place ≡ Some bytes
       → MatchResult result (λ said. SaysAs bytes (Ok said)) (λ fault. (fault ≡ faults.OutOfMemory) ⊎ FileSays SaysAs place (Some bytes) (Err fault))
       → Tells (TextSays SaysAs files place) before after result
-  told_there before after bytes (Ok said) sound stands says = said_there bytes (Ok said) sound stands says
-  told_there before after bytes (Err fault) sound stands (inl memory) = inl (inl memory)
-  told_there before after bytes (Err fault) sound stands (inr told) = inr (said_there bytes (Err fault) sound stands told)
+  reported_there before after bytes (Ok said) sound stands says = said_there bytes (Ok said) sound stands says
+  reported_there before after bytes (Err fault) sound stands (inl memory) = inl (inl memory)
+  reported_there before after bytes (Err fault) sound stands (inr reported) = inr (said_there bytes (Err fault) sound stands reported)
 
   -- no file exists there, and none is in the way of one
   pub nothing_there : (said : List X) → said ≡ [] → file_at files place ≡ None → is_blocked files place ≡ false → TextSays SaysAs files place (Ok said)
@@ -37,14 +37,14 @@ module _ {X : Type 0} (SaysAs : Bytes → Result (List X) ScriptFault → Type 0
   long_there sound says (Some bytes) is h = said_there bytes (Err (faults.TooLong place)) sound is (scripts.TooLong, says bytes h, refl)
 
   -- the folder refused, but not for want of a file
-  pub unread_there : (before after : ℕ) (fault : FolderFault) (told : Fault) → IsFolder files → ((bytes : Bytes) → 1048576 < length bytes → SaysAs bytes (Err scripts.TooLong))
+  pub unread_there : (before after : ℕ) (fault : FolderFault) (reported : Fault) → IsFolder files → ((bytes : Bytes) → 1048576 < length bytes → SaysAs bytes (Err scripts.TooLong))
       → (fault ≡ folders.Device → HasRisen before after) → fault ≢ folders.Missing → (fault ≡ folders.Blocked → is_blocked files place ≡ true)
-      → (fault ≡ folders.TooLarge → IsSomeAnd (file_at files place) (λ bytes. 1048576 < length bytes)) → fault ≢ folders.BadFileName → told ≡ unread_at place fault
-      → IsOfMachine before after told ⊎ TextSays SaysAs files place (Err told)
-  unread_there before after folders.OutOfMemory told sound says rose missing blocked large named is = inl (inl is)
-  unread_there before after folders.Device told sound says rose missing blocked large named is = inl (inr (place, is, rose refl))
-  unread_there before after folders.Missing told sound says rose missing blocked large named is = absurd (missing refl)
-  unread_there before after folders.Blocked told sound says rose missing blocked large named is = inr (inl (blocked refl, ap Err is))
-  unread_there before after folders.TooLarge told sound says rose missing blocked large named is =
+      → (fault ≡ folders.TooLarge → IsSomeAnd (file_at files place) (λ bytes. 1048576 < length bytes)) → fault ≢ folders.BadFileName → reported ≡ unread_at place fault
+      → IsOfMachine before after reported ⊎ TextSays SaysAs files place (Err reported)
+  unread_there before after folders.OutOfMemory reported sound says rose missing blocked large named is = inl (inl is)
+  unread_there before after folders.Device reported sound says rose missing blocked large named is = inl (inr (place, is, rose refl))
+  unread_there before after folders.Missing reported sound says rose missing blocked large named is = absurd (missing refl)
+  unread_there before after folders.Blocked reported sound says rose missing blocked large named is = inr (inl (blocked refl, ap Err is))
+  unread_there before after folders.TooLarge reported sound says rose missing blocked large named is =
       inr (subst (λ f. TextSays SaysAs files place (Err f)) (sym is) (long_there sound says (file_at files place) refl (large refl)))
-  unread_there before after folders.BadFileName told sound says rose missing blocked large named is = absurd (named refl)
+  unread_there before after folders.BadFileName reported sound says rose missing blocked large named is = absurd (named refl)

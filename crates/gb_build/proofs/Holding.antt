@@ -14,7 +14,7 @@ use Rattle.gb_meaning.specs.Kinds.{Kinds}
 use Rattle.gb_meaning.specs.Label.{Moment}
 use Rattle.gb_meaning.specs.Memory.{Memory, World}
 use Rattle.gb_meaning.specs.TrueRecord.{memory_contents, outside}
-use Rattle.gb_meaning.specs.Turn.{Builds, Guard, Standing as At}
+use Rattle.gb_meaning.specs.Execution.{Builds, Guard, Standing as At}
 use Rattle.gb_meaning.proofs.Lemmas.Clear.{apart_of_fewer}
 use Rattle.gb_meaning.proofs.Lemmas.Plain.{Spreads, plain_builds}
 use Rattle.gb_meaning.proofs.Lemmas.Seen.{remembered_was_seen}
@@ -26,14 +26,14 @@ use Rattle.gb_plan.proofs.Tests.{left_of, no_longer, not_true, right_of}
 use Rattle.gb_history.specs.Record.{Record}
 use Rattle.gb_records.specs.Said.{IsReadAt}
 use Rattle.gb_records.specs.Standing.{Standing}
-use Rattle.gb_records.proofs.Told.{stands_for_memory}
+use Rattle.gb_records.proofs.Reported.{stands_for_memory}
 use Rattle.gb_report.specs.declared.fault.Fault.{Fault}
 use Rattle.gb_report.specs.declared.fault.Fault.TheVariants as faults
 use Rattle.gb_report.specs.declared.report.Options.{Options}
 use Rattle.gb_report.specs.declared.report.Report.{Report}
 use Rattle.gb_store.specs.Changes.{ChangesOnly}
-use Rattle.gb_turn.specs.Turned.{Registering, setting_with}
-use Rattle.gb_exec.specs.Building.{is_of_turns}
+use Rattle.gb_task.specs.Executing.{Registering, setting_with}
+use Rattle.gb_exec.specs.Building.{is_of_executions}
 use Rattle.gb_exec.specs.Built.{AreWorth, HasBuilt}
 use Rattle.gb_exec.proofs.ByNumber.{both_true}
 use Rattle.gb_build.proofs.Changed.{HaveOwnPlaces, records_differ}
@@ -63,26 +63,26 @@ said_or other (Err fault) = other
 module _ (kinds : Kinds) (registry_of : Registering) (may_leave : Tearing) (registry : Registry) (sound : IsRegistry registry)
     (invocation : Invocation) (plan : Plan) (is_plan : IsPlanOf registry invocation.requested invocation.excluded plan) (own_places : HaveOwnPlaces plan)
     (old end : Shown) (report : Report) (dry_run : report.dry_run ≡ invocation.options.dry_run) (is_folder : IsFolder end.contents.files)
-    (changes : ChangesOnly (is_of_turns plan) old.contents end.contents) (dry : invocation.options.dry_run ≡ true → end.contents ≡ old.contents)
+    (changes : ChangesOnly (is_of_executions plan) old.contents end.contents) (dry : invocation.options.dry_run ≡ true → end.contents ≡ old.contents)
     (count : old.failures ≤ end.failures)
     (scripts : registry_of (outside old.contents).files invocation.properties ≡ Ok registry) where
   abbrev setting : Setting
   setting = setting_with kinds registry_of may_leave
 
-  abbrev granted : Bool → Memory → Guard
-  granted clear remembered = StillClear setting (IsTrue clear) (state_of old remembered)
+  abbrev assumed : Bool → Memory → Guard
+  assumed clear remembered = StillClear setting (IsTrue clear) (state_of old remembered)
 
   abbrev IsBuiltTo : Bool → List Bytes → Memory → Memory → Type 0
   IsBuiltTo clear seen remembered memory =
-      Builds (rules_in setting (own_files old.contents) invocation.options plan) (granted clear remembered) seen
+      Builds (rules_in setting (own_files old.contents) invocation.options plan) (assumed clear remembered) seen
       (record { world = world_in (state_of old remembered); failures = old.failures }) report.tasks
       (record { world = world_in (state_of end memory); failures = end.failures })
 
   abbrev StandAfter : Bool → List Bytes → Memory → Memory → Type 0
   StandAfter clear seen remembered memory =
-      granted clear remembered (seen_with seen (state_of old remembered) (state_of end memory)) → Standing end.contents.files memory
+      assumed clear remembered (seen_with seen (state_of old remembered) (state_of end memory)) → Standing end.contents.files memory
 
-  spreads : (clear : Bool) (remembered : Memory) → Spreads (granted clear remembered)
+  spreads : (clear : Bool) (remembered : Memory) → Spreads (assumed clear remembered)
   spreads clear remembered all some among given =
       (given.0, elim given.1 [ inl empty ↦ inl empty | inr apart ↦ inr (apart_of_fewer sha256 all some among apart) ])
 
@@ -103,14 +103,14 @@ module _ (kinds : Kinds) (registry_of : Registering) (may_leave : Tearing) (regi
       dry_keeps = λ is_dry. ap own_files (dry (sym dry_run ∙ is_dry));
       builds = builds;
       success = λ given none.
-          let all = success_follows one (granted clear remembered) (spreads clear remembered) (λ files properties other is. subst IsRegistry (ap (said_or registry) is) sound)
+          let all = success_follows one (assumed clear remembered) (spreads clear remembered) (λ files properties other is. subst IsRegistry (ap (said_or registry) is) sound)
           (state_of old remembered) (worth given.0).0 invocation plan planned_so (may_come setting (own_files old.contents) invocation.options) seen end.failures
           (world_in (state_of end memory)) report.tasks given none builds in
           (λ wet. all.0 (sym dry_run ∙ wet), all.1);
     };
     stands = λ given. (
       stands_for_memory kinds end.contents memory is_folder
-          (truth_follows one (granted clear remembered) (spreads clear remembered) (state_of old remembered) (worth given.0).0 invocation plan planned_so
+          (truth_follows one (assumed clear remembered) (spreads clear remembered) (state_of old remembered) (worth given.0).0 invocation plan planned_so
           (may_come setting (own_files old.contents) invocation.options) seen end.failures (world_in (state_of end memory)) report.tasks given builds)
           (records given),
       are_among (memory_contents (world_in (state_of end memory))) ((seen ++ here) ++ contents_outside end.contents)
@@ -118,7 +118,7 @@ module _ (kinds : Kinds) (registry_of : Registering) (may_leave : Tearing) (regi
           (remembered_was_seen kinds invocation.options (may_come setting (own_files old.contents) invocation.options) plan (seen ++ here) old.failures end.failures
           (world_in (state_of old remembered)) (world_in (state_of end memory)) report.tasks is_plan.2.sound.outputs_apart
           (among_of (memory_contents (world_in (state_of old remembered))) (seen ++ here) (worth given.0).1)
-          (plain_builds one (granted clear remembered) (spreads clear remembered) (may_come setting (own_files old.contents) invocation.options) invocation.options is_plan.0 plan
+          (plain_builds one (assumed clear remembered) (spreads clear remembered) (may_come setting (own_files old.contents) invocation.options) invocation.options is_plan.0 plan
           seen (seen ++ here) old.failures end.failures (world_in (state_of old remembered)) (world_in (state_of end memory)) report.tasks is_plan.2 given builds) c h)),
     );
   }
@@ -189,14 +189,14 @@ module _ (kinds : Kinds) (registry_of : Registering) (may_leave : Tearing) (regi
         let last : World = world_in (state_of end built.remembered) in
         let ready : IsTrue clear → IsTrue reads = λ is_clear. both_true clear (not invocation.options.dry_run) is_clear (ap not wet) in
         assembled remembered built.remembered clear seen worth
-        (builds_fewer (rules_in setting own invocation.options plan) (granted clear remembered) (spreads clear remembered) seen
+        (builds_fewer (rules_in setting own invocation.options plan) (assumed clear remembered) (spreads clear remembered) seen
         (record { world = first; failures = old.failures }) report.tasks (record { world = last; failures = end.failures })
-        (builds_since setting own invocation.options plan old.failures (granted clear remembered) all_seen first mid.failures report.tasks
+        (builds_since setting own invocation.options plan old.failures (assumed clear remembered) all_seen first mid.failures report.tasks
         (record { world = last; failures = end.failures }) earlier
         (builds_weaker kinds invocation.options plan (may_come (setting_with kinds registry_of second) own invocation.options) (may_come setting own invocation.options)
         (may_alike kinds registry_of may_leave second alike own invocation.options)
         (StillClear (setting_with kinds registry_of second) (IsTrue reads) (record { contents = old.contents; remembered = remembered; failures = mid.failures }))
-        (granted clear remembered) (λ contents given. (ready given.0, given.1))
+        (assumed clear remembered) (λ contents given. (ready given.0, given.1))
         all_seen mid.failures end.failures first last report.tasks built.builds)))
         (λ given. built.records (
           ready given.0,

@@ -29,7 +29,7 @@ module _ (registers : Registering) (may_leave : Tearing) (place : Place) where
     put_keeps answers.Edited step = step.3
     put_keeps (answers.Refused fault) (inl (inl memory)) = nothing place fault old.contents new.contents memory.0
     put_keeps (answers.Refused fault) (inl (inr stopped)) =
-        torn place fault old.contents new.contents stopped.told (changes_left (bytes_eq place) old.contents new.contents place stopped.torn.0 stopped.torn.2 (itself place))
+        torn place fault old.contents new.contents stopped.reported (changes_left (bytes_eq place) old.contents new.contents place stopped.torn.0 stopped.torn.2 (itself place))
     put_keeps (answers.Refused fault) (inr (inl none)) = nothing place fault old.contents new.contents none.0
     put_keeps (answers.Refused fault) (inr (inr large)) = nothing place fault old.contents new.contents large.0
     put_keeps (answers.Built report) step = absurd step
@@ -43,7 +43,7 @@ module _ (registers : Registering) (may_leave : Tearing) (place : Place) where
     remove_keeps answers.Edited step = step.2 ∙ ap (λ (files : Files). record old.contents { files = files }) (without_place old.contents.files)
     remove_keeps (answers.Refused fault) (inl (inl memory)) = nothing place fault old.contents new.contents memory.0
     remove_keeps (answers.Refused fault) (inl (inr stopped)) =
-        torn place fault old.contents new.contents stopped.told (changes_left (bytes_eq place) old.contents new.contents place stopped.torn.0 stopped.torn.2 (itself place))
+        torn place fault old.contents new.contents stopped.reported (changes_left (bytes_eq place) old.contents new.contents place stopped.torn.0 stopped.torn.2 (itself place))
     remove_keeps (answers.Refused fault) (inr (inl none)) = nothing place fault old.contents new.contents none.0
     remove_keeps (answers.Refused fault) (inr (inr gone)) = nothing place fault old.contents new.contents gone.0
     remove_keeps (answers.Built report) step = absurd step

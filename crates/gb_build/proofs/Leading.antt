@@ -12,7 +12,7 @@ use Rattle.gb_meaning.specs.Events.{Setting, State, Step, may_come, own_files, w
 use Rattle.gb_meaning.specs.Headline.{InvocationHolds, Stands, StillClear, answer_of, contents_outside, state_of}
 use Rattle.gb_meaning.specs.Memory.{Memory, folder_contents}
 use Rattle.gb_meaning.specs.TrueRecord.{memory_contents}
-use Rattle.gb_meaning.specs.Turn.{Guard}
+use Rattle.gb_meaning.specs.Execution.{Guard}
 use Rattle.gb_meaning.proofs.Lemmas.Clear.{in_left}
 use Rattle.gb_meaning.proofs.Lemmas.Weaker.{builds_weaker}
 use Rattle.gb_report.specs.declared.fault.Fault.{Fault}
@@ -40,24 +40,24 @@ nothing_leads setting old end event answer same remembered clear seen worth step
 }
 
 -- a step is also one where less is assumed
-pub step_weaker : (setting : Setting) (granted less : Guard) → ((contents : List Bytes) → less contents → granted contents)
-    → (seen : List Bytes) (old : State) (event : Event) (answer : Answer) (new : State) → Step setting granted seen old event answer new → Step setting less seen old event answer new
-step_weaker setting granted less grants seen old (events.Put place bytes) answer new step = step
-step_weaker setting granted less grants seen old (events.Remove place) answer new step = step
-step_weaker setting granted less grants seen old events.Lost answer new step = step
-step_weaker setting granted less grants seen old (events.Invoke invocation) (answers.Built report) new step = record {
+pub step_weaker : (setting : Setting) (assumed less : Guard) → ((contents : List Bytes) → less contents → assumed contents)
+    → (seen : List Bytes) (old : State) (event : Event) (answer : Answer) (new : State) → Step setting assumed seen old event answer new → Step setting less seen old event answer new
+step_weaker setting assumed less grants seen old (events.Put place bytes) answer new step = step
+step_weaker setting assumed less grants seen old (events.Remove place) answer new step = step
+step_weaker setting assumed less grants seen old events.Lost answer new step = step
+step_weaker setting assumed less grants seen old (events.Invoke invocation) (answers.Built report) new step = record {
   plan = step.plan;
   planned = step.planned;
   dry_run = step.dry_run;
   elsewhere = step.elsewhere;
   dry_keeps = step.dry_keeps;
   builds = builds_weaker setting.kinds invocation.options step.plan (may_come setting (own_files old.contents) invocation.options) (may_come setting (own_files old.contents) invocation.options)
-      (λ task moment next fault may. may) granted less grants seen old.failures new.failures (world_in old) (world_in new) report.tasks step.builds;
+      (λ task moment next fault may. may) assumed less grants seen old.failures new.failures (world_in old) (world_in new) report.tasks step.builds;
   success = λ given. step.success (grants (seen ++ folder_contents (world_in old) ++ folder_contents (world_in new)) given);
 }
-step_weaker setting granted less grants seen old (events.Invoke invocation) (answers.NotBuilt fault) new step = step
-step_weaker setting granted less grants seen old (events.Invoke invocation) answers.Edited new step = step
-step_weaker setting granted less grants seen old (events.Invoke invocation) (answers.Refused fault) new step = step
+step_weaker setting assumed less grants seen old (events.Invoke invocation) (answers.NotBuilt fault) new step = step
+step_weaker setting assumed less grants seen old (events.Invoke invocation) answers.Edited new step = step
+step_weaker setting assumed less grants seen old (events.Invoke invocation) (answers.Refused fault) new step = step
 
 -- what continues a run from true records is one invocation
 pub led_holds : (setting : Setting) (old end : Shown) (invocation : Invocation) (result : Result Report Fault) → old.failures ≤ end.failures

@@ -1,5 +1,5 @@
 pub mod FileLemmas
-pub mod TurnLemmas
+pub mod ExecutionLemmas
 pub mod RowLemmas
 pub mod PlaceLemmas
 pub mod OneLemmas

@@ -24,7 +24,7 @@ use Rattle.gb_meaning.proofs.Lemmas.Clear.{Among, in_left, in_one, in_right}
 use Rattle.sha2.specs.Sha256.{sha256}
 use Rattle.gb_records.specs.Said.{IsText}
 use Rattle.gb_records.proofs.Standing.{at_left}
-use Rattle.gb_records.proofs.Told.{stands_for_memory, texts_are_records}
+use Rattle.gb_records.proofs.Reported.{stands_for_memory, texts_are_records}
 use Rattle.gb_report.specs.declared.fault.Fault.{Fault}
 use Rattle.gb_store.specs.Changes.{IsCutShort, without_all}
 use Rattle.gb_plan.specs.Task.{Path, has_path}

@@ -12,20 +12,20 @@ use Rattle.gb_script.proofs.Sources.{one_said}
 use Rattle.gb_script.proofs.StatementLaws.{Reads-script, script_ends_text, Reads-settings, settings_end_text}
 use Rattle.gb_script.specs.Script.{Says, SaysAsSettings}
 use Rattle.gb_script.specs.declared.fault.ScriptFault.{ScriptFault}
-use Rattle.gb_build.proofs.TurnLemmas.{IsOne, passes_one, turns_one}
+use Rattle.gb_build.proofs.ExecutionLemmas.{IsOne, passes_one, executions_one}
 use Rattle.gb_build.specs.Laws.{FoldersSayOneThing}
 use Rattle.gb_build.specs.Scripts.{ScriptsSay, SettingsSay, SourceSays, script_places, settings_place}
 use Rattle.gb_build.specs.Texts.{FileSays, TextSays, in_file}
-use Rattle.gb_build.specs.Turns.{InTurn, Passes}
+use Rattle.gb_build.specs.Executions.{InTurn, Passes}
 
 module _ {X : Type 0} (SaysAs : Bytes → Result (List X) ScriptFault → Type 0) (one : (bytes : Bytes) (a b : Result (List X) ScriptFault) → SaysAs bytes a → SaysAs bytes b → a ≡ b) (place : Place) where
   file_one : (file : Option Bytes) → IsOne (FileSays SaysAs place file)
   file_one None a b is also = is ∙ sym also
   file_one (Some bytes) (Ok a) (Ok b) is also = ap Ok (let e = one bytes (Ok a) (Ok b) is also in cc)
-  file_one (Some bytes) (Ok a) (Err f) is (told, also, same) = absurd (let e = one bytes (Ok a) (Err told) is also in cc)
-  file_one (Some bytes) (Err e) (Ok b) (told, is, same) also = absurd (let e = one bytes (Err told) (Ok b) is also in cc)
-  file_one (Some bytes) (Err e) (Err f) (told, is, same) (other, also, too) =
-      let h : told ≡ other = (let e = one bytes (Err told) (Err other) is also in cc) in
+  file_one (Some bytes) (Ok a) (Err f) is (reported, also, same) = absurd (let e = one bytes (Ok a) (Err reported) is also in cc)
+  file_one (Some bytes) (Err e) (Ok b) (reported, is, same) also = absurd (let e = one bytes (Err reported) (Ok b) is also in cc)
+  file_one (Some bytes) (Err e) (Err f) (reported, is, same) (other, also, too) =
+      let h : reported ≡ other = (let e = one bytes (Err reported) (Err other) is also in cc) in
       ap Err (same ∙ ap (in_file place) h ∙ sym too)
 
   pub text_one : (files : Files) → IsOne (TextSays SaysAs files place)
@@ -100,14 +100,14 @@ scripts_one files places (Err e) (Err f) is also =
 
 settings_one : (files : Files) → IsOne (SettingsSay files)
 settings_one files =
-    turns_one (TextSays SaysAsSettings files settings_place) (λ settings. Passes (settings_faults settings) settings)
+    executions_one (TextSays SaysAsSettings files settings_place) (λ settings. Passes (settings_faults settings) settings)
     (text_one SaysAsSettings (one_said Reads-settings settings_end_text) settings_place files) (λ settings. passes_one (settings_faults settings) settings)
 
 pub folders_one : {M F Z S A : Type 0} (tables : Tables M F Z S A) → FoldersSayOneThing tables
 folders_one tables files given =
-    turns_one (SettingsSay files)
+    executions_one (SettingsSay files)
     (λ settings. InTurn (ScriptsSay files (script_places (projects_of settings))) (λ texts. SourceSays tables (source_of settings texts given)))
     (settings_one files)
-    (λ settings. turns_one (ScriptsSay files (script_places (projects_of settings)))
+    (λ settings. executions_one (ScriptsSay files (script_places (projects_of settings)))
     (λ texts. SourceSays tables (source_of settings texts given))
     (scripts_one files (script_places (projects_of settings))) (λ texts. passes_one (configure_faults tables (source_of settings texts given)) (source_of settings texts given)))

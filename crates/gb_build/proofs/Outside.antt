@@ -14,7 +14,7 @@ use Rattle.gb_meaning.specs.Headline.{Registering, StillClear, contents_outside,
 use Rattle.gb_meaning.specs.Kinds.{Kinds}
 use Rattle.gb_meaning.specs.Memory.{Memory}
 use Rattle.gb_meaning.specs.TrueRecord.{memory_contents}
-use Rattle.gb_records.proofs.Told.{stands_elsewhere, stands_for_memory}
+use Rattle.gb_records.proofs.Reported.{stands_elsewhere, stands_for_memory}
 use Rattle.gb_store.specs.Changes.{ChangesOnly}
 use Rattle.gb_store.proofs.Machine.{changes_left, changes_none, changes_with, changes_without}
 use Rattle.gb_build.specs.Leading.{Leads}

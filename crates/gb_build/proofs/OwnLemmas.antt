@@ -18,11 +18,11 @@ use Rattle.gb_script.specs.Script.{Says, SaysAsSettings}
 use Rattle.gb_script.specs.declared.fault.ScriptFault.{ScriptFault}
 use Rattle.gb_script.specs.declared.script.Statement.{Statement}
 use Rattle.gb_registry.proofs.Fine.{AreFine, is_fine, projects_fine}
-use Rattle.gb_build.proofs.TurnLemmas.{turns_stay}
+use Rattle.gb_build.proofs.ExecutionLemmas.{executions_stay}
 use Rattle.gb_build.specs.Laws.{OwnFilesSayNothing}
 use Rattle.gb_build.specs.Scripts.{AreTexts, FolderSays, ScriptsSay, SettingsSay, SourceSays, script_place, script_places, settings_place}
 use Rattle.gb_build.specs.Texts.{FileSays, TextSays}
-use Rattle.gb_build.specs.Turns.{InTurn, Passes}
+use Rattle.gb_build.specs.Executions.{InTurn, Passes}
 
 -- the files that are not the tool's own
 abbrev others : Files → Files
@@ -128,7 +128,7 @@ module _ (files other : Files) (alike : (place : Place) → is_plain place ≡ t
 
   settings_stay : (said : Result (List (List (List ℕ))) Fault) → SettingsSay files said → SettingsSay other said
   settings_stay =
-      turns_stay (TextSays SaysAsSettings files settings_place) (TextSays SaysAsSettings other settings_place)
+      executions_stay (TextSays SaysAsSettings files settings_place) (TextSays SaysAsSettings other settings_place)
       (λ settings. Passes (settings_faults settings) settings) (λ settings. Passes (settings_faults settings) settings)
       (text_stays SaysAsSettings files other settings_place (alike settings_place refl)) (λ settings _ r says. says)
 
@@ -166,12 +166,12 @@ plain_places (path ∷ paths) fine =
 module _ {M F Z S A : Type 0} (tables : Tables M F Z S A) (given : List (List ℕ × List ℕ)) (files other : Files) (alike : (place : Place) → is_plain place ≡ true → AreAlike files other place) where
   folder_stays : (said : Result Source Fault) → FolderSays tables files given said → FolderSays tables other given said
   folder_stays =
-      turns_stay (SettingsSay files) (SettingsSay other)
+      executions_stay (SettingsSay files) (SettingsSay other)
       (λ settings. InTurn (ScriptsSay files (script_places (projects_of settings))) (λ texts. SourceSays tables (source_of settings texts given)))
       (λ settings. InTurn (ScriptsSay other (script_places (projects_of settings))) (λ texts. SourceSays tables (source_of settings texts given)))
       (settings_stay files other alike)
       (λ settings good.
-      turns_stay (ScriptsSay files (script_places (projects_of settings))) (ScriptsSay other (script_places (projects_of settings)))
+      executions_stay (ScriptsSay files (script_places (projects_of settings))) (ScriptsSay other (script_places (projects_of settings)))
       (λ texts. SourceSays tables (source_of settings texts given))
       (λ texts. SourceSays tables (source_of settings texts given))
       (scripts_stay files other alike (script_places (projects_of settings)) (good_places settings good))

@@ -13,7 +13,7 @@ use Rattle.gb_meaning.specs.Kinds.{Kinds}
 use Rattle.gb_meaning.specs.Label.{Moment}
 use Rattle.gb_meaning.specs.Memory.{Memory}
 use Rattle.gb_meaning.specs.TrueRecord.{outside}
-use Rattle.gb_meaning.specs.Turn.{Guard, Standing as At}
+use Rattle.gb_meaning.specs.Execution.{Guard, Standing as At}
 use Rattle.gb_meaning.proofs.Lemmas.Weaker.{builds_weaker}
 use Rattle.gb_build.specs.Leading.{Leads, LeadsTo}
 use Rattle.gb_build.proofs.Earlier.{builds_since}
@@ -74,10 +74,10 @@ module _ (kinds : Kinds) (registry : Registry) (registers : Registering) (may_le
   }
 
   module _ (remembered : Memory) (clear : Bool) (seen : List (List ℕ)) where
-    abbrev granted : Guard
-    granted = StillClear two (IsTrue clear) (from_before remembered)
+    abbrev assumed : Guard
+    assumed = StillClear two (IsTrue clear) (from_before remembered)
 
-    build_too : (report : Report) (new : State) → IsBuild one granted seen (from_later remembered) invocation report new → IsBuild two granted seen (from_before remembered) invocation report new
+    build_too : (report : Report) (new : State) → IsBuild one assumed seen (from_later remembered) invocation report new → IsBuild two assumed seen (from_before remembered) invocation report new
     build_too report new is = record {
       plan = is.plan;
       planned = planned_too is.plan is.planned;
@@ -85,10 +85,10 @@ module _ (kinds : Kinds) (registry : Registry) (registers : Registering) (may_le
       elsewhere = is.elsewhere;
       dry_keeps = is.dry_keeps;
       builds =
-          builds_since two (own_files contents) invocation.options is.plan before granted seen (world_in (from_before remembered)) later report.tasks
+          builds_since two (own_files contents) invocation.options is.plan before assumed seen (world_in (from_before remembered)) later report.tasks
           (record { world = world_in new; failures = new.failures }) earlier
           (builds_weaker kinds invocation.options is.plan (may_come one (own_files contents) invocation.options) (may_come two (own_files contents) invocation.options)
-          (may_alike (own_files contents) invocation.options) granted granted (λ contents given. given)
+          (may_alike (own_files contents) invocation.options) assumed assumed (λ contents given. given)
           seen later new.failures (world_in (from_before remembered)) (world_in new) report.tasks is.builds);
       success = is.success;
     }
@@ -101,8 +101,8 @@ module _ (kinds : Kinds) (registry : Registry) (registers : Registering) (may_le
     refusal_too fault after count (inr (inr (inr (place, first, (risen, is))))) = inr (inr (inr (place, first, (HasRisen-before before later after earlier count risen, is))))
 
     step_too : (result : Result Report Fault) (next : State) → later ≤ next.failures
-        → Step one granted seen (from_later remembered) (events.Invoke invocation) (answer_of result) next
-        → Step two granted seen (from_before remembered) (events.Invoke invocation) (answer_of result) next
+        → Step one assumed seen (from_later remembered) (events.Invoke invocation) (answer_of result) next
+        → Step two assumed seen (from_before remembered) (events.Invoke invocation) (answer_of result) next
     step_too (Ok report) next count is = build_too report next is
     step_too (Err fault) next count (why, same, kept) = (refusal_too fault next.failures count why, same, kept)
 

@@ -13,7 +13,7 @@ use Rattle.gb_plan.proofs.Tests.{each_all}
 use Rattle.gb_build.specs.Asking.{AreBuildable}
 use Rattle.gb_build.proofs.RequestAsked.{planned_all, request_registry}
 use Rattle.gb_exec.specs.Building.{CanBuild}
-use Rattle.gb_turn.specs.Buildable.{IsBuildable}
+use Rattle.gb_task.specs.Buildable.{IsBuildable}
 use Rattle.gb_build.proofs.Changed.{HaveOwnPlaces}
 
 -- a plan of what the arguments request

@@ -9,7 +9,7 @@ use Rattle.gb_history.specs.Places.{record_place}
 use Rattle.gb_plan.specs.Graph.{order}
 use Rattle.gb_plan.specs.Task.{Path}
 use Rattle.gb_plan.specs.declared.plan.Planned.{Planned}
-use Rattle.gb_records.proofs.Told.{texts_are_records}
+use Rattle.gb_records.proofs.Reported.{texts_are_records}
 use Rattle.gb_report.specs.declared.fault.Fault.{Fault}
 use Rattle.gb_store.specs.Changes.{is_at}
 use Rattle.gb_store.specs.Faults.{BlamesOnly, IsOfMachine}
@@ -54,12 +54,12 @@ own_records [] = tt
 own_records (path ∷ paths) = (texts_are_records.own path, own_records paths)
 
 -- a fault of the machine, reported at a record, is why records could not be read
-pub unread : {T : Type 0} (call : Result T Fault) (fault told : Fault) (paths : List Path) (before after : ℕ) → call ≡ Err fault → told ≡ fault
-    → BlamesOnly (λ place. list_any (λ path. is_at (record_place path) place) paths) call → IsOfMachine before after fault → (dry_run : Bool) → dry_run ≡ false → IsUnread dry_run before after told
-unread call fault told paths before after was same blamed (inl out) dry_run wet = inl (same ∙ out)
-unread call fault told paths before after was same blamed (inr device) dry_run wet =
+pub unread : {T : Type 0} (call : Result T Fault) (fault reported : Fault) (paths : List Path) (before after : ℕ) → call ≡ Err fault → reported ≡ fault
+    → BlamesOnly (λ place. list_any (λ path. is_at (record_place path) place) paths) call → IsOfMachine before after fault → (dry_run : Bool) → dry_run ≡ false → IsUnread dry_run before after reported
+unread call fault reported paths before after was same blamed (inl out) dry_run wet = inl (same ∙ out)
+unread call fault reported paths before after was same blamed (inr device) dry_run wet =
     let own : is_own device.0 ≡ true = among_passes record_place is_own paths device.0 (own_records paths) (blamed device.0 (was ∙ ap Err device.1)) in
-    subst (λ b. IsUnread b before after told) (sym wet) (inr (device.0, both (is_own device.0) own, (device.2, same ∙ device.1)))
+    subst (λ b. IsUnread b before after reported) (sym wet) (inr (device.0, both (is_own device.0) own, (device.2, same ∙ device.1)))
   where
     both : (b : Bool) → b ≡ true → (b && true) ≡ true
     both true e = refl

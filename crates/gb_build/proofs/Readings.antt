@@ -32,24 +32,24 @@ module _ {M F Z S A : Type 0} (tables : Tables M F Z S A) (contents : Contents) 
 
   -- a fault of the scripts or of the machine ends the invocation
   pub not_read : {X : Type 0} (invocation : Invocation) (given : List (List ℕ × List ℕ)) → given ≡ invocation.properties
-      → (read : Result X Fault) (fault told : Fault) (before after : ℕ) → read ≡ Err fault → told ≡ fault → BlamesOnly is_script_place read
+      → (read : Result X Fault) (fault reported : Fault) (before after : ℕ) → read ≡ Err fault → reported ≡ fault → BlamesOnly is_script_place read
       → IsOfMachine before after fault ⊎ FolderSays tables contents.files given (Err fault)
-      → (old : Shown) → old.contents ≡ contents → old.failures ≡ before → IsNotBuilt (registers_in tables) old invocation told after
-  not_read invocation given same read fault told before after was is blamed (inl (inl out)) old here now = inr (inr (inl (is ∙ out)))
-  not_read invocation given same read fault told before after was is blamed (inl (inr (place, device, risen))) old here now =
+      → (old : Shown) → old.contents ≡ contents → old.failures ≡ before → IsNotBuilt (registers_in tables) old invocation reported after
+  not_read invocation given same read fault reported before after was is blamed (inl (inl out)) old here now = inr (inr (inl (is ∙ out)))
+  not_read invocation given same read fault reported before after was is blamed (inl (inr (place, device, risen))) old here now =
       inr (inr (inr (
         place,
         ap (λ b. b || (is_own place && not invocation.options.dry_run)) (blamed place (was ∙ ap Err device)),
         (subst (λ (n : ℕ). HasRisen n after) (sym now) risen, is ∙ device),
       )))
-  not_read invocation given same read fault told before after was is blamed (inr says) old here now =
-      inl (subst (λ (c : Contents). FolderSays tables (outside c).files invocation.properties (Err told)) (sym here)
+  not_read invocation given same read fault reported before after was is blamed (inr says) old here now =
+      inl (subst (λ (c : Contents). FolderSays tables (outside c).files invocation.properties (Err reported)) (sym here)
       (subst (λ (f : Fault). FolderSays tables (outside contents).files invocation.properties (Err f)) (sym is) (says_outside given invocation.properties same (Err fault) says)))
 
 -- a script is read first
-pub read_first : {X : Type 0} (invocation : Invocation) (read : Result X Fault) (fault told : Fault) → read ≡ Err fault → told ≡ fault → BlamesOnly is_script_place read
-    → (place : Place) → told ≡ faults.Device place → IsTrue (is_read_first invocation.options place)
-read_first invocation read fault told was is blamed place device =
+pub read_first : {X : Type 0} (invocation : Invocation) (read : Result X Fault) (fault reported : Fault) → read ≡ Err fault → reported ≡ fault → BlamesOnly is_script_place read
+    → (place : Place) → reported ≡ faults.Device place → IsTrue (is_read_first invocation.options place)
+read_first invocation read fault reported was is blamed place device =
     ap (λ b. b || (is_own place && not invocation.options.dry_run)) (blamed place (was ∙ ap Err (sym is ∙ device)))
 
 -- so is the tool's own, except in a dry run

@@ -42,21 +42,21 @@ not_built registers registry old invocation fault after scripts (inr (inr device
     )))
 
 -- what was requested is refused, and the fault is returned
-pub by_refusal : (registry : Registry) (invocation : Invocation) (requested excluded : List Text) (fault told : Fault) (before after : ℕ) → requested ≡ invocation.requested → excluded ≡ invocation.excluded
-    → told ≡ fault → IsRefusalOf registry requested excluded fault → IsNotBegun registry invocation before after told
-by_refusal registry invocation requested excluded fault told before after same_requested same_excluded same refusal =
+pub by_refusal : (registry : Registry) (invocation : Invocation) (requested excluded : List Text) (fault reported : Fault) (before after : ℕ) → requested ≡ invocation.requested → excluded ≡ invocation.excluded
+    → reported ≡ fault → IsRefusalOf registry requested excluded fault → IsNotBegun registry invocation before after reported
+by_refusal registry invocation requested excluded fault reported before after same_requested same_excluded same refusal =
     inl (subst (IsRefusalOf registry invocation.requested invocation.excluded) (sym same)
     (subst (λ (words : List Text). IsRefusalOf registry invocation.requested words fault) same_excluded
     (subst (λ (words : List Text). IsRefusalOf registry words excluded fault) same_requested refusal)))
 
 -- records could not be read, and the fault is returned
-pub by_reading : (registry : Registry) (invocation : Invocation) (fault told : Fault) (before after : ℕ) → told ≡ fault → IsUnread invocation.options.dry_run before after fault
-    → IsNotBegun registry invocation before after told
-by_reading registry invocation fault told before after same why = inr (subst (IsUnread invocation.options.dry_run before after) (sym same) why)
+pub by_reading : (registry : Registry) (invocation : Invocation) (fault reported : Fault) (before after : ℕ) → reported ≡ fault → IsUnread invocation.options.dry_run before after fault
+    → IsNotBegun registry invocation before after reported
+by_reading registry invocation fault reported before after same why = inr (subst (IsUnread invocation.options.dry_run before after) (sym same) why)
 
-pub if_told : (registry : Registry) (invocation : Invocation) (result : Result Report Fault) (told : Fault) (before after : ℕ) → result ≡ Err told → IsNotBegun registry invocation before after told
+pub if_reported : (registry : Registry) (invocation : Invocation) (result : Result Report Fault) (reported : Fault) (before after : ℕ) → result ≡ Err reported → IsNotBegun registry invocation before after reported
     → IfErr result (IsNotBegun registry invocation before after)
-if_told registry invocation result told before after is why = subst (λ (r : Result Report Fault). IfErr r (IsNotBegun registry invocation before after)) (sym is) why
+if_reported registry invocation result reported before after is why = subst (λ (r : Result Report Fault). IfErr r (IsNotBegun registry invocation before after)) (sym is) why
 
 -- an invocation that is not begun, and changed nothing
 pub refused_leads : (setting : Setting) (registry : Registry) (old end : Shown) (invocation : Invocation) (fault : Fault)
@@ -85,9 +85,9 @@ refused_fails registry invocation fault before after none count (inr (inl out)) 
 refused_fails registry invocation fault before after none count (inr (inr device)) =
     subst (λ (b : Bool). HasFailed (cond b 1 0) before after) (sym (ap is_of_device device.2.1)) (risen_once before after count device.2.0)
 
-pub told_fails : (registry : Registry) (invocation : Invocation) (fault : Fault) (before after : ℕ) → NoneBlameDevice registry → before ≤ after
+pub reported_fails : (registry : Registry) (invocation : Invocation) (fault : Fault) (before after : ℕ) → NoneBlameDevice registry → before ≤ after
     → IsNotBegun registry invocation before after fault → (result : Result Report Fault) → result ≡ Err fault → HasFailed (times_blamed (answer_of result)) before after
-told_fails registry invocation fault before after none count why result is =
+reported_fails registry invocation fault before after none count why result is =
     subst (λ (r : Result Report Fault). HasFailed (times_blamed (answer_of r)) before after) (sym is) (refused_fails registry invocation fault before after none count why)
 
 -- ---- Places

@@ -62,10 +62,10 @@ module _ (registry : Registry) where
   words_blame [] = tt
   words_blame (word ∷ words) = all_both (λ fault. is_of_device fault ≡ false) (word_faults registry word) (flat_map (word_faults registry) words) (word_blames word) (words_blame words)
 
-  by_first : (request : Request) → request.registry ≡ registry → (told : List Fault) → AllByRecursion (λ fault. is_of_device fault ≡ false) told
-      → IsAsked (elim (first_of told) [ None ↦ Ok request | Some fault ↦ Err fault ])
+  by_first : (request : Request) → request.registry ≡ registry → (reported : List Fault) → AllByRecursion (λ fault. is_of_device fault ≡ false) reported
+      → IsAsked (elim (first_of reported) [ None ↦ Ok request | Some fault ↦ Err fault ])
   by_first request of_registry [] blame = (of_registry, tt)
-  by_first request of_registry (fault ∷ told) blame = (tt, blame.0)
+  by_first request of_registry (fault ∷ reported) blame = (tt, blame.0)
 
   asked_so : (requested excluded : List Text) → IsAsked (request_of registry requested excluded)
   asked_so requested excluded = checked (words_of registry requested)
@@ -89,13 +89,13 @@ module _ (registry : Registry) where
 -- ---- Refusals
 
 schedule_blames_none : (plan : Plan) (fault : Fault) → IsScheduleFault plan fault → is_of_device fault ≡ false
-schedule_blames_none plan fault (has_cycle is) = ap is_of_device is.told
-schedule_blames_none plan fault (has_overlap is) = ap is_of_device is.told
-schedule_blames_none plan fault (has_own_input is) = ap is_of_device is.told
-schedule_blames_none plan fault (is_undeclared is) = ap is_of_device is.told
+schedule_blames_none plan fault (has_cycle is) = ap is_of_device is.reported
+schedule_blames_none plan fault (has_overlap is) = ap is_of_device is.reported
+schedule_blames_none plan fault (has_own_input is) = ap is_of_device is.reported
+schedule_blames_none plan fault (is_undeclared is) = ap is_of_device is.reported
 
 -- where no declaration has a fault of the device, no refusal is attributed to it
-pub refusal_blames_none : (request : Request) (fault : Fault) → AllByRecursion (λ entry. IfErr entry.1 (λ told. is_of_device told ≡ false)) request.registry.tasks
+pub refusal_blames_none : (request : Request) (fault : Fault) → AllByRecursion (λ entry. IfErr entry.1 (λ reported. is_of_device reported ≡ false)) request.registry.tasks
     → IsRefused request fault → is_of_device fault ≡ false
-refusal_blames_none request fault none (inl is) = at_found (λ r. IfErr r (λ told. is_of_device told ≡ false)) request.registry.tasks none is.path (Err fault) is.at_fault
+refusal_blames_none request fault none (inl is) = at_found (λ r. IfErr r (λ reported. is_of_device reported ≡ false)) request.registry.tasks none is.path (Err fault) is.at_fault
 refusal_blames_none request fault none (inr is) = schedule_blames_none is.0 fault is.2

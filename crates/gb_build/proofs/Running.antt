@@ -27,8 +27,8 @@ use Rattle.gb_build.specs.Answers.{AnswerIsOutlined, Edit, edit_answer}
 -- ---- Runs
 
 -- a run went through the same states where less is clear
-goes_weaker : (setting : Setting) (one other : Type 0) → (other → one) → (seen : List Bytes) (old : State) (states : List State) (all : List Event) (told : List Answer) (end : Shown)
-    → GoesThrough setting one seen old states all told end → GoesThrough setting other seen old states all told end
+goes_weaker : (setting : Setting) (one other : Type 0) → (other → one) → (seen : List Bytes) (old : State) (states : List State) (all : List Event) (reported : List Answer) (end : Shown)
+    → GoesThrough setting one seen old states all reported end → GoesThrough setting other seen old states all reported end
 goes_weaker setting one other weaker seen old [] [] [] end run = run
 goes_weaker setting one other weaker seen old (next ∷ states) (event ∷ rest) (answer ∷ others) end run = (
   run.0,
@@ -44,15 +44,15 @@ goes_weaker setting one other weaker seen old (next ∷ states) [] [] end run = 
 goes_weaker setting one other weaker seen old (next ∷ states) [] (answer ∷ others) end run = absurd run
 goes_weaker setting one other weaker seen old (next ∷ states) (event ∷ rest) [] end run = absurd run
 
-run_weaker : (setting : Setting) (one other : Type 0) → (other → one) → (seen : List Bytes) (old : State) (all : List Event) (told : List Answer) (end : Shown)
-    → RunHolds setting one seen old all told end → RunHolds setting other seen old all told end
-run_weaker setting one other weaker seen old all told end run = (run.0, goes_weaker setting one other weaker seen old run.0 all told end run.1)
+run_weaker : (setting : Setting) (one other : Type 0) → (other → one) → (seen : List Bytes) (old : State) (all : List Event) (reported : List Answer) (end : Shown)
+    → RunHolds setting one seen old all reported end → RunHolds setting other seen old all reported end
+run_weaker setting one other weaker seen old all reported end run = (run.0, goes_weaker setting one other weaker seen old run.0 all reported end run.1)
 
 -- a run of these events from what a folder shows, whatever is remembered
 pub RunsFrom : Setting → Shown → List Event → List Answer → Shown → Type 0
-RunsFrom setting old all told end =
+RunsFrom setting old all reported end =
     (remembered : Memory) (clear : Bool) (seen : List Bytes) → (IsTrue clear → StandsSeen setting seen (state_of old remembered))
-    → RunHolds setting (IsTrue clear) seen (state_of old remembered) all told end
+    → RunHolds setting (IsTrue clear) seen (state_of old remembered) all reported end
 
 yes_of : {X : Type 0} → X ⊎ (¬ X) → Bool
 yes_of (inl is) = true
@@ -90,40 +90,40 @@ unfolding RunsFrom
 runs_nowhere setting old remembered clear seen worth = ([], (omega arith, refl))
 
 -- a run, starting from any true records that exist
-pub runs_hold : (setting : Setting) (old end : Shown) (all : List Event) (told : List Answer) → RunsFrom setting old all told end → EventsHold setting old all told end
+pub runs_hold : (setting : Setting) (old end : Shown) (all : List Event) (reported : List Answer) → RunsFrom setting old all reported end → EventsHold setting old all reported end
 unfolding RunsFrom
-runs_hold setting old end all told runs remembered stands =
+runs_hold setting old end all reported runs remembered stands =
     let seen : List Bytes = memory_contents (world_in (state_of old remembered)) in
-    run_weaker setting (IsTrue true) ⊤ (λ _. refl) seen (state_of old remembered) all told end
+    run_weaker setting (IsTrue true) ⊤ (λ _. refl) seen (state_of old remembered) all reported end
     (runs remembered true seen (λ _. (stands, seen_more seen seen (contents_outside old.contents) (λ bytes within. within))))
 
 -- ---- What changes
 
-pub keeps_more : (registers : Registering) (all : List Event) (told : List Answer) (event : Event) (answer : Answer) (old mid new : Contents) → length all ≡ length told
-    → AllKeepElsewhere registers all told old mid → EventKeeps registers event answer mid new → AllKeepElsewhere registers (all ++ event ∷ []) (told ++ answer ∷ []) old new
+pub keeps_more : (registers : Registering) (all : List Event) (reported : List Answer) (event : Event) (answer : Answer) (old mid new : Contents) → length all ≡ length reported
+    → AllKeepElsewhere registers all reported old mid → EventKeeps registers event answer mid new → AllKeepElsewhere registers (all ++ event ∷ []) (reported ++ answer ∷ []) old new
 keeps_more registers [] [] event answer old mid new same keeps more = (new, subst (λ (c : Contents). EventKeeps registers event answer c new) keeps more, refl)
-keeps_more registers [] (a ∷ told) event answer old mid new same keeps more = absurd (cc)
+keeps_more registers [] (a ∷ reported) event answer old mid new same keeps more = absurd (cc)
 keeps_more registers (e ∷ all) [] event answer old mid new same keeps more = absurd (cc)
-keeps_more registers (e ∷ all) (a ∷ told) event answer old mid new same keeps more =
-    (keeps.0, keeps.1, keeps_more registers all told event answer keeps.0 mid new (omega (arith, same)) keeps.2 more)
+keeps_more registers (e ∷ all) (a ∷ reported) event answer old mid new same keeps more =
+    (keeps.0, keeps.1, keeps_more registers all reported event answer keeps.0 mid new (omega (arith, same)) keeps.2 more)
 
 -- ---- The notifications
 
-pub heard_more : (told : List Answer) (answer : Answer) (old mid new : List Ear) → HaveHeardAll told old mid → HaveHeardAll (answer ∷ []) mid new → HaveHeardAll (told ++ answer ∷ []) old new
+pub heard_more : (reported : List Answer) (answer : Answer) (old mid new : List Ear) → HaveHeardAll reported old mid → HaveHeardAll (answer ∷ []) mid new → HaveHeardAll (reported ++ answer ∷ []) old new
 heard_more [] answer old mid new heard more = subst (λ (ears : List Ear). HaveHeardAll (answer ∷ []) ears new) heard more
-heard_more (answers.Edited ∷ told) answer old mid new heard more = heard_more told answer old mid new heard more
-heard_more (answers.Refused fault ∷ told) answer old mid new heard more = heard_more told answer old mid new heard more
-heard_more (answers.Built report ∷ told) answer old mid new heard more = (heard.0, heard.1, heard_more told answer heard.0 mid new heard.2 more)
-heard_more (answers.NotBuilt fault ∷ told) answer old mid new heard more = heard_more told answer old mid new heard more
+heard_more (answers.Edited ∷ reported) answer old mid new heard more = heard_more reported answer old mid new heard more
+heard_more (answers.Refused fault ∷ reported) answer old mid new heard more = heard_more reported answer old mid new heard more
+heard_more (answers.Built report ∷ reported) answer old mid new heard more = (heard.0, heard.1, heard_more reported answer heard.0 mid new heard.2 more)
+heard_more (answers.NotBuilt fault ∷ reported) answer old mid new heard more = heard_more reported answer old mid new heard more
 
 -- ---- The answers over any folder
 
-pub outlined_more : (all : List Event) (told : List Answer) (event : Event) (answer : Answer) → AllZip AnswerIsOutlined all told → AnswerIsOutlined event answer
-    → AllZip AnswerIsOutlined (all ++ event ∷ []) (told ++ answer ∷ [])
+pub outlined_more : (all : List Event) (reported : List Answer) (event : Event) (answer : Answer) → AllZip AnswerIsOutlined all reported → AnswerIsOutlined event answer
+    → AllZip AnswerIsOutlined (all ++ event ∷ []) (reported ++ answer ∷ [])
 outlined_more [] [] event answer outlined more = (more, tt)
-outlined_more [] (a ∷ told) event answer outlined more = absurd outlined
+outlined_more [] (a ∷ reported) event answer outlined more = absurd outlined
 outlined_more (e ∷ all) [] event answer outlined more = absurd outlined
-outlined_more (e ∷ all) (a ∷ told) event answer outlined more = (outlined.0, outlined_more all told event answer outlined.1 more)
+outlined_more (e ∷ all) (a ∷ reported) event answer outlined more = (outlined.0, outlined_more all reported event answer outlined.1 more)
 
 pub report_outlined : (invocation : Invocation) (result : Result Report Fault) → IfOk result (IsOutlined invocation) → AnswerIsOutlined (events.Invoke invocation) (answer_of result)
 report_outlined invocation (Ok report) outlined = outlined
@@ -141,11 +141,11 @@ edit_outlined (events.Invoke invocation) (Err fault) = tt
 
 -- ---- Lists, one element more
 
-pub more_ahead : (setting : Setting) (old end : Shown) (all : List Event) (event : Event) (rest : List Event) (told : List Answer) (answer : Answer) (others : List Answer)
-    → RunsFrom setting old (all ++ event ∷ rest) (told ++ answer ∷ others) end → RunsFrom setting old (all ++ event ∷ [] ++ rest) (told ++ answer ∷ [] ++ others) end
-more_ahead setting old end all event rest told answer others runs =
-    subst (λ (events : List Event). RunsFrom setting old events (told ++ answer ∷ [] ++ others) end) (sym (append_assoc all (event ∷ []) rest))
-    (subst (λ (answers : List Answer). RunsFrom setting old (all ++ event ∷ rest) answers end) (sym (append_assoc told (answer ∷ []) others)) runs)
+pub more_ahead : (setting : Setting) (old end : Shown) (all : List Event) (event : Event) (rest : List Event) (reported : List Answer) (answer : Answer) (others : List Answer)
+    → RunsFrom setting old (all ++ event ∷ rest) (reported ++ answer ∷ others) end → RunsFrom setting old (all ++ event ∷ [] ++ rest) (reported ++ answer ∷ [] ++ others) end
+more_ahead setting old end all event rest reported answer others runs =
+    subst (λ (events : List Event). RunsFrom setting old events (reported ++ answer ∷ [] ++ others) end) (sym (append_assoc all (event ∷ []) rest))
+    (subst (λ (answers : List Answer). RunsFrom setting old (all ++ event ∷ rest) answers end) (sym (append_assoc reported (answer ∷ []) others)) runs)
 
 pub taken_all : {X Y : Type 0} (index : ℕ) (xs : List X) (ys : List Y) → length ys ≡ index → index < length xs → length (take index xs) ≡ length ys
 taken_all index xs ys same less = length-take-le index xs (omega (arith, less)) ∙ sym same
@@ -155,8 +155,8 @@ take_all index [] less = take-nil index
 take_all zero (x ∷ xs) less = absurd (omega arith)
 take_all (suc index) (x ∷ xs) less = ap (λ rest. x ∷ rest) (take_all index xs (omega (arith, less)))
 
-pub to_the_end : (setting : Setting) (old end : Shown) (index : ℕ) (all : List Event) (told : List Answer) → length all ≤ index
-    → RunsFrom setting old (take index all ++ []) (told ++ []) end → RunsFrom setting old all told end
-to_the_end setting old end index all told less runs =
-    subst (λ (events : List Event). RunsFrom setting old events told end) (append-nil (take index all) ∙ take_all index all less)
-    (subst (λ (answers : List Answer). RunsFrom setting old (take index all ++ []) answers end) (append-nil told) runs)
+pub to_the_end : (setting : Setting) (old end : Shown) (index : ℕ) (all : List Event) (reported : List Answer) → length all ≤ index
+    → RunsFrom setting old (take index all ++ []) (reported ++ []) end → RunsFrom setting old all reported end
+to_the_end setting old end index all reported less runs =
+    subst (λ (events : List Event). RunsFrom setting old events reported end) (append-nil (take index all) ∙ take_all index all less)
+    (subst (λ (answers : List Answer). RunsFrom setting old (take index all ++ []) answers end) (append-nil reported) runs)

@@ -16,9 +16,9 @@ use Rattle.gb_build.specs.Scripts.{FolderSays, ScriptsSay, script_places, settin
 use Rattle.gb_build.specs.Texts.{TextSays}
 
 -- what holds of a fault that is passed on holds of the answer
-pub handed : {T : Type 0} (Good : T → Type 0) (Bad : Fault → Type 0) (result : Result T Fault) (fault : Fault) → IsErrAnd result (λ told. told ≡ fault) → Bad fault → MatchResult result Good Bad
+pub handed : {T : Type 0} (Good : T → Type 0) (Bad : Fault → Type 0) (result : Result T Fault) (fault : Fault) → IsErrAnd result (λ reported. reported ≡ fault) → Bad fault → MatchResult result Good Bad
 handed Good Bad (Ok x) fault is bad = absurd is
-handed Good Bad (Err told) fault is bad = subst Bad (sym is) bad
+handed Good Bad (Err reported) fault is bad = subst Bad (sym is) bad
 
 -- what scripts say stays where the folder does
 pub scripts_here : (new old : Contents) (folders projects : List (Path × Option Place)) (said : Result (List (List Statement)) Fault) → new ≡ old → folders ≡ projects
@@ -37,6 +37,6 @@ module _ {M F Z S A : Type 0} (tables : Tables M F Z S A) (files : Files) (given
   pub put_together : {X : Type 0} (texts : List (List Statement)) (before after : ℕ) (result : Result X Fault) (registry : X → Source) → ScriptsSay files (script_places (projects_of settings)) (Ok texts)
       → IfOk result (λ x. registry x ≡ source_of settings texts given) → TellsFirst (configure_faults tables (source_of settings texts given)) result
       → MatchResult result (λ x. FolderSays tables files given (Ok (registry x))) (λ fault. IsOfMachine before after fault ⊎ FolderSays tables files given (Err fault))
-  put_together texts before after (Ok x) registry scripts same told = (settings, (settings, text, (none, refl)), (texts, scripts, (told, same)))
+  put_together texts before after (Ok x) registry scripts same reported = (settings, (settings, text, (none, refl)), (texts, scripts, (reported, same)))
   put_together texts before after (Err fault) registry scripts same (inl memory) = inl (inl memory)
   put_together texts before after (Err fault) registry scripts same (inr first) = inr (inr (settings, (settings, text, (none, refl)), inr (texts, scripts, first)))

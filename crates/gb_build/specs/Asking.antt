@@ -9,7 +9,7 @@ use Rattle.gb_meaning.specs.declared.events.Invocation.{Invocation}
 use Rattle.gb_plan.specs.Graph.{Plan, Registry}
 use Rattle.gb_plan.specs.Ready.{Rows}
 use Rattle.gb_report.specs.declared.report.Report.{Report}
-use Rattle.gb_turn.specs.Buildable.{IsBuildable}
+use Rattle.gb_task.specs.Buildable.{IsBuildable}
 
 -- each task that is declared can be built with these actions
 abbrev pub AreBuildable : {S : Type 0} → Meanings S → Rows S → Registry → Type 0

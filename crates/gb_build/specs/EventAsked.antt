@@ -41,4 +41,4 @@ abbrev pub EventsAsk : {F S : Type 0} → (F → ℕ) → (F → Tearing) → (F
 EventsAsk failures may_leave asked meanings rows (event ∷ rest) (answer ∷ others) old new =
     (mid : _) × EventAsks failures may_leave asked meanings rows event answer old mid
     × EventsAsk failures may_leave asked meanings rows rest others mid new
-EventsAsk failures may_leave asked meanings rows all told old new = new ≡ old
+EventsAsk failures may_leave asked meanings rows all reported old new = new ≡ old

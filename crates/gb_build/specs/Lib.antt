@@ -1,5 +1,5 @@
 pub mod Texts
-pub mod Turns
+pub mod Executions
 pub mod Scripts
 pub mod Laws
 pub mod Refusing

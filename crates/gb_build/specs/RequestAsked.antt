@@ -2,7 +2,7 @@
 use Rattle.std.specs.Prelude.{ℕ, ◌≡◌, false, List, Option, Result, Ok, Err}
 use Rattle.std.specs.List.{AllZip}
 use Rattle.gb_action.specs.Meanings.{Meanings}
-use Rattle.gb_exec.specs.Asking.{TurnsAsk}
+use Rattle.gb_exec.specs.Asking.{ExecutionsAsk}
 use Rattle.gb_folder.specs.Calls.{Asks, Call, no_change}
 use Rattle.gb_folder.specs.Files.{Tearing}
 use Rattle.gb_history.specs.Record.{Record}
@@ -27,7 +27,7 @@ pub record PlanAsks {F S : Type 0} (failures : F → ℕ) (may_leave : F → Tea
   pub first : Asks failures may_leave asked no_change old begun
   pub answered : options.dry_run ≡ false
       → AllZip (WasAnswered failures may_leave asked old begun) (order plan) records
-  pub turns : TurnsAsk failures may_leave asked meanings rows options plan records reports begun new
+  pub executions : ExecutionsAsk failures may_leave asked meanings rows options plan records reports begun new
 
 -- a refused build requests no change; another makes the calls of its plan
 abbrev pub BuildAsks : {F S : Type 0} → (F → ℕ) → (F → Tearing) → (F → Call → F → Type 0) → Meanings S

@@ -12,7 +12,7 @@ use Rattle.gb_report.specs.declared.fault.Fault.{Fault}
 use Rattle.gb_script.specs.Script.{Says, SaysAsSettings}
 use Rattle.gb_script.specs.declared.script.Statement.{Statement}
 use Rattle.gb_build.specs.Texts.{TextSays}
-use Rattle.gb_build.specs.Turns.{InTurn, Passes}
+use Rattle.gb_build.specs.Executions.{InTurn, Passes}
 
 -- ---- The places of scripts
 

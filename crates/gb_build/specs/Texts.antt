@@ -8,7 +8,7 @@ use Rattle.gb_report.specs.declared.fault.Fault.{Fault}
 use Rattle.gb_report.specs.declared.fault.Fault.TheVariants as faults
 use Rattle.gb_script.specs.declared.fault.ScriptFault.{ScriptFault}
 use Rattle.gb_script.specs.declared.fault.ScriptFault.TheVariants as scripts
-use Rattle.gb_store.specs.Faults.{IsOfMachine, told_at}
+use Rattle.gb_store.specs.Faults.{IsOfMachine, reported_at}
 
 -- a fault of a text, with the place of its file
 abbrev pub in_file : Place → ScriptFault → Fault
@@ -21,7 +21,7 @@ in_file place scripts.NotUtf8 = faults.NotUtf8 place
 -- a folder's fault where a text is read: a file that is too large is a text that is too long
 abbrev pub unread_at : Place → FolderFault → Fault
 unread_at place folders.TooLarge = faults.TooLong place
-unread_at place other = told_at place other
+unread_at place other = reported_at place other
 
 -- the notation: what bytes parse as, or their fault
 module _ {X : Type 0} (SaysAs : Bytes → Result (List X) ScriptFault → Type 0) where
@@ -30,7 +30,7 @@ module _ {X : Type 0} (SaysAs : Bytes → Result (List X) ScriptFault → Type 0
   FileSays place None said = said ≡ Ok []
   FileSays place (Some bytes) (Ok said) = SaysAs bytes (Ok said)
   FileSays place (Some bytes) (Err fault) =
-      (told : ScriptFault) × SaysAs bytes (Err told) × (fault ≡ in_file place told)
+      (reported : ScriptFault) × SaysAs bytes (Err reported) × (fault ≡ in_file place reported)
 
   -- what the file at the place declares, or that another file is in its way
   abbrev pub TextSays : Files → Place → Result (List X) Fault → Type 0

@@ -12,7 +12,7 @@ pub use Rattle.gb_exec.specs.Telling.{Refuses}
 pub use Rattle.gb_meaning.specs.Edits.{Shown}
 pub use Rattle.gb_meaning.specs.Events.{IsBuild, IsNotBuilt, Setting, State, has_failure, is_read_first}
 pub use Rattle.gb_meaning.specs.Every.{IsFromScratch, PlainRun, PromiseHolds, Succeeds}
-pub use Rattle.gb_meaning.specs.Granted.{MemoryGrants, SomeKindsAgree, leaves_nothing}
+pub use Rattle.gb_meaning.specs.Assumed.{MemoryGrants, SomeKindsAgree, leaves_nothing}
 pub use Rattle.gb_meaning.specs.Headline.{Agrees, AllKeepElsewhere, Ear, EventKeeps, EventsHold}
 pub use Rattle.gb_meaning.specs.Headline.{HasFailed, HaveHeard, HaveHeardAll, HearsAll, InvocationHolds}
 pub use Rattle.gb_meaning.specs.Headline.{Stands, TearsAreSeen, answer_of, times_blamed}
@@ -29,7 +29,7 @@ pub use Rattle.gb_printer.specs.Printing.{Prints, parts_text}
 pub use Rattle.gb_records.specs.Said.{IsText}
 pub use Rattle.gb_registry.specs.Configure.{configure_faults}
 pub use Rattle.gb_registry.specs.Tables.{tables_of}
-pub use Rattle.gb_records.specs.Granted.{IsGranted}
+pub use Rattle.gb_records.specs.Assumed.{IsAssumed}
 pub use Rattle.gb_report.specs.Fault.{fault_number, fault_text}
 pub use Rattle.gb_report.specs.Report.{report_text}
 pub use Rattle.gb_report.specs.declared.fault.Fault.{Fault}

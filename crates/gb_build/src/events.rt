@@ -7,7 +7,7 @@ ghost use Rattle.gb_meaning.specs.Headline.{AllKeepElsewhere, EventKeeps, Events
 ghost use Rattle.gb_meaning.specs.Headline.{HasFailed, answer_of, times_blamed};
 ghost use Rattle.gb_meaning.specs.Headline.{times_blamed_in_all};
 ghost use Rattle.gb_meaning.specs.Kinds.{Kinds};
-ghost use Rattle.gb_records.specs.Granted.{IsGranted};
+ghost use Rattle.gb_records.specs.Assumed.{IsAssumed};
 ghost use Rattle.gb_registry.specs.Tables.{tables_of};
 ghost use Rattle.gb_build.specs.Registering.{registers_in, setting_of};
 ghost use Rattle.gb_build.specs.Leading.{Leads};
@@ -64,7 +64,7 @@ pub fn run_events<A: Actions, T: Transforms, F: Folder, L: TaskListener>(
         (F.contents folder.old) (F.contents folder.new)) }
     // This is a run of the events by its definition.
     ensures holds { IsTrue F.tells → IfOk result (λ answers. (kinds : Kinds)
-        → IsGranted A.meanings tables.now.actions kinds (F.may_leave folder.old)
+        → IsAssumed A.meanings tables.now.actions kinds (F.may_leave folder.old)
         → EventsHold
         (setting_of (tables_of T.meanings A.meanings tables.now) kinds (F.may_leave folder.old))
         (record { contents = F.contents folder.old; failures = F.failures folder.old })
@@ -73,7 +73,7 @@ pub fn run_events<A: Actions, T: Transforms, F: Folder, L: TaskListener>(
     // So each event is a plain step, and each build in which no task failed is from scratch,
     // starting from any true records.
     ensures promise { IsTrue F.tells → IfOk result (λ answers. (kinds : Kinds)
-        → IsGranted A.meanings tables.now.actions kinds (F.may_leave folder.old)
+        → IsAssumed A.meanings tables.now.actions kinds (F.may_leave folder.old)
         → PromiseHolds
         (setting_of (tables_of T.meanings A.meanings tables.now) kinds (F.may_leave folder.old))
         (record { contents = F.contents folder.old; failures = F.failures folder.old })
@@ -107,7 +107,7 @@ fn take<A: Actions, T: Transforms, F: Folder, L: TaskListener>(
         → EventKeeps (registers_in (tables_of T.meanings A.meanings tables.now)) event.now result
         (F.contents folder.old) (F.contents folder.new) }
     ensures leads { IsTrue F.tells → (kinds : Kinds)
-        → IsGranted A.meanings tables.now.actions kinds (F.may_leave folder.old)
+        → IsAssumed A.meanings tables.now.actions kinds (F.may_leave folder.old)
         → Leads (setting_of (tables_of T.meanings A.meanings tables.now) kinds (F.may_leave folder.old))
         (record { contents = F.contents folder.old; failures = F.failures folder.old })
         event.now result

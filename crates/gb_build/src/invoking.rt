@@ -11,9 +11,9 @@ ghost use Rattle.gb_meaning.specs.Headline.{HasFailed, answer_of, times_blamed};
 ghost use Rattle.gb_meaning.specs.Kinds.{Kinds};
 ghost use Rattle.gb_meaning.specs.Outline.{IsOutlined};
 ghost use Rattle.gb_printer.specs.Printing.{Prints, parts_text};
-ghost use Rattle.gb_records.specs.Granted.{IsGranted};
+ghost use Rattle.gb_records.specs.Assumed.{IsAssumed};
 ghost use Rattle.gb_registry.specs.Tables.{tables_of};
-ghost use Rattle.gb_turn.specs.Turned.{setting_with};
+ghost use Rattle.gb_task.specs.Executing.{setting_with};
 ghost use Rattle.gb_build.specs.Leading.{Leads};
 ghost use Rattle.gb_build.specs.Refusing.{IsNotBegun};
 ghost use Rattle.gb_build.specs.InvocationAsked.{InvocationAsks};
@@ -90,14 +90,14 @@ pub fn invoke<A: Actions, T: Transforms, F: Folder, L: TaskListener, P: Printer>
         (answer_of result) (F.contents folder.old) (F.contents folder.new) }
     // It is a next step of any run, with what the scripts of the folder register.
     ensures leads { IsTrue F.tells → (kinds : Kinds)
-        → IsGranted A.meanings tables.now.actions kinds (F.may_leave folder.old)
+        → IsAssumed A.meanings tables.now.actions kinds (F.may_leave folder.old)
         → Leads (setting_of (tables_of T.meanings A.meanings tables.now) kinds (F.may_leave folder.old))
         (record { contents = F.contents folder.old; failures = F.failures folder.old })
         (events.Invoke invocation.now) (answer_of result)
         (record { contents = F.contents folder.new; failures = F.failures folder.new }) }
     // This is one invocation by its definition.
     ensures holds { IsTrue F.tells → (kinds : Kinds)
-        → IsGranted A.meanings tables.now.actions kinds (F.may_leave folder.old)
+        → IsAssumed A.meanings tables.now.actions kinds (F.may_leave folder.old)
         → InvocationHolds
         (setting_of (tables_of T.meanings A.meanings tables.now) kinds (F.may_leave folder.old))
         (record { contents = F.contents folder.old; failures = F.failures folder.old })
@@ -106,7 +106,7 @@ pub fn invoke<A: Actions, T: Transforms, F: Folder, L: TaskListener, P: Printer>
     // So it is a plain step, and a build in which no task failed is from scratch, starting from any
     // true records.
     ensures promise { IsTrue F.tells → (kinds : Kinds)
-        → IsGranted A.meanings tables.now.actions kinds (F.may_leave folder.old)
+        → IsAssumed A.meanings tables.now.actions kinds (F.may_leave folder.old)
         → PromiseHolds
         (setting_of (tables_of T.meanings A.meanings tables.now) kinds (F.may_leave folder.old))
         (record { contents = F.contents folder.old; failures = F.failures folder.old })
@@ -157,7 +157,7 @@ fn build_registered<A: Actions, T: Transforms, F: Folder, L: TaskListener, P: Pr
         (F.contents folder.old) (F.contents folder.new) }
     ensures leads { let tables = tables_of T.meanings A.meanings configured.now.tables.now in
         IsTrue F.tells → (kinds : Kinds)
-        → IsGranted A.meanings configured.now.tables.now.actions kinds (F.may_leave folder.old)
+        → IsAssumed A.meanings configured.now.tables.now.actions kinds (F.may_leave folder.old)
         → Leads (setting_with kinds (λ files given. Ok (registry_said tables configured.now.registry))
         (F.may_leave folder.old))
         (record { contents = F.contents folder.old; failures = F.failures folder.old })

@@ -1,7 +1,7 @@
 //! Events over a folder in memory that is empty at first.
 ghost use Rattle.std.specs.Prelude.{[], IfOk};
 ghost use Rattle.gb_meaning.specs.Every.{PromiseHolds};
-ghost use Rattle.gb_meaning.specs.Granted.{leaves_nothing};
+ghost use Rattle.gb_meaning.specs.Assumed.{leaves_nothing};
 ghost use Rattle.gb_meaning.specs.Headline.{Agrees, Stands};
 ghost use Rattle.gb_meaning.specs.Kinds.{Kinds};
 ghost use Rattle.gb_registry.specs.Tables.{tables_of};

@@ -8,9 +8,9 @@ ghost use Rattle.gb_meaning.specs.Kinds.{Kinds};
 ghost use Rattle.gb_meaning.specs.Outline.{IsOutlinedBy};
 ghost use Rattle.gb_meaning.specs.TrueRecord.{outside};
 ghost use Rattle.gb_printer.specs.Printing.{Prints, parts_text};
-ghost use Rattle.gb_records.specs.Granted.{IsGranted};
+ghost use Rattle.gb_records.specs.Assumed.{IsAssumed};
 ghost use Rattle.gb_store.specs.Changes.{ChangesOnly};
-ghost use Rattle.gb_turn.specs.Turned.{Registering, setting_with};
+ghost use Rattle.gb_task.specs.Executing.{Registering, setting_with};
 ghost use Rattle.gb_build.specs.RequestAsked.{BuildAsks};
 ghost use Rattle.gb_build.specs.Asking.{AreBuildable, IsReportOf, NoneBlameDevice};
 ghost use Rattle.gb_build.specs.Leading.{Leads};
@@ -76,7 +76,7 @@ pub fn build_requested<A: Actions, F: Folder, L: TaskListener, P: Printer, Ts: T
         (F.contents folder.old) (F.contents folder.new) }
     // It is a next step of any run, wherever scripts declare what is registered here.
     ensures leads { IsTrue F.tells → (kinds : Kinds) (registry_of : Registering)
-        → IsGranted A.meanings table.now kinds (F.may_leave folder.old)
+        → IsAssumed A.meanings table.now kinds (F.may_leave folder.old)
         → registry_of (outside (F.contents folder.old)).files invocation.now.properties
         ≡ Ok (Ts.registry tasks.old)
         → Leads (setting_with kinds registry_of (F.may_leave folder.old))
@@ -85,7 +85,7 @@ pub fn build_requested<A: Actions, F: Folder, L: TaskListener, P: Printer, Ts: T
         (record { contents = F.contents folder.new; failures = F.failures folder.new }) }
     // This is one invocation by its definition.
     ensures holds { IsTrue F.tells → (kinds : Kinds) (registry_of : Registering)
-        → IsGranted A.meanings table.now kinds (F.may_leave folder.old)
+        → IsAssumed A.meanings table.now kinds (F.may_leave folder.old)
         → registry_of (outside (F.contents folder.old)).files invocation.now.properties
         ≡ Ok (Ts.registry tasks.old)
         → InvocationHolds (setting_with kinds registry_of (F.may_leave folder.old))

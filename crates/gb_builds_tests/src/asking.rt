@@ -1,5 +1,5 @@
 //! The output of `gb_ask` about registered tasks, places, records, plans and scripts.
-use crate::building::{is_told, put_bytes, words_of};
+use crate::building::{is_reported, put_bytes, words_of};
 use crate::offering::offered;
 use gb_action::actions::Actions;
 use gb_ask_command::words::{Mode, Style};
@@ -113,15 +113,15 @@ fn drawn<A: Actions, T: Transforms>(
 }
 
 fn all_hold<A: Actions, T: Transforms>(alloc: Global, tables: &Tables<A, T>) -> Result<(), Fail> {
-    is_told(TASKS, listed(alloc, tables, Notation::Lines)?.as_str())?;
-    is_told(TASKS_JSON, listed(alloc, tables, Notation::Json)?.as_str())?;
+    is_reported(TASKS, listed(alloc, tables, Notation::Lines)?.as_str())?;
+    is_reported(TASKS_JSON, listed(alloc, tables, Notation::Json)?.as_str())?;
     for (style, text) in [
         (Style::Dot, DOT),
         (Style::Tree, TREE),
         (Style::Mermaid, MERMAID),
         (Style::Json, GRAPH_JSON),
     ] {
-        is_told(text, drawn(alloc, tables, style)?.as_str())?;
+        is_reported(text, drawn(alloc, tables, style)?.as_str())?;
     }
     if drawn(alloc, tables, Style::Svg)?
         .as_str()
@@ -163,8 +163,8 @@ fn the_script_of_the_guide_is_formatted(rt: HostRuntime) -> Result<(), Fail> {
     let alloc = rt.alloc();
     let mut folder = MemoryFolder::new(alloc);
     put_bytes(alloc, &mut folder, "build.gb", GUIDE[0].as_bytes())?;
-    let (told, _) = formatted(alloc, &mut folder, Mode::Prints)?;
-    is_told(GUIDE[1], told.as_str())
+    let (reported, _) = formatted(alloc, &mut folder, Mode::Prints)?;
+    is_reported(GUIDE[1], reported.as_str())
 }
 
 #[test]
@@ -178,8 +178,8 @@ fn a_script_is_formatted_once(rt: HostRuntime) -> Result<(), Fail> {
         (Mode::Writes, "", 0),
     ];
     for (mode, text, status) in rows {
-        let (told, got) = formatted(alloc, &mut folder, mode)?;
-        is_told(text, told.as_str())?;
+        let (reported, got) = formatted(alloc, &mut folder, mode)?;
+        is_reported(text, reported.as_str())?;
         if got != status {
             return Err(Fail::new(got));
         }
@@ -326,9 +326,9 @@ fn is_status<A: Actions, T: Transforms>(alloc: Global, tables: &Tables<A, T>) ->
     put_bytes(alloc, &mut folder, ".gb/tasks/other.record", b"x")?;
     put_bytes(alloc, &mut folder, ".gb/tasks/other.txt", b"x")?;
     let text = status_of(alloc, &mut folder, tables, Notation::Lines, Activity::Idle)?;
-    is_told(STATUS, text.as_str())?;
+    is_reported(STATUS, text.as_str())?;
     let text = status_of(alloc, &mut folder, tables, Notation::Json, Activity::Builds)?;
-    is_told(STATUS_JSON, text.as_str())
+    is_reported(STATUS_JSON, text.as_str())
 }
 
 const STATUS: &str = "no build runs\n:other damaged record\n.gb/tasks/other.txt not a record\n\
@@ -344,7 +344,7 @@ fn are_related<A: Actions, T: Transforms>(
     tables: &Tables<A, T>,
 ) -> Result<(), Fail> {
     for asked in &PLACES {
-        is_told(asked.3, related(alloc, tables, asked)?.as_str())?;
+        is_reported(asked.3, related(alloc, tables, asked)?.as_str())?;
     }
     is_status(alloc, tables)
 }

@@ -57,7 +57,7 @@ pub fn events(alloc: Global, steps: &[Step<'_>]) -> Result<Vec<Event>, Fail> {
 }
 
 /// The output of a build, or the fault of a refused event.
-fn told(alloc: Global, answer: &Answer) -> Result<String, Fail> {
+fn reported(alloc: Global, answer: &Answer) -> Result<String, Fail> {
     let bytes = match answer {
         Answer::Edited => Vec::new(alloc),
         Answer::Refused(fault) | Answer::NotBuilt(fault) => render_fault(alloc, fault)?,
@@ -67,19 +67,19 @@ fn told(alloc: Global, answer: &Answer) -> Result<String, Fail> {
 }
 
 /// Fails at the first answer that differs from its step.
-pub fn are_told(alloc: Global, steps: &[Step<'_>], answers: &[Answer]) -> Result<(), Fail> {
+pub fn are_reported(alloc: Global, steps: &[Step<'_>], answers: &[Answer]) -> Result<(), Fail> {
     for (step, answer) in steps.iter().zip(answers.iter()) {
-        is_told(step.2, told(alloc, answer)?.as_str())?;
+        is_reported(step.2, reported(alloc, answer)?.as_str())?;
     }
     Ok(())
 }
 
 /// Fails if the result differs.
-pub fn is_told(expected: &str, told: &str) -> Result<(), Fail> {
-    if told == expected {
+pub fn is_reported(expected: &str, reported: &str) -> Result<(), Fail> {
+    if reported == expected {
         Ok(())
     } else {
-        Err(Fail::new(told))
+        Err(Fail::new(reported))
     }
 }
 
@@ -93,11 +93,11 @@ pub fn go_on<A: Actions, T: Transforms, F: Folder>(
     let events = events(alloc, steps)?;
     let mut listeners: Vec<Recorder> = Vec::new(alloc);
     let answers = run_events(alloc, folder, tables, events.as_slice(), &mut listeners)?;
-    are_told(alloc, steps, answers.as_slice())
+    are_reported(alloc, steps, answers.as_slice())
 }
 
 /// The result of these arguments for the caller, with these listeners.
-pub fn told_beside<A: Actions, T: Transforms, F: Folder, L: TaskListener>(
+pub fn reported_beside<A: Actions, T: Transforms, F: Folder, L: TaskListener>(
     alloc: Global,
     folder: &mut F,
     tables: &Tables<A, T>,
@@ -106,38 +106,38 @@ pub fn told_beside<A: Actions, T: Transforms, F: Folder, L: TaskListener>(
 ) -> Result<String, Fail> {
     let events = vec![in alloc; event(alloc, words, "")?]?;
     let answers = run_events(alloc, folder, tables, events.as_slice(), listeners)?;
-    told_alone(alloc, answers.as_slice())
+    reported_alone(alloc, answers.as_slice())
 }
 
 /// The result of the only answer.
-fn told_alone(alloc: Global, answers: &[Answer]) -> Result<String, Fail> {
+fn reported_alone(alloc: Global, answers: &[Answer]) -> Result<String, Fail> {
     match answers {
-        [answer] => told(alloc, answer),
+        [answer] => reported(alloc, answer),
         _ => Err(Fail::new("another count of answers")),
     }
 }
 
 /// The result of these arguments without listeners.
-pub fn told_of<A: Actions, T: Transforms, F: Folder>(
+pub fn reported_of<A: Actions, T: Transforms, F: Folder>(
     alloc: Global,
     folder: &mut F,
     tables: &Tables<A, T>,
     words: &str,
 ) -> Result<String, Fail> {
     let mut listeners: Vec<Recorder> = Vec::new(alloc);
-    told_beside(alloc, folder, tables, words, &mut listeners)
+    reported_beside(alloc, folder, tables, words, &mut listeners)
 }
 
 /// Fails if the result of these arguments without listeners differs.
-pub fn is_told_of<A: Actions, T: Transforms, F: Folder>(
+pub fn is_reported_of<A: Actions, T: Transforms, F: Folder>(
     alloc: Global,
     folder: &mut F,
     tables: &Tables<A, T>,
     words: &str,
     expected: &str,
 ) -> Result<(), Fail> {
-    let text = told_of(alloc, folder, tables, words)?;
-    is_told(expected, text.as_str())
+    let text = reported_of(alloc, folder, tables, words)?;
+    is_reported(expected, text.as_str())
 }
 
 /// Stores bytes at a place, also at one of the tool's own.
@@ -192,5 +192,5 @@ pub fn are_held(
     expected: &str,
 ) -> Result<(), Fail> {
     let files = held(alloc, folder, root)?;
-    is_told(expected, files.as_str())
+    is_reported(expected, files.as_str())
 }

@@ -1,5 +1,5 @@
 //! The output of `gb_ask check` for a folder, as in the guide except for the outputs.
-use crate::building::{is_told, put_bytes, words_of};
+use crate::building::{is_reported, put_bytes, words_of};
 use crate::offering::offered;
 use gb_action::actions::Actions;
 use gb_ask_command::check;
@@ -65,7 +65,7 @@ fn is_checked<A: Actions, T: Transforms>(
         &mut Page::new(&mut out),
         tables,
     );
-    is_told(text, String::from_utf8(out)?.as_str())?;
+    is_reported(text, String::from_utf8(out)?.as_str())?;
     if got == Some(status) {
         Ok(())
     } else {

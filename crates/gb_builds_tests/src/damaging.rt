@@ -1,6 +1,6 @@
 //! Builds over files that block records, over a damaged record, and of more than an output may
 //! contain.
-use crate::building::{Step, are_held, bytes_at, go_on, is_told_of, put_bytes};
+use crate::building::{Step, are_held, bytes_at, go_on, is_reported_of, put_bytes};
 use crate::offering::{offered, offered_joining};
 use gb_action::actions::Actions;
 use gb_folder::memory::MemoryFolder;
@@ -47,11 +47,11 @@ fn is_unwritten_in<A: Actions, T: Transforms>(
 ) -> Result<(), Fail> {
     put_bytes(alloc, folder, ".gb", b"in the way")?;
     put_bytes(alloc, folder, "build.gb", ONE.as_bytes())?;
-    is_told_of(alloc, folder, tables, "run gen", UNWRITTEN)
+    is_reported_of(alloc, folder, tables, "run gen", UNWRITTEN)
 }
 
 #[test]
-fn a_record_that_cannot_stand_is_told(rt: HostRuntime) -> Result<(), Fail> {
+fn a_record_that_cannot_stand_is_reported(rt: HostRuntime) -> Result<(), Fail> {
     let (actions, transforms) = offered(rt.alloc())?;
     let tables = Tables::<Builtin, Builtin> {
         actions,
@@ -89,7 +89,7 @@ fn is_damaged_in<A: Actions, T: Transforms>(
 ) -> Result<(), Fail> {
     go_on(alloc, folder, tables, &OF_TWO)?;
     damage(alloc, folder, ".gb/tasks/a.record", at)?;
-    is_told_of(alloc, folder, tables, "run a b", FIRST_ALONE)
+    is_reported_of(alloc, folder, tables, "run a b", FIRST_ALONE)
 }
 
 fn are_damaged<A: Actions, T: Transforms>(
@@ -135,12 +135,12 @@ fn is_too_large_in<A: Actions, T: Transforms>(
 ) -> Result<(), Fail> {
     put_halves(alloc, folder)?;
     put_bytes(alloc, folder, "build.gb", JOIN.as_bytes())?;
-    is_told_of(alloc, folder, tables, "run c", TOO_LARGE)?;
+    is_reported_of(alloc, folder, tables, "run c", TOO_LARGE)?;
     are_held(alloc, folder, "build", "")
 }
 
 #[test]
-fn what_is_made_too_large_is_told(rt: HostRuntime) -> Result<(), Fail> {
+fn what_is_made_too_large_is_reported(rt: HostRuntime) -> Result<(), Fail> {
     let (actions, transforms) = offered_joining(rt.alloc())?;
     let tables = Tables::<Builtin, Builtin> {
         actions,

@@ -58,8 +58,8 @@ fn holds(alloc: Global, row: &Row<'_>) -> Result<(), Fail> {
         return Ok(());
     }
     let name = row.0;
-    let told = format!(in alloc; "{name}: status {status}\n{output}")?;
-    Err(Fail::new(told.as_str()))
+    let reported = format!(in alloc; "{name}: status {status}\n{output}")?;
+    Err(Fail::new(reported.as_str()))
 }
 
 #[test]

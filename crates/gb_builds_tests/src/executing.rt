@@ -77,14 +77,14 @@ fn built(alloc: Global, runs: bool, options: Options) -> Result<(&'static str, u
         &mut Silent,
         options,
     )?;
-    let told = match report.tasks.as_slice() {
-        [task] => told(&task.outcome),
+    let reported = match report.tasks.as_slice() {
+        [task] => reported(&task.outcome),
         _ => "another count",
     };
-    Ok((told, listeners[0].heard().len()))
+    Ok((reported, listeners[0].heard().len()))
 }
 
-fn told(outcome: &Outcome) -> &'static str {
+fn reported(outcome: &Outcome) -> &'static str {
     match outcome {
         Outcome::UpToDate => "up to date",
         Outcome::Skipped => "skipped",
@@ -93,7 +93,7 @@ fn told(outcome: &Outcome) -> &'static str {
 }
 
 #[test]
-fn a_task_is_told_to_who_listens(rt: HostRuntime) -> Result<(), Fail> {
+fn a_task_is_reported_to_who_listens(rt: HostRuntime) -> Result<(), Fail> {
     let alloc = rt.alloc();
     assert_eq!(rt; built(alloc, true, OPTIONS)?, ("up to date", 2));
     assert_eq!(rt; built(alloc, false, OPTIONS)?, ("skipped", 2));

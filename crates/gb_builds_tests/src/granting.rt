@@ -1,5 +1,5 @@
 //! Events over a folder in memory that is empty at first.
-use crate::building::{Step, are_held, are_told, events};
+use crate::building::{Step, are_held, are_reported, events};
 use crate::offering::offered;
 use gb_action::actions::Actions;
 use gb_build::nothing::run_from_nothing;
@@ -43,7 +43,7 @@ fn runs_from_nothing<A: Actions, T: Transforms>(
 }
 
 fn is_run(alloc: Global, folder: &mut MemoryFolder, answers: &[Answer]) -> Result<(), Fail> {
-    are_told(alloc, &STEPS, answers)?;
+    are_reported(alloc, &STEPS, answers)?;
     are_held(alloc, folder, "build", "build/x=A")
 }
 

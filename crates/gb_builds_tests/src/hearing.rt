@@ -1,6 +1,6 @@
 //! The notifications of listeners in builds of two tasks, over a device that fails and with a
 //! listener that refuses.
-use crate::building::{Step, are_held, go_on, is_told, is_told_of, told_beside, told_of};
+use crate::building::{Step, are_held, go_on, is_reported, is_reported_of, reported_beside, reported_of};
 use crate::listening::{Refusing, heard_by_each, heard_text};
 use crate::offering::offered;
 use gb_action::actions::Actions;
@@ -41,13 +41,13 @@ fn scripted<A: Actions, T: Transforms>(
 }
 
 /// The result of a build, and whether its listener was notified that the first task was executed.
-fn told_and_heard<A: Actions, T: Transforms, F: Folder>(
+fn reported_and_heard<A: Actions, T: Transforms, F: Folder>(
     alloc: Global,
     folder: &mut F,
     tables: &Tables<A, T>,
 ) -> Result<(String, bool), Fail> {
     let mut listeners = vec![in alloc; Recorder::new(alloc)]?;
-    let text = told_beside(alloc, folder, tables, "run a b", &mut listeners)?;
+    let text = reported_beside(alloc, folder, tables, "run a b", &mut listeners)?;
     let heard = heard_by_last(alloc, listeners.as_slice())?;
     Ok((text, heard.contains("executed :a\n")))
 }
@@ -59,7 +59,7 @@ fn is_kept<A: Actions, T: Transforms>(
     tables: &Tables<A, T>,
     is_heard: bool,
 ) -> Result<(), Fail> {
-    let again = told_of(alloc, folder, tables, "run a b")?;
+    let again = reported_of(alloc, folder, tables, "run a b")?;
     if !is_heard || again.starts_with("> Task :a UP-TO-DATE\n") {
         Ok(())
     } else {
@@ -76,9 +76,9 @@ fn stopped<A: Actions, T: Transforms>(
     at: u64,
 ) -> Result<(String, bool), Fail> {
     let mut faulty = FaultyFolder::new(scripted(alloc, tables)?, at, FaultMode::Stop);
-    let told = told_and_heard(alloc, &mut faulty, tables)?;
-    is_kept(alloc, &mut faulty.into_inner(), tables, told.1)?;
-    Ok(told)
+    let reported = reported_and_heard(alloc, &mut faulty, tables)?;
+    is_kept(alloc, &mut faulty.into_inner(), tables, reported.1)?;
+    Ok(reported)
 }
 
 fn heard_by_last<L: TaskListener>(alloc: Global, listeners: &[L]) -> Result<String, Fail> {
@@ -137,7 +137,7 @@ fn refused<A: Actions, T: Transforms>(
     let mut folder = scripted(alloc, tables)?;
     is_heard(alloc, &mut folder, tables, at, expected)?;
     are_held(alloc, &mut folder, "build", "build/x=A build/y=B")?;
-    is_told_of(alloc, &mut folder, tables, "run a b", UP_TO_DATE)
+    is_reported_of(alloc, &mut folder, tables, "run a b", UP_TO_DATE)
 }
 
 /// Fails if a build with a listener that refuses a call prints something else, or if another
@@ -151,7 +151,7 @@ fn is_heard<A: Actions, T: Transforms>(
 ) -> Result<(), Fail> {
     let mut listeners = vec![in alloc; Refusing::new(alloc, at), Refusing::new(alloc, 0)]?;
     builds_alike(alloc, folder, tables, &mut listeners, expected)?;
-    is_told(HEARD, heard_by_last(alloc, listeners.as_slice())?.as_str())
+    is_reported(HEARD, heard_by_last(alloc, listeners.as_slice())?.as_str())
 }
 
 /// Fails if a build with these listeners prints something else.
@@ -162,8 +162,8 @@ fn builds_alike<A: Actions, T: Transforms, L: TaskListener>(
     listeners: &mut Vec<L>,
     expected: &str,
 ) -> Result<(), Fail> {
-    let text = told_beside(alloc, folder, tables, "run a b", listeners)?;
-    is_told(expected, text.as_str())
+    let text = reported_beside(alloc, folder, tables, "run a b", listeners)?;
+    is_reported(expected, text.as_str())
 }
 
 /// Refuses each of the four calls, and then none.
@@ -264,9 +264,9 @@ fn is_missed<A: Actions, T: Transforms, L: TaskListener>(
     at: u64,
     listeners: &mut Vec<L>,
 ) -> Result<(), Fail> {
-    let text = told_beside(alloc, folder, tables, "run bad", listeners)?;
-    is_told(FAILED_AND_REFUSED, text.as_str())?;
-    is_told(
+    let text = reported_beside(alloc, folder, tables, "run bad", listeners)?;
+    is_reported(FAILED_AND_REFUSED, text.as_str())?;
+    is_reported(
         heard_between(alloc, at as usize)?.as_str(),
         heard_by_each(alloc, listeners.as_slice())?.as_str(),
     )

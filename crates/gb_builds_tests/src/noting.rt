@@ -1,7 +1,7 @@
 //! The changes that builds request of a folder, read from its notes: a whole build, a dry one, a
 //! refused one, some that are stopped, and one in whose folder somebody else writes before each
 //! call.
-use crate::building::{Step, go_on, told_of};
+use crate::building::{Step, go_on, reported_of};
 use crate::disturbing::Disturbed;
 use crate::offering::offered;
 use gb_action::actions::Actions;
@@ -53,7 +53,7 @@ fn changes<A: Actions, T: Transforms, F: Folder + Drop>(
     words: &str,
 ) -> Result<usize, Fail> {
     let mut noted = NotedFolder::new(alloc, folder);
-    let _told = told_of(alloc, &mut noted, tables, words)?;
+    let _reported = reported_of(alloc, &mut noted, tables, words)?;
     are_of_task(noted.notes())?;
     Ok(noted.notes().len())
 }

@@ -20,7 +20,7 @@ fn writing(alloc: Global) -> Result<StoredAction, Fail> {
 }
 
 /// The same kind in its next version.
-fn writing_anew(alloc: Global) -> Result<StoredAction, Fail> {
+fn writing_recheck(alloc: Global) -> Result<StoredAction, Fail> {
     let shape = write_text_shape(alloc)?;
     let run = Box::new(alloc, write_text)?;
     Ok(StoredAction::new(WRITE_TEXT, 2, shape, run))
@@ -64,9 +64,9 @@ pub fn offered(alloc: Global) -> Result<(ActionTable<StoredAction>, FunctionTabl
 }
 
 /// The tables for a build by a program in which the kind that writes a text has its next version.
-pub fn offered_anew(alloc: Global) -> Result<(ActionTable<StoredAction>, FunctionTable), Fail> {
+pub fn offered_recheck(alloc: Global) -> Result<(ActionTable<StoredAction>, FunctionTable), Fail> {
     let mut actions = ActionTable::new(alloc);
-    add(alloc, &mut actions, "writeText", writing_anew(alloc)?)?;
+    add(alloc, &mut actions, "writeText", writing_recheck(alloc)?)?;
     Ok((actions, FunctionTable::new(alloc)))
 }
 

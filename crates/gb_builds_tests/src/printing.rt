@@ -201,7 +201,7 @@ fn are_seen<A: Actions, T: Transforms>(alloc: Global, tables: &Tables<A, T>) -> 
 }
 
 #[test]
-fn each_part_is_seen_once_its_turn_has_ended(rt: HostRuntime) -> Result<(), Fail> {
+fn each_part_is_seen_once_its_execution_has_ended(rt: HostRuntime) -> Result<(), Fail> {
     let (actions, transforms) = offered(rt.alloc())?;
     let tables = Tables::<Builtin, Builtin> {
         actions,

@@ -1,5 +1,5 @@
 //! Builds over a device that fails at one of their calls, and the builds after them.
-use crate::building::{Step, are_held, bytes_at, go_on, held, is_told_of, told_of};
+use crate::building::{Step, are_held, bytes_at, go_on, held, is_reported_of, reported_of};
 use crate::offering::offered;
 use gb_action::actions::Actions;
 use gb_folder::faulty::{FaultMode, FaultyFolder};
@@ -55,7 +55,7 @@ struct Trial<'a> {
     /// The edits between the first build and the one whose device fails.
     edits: &'a [Step<'a>],
     /// The output of that build if none of its calls fails.
-    told: &'a str,
+    reported: &'a str,
     /// How the output of the build after it begins.
     next: &'a str,
     /// The output of each later build.
@@ -72,7 +72,7 @@ struct Trial<'a> {
 fn of_changes() -> Trial<'static> {
     Trial {
         edits: &CHANGES,
-        told: CHANGED,
+        reported: CHANGED,
         next: "> Task :cp",
         later: UP_TO_DATE,
         sources: "src/a=X src/c=C src/d=D",
@@ -85,7 +85,7 @@ fn of_changes() -> Trial<'static> {
 fn of_removals() -> Trial<'static> {
     Trial {
         edits: &REMOVALS,
-        told: NO_SOURCE,
+        reported: NO_SOURCE,
         next: NO_SOURCE,
         later: NO_SOURCE,
         sources: "",
@@ -154,7 +154,7 @@ fn succeeds<A: Actions, T: Transforms>(
     tables: &Tables<A, T>,
     trial: &Trial<'_>,
 ) -> Result<(), Fail> {
-    let text = told_of(alloc, folder, tables, "run cp")?;
+    let text = reported_of(alloc, folder, tables, "run cp")?;
     is_success(text.as_str(), trial)?;
     are_held(alloc, folder, "build/o", trial.outputs)
 }
@@ -177,7 +177,7 @@ fn recovers<A: Actions, T: Transforms>(
 ) -> Result<(), Fail> {
     is_spared(alloc, folder, trial)?;
     succeeds(alloc, folder, tables, trial)?;
-    is_told_of(alloc, folder, tables, "run cp", trial.later)?;
+    is_reported_of(alloc, folder, tables, "run cp", trial.later)?;
     are_held(alloc, folder, "src", trial.sources)?;
     are_held(alloc, folder, "build/o", trial.outputs)
 }
@@ -193,7 +193,7 @@ fn stopped<A: Actions, T: Transforms>(
 ) -> Result<String, Fail> {
     let folder = edited(alloc, tables, trial)?;
     let mut faulty = FaultyFolder::new(folder, at, mode);
-    let text = told_of(alloc, &mut faulty, tables, "run cp")?;
+    let text = reported_of(alloc, &mut faulty, tables, "run cp")?;
     recovers(alloc, &mut faulty.into_inner(), tables, trial)?;
     Ok(text)
 }
@@ -221,7 +221,7 @@ fn calls<A: Actions, T: Transforms>(
     for at in 1..200u64 {
         let mode = mode(alloc, kind, torn)?;
         let text = stopped(alloc, tables, trial, at, mode)?;
-        if text.as_str() == trial.told {
+        if text.as_str() == trial.reported {
             return Ok(at);
         }
         blames(text.as_str())?;

@@ -2,7 +2,7 @@
 ghost use Rattle.std.specs.Prelude.{◌≡◌, [], IsErr};
 ghost use Rattle.gb_meaning.specs.Headline.{counted};
 
-use crate::building::is_told;
+use crate::building::is_reported;
 use crate::listening::heard_by_each;
 use gb_core::path::TaskPath;
 use gb_exec::listener::{Recorder, TaskListener};
@@ -50,7 +50,7 @@ impl TaskListener for Deaf {
 
 /// Notifies listeners that a task starts and ends, and fails if all of them accept one of the
 /// notifications.
-fn told<L: TaskListener>(
+fn reported<L: TaskListener>(
     alloc: Global,
     listeners: &mut Vec<L>,
     task: &TaskPath,
@@ -67,8 +67,8 @@ fn told<L: TaskListener>(
 /// Notifies three listeners of a task, and fails unless exactly the first and the last keep the
 /// notifications.
 fn hear<L: TaskListener>(alloc: Global, listeners: &mut Vec<L>) -> Result<(), Fail> {
-    told(alloc, listeners, &TaskPath::read(alloc, ":gen")?)?;
-    is_told(
+    reported(alloc, listeners, &TaskPath::read(alloc, ":gen")?)?;
+    is_reported(
         "start :gen\nexecuted :gen\n||start :gen\nexecuted :gen\n|",
         heard_by_each(alloc, listeners.as_slice())?.as_str(),
     )

@@ -1,6 +1,6 @@
 //! Builds from records of other programs: of an older version of a kind, and in the older form.
-use crate::building::{Step, bytes_at, go_on, is_told, put_bytes};
-use crate::offering::{offered, offered_anew};
+use crate::building::{Step, bytes_at, go_on, is_reported, put_bytes};
+use crate::offering::{offered, offered_recheck};
 use gb_action::actions::Actions;
 use gb_folder::memory::MemoryFolder;
 use gb_kinds::builtin::Builtin;
@@ -52,7 +52,7 @@ fn built_before(alloc: Global) -> Result<MemoryFolder, Fail> {
 #[test]
 fn a_newer_version_of_a_kind_runs_once_more(rt: HostRuntime) -> Result<(), Fail> {
     let mut folder = built_before(rt.alloc())?;
-    let (actions, transforms) = offered_anew(rt.alloc())?;
+    let (actions, transforms) = offered_recheck(rt.alloc())?;
     let tables = Tables::<Builtin, Builtin> {
         actions,
         transforms,
@@ -74,7 +74,7 @@ fn counts_in<A: Actions, T: Transforms>(
     put_bytes(alloc, folder, ".gb/tasks/gen.record", OLDER.as_bytes())?;
     go_on(alloc, folder, tables, &STILL)?;
     let kept = bytes_at(alloc, folder, ".gb/tasks/gen.record")?;
-    is_told(OLDER, std::str::from_utf8(kept.as_slice())?)
+    is_reported(OLDER, std::str::from_utf8(kept.as_slice())?)
 }
 
 #[test]

@@ -1,6 +1,6 @@
 //! The output of `gb_ask why` about tasks; the run of its own crate tests it for a whole folder on
 //! disk.
-use crate::building::{Step, go_on, is_told, put_bytes, words_of};
+use crate::building::{Step, go_on, is_reported, put_bytes, words_of};
 use crate::ending::FailingWriter;
 use crate::offering::offered;
 use gb_action::actions::Actions;
@@ -47,7 +47,7 @@ fn is_why<A: Actions, T: Transforms>(
     expected: &str,
 ) -> Result<(), Fail> {
     let (text, _) = answered(alloc, folder, tables, Notation::Lines, words)?;
-    is_told(expected, text.as_str())
+    is_reported(expected, text.as_str())
 }
 
 /// The folder after a build.
@@ -111,7 +111,7 @@ fn holds<A: Actions, T: Transforms>(
     row: &Row<'_>,
 ) -> Result<(), Fail> {
     let (text, status) = answered(alloc, folder, tables, row.1, row.0)?;
-    is_told(row.2, text.as_str())?;
+    is_reported(row.2, text.as_str())?;
     if status == row.3 {
         Ok(())
     } else {
@@ -225,8 +225,8 @@ fn is_too_large<A: Actions, T: Transforms>(
 ) -> Result<(), Fail> {
     let mut folder = built(alloc, tables)?;
     put_large(alloc, &mut folder, "build/a.txt")?;
-    let told = ":gen runs: outputs are too large or too many\n";
-    is_why(alloc, &mut folder, tables, "gen", told)
+    let reported = ":gen runs: outputs are too large or too many\n";
+    is_why(alloc, &mut folder, tables, "gen", reported)
 }
 
 fn put_large(alloc: Global, folder: &mut MemoryFolder, place: &str) -> Result<(), Fail> {
@@ -235,7 +235,7 @@ fn put_large(alloc: Global, folder: &mut MemoryFolder, place: &str) -> Result<()
 }
 
 #[test]
-fn an_output_that_is_too_large_is_told(rt: HostRuntime) -> Result<(), Fail> {
+fn an_output_that_is_too_large_is_reported(rt: HostRuntime) -> Result<(), Fail> {
     let (actions, transforms) = offered(rt.alloc())?;
     let tables = Tables::<Builtin, Builtin> {
         actions,

@@ -24,33 +24,33 @@ handed Bad (Err f) fault is bad = subst Bad (sym is) bad
 
 module _ (files : Files) (place : Place) where
   -- the folder refused, but not because the file is missing
-  pub unread_there : (before after : ℕ) (fault : FolderFault) (told : Fault) → (told ≡ faults.OutOfMemory) ⊎ (told ≡ unread_at place fault)
+  pub unread_there : (before after : ℕ) (fault : FolderFault) (reported : Fault) → (reported ≡ faults.OutOfMemory) ⊎ (reported ≡ unread_at place fault)
       → (fault ≡ folders.Device → HasRisen before after) → fault ≢ folders.Missing → (fault ≡ folders.Blocked → IsTrue (is_blocked files place))
       → (fault ≡ folders.TooLarge → IsSomeAnd (file_at files place) (λ bytes. 1048576 < length bytes)) → fault ≢ folders.BadFileName
-      → IsOfMachine before after told ⊎ HasTextFault files place told
-  unread_there before after fault told (inl memory) rose missing in_way large named = inl (inl memory)
-  unread_there before after folders.OutOfMemory told (inr is) rose missing in_way large named = inl (inl is)
-  unread_there before after folders.Device told (inr is) rose missing in_way large named = inl (inr (place, is, rose refl))
-  unread_there before after folders.Missing told (inr is) rose missing in_way large named = absurd (missing refl)
-  unread_there before after folders.Blocked told (inr is) rose missing in_way large named = inr (blocked (in_way refl) is)
-  unread_there before after folders.TooLarge told (inr is) rose missing in_way large named = long (file_at files place) refl (large refl)
+      → IsOfMachine before after reported ⊎ HasTextFault files place reported
+  unread_there before after fault reported (inl memory) rose missing in_way large named = inl (inl memory)
+  unread_there before after folders.OutOfMemory reported (inr is) rose missing in_way large named = inl (inl is)
+  unread_there before after folders.Device reported (inr is) rose missing in_way large named = inl (inr (place, is, rose refl))
+  unread_there before after folders.Missing reported (inr is) rose missing in_way large named = absurd (missing refl)
+  unread_there before after folders.Blocked reported (inr is) rose missing in_way large named = inr (blocked (in_way refl) is)
+  unread_there before after folders.TooLarge reported (inr is) rose missing in_way large named = long (file_at files place) refl (large refl)
     where
-      long : (o : Option Bytes) → file_at files place ≡ o → IsSomeAnd o (λ bytes. 1048576 < length bytes) → IsOfMachine before after told ⊎ HasTextFault files place told
+      long : (o : Option Bytes) → file_at files place ≡ o → IsSomeAnd o (λ bytes. 1048576 < length bytes) → IsOfMachine before after reported ⊎ HasTextFault files place reported
       long None at h = absurd h
       long (Some bytes) at h = inr (no_script bytes texts.TooLong at h is)
-  unread_there before after folders.BadFileName told (inr is) rose missing in_way large named = absurd (named refl)
+  unread_there before after folders.BadFileName reported (inr is) rose missing in_way large named = absurd (named refl)
 
   -- the bytes of the file are no script
-  pub no_script_there : (before after : ℕ) (bytes : Bytes) (told : Fault) → file_at files place ≡ Some bytes
-      → (told ≡ faults.OutOfMemory) ⊎ ((of : ScriptFault) × Says bytes (Err of) × (told ≡ in_file place of)) → IsOfMachine before after told ⊎ HasTextFault files place told
-  no_script_there before after bytes told at (inl memory) = inl (inl memory)
-  no_script_there before after bytes told at (inr (of, says, is)) = inr (no_script bytes of at says is)
+  pub no_script_there : (before after : ℕ) (bytes : Bytes) (reported : Fault) → file_at files place ≡ Some bytes
+      → (reported ≡ faults.OutOfMemory) ⊎ ((of : ScriptFault) × Says bytes (Err of) × (reported ≡ in_file place of)) → IsOfMachine before after reported ⊎ HasTextFault files place reported
+  no_script_there before after bytes reported at (inl memory) = inl (inl memory)
+  no_script_there before after bytes reported at (inr (of, says, is)) = inr (no_script bytes of at says is)
 
   -- there is no such place
-  pub nowhere : (before after : ℕ) (told : Fault) → (told ≡ faults.OutOfMemory) ⊎ ((is_place place ≡ false) × (told ≡ faults.BadPlace (codes "build.gb")))
-      → IsOfMachine before after told ⊎ HasTextFault files place told
-  nowhere before after told (inl memory) = inl (inl memory)
-  nowhere before after told (inr (bad, is)) = inr (no_place bad is)
+  pub nowhere : (before after : ℕ) (reported : Fault) → (reported ≡ faults.OutOfMemory) ⊎ ((is_place place ≡ false) × (reported ≡ faults.BadPlace (codes "build.gb")))
+      → IsOfMachine before after reported ⊎ HasTextFault files place reported
+  nowhere before after reported (inl memory) = inl (inl memory)
+  nowhere before after reported (inr (bad, is)) = inr (no_place bad is)
 
 -- one of the scripts has no lines, after some calls
 pub unread_one : (files : Files) (scripts : List (Path × List Statement)) (script : Path × List Statement) (before mid after : ℕ) (fault : Fault) → Contains scripts script

@@ -61,10 +61,10 @@ module _ (registry : Registry) where
   abbrev IsAsked : Result Request Fault → Type 0
   IsAsked asked = IfOk asked (λ request. request.registry ≡ registry)
 
-  by_first : (request : Request) → request.registry ≡ registry → (told : List Fault)
-      → IsAsked (elim (first_of told) [ None ↦ Ok request | Some fault ↦ Err fault ])
+  by_first : (request : Request) → request.registry ≡ registry → (reported : List Fault)
+      → IsAsked (elim (first_of reported) [ None ↦ Ok request | Some fault ↦ Err fault ])
   by_first request of_registry [] = of_registry
-  by_first request of_registry (fault ∷ told) = tt
+  by_first request of_registry (fault ∷ reported) = tt
 
   asked_so : (requested excluded : List Text) → IsAsked (request_of registry requested excluded)
   asked_so requested excluded = checked (words_of registry requested)

@@ -15,7 +15,7 @@ use Rattle.gb_script.specs.declared.fault.ScriptFault.{ScriptFault}
 use Rattle.gb_script.specs.declared.fault.ScriptFault.TheVariants as texts
 use Rattle.gb_script.specs.declared.script.Statement.{Statement}
 use Rattle.gb_script.specs.declared.script.Statement.TheVariants as statements
-use Rattle.gb_store.specs.Faults.{told_at}
+use Rattle.gb_store.specs.Faults.{reported_at}
 use Rattle.gb_check.specs.Marks.{Lines, marks_of, other_lines}
 use Rattle.gb_check.specs.declared.marks.Mark.{Mark}
 use Rattle.gb_check.specs.declared.sites.Site.{Site}
@@ -76,7 +76,7 @@ in_file place texts.NotUtf8 = faults.NotUtf8 place
 -- a fault of the folder while a text is read: a file that is too large is a text that is too long
 abbrev pub unread_at : Place → FolderFault → Fault
 unread_at place folders.TooLarge = faults.TooLong place
-unread_at place other = told_at place other
+unread_at place other = reported_at place other
 
 -- Why a script has no lines: its place is invalid, another file blocks it, or its text is not a script.
 pub data HasTextFault (files : Files) (place : Place) (fault : Fault) : Type 0 where

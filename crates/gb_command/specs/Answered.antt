@@ -16,7 +16,7 @@ use Rattle.gb_plan.specs.Ready.{Rows}
 use Rattle.gb_registry.specs.Tables.{Tables}
 use Rattle.gb_report.specs.declared.fault.Fault.{Fault}
 use Rattle.gb_report.specs.declared.report.Report.{Report}
-use Rattle.gb_records.specs.Granted.{IsGranted}
+use Rattle.gb_records.specs.Assumed.{IsAssumed}
 use Rattle.gb_words.specs.Faults.{IsFirstFault}
 use Rattle.gb_words.specs.Words.{IsAsked, words_faults}
 
@@ -62,9 +62,9 @@ module _ {M F Z S A : Type 0} (tables : Tables M F Z S A) (may_leave : Tearing) 
       : Type 0 where
     pub keeps : EventKeeps (registers_in tables) (events.Invoke asked) (answer_of answer)
         old.contents new.contents
-    pub holds : (kinds : Kinds) → IsGranted tables.shapes tables.kinds kinds may_leave
+    pub holds : (kinds : Kinds) → IsAssumed tables.shapes tables.kinds kinds may_leave
         → InvocationHolds (setting_of tables kinds may_leave) old asked answer new
-    pub promise : (kinds : Kinds) → IsGranted tables.shapes tables.kinds kinds may_leave
+    pub promise : (kinds : Kinds) → IsAssumed tables.shapes tables.kinds kinds may_leave
         → PromiseHolds (setting_of tables kinds may_leave) old (events.Invoke asked ∷ [])
         (answer_of answer ∷ []) new
 

@@ -44,7 +44,7 @@ pub fn run<A: Actions, T: Transforms, F: Folder, W: Printer>(
     // There is an answer, whether it could be printed or not. Where it could, its text and nothing
     // else is printed, and the status is its own; where it could not, a beginning of its text is
     // printed.
-    ensures told { (answer : Result Report Fault)
+    ensures reported { (answer : Result Report Fault)
         × (IsTrue F.tells → Answers (tables_of T.meanings A.meanings tables.now) (F.may_leave folder.old)
         (given_of (λ words. map string_bytes words.items) words)
         (record { contents = F.contents folder.old; failures = F.failures folder.old })

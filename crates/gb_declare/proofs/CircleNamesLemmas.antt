@@ -24,9 +24,9 @@ use Rattle.gb_report.specs.declared.fault.Fault.TheVariants.{Circular}
 use Rattle.gb_registry.specs.Source.{Source}
 use Rattle.gb_registry.specs.Tables.{Tables}
 use Rattle.gb_declare.specs.CircleNames.{way_from, circle_from, circle_names, least_of, least_round, until_again}
-use Rattle.gb_declare.specs.Told.{IsToldBy, told_circle}
+use Rattle.gb_declare.specs.Reported.{IsReportedBy, reported_circle}
 use Rattle.gb_declare.specs.Whole.{whole}
-use Rattle.gb_declare.proofs.OneCircleLemmas.{names_total, IsLeast, one_least, least_of_all, Lack, Leads, IsRing, ring_of, ring_turned, lacks_first, least_on_turned, circle_told}
+use Rattle.gb_declare.proofs.OneCircleLemmas.{names_total, IsLeast, one_least, least_of_all, Lack, Leads, IsRing, ring_of, ring_turned, lacks_first, least_on_turned, circle_reported}
 
 -- ---- Of more numbers below n than n, one repeats
 
@@ -221,7 +221,7 @@ module _ {A : Type 0} (rules : List (Rule A)) where
     unfolding passed
     sooner steps y z at next more =
         let way = on_the_way steps y z at next in
-        let told : (k : ℕ) → k ≤ steps → awaited_after rules k entry ≡ Some (passed (awaited_after rules k entry)) =
+        let reported : (k : ℕ) → k ≤ steps → awaited_after rules k entry ≡ Some (passed (awaited_after rules k entry)) =
         λ k within. (way k within).1 ∙ ap (λ o. Some (passed o)) (sym (way k within).1) in
         let below : (k : ℕ) → k < steps → passed (awaited_after rules k entry) < length rules =
         λ k less. subst (λ n. n < length rules) (ap passed (sym (way k (omega (arith, less))).1)) (way k (omega (arith, less))).2 in
@@ -230,7 +230,7 @@ module _ {A : Type 0} (rules : List (Rule A)) where
         let j = again.1 in
         let last : steps - j + j ≡ steps = omega (arith, again.3) in
         let alike : awaited_after rules i entry ≡ awaited_after rules j entry =
-        told i (omega (arith, again.2, again.3)) ∙ ap Some again.4 ∙ sym (told j (omega (arith, again.3))) in (
+        reported i (omega (arith, again.2, again.3)) ∙ ap Some again.4 ∙ sym (reported j (omega (arith, again.3))) in (
           steps - j + i,
           omega (arith, again.2, again.3),
           goes_alike (steps - j) i j alike ∙ ap (λ n. awaited_after rules n entry) last ∙ at,
@@ -273,9 +273,9 @@ module _ {A : Type 0} (rules : List (Rule A)) where
           )
 
       -- where it begins after as many steps as there are entries, its names are reported
-      told_there : (x : ℕ) (xs : List ℕ) (round : List (List ℕ)) → IsOn (length rules) round x xs
+      reported_there : (x : ℕ) (xs : List ℕ) (round : List (List ℕ)) → IsOn (length rules) round x xs
           → round ≡ least_round (names_on nodes (circle_from rules entry))
-      told_there x xs round on =
+      reported_there x xs round on =
           let around : circle_from rules entry ≡ x ∷ xs =
           ap (λ o. until_again (way_from rules (length rules) o)) on.1 ∙ goes_round x xs (length rules) on.0 (ring_fits x xs on.0) in
           let names = names_on nodes (circle_from rules entry) in
@@ -284,13 +284,13 @@ module _ {A : Type 0} (rules : List (Rule A)) where
           (least_of_all names (least_round names) (least_of_is names (length names)))
 
       -- and therefore wherever it begins
-      told_at : (steps x : ℕ) (xs : List ℕ) (round : List (List ℕ)) → IsOn steps round x xs
+      reported_at : (steps x : ℕ) (xs : List ℕ) (round : List (List ℕ)) → IsOn steps round x xs
           → round ≡ least_round (names_on nodes (circle_from rules entry))
-      told_at steps x xs round on =
+      reported_at steps x xs round on =
           let few = soon steps steps x (next_of x xs) (omega arith) on.1 (leaves x xs on.0) in
           let count : length rules - few.0 + few.0 ≡ length rules = omega (arith, few.1) in
           let there = stays_on (length rules - few.0) few.0 x xs round (on.0, few.2, on.2) in
-          told_there there.0 there.1 round (there.2.0, ap (λ n. awaited_after rules n entry) (sym count) ∙ there.2.1, there.2.2)
+          reported_there there.0 there.1 round (there.2.0, ap (λ n. awaited_after rules n entry) (sym count) ∙ there.2.1, there.2.2)
         where
           next_of : ℕ → List ℕ → ℕ
           next_of x [] = x
@@ -300,22 +300,22 @@ module _ {A : Type 0} (rules : List (Rule A)) where
           leaves x [] ring = ring.0
           leaves x (y ∷ ys) ring = ring.0.0
 
-      told_by : (steps : ℕ) (circle : List ℕ) (round : List (List ℕ)) → IsRing rules circle → awaited_after rules steps entry ≡ Some (slice_index circle 0) → IsLeast (names_on nodes circle) round
+      reported_by : (steps : ℕ) (circle : List ℕ) (round : List (List ℕ)) → IsRing rules circle → awaited_after rules steps entry ≡ Some (slice_index circle 0) → IsLeast (names_on nodes circle) round
           → round ≡ least_round (names_on nodes (circle_from rules entry))
-      told_by steps [] round ring at least = absurd ring
-      told_by steps (x ∷ xs) round ring at least = told_at steps x xs round (ring, at, least)
+      reported_by steps [] round ring at least = absurd ring
+      reported_by steps (x ∷ xs) round ring at least = reported_at steps x xs round (ring, at, least)
 
 -- ---- Troubles
 
 module _ {M F Z S : Type 0} (meanings : Meanings M F Z S) (nodes : List (Expression M F Z)) (entry : ℕ) where
   runs_into_names : (names : List (List ℕ)) → RunsInto meanings nodes entry names → names ≡ circle_names meanings nodes entry
   runs_into_names names run =
-      told_by (rules meanings nodes) entry nodes run.1.reached.0 run.0 names (ring_of (rules meanings nodes) entry run.0 run.1) run.1.reached.1
+      reported_by (rules meanings nodes) entry nodes run.1.reached.0 run.0 names (ring_of (rules meanings nodes) entry run.0 run.1) run.1.reached.1
       (least_of_all (names_on nodes run.0) names run.2)
 
-pub told_by_names : {M F Z S A : Type 0} (tables : Tables M F Z S A) (source : Source) → IsToldBy tables source (told_circle tables source)
-told_by_names tables source entry fault told =
-    let one = circle_told tables source entry fault told in
+pub reported_by_names : {M F Z S A : Type 0} (tables : Tables M F Z S A) (source : Source) → IsReportedBy tables source (reported_circle tables source)
+reported_by_names tables source entry fault reported =
+    let one = circle_reported tables source entry fault reported in
     let names = circle_names tables.means (whole tables source) entry in
     let set : IsSet (List (List ℕ)) = Coded-set (coded_list (coded_list coded_ℕ)) in
     one.1 ∙ ap Circular (∥∥₁_elim one.2 (set one.0 names) (λ run. runs_into_names tables.means (whole tables source) entry one.0 run))

@@ -10,7 +10,7 @@ use Rattle.gb_provider.specs.declared.expression.Expression.{Expression}
 use Rattle.gb_report.specs.declared.fault.Fault.TheVariants as faults
 use Rattle.gb_declare.specs.Realised.{Endless}
 use Rattle.gb_registry.specs.Source.{Source, source_of}
-use Rattle.gb_declare.specs.Told.{IsTold, told_circle}
+use Rattle.gb_declare.specs.Reported.{IsReported, reported_circle}
 use Rattle.gb_declare.specs.Whole.{whole}
 use Rattle.gb_registry.proofs.Sample.{tables, property, set}
 use Rattle.gb_declare.proofs.TaskRows.{nineteen, a, b}
@@ -58,20 +58,20 @@ not_greater (suc (suc k)) below same = omega arith
 pub least_round : IsLeastRound (names_on nodes circle) names
 least_round = ((1, refl), not_greater)
 
-pub told : IsTold tables source (Endless 1) (faults.Circular names)
-told = ∣ (circle, is_circle, least_round) ∣₁
+pub reported : IsReported tables source (Endless 1) (faults.Circular names)
+reported = ∣ (circle, is_circle, least_round) ∣₁
 
 -- The same by computation: from `b`, from `a.map(upper)`, and from the second occurrence of `a`, which is not
 -- on the circle but leads to it.
-pub told_on_it : told_circle tables source 1 ≡ faults.Circular names
-told_on_it = refl
+pub reported_on_it : reported_circle tables source 1 ≡ faults.Circular names
+reported_on_it = refl
 
-pub told_elsewhere_on_it : told_circle tables source 4 ≡ faults.Circular names
-told_elsewhere_on_it = refl
+pub reported_elsewhere_on_it : reported_circle tables source 4 ≡ faults.Circular names
+reported_elsewhere_on_it = refl
 
-pub told_before_it : told_circle tables source 3 ≡ faults.Circular names
-told_before_it = refl
+pub reported_before_it : reported_circle tables source 3 ≡ faults.Circular names
+reported_before_it = refl
 
 -- a text reaches no circle
-pub told_of_none : told_circle tables source 5 ≡ faults.Circular []
-told_of_none = refl
+pub reported_of_none : reported_circle tables source 5 ≡ faults.Circular []
+reported_of_none = refl

@@ -48,7 +48,7 @@ module _ {M F Z S A : Type 0} (tables : Tables M F Z S A) (scope : Scope) (path 
 
     -- the clause is at fault
     pub stops_in_clause : (fault : Fault) → IsFirstFault (clause_faults tables scope clause.now) fault → IsFirstFault all fault
-    stops_in_clause fault told = rw unclashed (first_more (clause_faults tables scope clause.now) _ fault told)
+    stops_in_clause fault reported = rw unclashed (first_more (clause_faults tables scope clause.now) _ fault reported)
 
     -- it is not
     pub goes_on : clause_faults tables scope clause.now ≡ [] → all ≡ clauses_faults tables scope path (now_of (take (i + 1) clauses)) (now_of (drop (i + 1) clauses))

@@ -17,6 +17,6 @@ first_more faults more fault (inr first) = inr (first-append faults more fault f
 -- the first fault of the element at an index is that of all, where those before it have none
 pub stopped_at : {X : Type 0} (f : X → List Fault) (all : List Fault) (xs : List X) (i : ℕ) (x : X) (fault : Fault) → all ≡ flat_map f (drop i xs)
     → i < length xs → x ≡ get_or xs i x → IsFirstFault (f x) fault → IsFirstFault all fault
-stopped_at f all xs i x fault same within is told =
+stopped_at f all xs i x fault same within is reported =
     let next : drop i xs ≡ x ∷ drop (suc i) xs = drop-cons xs i x within ∙ ap (λ w. w ∷ drop (suc i) xs) (sym is) in
-    rw (same ∙ ap (flat_map f) next) (first_more (f x) (flat_map f (drop (suc i) xs)) fault told)
+    rw (same ∙ ap (flat_map f) next) (first_more (f x) (flat_map f (drop (suc i) xs)) fault reported)

@@ -26,7 +26,7 @@ use Rattle.gb_report.specs.declared.fault.Fault.TheVariants.{Circular}
 use Rattle.gb_registry.specs.Source.{Source}
 use Rattle.gb_registry.specs.Tables.{Tables}
 use Rattle.gb_declare.specs.Realised.{Plain, Endless}
-use Rattle.gb_declare.specs.Told.{IsCircleTold, ToldOneWay}
+use Rattle.gb_declare.specs.Reported.{IsCircleReported, ReportedOneWay}
 use Rattle.gb_declare.specs.Whole.{whole}
 
 -- ---- The least rotation of names
@@ -246,21 +246,21 @@ module _ {M F Z S : Type 0} (meanings : Meanings M F Z S) (nodes : List (Express
 
 module _ {M F Z S A : Type 0} (tables : Tables M F Z S A) (source : Source) (entry : ℕ) where
   -- a fault that reports a circle
-  pub circle_told : (fault : Fault) → IsCircleTold tables source entry fault
+  pub circle_reported : (fault : Fault) → IsCircleReported tables source entry fault
       → (names : List (List ℕ)) × (fault ≡ Circular names) × ∥ RunsInto tables.means (whole tables source) entry names ∥₁
-  circle_told (Circular names) is = (names, refl, is)
-  circle_told other is = absurd is
+  circle_reported (Circular names) is = (names, refl, is)
+  circle_reported other is = absurd is
 
-  circle_told_one_way : (a b : Fault) → IsCircleTold tables source entry a → IsCircleTold tables source entry b → a ≡ b
-  circle_told_one_way a b is_a is_b =
-      let one = circle_told a is_a in
-      let other = circle_told b is_b in
+  circle_reported_one_way : (a b : Fault) → IsCircleReported tables source entry a → IsCircleReported tables source entry b → a ≡ b
+  circle_reported_one_way a b is_a is_b =
+      let one = circle_reported a is_a in
+      let other = circle_reported b is_b in
       let set : IsSet (List (List ℕ)) = Coded-set (coded_list (coded_list coded_ℕ)) in
       let same : one.0 ≡ other.0 =
       ∥∥₁_elim one.2 (set one.0 other.0)
       (λ x. ∥∥₁_elim other.2 (set one.0 other.0) (λ y. runs_into_one tables.means (whole tables source) entry one.0 other.0 x y)) in
       one.1 ∙ ap Circular same ∙ sym other.1
 
-pub told_one_way : {M F Z S A : Type 0} (tables : Tables M F Z S A) (source : Source) → ToldOneWay tables source
-told_one_way tables source (Plain known) a b is_a is_b = is_a ∙ sym is_b
-told_one_way tables source (Endless entry) a b is_a is_b = circle_told_one_way tables source entry a b is_a is_b
+pub reported_one_way : {M F Z S A : Type 0} (tables : Tables M F Z S A) (source : Source) → ReportedOneWay tables source
+reported_one_way tables source (Plain known) a b is_a is_b = is_a ∙ sym is_b
+reported_one_way tables source (Endless entry) a b is_a is_b = circle_reported_one_way tables source entry a b is_a is_b

@@ -9,7 +9,7 @@ pub mod Spots
 pub mod Whole
 pub mod Realised
 pub mod CircleNames
-pub mod Told
+pub mod Reported
 pub mod Parts
 pub mod Partly
 pub mod Needs

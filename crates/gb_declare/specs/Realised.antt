@@ -106,15 +106,15 @@ module _ {M F Z S A : Type 0} (tables : Tables M F Z S A) (source : Source) wher
   no_output chosen (Some task) = unknown_output chosen (declared tables source.names source.said task)
 
   -- the fault of a value, as it is reported
-  abbrev pub told : ValueFault → Fault
-  told (value_faults.Refused function refusal) = refused function refusal
-  told (value_faults.Unrealised chosen) = no_output chosen (task_at source.said chosen.task)
+  abbrev pub reported : ValueFault → Fault
+  reported (value_faults.Refused function refusal) = refused function refusal
+  reported (value_faults.Unrealised chosen) = no_output chosen (task_at source.said chosen.task)
 
   -- what an expression gives: a value, or nothing; or what prevents it
   abbrev pub given_by : ℕ → Option Outcome → Result (Option Value) Trouble
   given_by entry (Some (outcomes.Given value)) = Ok (Some value)
   given_by entry (Some outcomes.Absent) = Ok None
-  given_by entry (Some (outcomes.Refused fault)) = Err (Plain (told fault))
+  given_by entry (Some (outcomes.Refused fault)) = Err (Plain (reported fault))
   given_by entry None = Err (Endless entry)
 
 -- ---- Values of their sorts

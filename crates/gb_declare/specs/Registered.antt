@@ -10,14 +10,14 @@ use Rattle.gb_registry.specs.Source.{Source}
 use Rattle.gb_registry.specs.Tables.{Tables}
 use Rattle.gb_declare.specs.Known.{HasRisingNames}
 use Rattle.gb_declare.specs.Realised.{Trouble, Plain, Endless, realised}
-use Rattle.gb_declare.specs.Told.{told_circle}
+use Rattle.gb_declare.specs.Reported.{reported_circle}
 
 module _ {M F Z S A : Type 0} (tables : Tables M F Z S A) (source : Source) where
   -- the declaration, or the fault that reports its trouble
   abbrev pub settled : Result TaskDeclaration Trouble → Result TaskDeclaration Fault
   settled (Ok task) = Ok task
   settled (Err (Plain fault)) = Err fault
-  settled (Err (Endless entry)) = Err (told_circle tables source entry)
+  settled (Err (Endless entry)) = Err (reported_circle tables source entry)
 
   -- what the task at a path declares, or its first fault
   abbrev pub declaration_of : Path → Result TaskDeclaration Fault

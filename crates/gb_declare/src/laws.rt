@@ -13,7 +13,7 @@ ghost use Rattle.gb_declare.specs.Ready.{RealisedIsSound};
 ghost use Rattle.gb_registry.specs.Source.{Source};
 ghost use Rattle.gb_declare.specs.Standing.{ExpressionsStand};
 ghost use Rattle.gb_registry.specs.Tables.{Tables};
-ghost use Rattle.gb_declare.specs.Told.{IsToldBy, ToldOneWay, told_circle};
+ghost use Rattle.gb_declare.specs.Reported.{IsReportedBy, ReportedOneWay, reported_circle};
 
 use gb_action::actions::Actions;
 use gb_provider::transforms::Transforms;
@@ -86,14 +86,14 @@ pub fn realised_names_rise<A: Actions, T: Transforms>()
 
 /// No trouble is reported by two different faults. So the names of a circle are reported in one
 /// way, whichever of its expressions is taken as its first.
-pub fn troubles_are_told_one_way<A: Actions, T: Transforms>()
+pub fn troubles_are_reported_one_way<A: Actions, T: Transforms>()
     ensures { (tables : Tables T.Map T.FlatMap T.Zip T.Test A.Stored) (source : Source)
-        → ToldOneWay tables source }
+        → ReportedOneWay tables source }
 {}
 
 /// The fault that reports the circle that an expression runs into is a function of the expression:
 /// the names on the circle that is reached from it, in the rotation that makes them least.
-pub fn circles_are_told_by_their_names<A: Actions, T: Transforms>()
+pub fn circles_are_reported_by_their_names<A: Actions, T: Transforms>()
     ensures { (tables : Tables T.Map T.FlatMap T.Zip T.Test A.Stored) (source : Source)
-        → IsToldBy tables source (told_circle tables source) }
+        → IsReportedBy tables source (reported_circle tables source) }
 {}

@@ -21,15 +21,16 @@ pub(crate) struct Span {
 }
 
 impl Span {
-    /// The span of a file of `told` bytes: those from `at` on, `len` at most. The system reports no
+    /// The span of a file of `reported` bytes: those from `at` on, `len` at most. The system reports no
     /// bytes for some files that do have bytes, as it generates them when they are read.
-    pub fn of(told: u64, at: u64, len: u64) -> Span
+    pub fn of(reported: u64, at: u64, len: u64) -> Span
         ensures within { result.most ≤ len }
-        ensures told { told ≢ 0 → (result.most ≡ min (told - at) len) × (result.least ≡ result.most) }
+        ensures reported { reported ≢ 0 → (result.most ≡ min (reported - at) len)
+            × (result.least ≡ result.most) }
     {
-        let end = if told == 0 { LONGEST_FILE } else { told };
+        let end = if reported == 0 { LONGEST_FILE } else { reported };
         let most = end.saturating_sub(at).min(len);
-        let least = if told == 0 { 0 } else { most };
+        let least = if reported == 0 { 0 } else { most };
         Span { at, least, most }
     }
 

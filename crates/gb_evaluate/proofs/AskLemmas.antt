@@ -25,8 +25,8 @@ use Rattle.gb_registry.specs.Tables.{Tables}
 use Rattle.gb_report.specs.declared.fault.Fault.{Fault}
 use Rattle.gb_declare.specs.Circles.{AreOrdered, is_named}
 use Rattle.gb_declare.specs.Partly.{IsPending}
-use Rattle.gb_declare.specs.Realised.{Plain, Endless, given_by, tasks_from, told}
-use Rattle.gb_declare.specs.Told.{IsTold}
+use Rattle.gb_declare.specs.Realised.{Plain, Endless, given_by, tasks_from, reported}
+use Rattle.gb_declare.specs.Reported.{IsReported}
 use Rattle.gb_declare.specs.Whole.{whole}
 use Rattle.gb_declare.proofs.ApartLemmas.{circles_are_apart}
 use Rattle.gb_declare.proofs.CarrierLemmas.{part_produces}
@@ -36,7 +36,7 @@ use Rattle.gb_declare.proofs.CopyLemmas.{mapped_at, part_answers_lem, part_is_en
 use Rattle.gb_plan.proofs.Tests.{not_true}
 use Rattle.gb_evaluate.proofs.KnownLemmas.{find_passes, placed_at}
 use Rattle.gb_evaluate.specs.Given.{HasValue, IsOfGet, given_at, producers_at}
-use Rattle.gb_evaluate.specs.Over.{IsOver, IsToldOf, Tells}
+use Rattle.gb_evaluate.specs.Over.{IsOver, IsReportedOf, Tells}
 
 -- ---- What rules read
 
@@ -188,19 +188,19 @@ module _ {M F Z S A : Type 0} (tables : Tables M F Z S A) (source : Source) (nam
   ok_tells entry (Some value) is = ap (given_by tables source (number entry)) (answered_there entry (outcomes.Given value) is)
   ok_tells entry None is = ap (given_by tables source (number entry)) (answered_there entry outcomes.Absent is)
 
-  pub err_tells : (entry : ℕ) → entry < length nodes → (fault : ProviderFault) (known : Fault) → IsFaultOf tables.means nodes entry fault → IsToldOf tables names why fault known
+  pub err_tells : (entry : ℕ) → entry < length nodes → (fault : ProviderFault) (known : Fault) → IsFaultOf tables.means nodes entry fault → IsReportedOf tables names why fault known
       → Tells tables source (given_at tables source (number entry)) (Err known)
   err_tells entry within (providers.Circular texts) known is same =
       inr (
         Endless (number entry),
         ap (given_by tables source (number entry)) (endless_there entry within is.0),
-        subst (IsTold tables source (Endless (number entry))) (sym same) ∣ circle_there entry texts is.1 ∣₁,
+        subst (IsReported tables source (Endless (number entry))) (sym same) ∣ circle_there entry texts is.1 ∣₁,
       )
   err_tells entry within (providers.Step fault) known is same = absurd is
   err_tells entry within providers.NoValue known is same = absurd is
   err_tells entry within (providers.Value fault) known is same = elim (same source over.known) [
     | inl out ↦ inl out
-    | inr e ↦ inr (Plain (told tables source fault), ap (given_by tables source (number entry)) (answered_there entry (outcomes.Refused fault) is), e)
+    | inr e ↦ inr (Plain (reported tables source fault), ap (given_by tables source (number entry)) (answered_there entry (outcomes.Refused fault) is), e)
   ]
   err_tells entry within providers.OutOfMemory known is same = inl same
 

@@ -25,18 +25,18 @@ use Rattle.gb_evaluate.specs.Over.{AreKnown, IsFault, fault_in}
 
 -- ---- Results
 
-pub first_told : (other : Fault) (fs : List Fault) (fault : Fault) → first_of fs ≡ Some fault → fault ≡ first_or other fs
-first_told other [] fault is = cc
-first_told other (f ∷ fs) fault is = cc
+pub first_reported : (other : Fault) (fs : List Fault) (fault : Fault) → first_of fs ≡ Some fault → fault ≡ first_or other fs
+first_reported other [] fault is = cc
+first_reported other (f ∷ fs) fault is = cc
 
 module _ {E : Type 0} (Given : Source → Type 0) (expected : Source → Fault) (known : Fault) (same : (source : Source) → Given source → known ≡ expected source) where
   pub answered : (r : Result Fault E) → IfOk r (IsFault known) → IfOk r (λ fault. (source : Source) → Given source → IsFault (expected source) fault)
-  answered (Ok fault) told = λ source given. subst (λ k. IsFault k fault) (same source given) told
-  answered (Err e) told = tt
+  answered (Ok fault) reported = λ source given. subst (λ k. IsFault k fault) (same source given) reported
+  answered (Err e) reported = tt
 
   pub answered_same : (r : Result Fault E) → IfOk r (λ fault. fault ≡ known) → IfOk r (λ fault. (source : Source) → Given source → IsFault (expected source) fault)
-  answered_same (Ok fault) told = λ source given. inr (told ∙ same source given)
-  answered_same (Err e) told = tt
+  answered_same (Ok fault) reported = λ source given. inr (reported ∙ same source given)
+  answered_same (Err e) reported = tt
 
 -- ---- Lists
 
@@ -133,28 +133,28 @@ module _ {M F Z S A : Type 0} (tables : Tables M F Z S A) (source : Source) (nam
     fault_there : slice_get known_faults k ≡ Some (fault_of there.0)
     fault_there = ap (λ fs. slice_get fs k) known.faults ∙ (slice_get-map fault_of (tasks_of source.said) k ∙ ap (option_map fault_of) there.2)
 
-    by_fault : (of : Result Joined Fault) (told : Option Fault) → Some told ≡ Some (fault_in of) → (fault : Fault) → told ≡ Some fault → fault ≡ unknown_output tables source chosen of
-    by_fault (Ok joined) told same fault is = absurd (let no_way : ⊥ = cc in no_way)
-    by_fault (Err other) told same fault is = let e : fault ≡ other = cc in e
+    by_fault : (of : Result Joined Fault) (reported : Option Fault) → Some reported ≡ Some (fault_in of) → (fault : Fault) → reported ≡ Some fault → fault ≡ unknown_output tables source chosen of
+    by_fault (Ok joined) reported same fault is = absurd (let no_way : ⊥ = cc in no_way)
+    by_fault (Err other) reported same fault is = let e : fault ≡ other = cc in e
 
-    by_none : (of : Result Joined Fault) (told : Option Fault) → Some told ≡ Some (fault_in of) → told ≡ None → faults.UnknownOutput chosen.task chosen.output ≡ unknown_output tables source chosen of
-    by_none (Ok joined) told same is = refl
-    by_none (Err other) told same is = absurd (let no_way : ⊥ = cc in no_way)
+    by_none : (of : Result Joined Fault) (reported : Option Fault) → Some reported ≡ Some (fault_in of) → reported ≡ None → faults.UnknownOutput chosen.task chosen.output ≡ unknown_output tables source chosen of
+    by_none (Ok joined) reported same is = refl
+    by_none (Err other) reported same is = absurd (let no_way : ⊥ = cc in no_way)
 
     abbrev expected : Fault
     expected = no_output tables source chosen (task_at source.said chosen.task)
 
-    told_of : unknown_output tables source chosen (declared tables source.names source.said there.0) ≡ expected
-    told_of = sym (ap (no_output tables source chosen) task)
+    reported_of : unknown_output tables source chosen (declared tables source.names source.said there.0) ≡ expected
+    reported_of = sym (ap (no_output tables source chosen) task)
 
-    pub its_fault : (told : Option Fault) → slice_get known_faults k ≡ Some told → (fault : Fault) → told ≡ Some fault → fault ≡ expected
-    its_fault told e fault is = by_fault (declared tables source.names source.said there.0) told (sym e ∙ fault_there) fault is ∙ told_of
+    pub its_fault : (reported : Option Fault) → slice_get known_faults k ≡ Some reported → (fault : Fault) → reported ≡ Some fault → fault ≡ expected
+    its_fault reported e fault is = by_fault (declared tables source.names source.said there.0) reported (sym e ∙ fault_there) fault is ∙ reported_of
 
-    pub no_such : (told : Option Fault) → slice_get known_faults k ≡ Some told → told ≡ None → faults.UnknownOutput chosen.task chosen.output ≡ expected
-    no_such told e is = by_none (declared tables source.names source.said there.0) told (sym e ∙ fault_there) is ∙ told_of
+    pub no_such : (reported : Option Fault) → slice_get known_faults k ≡ Some reported → reported ≡ None → faults.UnknownOutput chosen.task chosen.output ≡ expected
+    no_such reported e is = by_none (declared tables source.names source.said there.0) reported (sym e ∙ fault_there) is ∙ reported_of
 
     pub never : false ≡ nat_lt k (length known_faults) → ⊥
     never e = not_true (e ∙ lt-ltb k (length known_faults) (slice_get_within known_faults k (fault_of there.0) fault_there))
 
-    pub at_place : (told : Option Fault) → k < length known_faults → told ≡ get_or known_faults k told → slice_get known_faults k ≡ Some told
-    at_place told within is = slice_get_read known_faults (length known_faults) k told refl within is
+    pub at_place : (reported : Option Fault) → k < length known_faults → reported ≡ get_or known_faults k reported → slice_get known_faults k ≡ Some reported
+    at_place reported within is = slice_get_read known_faults (length known_faults) k reported refl within is

@@ -16,9 +16,9 @@ with_both tasks (task ∷ front) back = with_both (insert_key byte_order tasks t
 module _ {Node : Type 0} (producers : ℕ → List (List ℕ)) (number : Node → ℕ) (row : List Node) (i : ℕ) (d : Node) (within : i < length row) where
   pub more_needs : (old new found : List (List ℕ)) → new ≡ with_tasks old found → found ≡ producers (number (get_or row i d))
       → with_tasks new (flat_map producers (map number (drop (i + 1) row))) ≡ with_tasks old (flat_map producers (map number (drop i row)))
-  more_needs old new found extended told =
+  more_needs old new found extended reported =
       let rest = flat_map producers (map number (drop (i + 1) row)) in
-      ap (λ tasks. with_tasks tasks rest) (extended ∙ ap (with_tasks old) told)
+      ap (λ tasks. with_tasks tasks rest) (extended ∙ ap (with_tasks old) reported)
       ∙ sym (with_both old (producers (number (get_or row i d))) rest)
       ∙ ap (λ numbers. with_tasks old (flat_map producers numbers)) (sym (left_at number row i d within))
 

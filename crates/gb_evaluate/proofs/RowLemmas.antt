@@ -78,41 +78,41 @@ module _ {M F Z S A : Type 0} (tables : Tables M F Z S A) (source : Source) (num
   module _ (entry : ℕ) (tree : Tree) (same : entry ≡ place_in_whole tables source at.project tree) (name : List ℕ) where
     pub required_there : (r : Result Value Fault) → Tells tables source (required_at tables source path name entry) r
         → Tells tables source (required tables source at (spots tables source) (whole tables source) name tree) r
-    required_there r told =
+    required_there r reported =
         subst (λ p. Tells tables source (required_at tables source p name (place_in_whole tables source at.project tree)) r) (sym is)
-        (subst (λ e. Tells tables source (required_at tables source path name e) r) same told)
+        (subst (λ e. Tells tables source (required_at tables source path name e) r) same reported)
 
     pub place_there : (r : Result (List ℕ) Fault) → Tells tables source (place_at tables source path name entry) r
         → Tells tables source (place_of tables source at (spots tables source) (whole tables source) name tree) r
-    place_there r told =
+    place_there r reported =
         subst (λ p. Tells tables source (place_at tables source p name (place_in_whole tables source at.project tree)) r) (sym is)
-        (subst (λ e. Tells tables source (place_at tables source path name e) r) same told)
+        (subst (λ e. Tells tables source (place_at tables source path name e) r) same reported)
 
     pub flag_there : (r : Result Bool Fault) → Tells tables source (flag_at tables source path name entry) r
         → Tells tables source (flag_at tables source at.path name (place_in_whole tables source at.project tree)) r
-    flag_there r told =
+    flag_there r reported =
         subst (λ p. Tells tables source (flag_at tables source p name (place_in_whole tables source at.project tree)) r) (sym is)
-        (subst (λ e. Tells tables source (flag_at tables source path name e) r) same told)
+        (subst (λ e. Tells tables source (flag_at tables source path name e) r) same reported)
 
   module _ (row : List Node) (trees : List Tree) (are : AreFor tables source number at.project row trees) (name : List ℕ) where
     pub places_there : (r : Result (List (List ℕ)) Fault) → Tells tables source (each_of (place_at tables source path name) (numbers_in number row)) r
         → Tells tables source (each_of (place_of tables source at (spots tables source) (whole tables source) name) trees) r
-    places_there r told =
+    places_there r reported =
         subst (λ e. Tells tables source e r) (sym (each_map (place_at tables source at.path name) (place_in_whole tables source at.project) trees))
         (subst (λ p. Tells tables source (each_of (place_at tables source p name) (map (place_in_whole tables source at.project) trees)) r) (sym is)
-        (subst (λ es. Tells tables source (each_of (place_at tables source path name) es) r) are told))
+        (subst (λ es. Tells tables source (each_of (place_at tables source path name) es) r) are reported))
 
     pub arguments_there : (r : Result (List Value) Fault) → Tells tables source (each_of (required_at tables source path name) (numbers_in number row)) r
         → Tells tables source (each_of (required tables source at (spots tables source) (whole tables source) name) trees) r
-    arguments_there r told =
+    arguments_there r reported =
         subst (λ e. Tells tables source e r) (sym (each_map (required_at tables source at.path name) (place_in_whole tables source at.project) trees))
         (subst (λ p. Tells tables source (each_of (required_at tables source p name) (map (place_in_whole tables source at.project) trees)) r) (sym is)
-        (subst (λ es. Tells tables source (each_of (required_at tables source path name) es) r) are told))
+        (subst (λ es. Tells tables source (each_of (required_at tables source path name) es) r) are reported))
 
 pub passes_there : {M F Z S A : Type 0} (tables : Tables M F Z S A) (source : Source) (at : Registered) (entry : ℕ) (condition : Condition) → entry ≡ place_in_whole tables source at.project condition.value
     → (r : Result Bool Fault) → Tells tables source (truth_at tables source at condition.test entry) r
     → Tells tables source (passes tables source at (spots tables source) (whole tables source) condition) r
-passes_there tables source at entry condition same r told = subst (λ e. Tells tables source (truth_at tables source at condition.test e) r) same told
+passes_there tables source at entry condition same r reported = subst (λ e. Tells tables source (truth_at tables source at condition.test e) r) same reported
 
 -- ---- One after another, with the remaining nodes
 
@@ -135,7 +135,7 @@ module _ {M F Z S A : Type 0} (tables : Tables M F Z S A) (source : Source) (num
     )
 
     pub fails_here : (fault : Fault) → Tells tables source (f x) (Err fault) → Tells tables source (each_of f all) (Err fault)
-    fails_here fault told = fails_all tables source f all done x more fault here.1 told
+    fails_here fault reported = fails_all tables source f all done x more fault here.1 reported
 
 -- ---- The same, with a row of nodes for each
 
@@ -160,7 +160,7 @@ module _ {M F Z S A : Type 0} (tables : Tables M F Z S A) (source : Source) (num
     )
 
     pub row_fails_here : (fault : Fault) → Tells tables source (f x) (Err fault) → Tells tables source (each_of f all) (Err fault)
-    row_fails_here fault told = fails_all tables source f all done x more fault (subst (IsWalked f all done) next left.1) told
+    row_fails_here fault reported = fails_all tables source f all done x more fault (subst (IsWalked f all done) next left.1) reported
 
 -- ---- Nodes with values
 
@@ -182,7 +182,7 @@ none_of_all P xs none = λ k d less. absurd (omega (arith, none, less))
 pub enabled_there : {M F Z S A : Type 0} (tables : Tables M F Z S A) (source : Source) (number : ℕ → ℕ) (at : Registered) (path : Path) → at.path ≡ path → (node : Node) (others : List Node) (enabled : Option Tree)
     → length (node ∷ others) ≡ length (option_to_list enabled) → AreFor tables source number at.project (node ∷ others) (option_to_list enabled)
     → (name : List ℕ) → name ≡ codes "enabled" → (r : Result Bool Fault) → Tells tables source (flag_at tables source path name (number node.number)) r → Tells tables source (enabled_of tables source at enabled) r
-enabled_there tables source number at path is node others None count are name word r told = absurd (let no_way : ⊥ = omega (arith, count) in no_way)
-enabled_there tables source number at path is node others (Some tree) count are name word r told =
+enabled_there tables source number at path is node others None count are name word r reported = absurd (let no_way : ⊥ = omega (arith, count) in no_way)
+enabled_there tables source number at path is node others (Some tree) count are name word r reported =
     flag_there tables source number at path is (number node.number) tree (first_for tables source number at.project node others tree [] are) (codes "enabled") r
-    (subst (λ n. Tells tables source (flag_at tables source path n (number node.number)) r) word told)
+    (subst (λ n. Tells tables source (flag_at tables source path n (number node.number)) r) word reported)

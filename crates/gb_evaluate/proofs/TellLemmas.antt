@@ -12,11 +12,11 @@ module _ {M F Z S A : Type 0} (tables : Tables M F Z S A) (source : Source) wher
   -- the fault of the first step is that of both
   pub first_fails : {X Y : Type 0} (first : Result X Trouble) (next : X → Result Y Trouble) (fault : Fault) → Tells tables source first (Err fault) → Tells tables source (and_then first next) (Err fault)
   first_fails first next fault (inl out) = inl out
-  first_fails first next fault (inr (trouble, is, told)) = inr (trouble, ap (λ r. and_then r next) is, told)
+  first_fails first next fault (inr (trouble, is, reported)) = inr (trouble, ap (λ r. and_then r next) is, reported)
 
   -- what the second gives is what both give
   pub then_gives : {X Y : Type 0} (first : Result X Trouble) (next : X → Result Y Trouble) (x : X) (y : Result Y Fault) → first ≡ Ok x → Tells tables source (next x) y → Tells tables source (and_then first next) y
-  then_gives first next x y is told = subst (λ r. Tells tables source (and_then r next) y) (sym is) told
+  then_gives first next x y is reported = subst (λ r. Tells tables source (and_then r next) y) (sym is) reported
 
   -- the fault of a value of another sort
   pub sorted_tells : {X : Type 0} (expected : Result X Trouble) (r : Result X Fault) → IsSorted expected r → Tells tables source expected r
@@ -26,4 +26,4 @@ module _ {M F Z S A : Type 0} (tables : Tables M F Z S A) (source : Source) wher
 
   -- a fault that is passed on
   pub passed_on : {X : Type 0} (expected : Result X Trouble) (r : Result X Fault) (fault known : Fault) → r ≡ Err fault → fault ≡ known → Tells tables source expected (Err known) → Tells tables source expected r
-  passed_on expected r fault known is same told = subst (Tells tables source expected) (sym (is ∙ ap Err same)) told
+  passed_on expected r fault known is same reported = subst (Tells tables source expected) (sym (is ∙ ap Err same)) reported

@@ -57,7 +57,7 @@ module _ {X Y E : Type 0} (f : X → Result Y E) where
 module _ {M F Z S A : Type 0} (tables : Tables M F Z S A) (source : Source) {X Y : Type 0} (f : X → Result Y Trouble) where
   pub fails_all : (all : List X) (done : List Y) (x : X) (rest : List X) (fault : Fault) → IsWalked f all done (x ∷ rest) → Tells tables source (f x) (Err fault) → Tells tables source (each_of f all) (Err fault)
   fails_all all done x rest fault walked (inl out) = inl out
-  fails_all all done x rest fault walked (inr (trouble, is, told)) = inr (trouble, walk_fails f all done x rest trouble walked is, told)
+  fails_all all done x rest fault walked (inr (trouble, is, reported)) = inr (trouble, walk_fails f all done x rest trouble walked is, reported)
 
 -- the rest of a row at a position in it
 pub left_at : {X Y : Type 0} (f : X → Y) (xs : List X) (i : ℕ) (d : X) → i < length xs → map f (drop i xs) ≡ f (get_or xs i d) ∷ map f (drop (i + 1) xs)
@@ -80,9 +80,9 @@ module _ {Node Y : Type 0} (f : ℕ → Result Y Trouble) (number : Node → ℕ
 
   pub row_fails : {M F Z S A : Type 0} (tables : Tables M F Z S A) (source : Source) (done : List Y) (fault : Fault) → IsWalked f (map number row) done (map number (drop i row)) → Tells tables source (f (number (get_or row i d))) (Err fault)
       → Tells tables source (each_of f (map number row)) (Err fault)
-  row_fails tables source done fault walked told =
+  row_fails tables source done fault walked reported =
       fails_all tables source f (map number row) done (number (get_or row i d)) (map number (drop (i + 1) row)) fault
-      (subst (IsWalked f (map number row) done) (left_at number row i d within) walked) told
+      (subst (IsWalked f (map number row) done) (left_at number row i d within) walked) reported
 
 -- the same by the item at that position
 pub item_left : {X Y : Type 0} (f : X → Y) (xs : List X) (i : ℕ) (x : X) → i < length xs → x ≡ get_or xs i x → map f (drop i xs) ≡ f x ∷ map f (drop (i + 1) xs)

@@ -12,8 +12,8 @@ use Rattle.gb_registry.specs.Source.{Source}
 use Rattle.gb_registry.specs.Tables.{Tables}
 use Rattle.gb_declare.specs.Declaring.{declared}
 use Rattle.gb_declare.specs.Joined.{Joined}
-use Rattle.gb_declare.specs.Realised.{Trouble, told}
-use Rattle.gb_declare.specs.Told.{IsTold}
+use Rattle.gb_declare.specs.Realised.{Trouble, reported}
+use Rattle.gb_declare.specs.Reported.{IsReported}
 use Rattle.gb_nodes.specs.Complete.{IsComplete}
 
 -- the fault that keeps a task from being declared, if one does
@@ -52,23 +52,23 @@ module _ {M F Z S A : Type 0} (tables : Tables M F Z S A) (source : Source) wher
   Tells expected (Ok x) = expected ≡ Ok x
   Tells expected (Err fault) =
       (fault ≡ OutOfMemory)
-      ⊎ ((trouble : Trouble) × (expected ≡ Err trouble) × IsTold tables source trouble fault)
+      ⊎ ((trouble : Trouble) × (expected ≡ Err trouble) × IsReported tables source trouble fault)
 
 -- The result matches the expected one, in the sense of `Tells`, for any scripts, by any numbers, that fit
 -- these names, faults and expressions.
 abbrev pub TellsOver : {M F Z S A X : Type 0} → Tables M F Z S A → Names → List (Option Fault)
     → List (Expression M F Z) → (Source → (ℕ → ℕ) → Result X Trouble) → Result X Fault → Type 0
-TellsOver tables names why nodes expected told =
+TellsOver tables names why nodes expected reported =
     (source : Source) (number : ℕ → ℕ) → IsOver tables source names why nodes number
-    → Tells tables source (expected source number) told
+    → Tells tables source (expected source number) reported
 
 module _ {M F Z S A : Type 0} (tables : Tables M F Z S A) (names : Names) (why : List (Option Fault)) where
   -- The fault of a provider is reported as this one: a circle by its names, the fault of a value as the
   -- definitions report it; or memory ran out.
-  abbrev pub IsToldOf : ProviderFault → Fault → Type 0
-  IsToldOf (providers.Circular texts) known = known ≡ Circular texts
-  IsToldOf (providers.Value fault) known =
-      (source : Source) → AreKnown tables source names why → IsFault (told tables source fault) known
-  IsToldOf providers.OutOfMemory known = known ≡ OutOfMemory
-  IsToldOf (providers.Step fault) known = ⊥
-  IsToldOf providers.NoValue known = ⊥
+  abbrev pub IsReportedOf : ProviderFault → Fault → Type 0
+  IsReportedOf (providers.Circular texts) known = known ≡ Circular texts
+  IsReportedOf (providers.Value fault) known =
+      (source : Source) → AreKnown tables source names why → IsFault (reported tables source fault) known
+  IsReportedOf providers.OutOfMemory known = known ≡ OutOfMemory
+  IsReportedOf (providers.Step fault) known = ⊥
+  IsReportedOf providers.NoValue known = ⊥

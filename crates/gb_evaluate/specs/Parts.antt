@@ -71,10 +71,10 @@ pub record AreAllFor {M F Z S A : Type 0} (tables : Tables M F Z S A) (source : 
 abbrev pub TellsOfParts : {M F Z S A X : Type 0} → Tables M F Z S A → Names → List (Option Fault)
     → List (Expression M F Z) → (Registered → Type 0) → Joined → Parts
     → (Source → Registered → Result X Trouble) → Result X Fault → Type 0
-TellsOfParts tables names why nodes IsSaid task parts expected told =
+TellsOfParts tables names why nodes IsSaid task parts expected reported =
     (source : Source) (number : ℕ → ℕ) → IsOver tables source names why nodes number
     → (at : Registered) → IsSaid at → AreAllFor tables source number at.project task parts
-    → Tells tables source (expected source at) told
+    → Tells tables source (expected source at) reported
 
 -- All texts that must be patterns are patterns.
 pub record HasPatterns (files : InputFiles) : Type 0 where

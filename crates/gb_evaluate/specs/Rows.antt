@@ -39,10 +39,10 @@ AreFor tables source number project row trees =
 abbrev pub TellsOf : {M F Z S A X : Type 0} → Tables M F Z S A → Names → List (Option Fault)
     → List (Expression M F Z) → (Registered → Type 0) → List Node → List Tree
     → (Source → Registered → Result X Trouble) → Result X Fault → Type 0
-TellsOf tables names why nodes IsSaid row trees expected told =
+TellsOf tables names why nodes IsSaid row trees expected reported =
     (source : Source) (number : ℕ → ℕ) → IsOver tables source names why nodes number
     → (at : Registered) → IsSaid at → AreFor tables source number at.project row trees
-    → Tells tables source (expected source at) told
+    → Tells tables source (expected source at) reported
 
 -- any task
 abbrev pub Anywhere : Registered → Type 0

@@ -64,7 +64,7 @@ fn action<A: Actions, T: Transforms>(
     row: &[Node],
 ) -> Result<Action, Fault>
     requires { AreWithin providers.old.nodes row.now }
-    ensures told { let tables = tables_of T.meanings A.meanings context.now.tables.now in
+    ensures reported { let tables = tables_of T.meanings A.meanings context.now.tables.now in
         TellsOf tables (known_names context.now.projects.now context.now.tasks.now)
         context.now.faults.now providers.old.nodes (IsAt path.now) row.now call.now.arguments
         (λ source at. action_of tables source at (spots tables source) (whole tables source) call.now)
@@ -88,7 +88,7 @@ pub fn actions<A: Actions, T: Transforms>(
 ) -> Result<ActionList<Action>, Fault>
     requires within { AreWithin providers.old.nodes row.now }
     requires count { length row.now ≡ length (flat_map (λ call. call.arguments) (now_of calls.now)) }
-    ensures told { let tables = tables_of T.meanings A.meanings context.now.tables.now in
+    ensures reported { let tables = tables_of T.meanings A.meanings context.now.tables.now in
         TellsOf tables (known_names context.now.projects.now context.now.tasks.now)
         context.now.faults.now providers.old.nodes (IsAt path.now) row.now
         (flat_map (λ call. call.arguments) (now_of calls.now))

@@ -11,10 +11,10 @@ ghost use Rattle.gb_declare.specs.Realised.{answered, as_flag, as_place, truth_o
 ghost use Rattle.gb_declare.specs.Whole.{spots, whole};
 ghost use Rattle.gb_evaluate.specs.Given.{HasValue, IsOfGet, IsSorted, flag_at, given_at, place_at};
 ghost use Rattle.gb_evaluate.specs.Given.{producers_at, required_at, truth_at};
-ghost use Rattle.gb_evaluate.specs.Over.{IsOver, IsToldOf, TellsOver, known_names};
+ghost use Rattle.gb_evaluate.specs.Over.{IsOver, IsReportedOf, TellsOver, known_names};
 
 use crate::context::Context;
-use crate::telling::{refused, told};
+use crate::telling::{refused, reported};
 use gb_action::actions::Actions;
 use gb_core::name::Name;
 use gb_core::path::TaskPath;
@@ -38,12 +38,12 @@ fn fault_of<A: Actions, T: Transforms>(
 ) -> Result<Fault, AllocError>
     requires { IsOfGet fault }
     ensures { let tables = tables_of T.meanings A.meanings context.now.tables.now in
-        IfOk result (IsToldOf tables (known_names context.now.projects.now context.now.tasks.now)
+        IfOk result (IsReportedOf tables (known_names context.now.projects.now context.now.tasks.now)
         context.now.faults.now fault) }
 {
     match fault {
         ProviderFault::Circular(names) => Ok(Fault::Circular(names)),
-        ProviderFault::Value(fault) => told(alloc, context, fault),
+        ProviderFault::Value(fault) => reported(alloc, context, fault),
         ProviderFault::OutOfMemory => Err(AllocError),
         ProviderFault::Step(_) | ProviderFault::NoValue => unreachable!(),
     }
@@ -57,7 +57,7 @@ pub fn ask<A: Actions, T: Transforms>(
     node: Node,
 ) -> Result<Option<Value>, Fault>
     requires { node.number < length providers.old.nodes }
-    ensures told { let tables = tables_of T.meanings A.meanings context.now.tables.now in
+    ensures reported { let tables = tables_of T.meanings A.meanings context.now.tables.now in
         TellsOver tables (known_names context.now.projects.now context.now.tasks.now)
         context.now.faults.now providers.old.nodes
         (λ source number. given_at tables source (number node.number)) result }
@@ -80,7 +80,7 @@ pub fn require<A: Actions, T: Transforms>(
     name: &Name,
 ) -> Result<Value, Fault>
     requires { node.number < length providers.old.nodes }
-    ensures told { let tables = tables_of T.meanings A.meanings context.now.tables.now in
+    ensures reported { let tables = tables_of T.meanings A.meanings context.now.tables.now in
         TellsOver tables (known_names context.now.projects.now context.now.tasks.now)
         context.now.faults.now providers.old.nodes
         (λ source number. required_at tables source path.now name.now (number node.number)) result }
@@ -103,7 +103,7 @@ pub fn require_place<A: Actions, T: Transforms>(
     name: &Name,
 ) -> Result<Place, Fault>
     requires { node.number < length providers.old.nodes }
-    ensures told { let tables = tables_of T.meanings A.meanings context.now.tables.now in
+    ensures reported { let tables = tables_of T.meanings A.meanings context.now.tables.now in
         TellsOver tables (known_names context.now.projects.now context.now.tasks.now)
         context.now.faults.now providers.old.nodes
         (λ source number. place_at tables source path.now name.now (number node.number)) result }
@@ -133,7 +133,7 @@ pub fn require_flag<A: Actions, T: Transforms>(
     name: &Name,
 ) -> Result<bool, Fault>
     requires { node.number < length providers.old.nodes }
-    ensures told { let tables = tables_of T.meanings A.meanings context.now.tables.now in
+    ensures reported { let tables = tables_of T.meanings A.meanings context.now.tables.now in
         TellsOver tables (known_names context.now.projects.now context.now.tasks.now)
         context.now.faults.now providers.old.nodes
         (λ source number. flag_at tables source path.now name.now (number node.number)) result }
@@ -201,7 +201,7 @@ pub fn passes<A: Actions, T: Transforms>(
     test: &Function,
 ) -> Result<bool, Fault>
     requires { node.number < length providers.old.nodes }
-    ensures told { let tables = tables_of T.meanings A.meanings context.now.tables.now in
+    ensures reported { let tables = tables_of T.meanings A.meanings context.now.tables.now in
         (at : Registered)
         → TellsOver tables (known_names context.now.projects.now context.now.tasks.now)
         context.now.faults.now providers.old.nodes
@@ -222,7 +222,7 @@ pub fn producers<A: Actions, T: Transforms>(
 ) -> Result<TaskPaths, AllocError>
     requires node { node.number < length providers.old.nodes }
     requires value { HasValue T.meanings providers.old.nodes node.number }
-    ensures told { let tables = tables_of T.meanings A.meanings context.now.tables.now in
+    ensures reported { let tables = tables_of T.meanings A.meanings context.now.tables.now in
         IfOk result (λ tasks. (source : Source) (number : ℕ → ℕ)
         → IsOver tables source (known_names context.now.projects.now context.now.tasks.now)
         context.now.faults.now providers.old.nodes number

@@ -42,7 +42,7 @@ pub fn is_enabled<A: Actions, T: Transforms>(
 ) -> Result<bool, Fault>
     requires within { AreWithin providers.old.nodes row.now }
     requires count { length row.now ≡ length (option_to_list (option_copied enabled)) }
-    ensures told { let tables = tables_of T.meanings A.meanings context.now.tables.now in
+    ensures reported { let tables = tables_of T.meanings A.meanings context.now.tables.now in
         TellsOf tables (known_names context.now.projects.now context.now.tasks.now)
         context.now.faults.now providers.old.nodes (IsAt path.now) row.now
         (option_to_list (option_copied enabled.entry))
@@ -66,7 +66,7 @@ pub fn all_hold<A: Actions, T: Transforms>(
 ) -> Result<bool, Fault>
     requires within { AreWithin providers.old.nodes row.now }
     requires count { length row.now ≡ length conditions.now }
-    ensures told { let tables = tables_of T.meanings A.meanings context.now.tables.now in
+    ensures reported { let tables = tables_of T.meanings A.meanings context.now.tables.now in
         TellsOf tables (known_names context.now.projects.now context.now.tasks.now)
         context.now.faults.now providers.old.nodes Anywhere row.now
         (map (λ condition. condition.value) (now_of conditions.now))

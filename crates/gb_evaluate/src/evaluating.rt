@@ -41,7 +41,7 @@ fn flags<A: Actions, T: Transforms>(
 ) -> Result<Flags, Fault>
     requires within { AreAllWithin providers.old.nodes parts.now }
     requires counted { AreCounted (joined_of task.now) parts.now }
-    ensures told { let tables = tables_of T.meanings A.meanings context.now.tables.now in
+    ensures reported { let tables = tables_of T.meanings A.meanings context.now.tables.now in
         TellsOfParts tables (known_names context.now.projects.now context.now.tasks.now)
         context.now.faults.now providers.old.nodes (IsAt path.now) (joined_of task.now) parts.now
         (λ source at. flags_of tables source at (joined_of task.now)) result }
@@ -75,7 +75,7 @@ fn contents<A: Actions, T: Transforms>(
     requires within { AreAllWithin providers.old.nodes parts.now }
     requires counted { AreCounted (joined_of task.now) parts.now }
     requires patterns { HavePatterns (joined_of task.now).files }
-    ensures told { let tables = tables_of T.meanings A.meanings context.now.tables.now in
+    ensures reported { let tables = tables_of T.meanings A.meanings context.now.tables.now in
         TellsOfParts tables (known_names context.now.projects.now context.now.tasks.now)
         context.now.faults.now providers.old.nodes (IsBuiltIn path.now build.now) (joined_of task.now)
         parts.now
@@ -153,7 +153,7 @@ pub fn evaluated<A: Actions, T: Transforms>(
     requires within { AreWithin providers.old.nodes row.now }
     requires count { length row.now ≡ length (trees_of (joined_of task.now)) }
     requires patterns { HavePatterns (joined_of task.now).files }
-    ensures told { let tables = tables_of T.meanings A.meanings context.now.tables.now in
+    ensures reported { let tables = tables_of T.meanings A.meanings context.now.tables.now in
         TellsOf tables (known_names context.now.projects.now context.now.tasks.now)
         context.now.faults.now providers.old.nodes (IsBuiltIn path.now build.now) row.now
         (trees_of (joined_of task.now))

@@ -99,7 +99,7 @@ fn property<A: Actions, T: Transforms>(
 ) -> Result<FileProperty, Fault>
     requires within { AreWithin providers.old.nodes row.now }
     requires patterns { HasPatterns files.now }
-    ensures told { let tables = tables_of T.meanings A.meanings context.now.tables.now in
+    ensures reported { let tables = tables_of T.meanings A.meanings context.now.tables.now in
         TellsOf tables (known_names context.now.projects.now context.now.tasks.now)
         context.now.faults.now providers.old.nodes (IsAt path.now) row.now files.now.from
         (λ source at. files_under tables source at (spots tables source) (whole tables source)
@@ -123,7 +123,7 @@ pub fn properties<A: Actions, T: Transforms>(
     requires within { AreWithin providers.old.nodes row.now }
     requires count { length row.now ≡ length (flat_map (λ property. property.1.from) (named_in files.now)) }
     requires patterns { HavePatterns (named_in files.now) }
-    ensures told { let tables = tables_of T.meanings A.meanings context.now.tables.now in
+    ensures reported { let tables = tables_of T.meanings A.meanings context.now.tables.now in
         TellsOf tables (known_names context.now.projects.now context.now.tasks.now)
         context.now.faults.now providers.old.nodes (IsAt path.now) row.now
         (flat_map (λ property. property.1.from) (named_in files.now))

@@ -28,7 +28,7 @@ fn add_producers<A: Actions, T: Transforms>(
 ) -> Result<(), AllocError>
     requires within { AreWithin providers.old.nodes row.now }
     requires values { HaveValues T.meanings providers.old.nodes row.now }
-    ensures told { let tables = tables_of T.meanings A.meanings context.now.tables.now in
+    ensures reported { let tables = tables_of T.meanings A.meanings context.now.tables.now in
         OnOk result ((source : Source) (number : ℕ → ℕ)
         → IsOver tables source (known_names context.now.projects.now context.now.tasks.now)
         context.now.faults.now providers.old.nodes number
@@ -53,7 +53,7 @@ pub fn needs<A: Actions, T: Transforms>(
 ) -> Result<TaskPaths, AllocError>
     requires within { AreAllWithin providers.old.nodes parts.now }
     requires values { HaveAllValues T.meanings providers.old.nodes parts.now }
-    ensures told { let tables = tables_of T.meanings A.meanings context.now.tables.now in
+    ensures reported { let tables = tables_of T.meanings A.meanings context.now.tables.now in
         IfOk result (λ tasks. (source : Source) (number : ℕ → ℕ)
         → IsOver tables source (known_names context.now.projects.now context.now.tasks.now)
         context.now.faults.now providers.old.nodes number

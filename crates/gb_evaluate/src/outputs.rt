@@ -53,7 +53,7 @@ fn output<A: Actions, T: Transforms>(
     node: Node,
 ) -> Result<Output, Fault>
     requires { node.number < length providers.old.nodes }
-    ensures told { let tables = tables_of T.meanings A.meanings context.now.tables.now in
+    ensures reported { let tables = tables_of T.meanings A.meanings context.now.tables.now in
         (tree : Tree)
         → TellsOf tables (known_names context.now.projects.now context.now.tasks.now)
         context.now.faults.now providers.old.nodes (IsBuiltIn path.now build.now) (node ∷ []) (tree ∷ [])
@@ -79,7 +79,7 @@ pub fn outputs<A: Actions, T: Transforms>(
 ) -> Result<Outputs, Fault>
     requires within { AreWithin providers.old.nodes row.now }
     requires count { length row.now ≡ length outputs.now.entries }
-    ensures told { let tables = tables_of T.meanings A.meanings context.now.tables.now in
+    ensures reported { let tables = tables_of T.meanings A.meanings context.now.tables.now in
         TellsOf tables (known_names context.now.projects.now context.now.tasks.now)
         context.now.faults.now providers.old.nodes (IsBuiltIn path.now build.now) row.now
         (map (λ output. output.1.1) (outputs_in outputs.now))

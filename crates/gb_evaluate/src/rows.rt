@@ -29,7 +29,7 @@ pub fn places<A: Actions, T: Transforms>(
     row: &[Node],
 ) -> Result<Places, Fault>
     requires { AreWithin providers.old.nodes row.now }
-    ensures told { let tables = tables_of T.meanings A.meanings context.now.tables.now in
+    ensures reported { let tables = tables_of T.meanings A.meanings context.now.tables.now in
         TellsOver tables (known_names context.now.projects.now context.now.tasks.now)
         context.now.faults.now providers.old.nodes
         (λ source number. each_of (place_at tables source path.now name.now) (numbers_in number row.now))
@@ -55,7 +55,7 @@ pub fn arguments<A: Actions, T: Transforms>(
     row: &[Node],
 ) -> Result<Arguments, Fault>
     requires { AreWithin providers.old.nodes row.now }
-    ensures told { let tables = tables_of T.meanings A.meanings context.now.tables.now in
+    ensures reported { let tables = tables_of T.meanings A.meanings context.now.tables.now in
         TellsOver tables (known_names context.now.projects.now context.now.tasks.now)
         context.now.faults.now providers.old.nodes
         (λ source number. each_of (required_at tables source path.now name.now) (numbers_in number row.now))

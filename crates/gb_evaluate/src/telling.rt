@@ -6,7 +6,7 @@ ghost use Rattle.gb_registry.specs.Said.{task_at};
 ghost use Rattle.gb_registry.specs.Source.{Source};
 ghost use Rattle.gb_registry.specs.Tables.{tables_of};
 ghost use Rattle.gb_report.specs.declared.fault.Fault.TheVariants.{TaskNotFound};
-ghost use Rattle.gb_declare.specs.Realised.{first_or, no_output, refused, told};
+ghost use Rattle.gb_declare.specs.Realised.{first_or, no_output, refused, reported};
 ghost use Rattle.gb_evaluate.specs.Over.{AreKnown, IsFault, known_names};
 
 use crate::context::Context;
@@ -75,7 +75,7 @@ fn no_output<A: Actions, T: Transforms>(
 }
 
 /// The fault of a value, as it is reported.
-pub(crate) fn told<A: Actions, T: Transforms>(
+pub(crate) fn reported<A: Actions, T: Transforms>(
     alloc: Global,
     context: &Context<'_, A, T>,
     fault: ValueFault,
@@ -84,7 +84,7 @@ pub(crate) fn told<A: Actions, T: Transforms>(
         IfOk result (λ known. (source : Source)
         → AreKnown tables source (known_names context.now.projects.now context.now.tasks.now)
         context.now.faults.now
-        → IsFault (told tables source fault) known) }
+        → IsFault (reported tables source fault) known) }
 {
     match fault {
         ValueFault::Refused(function, refusal) => Ok(refused(function, refusal)),

@@ -31,7 +31,7 @@ pub fn values<A: Actions, T: Transforms>(
 ) -> Result<NamedValues, Fault>
     requires within { AreWithin providers.old.nodes row.now }
     requires count { length row.now ≡ length inputs.now.entries }
-    ensures told { let tables = tables_of T.meanings A.meanings context.now.tables.now in
+    ensures reported { let tables = tables_of T.meanings A.meanings context.now.tables.now in
         TellsOf tables (known_names context.now.projects.now context.now.tasks.now)
         context.now.faults.now providers.old.nodes (IsAt path.now) row.now
         (map (λ value. value.1) (named_in inputs.now))

@@ -49,20 +49,20 @@ module _ (digest : Bytes → List ℕ) where
 
 module _ (setting : Setting) (old : State) where
   pub clear_or_not : (clear : Bool) (contents : List Bytes) → guard setting clear old contents ⊎ (¬ guard setting clear old contents)
-  clear_or_not false contents = inr (λ granted. not_true granted.0)
+  clear_or_not false contents = inr (λ assumed. not_true assumed.0)
   clear_or_not true contents = by (is_empty old.remembered) refl
     where
       apart : is_empty old.remembered ≡ false → AreApart setting.digest contents ⊎ (¬ AreApart setting.digest contents)
           → guard setting true old contents ⊎ (¬ guard setting true old contents)
       apart some (inl are) = inl (refl, inr are)
-      apart some (inr are_not) = inr (λ granted. elim granted.1 [ inl empty ↦ not_false (sym empty ∙ some) | inr are ↦ are_not are ])
+      apart some (inr are_not) = inr (λ assumed. elim assumed.1 [ inl empty ↦ not_false (sym empty ∙ some) | inr are ↦ are_not are ])
 
       by : (t : Bool) → is_empty old.remembered ≡ t → guard setting true old contents ⊎ (¬ guard setting true old contents)
       by true e = inl (refl, inl e)
       by false e = apart e (apart_or_not setting.digest contents)
 
   pub clear_of_fewer : (clear : Bool) (all some : List Bytes) → Among some all → guard setting clear old all → guard setting clear old some
-  clear_of_fewer clear all some among granted = (
-    granted.0,
-    elim granted.1 [ inl empty ↦ inl empty | inr apart ↦ inr (apart_of_fewer setting.digest all some among apart) ],
+  clear_of_fewer clear all some among assumed = (
+    assumed.0,
+    elim assumed.1 [ inl empty ↦ inl empty | inr apart ↦ inr (apart_of_fewer setting.digest all some among apart) ],
   )

@@ -33,12 +33,12 @@ refused_both (false ∷ bs) cs =
     omega (arith, rest, all, one)
 
 -- what was kept and what was refused is all
-pub kept_or_refused : (kept : List Bool) (told : List Heard) → length kept ≡ length told → length (items_where_true kept told) + count_by not kept ≡ length told
+pub kept_or_refused : (kept : List Bool) (reported : List Heard) → length kept ≡ length reported → length (items_where_true kept reported) + count_by not kept ≡ length reported
 kept_or_refused [] [] same = refl
-kept_or_refused [] (x ∷ told) same = absurd (omega (arith, same))
+kept_or_refused [] (x ∷ reported) same = absurd (omega (arith, same))
 kept_or_refused (b ∷ kept) [] same = absurd (omega (arith, same))
-kept_or_refused (true ∷ kept) (x ∷ told) same = let rest = kept_or_refused kept told (omega (arith, same)) in omega (arith, rest)
-kept_or_refused (false ∷ kept) (x ∷ told) same =
-    let rest = kept_or_refused kept told (omega (arith, same)) in
+kept_or_refused (true ∷ kept) (x ∷ reported) same = let rest = kept_or_refused kept reported (omega (arith, same)) in omega (arith, rest)
+kept_or_refused (false ∷ kept) (x ∷ reported) same =
+    let rest = kept_or_refused kept reported (omega (arith, same)) in
     let one = refused_from 1 kept in
     omega (arith, rest, one)

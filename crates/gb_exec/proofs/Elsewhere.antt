@@ -6,7 +6,7 @@ use Rattle.gb_meaning.specs.Kinds.{Kinds}
 use Rattle.gb_meaning.specs.Label.{CannotRead, Early, HasNoActions, HasNoSource, Moment, Skips, early_case}
 use Rattle.gb_meaning.specs.Made.{with_outputs}
 use Rattle.gb_meaning.specs.Memory.{Entry, Memory, World, entry_of, forget, recalled, remember}
-use Rattle.gb_meaning.specs.Turn.{ByItself, ByMachine, Cause, FailedRunLeaves, FailureLeaves, HasEnded, IsGivenUp, Leaves, Rules, Standing, Turn, cause_of}
+use Rattle.gb_meaning.specs.Execution.{ByItself, ByMachine, Cause, FailedRunLeaves, FailureLeaves, HasEnded, IsGivenUp, Leaves, Rules, Standing, Execution, cause_of}
 use Rattle.gb_plan.specs.Task.{Path}
 use Rattle.gb_plan.specs.declared.plan.Planned.{Planned}
 use Rattle.gb_plan.specs.declared.task.TaskDeclaration.{TaskDeclaration as Task}
@@ -15,7 +15,7 @@ use Rattle.gb_report.specs.declared.report.Options.{Options}
 use Rattle.gb_report.specs.declared.report.Outcome.{Outcome}
 use Rattle.gb_report.specs.declared.report.Outcome.TheVariants as outcomes
 use Rattle.gb_report.specs.declared.report.TaskReport.{TaskReport}
-use Rattle.gb_turn.proofs.Memories.{recalled-forget, recalled-remember}
+use Rattle.gb_task.proofs.Memories.{recalled-forget, recalled-remember}
 
 module _ (kinds : Kinds) (options : Options) (task : Task) (old new : World) (path : Path) (other : bytes_eq path task.path ≡ false) where
   abbrev IsKept : Memory → Type 0
@@ -66,9 +66,9 @@ module _ (kinds : Kinds) (options : Options) (task : Task) (old new : World) (pa
   leaves_others outcomes.NotRun leaves = same leaves
 
 -- of every task but the executed one the same is remembered
-pub turn_leaves_others : (rules : Rules) (moment : Moment) (planned : Planned) (report : TaskReport) (new : Standing) → Turn rules moment planned report new
+pub execution_leaves_others : (rules : Rules) (moment : Moment) (planned : Planned) (report : TaskReport) (new : Standing) → Execution rules moment planned report new
     → (path : Path) → bytes_eq path planned.task.path ≡ false → recalled new.world.memory path ≡ recalled moment.world.memory path
-turn_leaves_others rules moment planned report new turn path other = elim turn.2 [
+execution_leaves_others rules moment planned report new execution path other = elim execution.2 [
   | inl started ↦ leaves_others rules.kinds rules.options planned.task moment.world new.world path other report.outcome started.1.leaves
   | inr passed ↦ same rules.kinds rules.options planned.task moment.world new.world path other passed.1.unchanged
 ]

@@ -4,7 +4,7 @@ use Rattle.std.specs.List.{AllZip, count_by, items_where_true}
 use Rattle.std.proofs.lemmas.List.{length-append, append_assoc}
 use Rattle.gb_report.specs.declared.report.Heard.{Heard}
 use Rattle.gb_meaning.specs.Headline.{Ear, HearsAll, HearsSome, counted}
-use Rattle.gb_exec.specs.Telling.{ToldIsHeard, ToldMore}
+use Rattle.gb_exec.specs.Telling.{ReportedIsHeard, ReportedMore}
 use Rattle.gb_exec.proofs.Counts.{counted_both, counted_none, kept_or_refused, refused_both}
 use Rattle.gb_exec.proofs.ByNumber.{both_true}
 use Rattle.gb_plan.proofs.Tests.{left_of, right_of}
@@ -38,14 +38,14 @@ pair_is : (ear : Ear) (hears : List Heard) (count : ℕ) → ear.0 ≡ hears →
 pair_is (heard, refused) hears count same also = ap (λ (xs : List Heard). (xs, refused)) same ∙ ap (λ (n : ℕ). (hears, n)) also
 
 -- a listener that got as many notifications as were sent has got them all, and refused none
-heard_whole : (told : List Heard) (old new : Ear) → HearsSome told old new → length new.0 ≡ length old.0 + length told → HearsAll told old new
-heard_whole told old new some long =
+heard_whole : (reported : List Heard) (old new : Ear) → HearsSome reported old new → length new.0 ≡ length old.0 + length reported → HearsAll reported old new
+heard_whole reported old new some long =
     let is = ap (λ (ear : Ear). length ear.0) some.2 in
-    let parts = length-append old.0 (items_where_true some.0 told) in
-    let all = kept_or_refused some.0 told some.1 in
+    let parts = length-append old.0 (items_where_true some.0 reported) in
+    let all = kept_or_refused some.0 reported some.1 in
     let none : count_by not some.0 ≡ 0 = omega (arith, is, parts, all, long) in
-    pair_is new (old.0 ++ told) old.1
-    (ap (λ (ear : Ear). ear.0) some.2 ∙ ap (λ xs. old.0 ++ xs) (kept_whole some.0 told (omega (arith, all, none))))
+    pair_is new (old.0 ++ reported) old.1
+    (ap (λ (ear : Ear). ear.0) some.2 ∙ ap (λ xs. old.0 ++ xs) (kept_whole some.0 reported (omega (arith, all, none))))
     (ap (λ (ear : Ear). ear.1) some.2 ∙ ap (counted old.1) none ∙ counted_none old.1)
 
 module _ (first later : List Heard) (old mid new : Ear) where
@@ -112,8 +112,8 @@ module _ (first later : List Heard) where
       let here = parts first later o m n a.0 b.0 h.0 in
       let rest = all_parts old mid new a.1 b.1 h.1 in ((here.0, rest.0), (here.1, rest.1))
 
-pub told_more : ToldMore
-told_more first later all_first all_later old mid new a b = record {
+pub reported_more : ReportedMore
+reported_more first later all_first all_later old mid new a b = record {
   each = each_both first later old mid new a.each b.each;
   whole = (
     λ h. all_both first later old mid new (a.whole.0 (left_of all_first all_later h)) (b.whole.0 (right_of all_first all_later h)),
@@ -121,12 +121,12 @@ told_more first later all_first all_later old mid new a b = record {
   );
 }
 
-pub told_is_heard : ToldIsHeard
-told_is_heard report all_heard old new same told = record {
-  each = told.each;
+pub reported_is_heard : ReportedIsHeard
+reported_is_heard report all_heard old new same reported = record {
+  each = reported.each;
   refused = (
-    λ none. told.whole.0 (not_false all_heard (sym same ∙ none)),
-    λ all. same ∙ ap not (told.whole.1 all),
+    λ none. reported.whole.0 (not_false all_heard (sym same ∙ none)),
+    λ all. same ∙ ap not (reported.whole.1 all),
   );
 }
   where

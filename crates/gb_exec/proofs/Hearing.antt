@@ -3,10 +3,10 @@ use Rattle.std.specs.Prelude.{ℕ, ◌≡◌, true, false, cond, List, [], ◌�
 use Rattle.std.specs.List.{AllZip}
 use Rattle.std.proofs.Common.{refl, ap, sym, ◌∙◌}
 use Rattle.std.proofs.lemmas.Grind.{flat_map-append}
-use Rattle.gb_exec.specs.Telling.{AllTold}
+use Rattle.gb_exec.specs.Telling.{AllReported}
 use Rattle.gb_exec.proofs.Counts.{counted_none}
 use Rattle.gb_meaning.specs.Headline.{Ear, HearsAll, HearsSome}
-use Rattle.gb_meaning.specs.Turn.{heard_of}
+use Rattle.gb_meaning.specs.Execution.{heard_of}
 use Rattle.gb_report.specs.Outcome.{is_started}
 use Rattle.gb_report.specs.declared.report.Heard.{Heard}
 use Rattle.gb_report.specs.declared.report.Heard.TheVariants as heard
@@ -20,16 +20,16 @@ all_heard : (ears : List Ear) → AllZip (HearsAll []) ears ears
 all_heard [] = tt
 all_heard (ear ∷ ears) = (ap (λ (xs : List Heard). (xs, ear.1)) (nothing_more ear.0), all_heard ears)
 
-each_told : (ears : List Ear) → AllZip (HearsSome []) ears ears
-each_told [] = tt
-each_told (ear ∷ ears) = (
+each_reported : (ears : List Ear) → AllZip (HearsSome []) ears ears
+each_reported [] = tt
+each_reported (ear ∷ ears) = (
   ([], refl, ap (λ (xs : List Heard). (xs, ear.1)) (nothing_more ear.0) ∙ ap (λ (n : ℕ). (ear.0 ++ [], n)) (sym (counted_none ear.1))),
-  each_told ears,
+  each_reported ears,
 )
 
 -- where there is nothing to notify of, all were notified
-pub untold : (ears : List Ear) → AllTold [] true ears ears
-untold ears = record { each = each_told ears; whole = (λ _. all_heard ears, λ _. refl) }
+pub untold : (ears : List Ear) → AllReported [] true ears ears
+untold ears = record { each = each_reported ears; whole = (λ _. all_heard ears, λ _. refl) }
 
 pub heard_passed : (report : TaskReport) → is_started report.outcome ≡ false → heard_of false (report ∷ []) ≡ []
 heard_passed report e = ap (λ b. cond b (heard.Start report.path ∷ heard.End report.path report.outcome ∷ []) [] ++ []) e

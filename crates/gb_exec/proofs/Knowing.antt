@@ -4,8 +4,8 @@ use Rattle.std.specs.Prelude.{ℕ, ◌≡◌, ◌⊎◌, ◌++◌, List, [], ◌
 use Rattle.std.specs.List.{AllZip, flat_map, list_any}
 use Rattle.std.proofs.Common.{zero, suc, sym, subst, inl, inr}
 use Rattle.sha2.specs.Sha256.{sha256}
-use Rattle.gb_turn.specs.Case.{IsKnown}
-use Rattle.gb_turn.specs.Known.{WhatIsReadIsKnown}
+use Rattle.gb_task.specs.Case.{IsKnown}
+use Rattle.gb_task.specs.Known.{WhatIsReadIsKnown}
 use Rattle.gb_core.specs.Path.{is_task_path}
 use Rattle.gb_folder.specs.Files.{Bytes, Contents, Files, IsFolder, are_placed, is_empty, is_own}
 use Rattle.gb_history.specs.Record.{Record}

@@ -1,5 +1,5 @@
 pub mod Counts
-pub mod Told
+pub mod Reported
 pub mod Further
 pub mod Marks
 pub mod Kept

@@ -4,7 +4,7 @@ use Rattle.std.proofs.Common.{refl, sym, ap, subst, ◌∙◌, inl, inr, append_
 use Rattle.gb_folder.specs.Files.{is_empty}
 use Rattle.gb_meaning.specs.Label.{Moment, some_outcome}
 use Rattle.gb_meaning.specs.Outline.{AnswersAlone, AreOutlines, IsOutline, idle_outcome, moment_by}
-use Rattle.gb_meaning.specs.Turn.{DoesStart}
+use Rattle.gb_meaning.specs.Execution.{DoesStart}
 use Rattle.gb_plan.specs.Graph.{Plan, needs_in}
 use Rattle.gb_plan.specs.Task.{Path}
 use Rattle.gb_plan.specs.declared.plan.Planned.{Planned}
@@ -13,12 +13,12 @@ use Rattle.gb_report.specs.declared.report.Options.{Options}
 use Rattle.gb_report.specs.declared.report.Outcome.{Outcome}
 use Rattle.gb_report.specs.declared.report.Outcome.TheVariants.{NotRun}
 use Rattle.gb_report.specs.declared.report.TaskReport.{TaskReport}
-use Rattle.gb_turn.specs.Settled.{IsAnswer, IsAnsweredAlone}
-use Rattle.gb_turn.specs.Settled.{idle_outcome as told_idly}
+use Rattle.gb_task.specs.Settled.{IsAnswer, IsAnsweredAlone}
+use Rattle.gb_task.specs.Settled.{idle_outcome as reported_idly}
 use Rattle.gb_exec.specs.Reports.{IsOf, report_with}
 use Rattle.gb_exec.proofs.Underway.{outcome_in}
 
-same_idle : (need : Bool) → told_idly need ≡ idle_outcome need
+same_idle : (need : Bool) → reported_idly need ≡ idle_outcome need
 same_idle true = refl
 same_idle false = refl
 
@@ -42,9 +42,9 @@ module _ (options : Options) (plan : Plan) where
     where
       answers : (runs idle : Bool) → planned.task.runs ≡ runs → is_empty planned.task.actions ≡ idle → IsAnsweredAlone runs idle need report.outcome
           → AnswersAlone options plan moment planned.task runs idle report.outcome
-      answers false idle r a told = inl told
-      answers true true r a told = inl (told ∙ same_idle need ∙ ap idle_outcome (sym needed))
-      answers true false r a told = answer.answer r a
+      answers false idle r a reported = inl reported
+      answers true true r a reported = inl (reported ∙ same_idle need ∙ ap idle_outcome (sym needed))
+      answers true false r a reported = answer.answer r a
 
   -- one report more
   pub outlines_more : (ended : List (Path × Outcome)) (front : List Planned) (planned : Planned) (done : List TaskReport) (report : TaskReport)

@@ -30,7 +30,7 @@ module _ (plan : List Planned) (numbers : Numbers) (tell : TellNumbers (order pl
   pub tell_rows : TellRows paths plan (map (λ z. numbers_in numbers (paths z)) plan)
   tell_rows = record {
     each = length-map _ _;
-    told = λ task number planned here. (
+    reported = λ task number planned here. (
       λ h.
           let kept = of_kept (number_at numbers) (paths planned) number (in_of _ number (subst (λ xs. Contains xs number) (rowed task planned here) h)) in
           let is = (tell kept.0 number).0 kept.2 in
@@ -101,12 +101,12 @@ module _ (plan : List Planned) (needs finalizers : List (List ℕ)) (tell_needs 
     each_wanted = each ∙ sym tell_needs.each;
     needs_first = λ task before h.
         let planned = planned_at needs tell_needs.each task before h in
-        let told = (tell_needs.told task before planned.0 planned.1).0 h in
-        needs_first plan once none task before planned.0 planned.1 told.0 told.1;
+        let reported = (tell_needs.reported task before planned.0 planned.1).0 h in
+        needs_first plan once none task before planned.0 planned.1 reported.0 reported.1;
     finalizers_known = λ task later h.
         let planned = planned_at finalizers tell_finalizers.each task later h in
-        let told = (tell_finalizers.told task later planned.0 planned.1).0 h in
-        omega (arith, told.0, tell_needs.each);
+        let reported = (tell_finalizers.reported task later planned.0 planned.1).0 h in
+        omega (arith, reported.0, tell_needs.each);
   }
 
   pub of_plan : (selected wanted : List Bool) (endings : List Ending) → selected ≡ map (λ planned. planned.is_selected) plan
@@ -128,4 +128,4 @@ module _ (plan : List Planned) (needs finalizers : List (List ℕ)) (tell_needs 
   pub needs_within : (later task : ℕ) → Contains (row needs later) task → task < length plan
   needs_within later task h =
       let planned = planned_at needs tell_needs.each later task h in
-      ((tell_needs.told later task planned.0 planned.1).0 h).0
+      ((tell_needs.reported later task planned.0 planned.1).0 h).0

@@ -11,22 +11,22 @@ use Rattle.gb_history.specs.Places.{record_place}
 use Rattle.gb_meaning.specs.Events.{IsTornInRun, StandsInRun, is_record_shut_out, is_record_too_long, may_come, own_files, rules_in}
 use Rattle.gb_meaning.specs.Kinds.{Kinds}
 use Rattle.gb_meaning.specs.Label.{Moment}
-use Rattle.gb_meaning.specs.Turn.{Standing, Turn}
-use Rattle.gb_meaning.proofs.Lemmas.Weaker.{turn_weaker}
+use Rattle.gb_meaning.specs.Execution.{Standing, Execution}
+use Rattle.gb_meaning.proofs.Lemmas.Weaker.{execution_weaker}
 use Rattle.gb_plan.specs.Graph.{Plan}
 use Rattle.gb_plan.specs.Task.{Path, is_output_of}
 use Rattle.gb_plan.specs.declared.plan.Planned.{Planned}
 use Rattle.gb_plan.proofs.Tests.{neither, no_longer, not_false, not_true, open_in}
-use Rattle.gb_records.proofs.Told.{texts_are_records}
+use Rattle.gb_records.proofs.Reported.{texts_are_records}
 use Rattle.gb_report.specs.declared.fault.Fault.{Fault}
 use Rattle.gb_report.specs.declared.fault.Fault.TheVariants as faults
 use Rattle.gb_report.specs.declared.report.Options.{Options}
 use Rattle.gb_report.specs.declared.report.TaskReport.{TaskReport}
 use Rattle.gb_store.specs.Changes.{ChangesOnly, is_at}
-use Rattle.gb_turn.specs.Turned.{Registering, is_of_turn, setting_with}
-use Rattle.gb_turn.proofs.Own.{blocked_where, false_if, kept_at, not_in_own_way}
-use Rattle.gb_turn.proofs.Parts.{blocked_by_own}
-use Rattle.gb_exec.specs.Building.{is_of_turns}
+use Rattle.gb_task.specs.Executing.{Registering, is_of_execution, setting_with}
+use Rattle.gb_task.proofs.Own.{blocked_where, false_if, kept_at, not_in_own_way}
+use Rattle.gb_task.proofs.Parts.{blocked_by_own}
+use Rattle.gb_exec.specs.Building.{is_of_executions}
 
 -- a task that can have a record, and none of whose outputs is the tool's own
 pub record HasOwnPlaces (planned : Planned) : Type 0 where
@@ -39,7 +39,7 @@ not_false_so false e = not_false e
 
 module _ (path : Path) (is_path : IsTrue (is_task_path path)) where
   -- nothing at the outputs of a task is in the way of a record, nor is another record
-  free_of : (planned : Planned) → HasOwnPlaces planned → (f : Place) → is_of_turn planned.task f ≡ true
+  free_of : (planned : Planned) → HasOwnPlaces planned → (f : Place) → is_of_execution planned.task f ≡ true
       → (is_beneath (record_place path) f || is_beneath f (record_place path)) ≡ false
   free_of planned places f h = by (is_output_of planned.task f) refl
     where
@@ -55,23 +55,23 @@ module _ (path : Path) (is_path : IsTrue (is_task_path path)) where
       by true e = not_in_own_way (record_place path) f refl (no_longer (is_own f) (kept_at planned.task.outputs places.not_own f e))
       by false e = at_record (open_in (is_output_of planned.task f) (is_at (record_place planned.task.path) f) h e)
 
-  free : (front : List Planned) → AllByRecursion HasOwnPlaces front → (f : Place) → is_of_turns front f ≡ true
+  free : (front : List Planned) → AllByRecursion HasOwnPlaces front → (f : Place) → is_of_executions front f ≡ true
       → (is_beneath (record_place path) f || is_beneath f (record_place path)) ≡ false
   free [] places f h = not_true h
-  free (planned ∷ front) places f h = by (is_of_turn planned.task f) refl (λ e. free front places.1 f (open_in (is_of_turn planned.task f) (is_of_turns front f) h e))
+  free (planned ∷ front) places f h = by (is_of_execution planned.task f) refl (λ e. free front places.1 f (open_in (is_of_execution planned.task f) (is_of_executions front f) h e))
     where
-      by : (t : Bool) → is_of_turn planned.task f ≡ t
-          → (is_of_turn planned.task f ≡ false → (is_beneath (record_place path) f || is_beneath f (record_place path)) ≡ false)
+      by : (t : Bool) → is_of_execution planned.task f ≡ t
+          → (is_of_execution planned.task f ≡ false → (is_beneath (record_place path) f || is_beneath f (record_place path)) ≡ false)
           → (is_beneath (record_place path) f || is_beneath f (record_place path)) ≡ false
       by true e rest = free_of planned places.0 f e
       by false e rest = rest e
 
-  in_way_before : (front : List Planned) → AllByRecursion HasOwnPlaces front → (old now : Contents) → ChangesOnly (is_of_turns front) old now
+  in_way_before : (front : List Planned) → AllByRecursion HasOwnPlaces front → (old now : Contents) → ChangesOnly (is_of_executions front) old now
       → is_blocked (own_files now) (record_place path) ≡ is_blocked (own_files old) (record_place path)
   in_way_before front places old now changes =
-      let others : Place → Bool = λ q. not (is_of_turns front q) in
+      let others : Place → Bool = λ q. not (is_of_executions front q) in
       let none : (f : Place) → others f ≡ false → (is_beneath (record_place path) f || is_beneath f (record_place path)) ≡ false =
-      λ f e. free front places f (not_false_so (is_of_turns front f) e) in
+      λ f e. free front places f (not_false_so (is_of_executions front f) e) in
       sym (blocked_by_own path now.files)
       ∙ sym (blocked_where others (record_place path) none now.files)
       ∙ ap (λ (files : Files). is_blocked files (record_place path)) changes.elsewhere
@@ -79,7 +79,7 @@ module _ (path : Path) (is_path : IsTrue (is_task_path path)) where
       ∙ blocked_by_own path old.files
 
 module _ (kinds : Kinds) (registry_of : Registering) (may_leave second : Tearing) (same : SameTearing may_leave second) (options : Options) (plan : Plan) (front : List Planned) (old now : Contents)
-    (places : AllByRecursion HasOwnPlaces front) (changes : ChangesOnly (is_of_turns front) old now) (planned : Planned) (is_path : IsTrue (is_task_path planned.task.path))
+    (places : AllByRecursion HasOwnPlaces front) (changes : ChangesOnly (is_of_executions front) old now) (planned : Planned) (is_path : IsTrue (is_task_path planned.task.path))
     (moment : Moment) (new : Standing) where
   shut_so : is_record_shut_out (setting_with kinds registry_of second) (own_files now) planned.task.path
       ≡ is_record_shut_out (setting_with kinds registry_of may_leave) (own_files old) planned.task.path
@@ -146,6 +146,6 @@ module _ (kinds : Kinds) (registry_of : Registering) (may_leave second : Tearing
   may_so faults.Usage may = absurd may
 
   -- an execution over the tool's own files of now is one over those of the beginning
-  pub turn_so : (report : TaskReport) → Turn (rules_in (setting_with kinds registry_of second) (own_files now) options plan) moment planned report new
-      → Turn (rules_in (setting_with kinds registry_of may_leave) (own_files old) options plan) moment planned report new
-  turn_so report turn = turn_weaker kinds options plan (may_come (setting_with kinds registry_of second) (own_files now) options) (may_come (setting_with kinds registry_of may_leave) (own_files old) options) moment planned report new may_so turn
+  pub execution_so : (report : TaskReport) → Execution (rules_in (setting_with kinds registry_of second) (own_files now) options plan) moment planned report new
+      → Execution (rules_in (setting_with kinds registry_of may_leave) (own_files old) options plan) moment planned report new
+  execution_so report execution = execution_weaker kinds options plan (may_come (setting_with kinds registry_of second) (own_files now) options) (may_come (setting_with kinds registry_of may_leave) (own_files old) options) moment planned report new may_so execution

@@ -5,12 +5,12 @@ use Rattle.std.proofs.Common.{refl, sym, subst, ◌∙◌, inl, arith, add-zero}
 use Rattle.gb_folder.specs.Files.{Bytes, Tearing}
 use Rattle.gb_meaning.specs.Events.{State}
 use Rattle.gb_meaning.specs.Kinds.{Kinds}
-use Rattle.gb_meaning.specs.Turn.{dry_reports}
+use Rattle.gb_meaning.specs.Execution.{dry_reports}
 use Rattle.gb_plan.specs.Graph.{Plan}
 use Rattle.gb_plan.specs.declared.plan.Planned.{Planned}
 use Rattle.gb_records.specs.Standing.{Standing}
 use Rattle.gb_report.specs.declared.report.Options.{Options}
-use Rattle.gb_turn.specs.Turned.{Registering, setting_with}
+use Rattle.gb_task.specs.Executing.{Registering, setting_with}
 use Rattle.gb_exec.specs.Built.{HasBuilt}
 use Rattle.gb_meaning.specs.Headline.{HasFailed}
 use Rattle.gb_exec.specs.Failing.{times_blamed}

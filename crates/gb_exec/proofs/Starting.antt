@@ -13,7 +13,7 @@ use Rattle.gb_plan.specs.Task.{Path, has_path}
 use Rattle.gb_plan.specs.Graph.{no_repeats, order, needs_in, is_scheduled_in, Reached, start, step}
 use Rattle.gb_plan.proofs.Tests.{not_true, left_of, right_of, in_filter, into_filter, any_map}
 use Rattle.gb_meaning.specs.Label.{Moment, some_outcome}
-use Rattle.gb_meaning.specs.Turn as meant
+use Rattle.gb_meaning.specs.Execution as meant
 use Rattle.gb_exec.specs.declared.starts.Ending.{Ending}
 use Rattle.gb_exec.specs.declared.starts.Ending.TheVariants.{ToCome}
 use Rattle.gb_exec.specs.Starts.{Progress, IsCalled, Serves, called, needed, ending_in, ending_of, ended_badly, has_started, has_failed, has_executed, has_executed_need, lacks_need, mark_at, row}
@@ -117,12 +117,12 @@ module _ (plan : List Planned) (progress : Progress) (moment : Moment) (some_pla
           (λ h.
           let found = by_number test ends agree (needs_in plan planned.task) h in
           contains_any (λ before. ends (ending_in progress.endings before)) (row progress.needs number) found.0
-          ((are.needs.told number found.0 planned here).1 (found.1, (in_filter (is_scheduled_in plan) planned.task.needs (path_at plan found.0) found.2).0)) found.3)
+          ((are.needs.reported number found.0 planned here).1 (found.1, (in_filter (is_scheduled_in plan) planned.task.needs (path_at plan found.0) found.2).0)) found.3)
           (λ h.
           let found = at_some (λ before. ends (ending_in progress.endings before)) (row progress.needs number) h in
-          let told = (are.needs.told number found.1 planned here).0 (contained (row progress.needs number) found.0 found.1 found.2) in
+          let reported = (are.needs.reported number found.1 planned here).0 (contained (row progress.needs number) found.0 found.1 found.2) in
           by_path test ends agree none_to_come (needs_in plan planned.task) found.1
-          (into_filter (is_scheduled_in plan) planned.task.needs (path_at plan found.1) told.1 (in_order plan found.1 told.0)) found.3)
+          (into_filter (is_scheduled_in plan) planned.task.needs (path_at plan found.1) reported.1 (in_order plan found.1 reported.0)) found.3)
 
     lacks : meant.lacks_need plan moment planned ≡ lacks_need progress number
     lacks = of_need meant.has_not_ended_well ended_badly badly refl
@@ -142,17 +142,17 @@ module _ (plan : List Planned) (progress : Progress) (moment : Moment) (some_pla
           found.0,
           found.3,
           subst (λ n. Contains (row progress.finalizers n) number) same
-              ((are.finalizers.told other.0 number other.1 other.2).1 (within, ap (has_path other.1.task.finalizers) (path_is plan number planned here) ∙ other.3)),
+              ((are.finalizers.reported other.0 number other.1 other.2).1 (within, ap (has_path other.1.task.finalizers) (path_is plan number planned here) ∙ other.3)),
         )
 
     finalized : IsCalled progress number → meant.finalizes_started plan moment planned.task.path ≡ true
     finalized is =
         let other = at is.0 (ended_within is_started has_started starting refl is.0 is.1) in
-        let told = (are.finalizers.told is.0 number other.0 other.1).0 is.2 in
+        let reported = (are.finalizers.reported is.0 number other.0 other.1).0 is.2 in
         by_path is_started has_started starting refl (map (λ z. z.task.path) (filter (λ z. has_path z.task.finalizers planned.task.path) plan)) is.0
         (any_map (bytes_eq (path_at plan is.0)) (λ z. z.task.path) (filter (λ z. has_path z.task.finalizers planned.task.path) plan)
         ∙ at_filtered (λ z. has_path z.task.finalizers planned.task.path) (λ z. bytes_eq (path_at plan is.0) z.task.path) plan is.0 other.0 other.1
-        (ap (has_path other.0.task.finalizers) (sym (path_is plan number planned here)) ∙ told.1)
+        (ap (has_path other.0.task.finalizers) (sym (path_is plan number planned here)) ∙ reported.1)
         ((bytes_decides (path_at plan is.0) other.0.task.path).1 (path_is plan is.0 other.0 other.1))) is.1
 
     -- ---- Which are wanted
@@ -160,14 +160,14 @@ module _ (plan : List Planned) (progress : Progress) (moment : Moment) (some_pla
     is_needed : list_any (λ other. has_path other.task.needs planned.task.path) plan ≡ true → IsNeeded progress.needs number
     is_needed h =
         let found = at_some (λ other. has_path other.task.needs planned.task.path) plan h in
-        (found.0, (are.needs.told found.0 number found.1 found.2).1 (within, ap (has_path found.1.task.needs) (path_is plan number planned here) ∙ found.3))
+        (found.0, (are.needs.reported found.0 number found.1 found.2).1 (within, ap (has_path found.1.task.needs) (path_is plan number planned here) ∙ found.3))
 
     needs_it : IsNeeded progress.needs number → list_any (λ other. has_path other.task.needs planned.task.path) plan ≡ true
     needs_it is =
         let known = row_known progress.needs is.0 number is.1 in
         let other = at is.0 (omega (arith, known, are.needs.each)) in
-        let told = (are.needs.told is.0 number other.0 other.1).0 is.1 in
-        some_at (λ z. has_path z.task.needs planned.task.path) plan is.0 other.0 other.1 (ap (has_path other.0.task.needs) (sym (path_is plan number planned here)) ∙ told.1)
+        let reported = (are.needs.reported is.0 number other.0 other.1).0 is.1 in
+        some_at (λ z. has_path z.task.needs planned.task.path) plan is.0 other.0 other.1 (ap (has_path other.0.task.needs) (sym (path_is plan number planned here)) ∙ reported.1)
 
     wanted : meant.is_uncalled plan moment planned ≡ false → IsTrue (mark_at progress.wanted number) ⊎ IsCalled progress number
     wanted h = elim (one_of planned.is_selected (list_any (λ other. has_path other.task.needs planned.task.path) plan) (meant.finalizes_started plan moment planned.task.path) h) [
@@ -246,27 +246,27 @@ module _ (plan : List Planned) (progress : Progress) (moment : Moment) (some_pla
         number.1,
         number.2,
         needed later.3 (subst (λ n. Contains (row progress.needs n) number.0) same
-            ((are.needs.told other.0 number.0 other.1 other.2).1 (number.1, ap (has_path other.1.task.needs) number.2 ∙ both.0))),
+            ((are.needs.reported other.0 number.0 other.1 other.2).1 (number.1, ap (has_path other.1.task.needs) number.2 ∙ both.0))),
       )
 
   reached : (number : ℕ) → Serves progress number → (number < length plan) × Reached (meant.open_finalizers plan moment) steps (λ _. false) (path_at plan number)
   reached number (called is) =
       let other = at is.0 (ended_within is_started has_started starting refl is.0 is.1) in
-      let told = (are.finalizers.told is.0 number other.0 other.1).0 is.2 in
-      let planned = at number told.0 in (
-        told.0,
-        start (into_filter (meant.finalizes_started plan moment) (order plan) (path_at plan number) (in_order plan number told.0)
+      let reported = (are.finalizers.reported is.0 number other.0 other.1).0 is.2 in
+      let planned = at number reported.0 in (
+        reported.0,
+        start (into_filter (meant.finalizes_started plan moment) (order plan) (path_at plan number) (in_order plan number reported.0)
             (ap (meant.finalizes_started plan moment) (path_is plan number planned.0 planned.1) ∙ finalized number planned.0 planned.1 is)) refl,
       )
   reached number (needed {later} s c) =
       let before = reached later s in
       let planned = at later before.0 in
-      let told = (are.needs.told later number planned.0 planned.1).0 c in (
-        told.0,
+      let reported = (are.needs.reported later number planned.0 planned.1).0 c in (
+        reported.0,
         step before.1 (any_flat (bytes_eq (path_at plan number)) (λ z. needs_in plan z.task) (filter (λ z. bytes_eq z.task.path (path_at plan later)) plan)
             ∙ at_filtered (λ z. bytes_eq z.task.path (path_at plan later)) (λ z. has_path (needs_in plan z.task) (path_at plan number)) plan later planned.0 planned.1
             ((bytes_decides planned.0.task.path (path_at plan later)).1 (sym (path_is plan later planned.0 planned.1)))
-            (into_filter (is_scheduled_in plan) planned.0.task.needs (path_at plan number) told.1 (in_order plan number told.0))) refl,
+            (into_filter (is_scheduled_in plan) planned.0.task.needs (path_at plan number) reported.1 (in_order plan number reported.0))) refl,
       )
 
 pub starts_by_number : StartsByNumber

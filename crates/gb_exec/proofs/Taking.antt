@@ -2,7 +2,7 @@
 use Rattle.std.specs.Prelude.{ℕ, ◌≡◌, false, List, [], ◌∷◌, ◌++◌, Option, Some, None, is_some, slice_get}
 use Rattle.std.specs.List.{flat_map, list_any}
 use Rattle.std.proofs.Common.{zero, suc, refl, sym, ap, subst, ◌∙◌, inl, inr}
-use Rattle.gb_turn.specs.Case.{IsKnown}
+use Rattle.gb_task.specs.Case.{IsKnown}
 use Rattle.gb_core.specs.Place.{overlaps}
 use Rattle.gb_folder.specs.Files.{Contents, Place, Tearing}
 use Rattle.gb_history.specs.Record.{Record}
@@ -10,7 +10,7 @@ use Rattle.gb_meaning.specs.Kinds.{Kinds}
 use Rattle.gb_meaning.specs.Label.{Moment}
 use Rattle.gb_meaning.specs.Memory.{World, recalled}
 use Rattle.gb_meaning.specs.TrueRecord.{outside}
-use Rattle.gb_meaning.specs.Turn.{DoesStart}
+use Rattle.gb_meaning.specs.Execution.{DoesStart}
 use Rattle.gb_meaning.proofs.Common.{none_some, some_same}
 use Rattle.gb_plan.specs.Graph.{Plan, some_overlap}
 use Rattle.gb_plan.specs.Task.{output_places}
@@ -22,8 +22,8 @@ use Rattle.gb_records.specs.Standing.{Standing}
 use Rattle.gb_report.specs.declared.report.Options.{Options}
 use Rattle.gb_report.specs.declared.report.Outcome.TheVariants.{NotRun}
 use Rattle.gb_report.specs.declared.report.TaskReport.{TaskReport}
-use Rattle.gb_turn.specs.Turned.{HasTurned, Registering, setting_with}
-use Rattle.gb_exec.specs.Built.{IsTurnOf}
+use Rattle.gb_task.specs.Executing.{HasExecuted, Registering, setting_with}
+use Rattle.gb_exec.specs.Built.{IsExecutionOf}
 use Rattle.gb_exec.specs.Reports.{IsOf, report_with}
 
 -- ---- Outputs of one task
@@ -50,12 +50,12 @@ read_so kinds task world (Some run) known = ap is_some known.1
 
 -- ---- Executions
 
-pub turn_passed : (kinds : Kinds) (registry_of : Registering) (may_leave : Tearing) (options : Options) (plan : Plan) (moment : Moment) (planned : Planned) (report : TaskReport)
+pub execution_passed : (kinds : Kinds) (registry_of : Registering) (may_leave : Tearing) (options : Options) (plan : Plan) (moment : Moment) (planned : Planned) (report : TaskReport)
     (folder : Contents) (after : ℕ) → report ≡ report_with NotRun planned → (¬ DoesStart options plan moment planned) → moment.world.folder ≡ outside folder → Standing folder.files moment.world.memory
-    → IsTurnOf (setting_with kinds registry_of may_leave) options plan moment planned report folder after folder
-turn_passed kinds registry_of may_leave options plan moment planned report folder after is not_starts there stands = record {
+    → IsExecutionOf (setting_with kinds registry_of may_leave) options plan moment planned report folder after folder
+execution_passed kinds registry_of may_leave options plan moment planned report folder after is not_starts there stands = record {
   memory = moment.world.memory;
-  turn = (
+  execution = (
     ap (λ (r : TaskReport). r.path) is,
     ap (λ (r : TaskReport). r.has_actions) is,
     inr (
@@ -70,12 +70,12 @@ turn_passed kinds registry_of may_leave options plan moment planned report folde
   records = stands;
 }
 
-pub turn_started : (kinds : Kinds) (registry_of : Registering) (may_leave : Tearing) (options : Options) (plan : Plan) (moment : Moment) (planned : Planned) (report : TaskReport)
+pub execution_started : (kinds : Kinds) (registry_of : Registering) (may_leave : Tearing) (options : Options) (plan : Plan) (moment : Moment) (planned : Planned) (report : TaskReport)
     (old : Contents) (after : ℕ) (new : Contents) → IsOf planned report → DoesStart options plan moment planned
-    → HasTurned (setting_with kinds registry_of may_leave) options plan planned.task moment report old after new
-    → IsTurnOf (setting_with kinds registry_of may_leave) options plan moment planned report old after new
-turn_started kinds registry_of may_leave options plan moment planned report old after new of_task starts turned = record {
+    → HasExecuted (setting_with kinds registry_of may_leave) options plan planned.task moment report old after new
+    → IsExecutionOf (setting_with kinds registry_of may_leave) options plan moment planned report old after new
+execution_started kinds registry_of may_leave options plan moment planned report old after new of_task starts turned = record {
   memory = turned.memory;
-  turn = (of_task.path, of_task.has_actions, inl (starts, turned.turn));
+  execution = (of_task.path, of_task.has_actions, inl (starts, turned.execution));
   records = turned.records;
 }

@@ -13,7 +13,7 @@ use Rattle.gb_meaning.specs.Kinds.{Kinds}
 use Rattle.gb_meaning.specs.Label.{Moment}
 use Rattle.gb_meaning.specs.Memory.{Memory, World, folder_contents, recalled}
 use Rattle.gb_meaning.specs.TrueRecord.{outside}
-use Rattle.gb_meaning.specs.Turn.{Guard, Rules, Standing as Stands, Turn, Turns, first_moment, moment_after}
+use Rattle.gb_meaning.specs.Execution.{Guard, Rules, Standing as Stands, Execution, Executions, first_moment, moment_after}
 use Rattle.gb_meaning.proofs.Lemmas.Clear.{Among, in_left, in_one, in_right, stood}
 use Rattle.gb_meaning.proofs.Lemmas.Success.{folder_where}
 use Rattle.gb_plan.specs.Graph.{Plan, order, some_overlap}
@@ -28,13 +28,13 @@ use Rattle.gb_report.specs.declared.report.Outcome.{Outcome}
 use Rattle.gb_report.specs.declared.report.TaskReport.{TaskReport}
 use Rattle.gb_exec.proofs.ByNumber.{any_flat}
 use Rattle.gb_store.specs.Changes.{ChangesOnly}
-use Rattle.gb_turn.specs.Turned.{Registering, setting_with}
-use Rattle.gb_turn.proofs.Parts.{narrowed}
-use Rattle.gb_exec.specs.Building.{is_of_turns}
-use Rattle.gb_exec.specs.Built.{HasBuilt, IsTurnOf, guard}
+use Rattle.gb_task.specs.Executing.{Registering, setting_with}
+use Rattle.gb_task.proofs.Parts.{narrowed}
+use Rattle.gb_exec.specs.Building.{is_of_executions}
+use Rattle.gb_exec.specs.Built.{HasBuilt, IsExecutionOf, guard}
 use Rattle.gb_exec.proofs.Clearly.{clear_of_fewer, clear_or_not}
-use Rattle.gb_exec.proofs.Elsewhere.{turn_leaves_others}
-use Rattle.gb_exec.proofs.Shut.{HasOwnPlaces, turn_so}
+use Rattle.gb_exec.proofs.Elsewhere.{execution_leaves_others}
+use Rattle.gb_exec.proofs.Shut.{HasOwnPlaces, execution_so}
 
 -- what a task's report adds to the outcomes
 abbrev pub outcome_in : TaskReport → Path × Outcome
@@ -98,8 +98,8 @@ module _ (kinds : Kinds) (registry_of : Registering) (may_leave : Tearing) (clea
   abbrev pub rules : Rules
   rules = rules_in setting (own_files old.contents) options plan
 
-  abbrev pub granted : Guard
-  granted = guard setting clear old
+  abbrev pub assumed : Guard
+  assumed = guard setting clear old
 
   -- the records of what is remembered exist, and of the tasks to come it is what was remembered at first
   pub record IsStill (rest : List Planned) (files : Files) (memory : Memory) : Type 0 where
@@ -109,7 +109,7 @@ module _ (kinds : Kinds) (registry_of : Registering) (may_leave : Tearing) (clea
   -- not all contents that were read are collision-free
   pub record IsLost (seen_now : List Bytes) : Type 0 where
     pub some : List Bytes
-    pub not_clear : ¬ granted some
+    pub not_clear : ¬ assumed some
     pub among : Among some seen_now
 
   pub record IsUnderway (front rest : List Planned) (done : List TaskReport) (now : Shown) : Type 0 where
@@ -124,8 +124,8 @@ module _ (kinds : Kinds) (registry_of : Registering) (may_leave : Tearing) (clea
     pub among : (later : Files) → files_where (is_made_by front) later ≡ files_where (is_made_by front) (outside now.contents).files
         → Among seen_now (seen ++ contents_outside old.contents ++ contents_in later)
     pub known : IsStill rest now.contents.files moment.world.memory ⊎ IsLost seen_now
-    pub joins : (reports : List TaskReport) (new : Stands) → Turns rules granted seen_now rest moment reports new
-        → Turns rules granted seen plan (first_moment (record { world = world_in old; failures = old.failures })) (done ++ reports) new
+    pub joins : (reports : List TaskReport) (new : Stands) → Executions rules assumed seen_now rest moment reports new
+        → Executions rules assumed seen plan (first_moment (record { world = world_in old; failures = old.failures })) (done ++ reports) new
 
   -- ---- Before the first execution
 
@@ -140,7 +140,7 @@ module _ (kinds : Kinds) (registry_of : Registering) (may_leave : Tearing) (clea
     keeps = λ c h. h;
     among = λ later e c h. in_left c (seen ++ contents_outside old.contents) (contents_in later) (in_left c seen (contents_outside old.contents) h);
     known = by clear refl;
-    joins = λ reports new turns. turns;
+    joins = λ reports new executions. executions;
   }
     where
       all_same : (rest : List Planned) → AllByRecursion (λ (planned : Planned). recalled old.remembered planned.task.path ≡ recalled old.remembered planned.task.path) rest
@@ -182,9 +182,9 @@ module _ (kinds : Kinds) (registry_of : Registering) (may_leave : Tearing) (clea
         same_narrow (is_made_by front) (is_made_by (front ++ planned ∷ [])) first_of_front (outside next.contents).files later e
         ∙ same_narrow (is_made_by front) (λ q. not (is_output_of planned.task q)) (λ q made. ap not (made_out q made)) (outside now.contents).files (outside next.contents).files differs
 
-    stepped : (memory : Memory) → (granted seen_next → Turn rules u.moment planned report (standing_next memory))
+    stepped : (memory : Memory) → (assumed seen_next → Execution rules u.moment planned report (standing_next memory))
         → IsStill rest next.contents.files memory ⊎ IsLost seen_next → IsUnderway (front ++ planned ∷ []) rest (done ++ report ∷ []) next
-    stepped memory turn known = record {
+    stepped memory execution known = record {
       moment = moment_after u.moment report (standing_next memory);
       seen_now = seen_next;
       outcomes = ap (λ (os : List (Path × Outcome)). os ++ outcome_in report ∷ []) u.outcomes ∙ sym (map-append outcome_in done (report ∷ []));
@@ -203,8 +203,8 @@ module _ (kinds : Kinds) (registry_of : Registering) (may_leave : Tearing) (clea
             ]
       ];
       known = known;
-      joins = λ reports new turns.
-          subst (λ (all : List TaskReport). Turns rules granted seen plan (first_moment (record { world = world_in old; failures = old.failures })) all new)
+      joins = λ reports new executions.
+          subst (λ (all : List TaskReport). Executions rules assumed seen plan (first_moment (record { world = world_in old; failures = old.failures })) all new)
           (sym (append_assoc done (report ∷ []) reports))
           (u.joins (report ∷ reports) new (
             standing_next memory,
@@ -213,31 +213,31 @@ module _ (kinds : Kinds) (registry_of : Registering) (may_leave : Tearing) (clea
               files = subst (λ (files : Files). DiffersOnlyAt (is_output_of planned.task) files (outside next.contents).files) (sym files_now) differs;
               odd = odd ∙ sym (ap (λ (folder : Contents). folder.odd) u.folder);
               count = subst (λ (n : ℕ). n ≤ next.failures) (sym u.failures) count;
-              turn = turn;
+              execution = execution;
             },
-            turns,
+            executions,
           ));
     }
 
     pub goes_on : (second : Tearing) → SameTearing may_leave second → list_any (bytes_eq planned.task.path) (order rest) ≡ false
-        → (granted seen_next → IsStill (planned ∷ rest) now.contents.files u.moment.world.memory
-        → IsTurnOf (setting_with kinds registry_of second) options plan u.moment planned report now.contents next.failures next.contents)
-        → (AllByRecursion HasOwnPlaces front × IsTrue (is_task_path planned.task.path) × ChangesOnly (is_of_turns front) old.contents now.contents)
+        → (assumed seen_next → IsStill (planned ∷ rest) now.contents.files u.moment.world.memory
+        → IsExecutionOf (setting_with kinds registry_of second) options plan u.moment planned report now.contents next.failures next.contents)
+        → (AllByRecursion HasOwnPlaces front × IsTrue (is_task_path planned.task.path) × ChangesOnly (is_of_executions front) old.contents now.contents)
         → IsUnderway (front ++ planned ∷ []) rest (done ++ report ∷ []) next
     goes_on second alike once taken places = elim (clear_or_not setting old clear seen_next) [
       | inl given ↦ elim u.known [
-        | inl still ↦ with_turn (taken given still) still
+        | inl still ↦ with_execution (taken given still) still
         | inr lost ↦ absurd (lost.not_clear (clear_of_fewer setting old clear seen_next lost.some
             (λ c h. in_left c u.seen_now (folder_contents u.moment.world) (lost.among c h)) given))
       ]
       | inr not_given ↦ stepped [] (λ given. absurd (not_given given)) (inr (record { some = seen_next; not_clear = not_given; among = λ c h. h }))
     ]
       where
-        with_turn : IsTurnOf (setting_with kinds registry_of second) options plan u.moment planned report now.contents next.failures next.contents
+        with_execution : IsExecutionOf (setting_with kinds registry_of second) options plan u.moment planned report now.contents next.failures next.contents
             → IsStill (planned ∷ rest) now.contents.files u.moment.world.memory → IsUnderway (front ++ planned ∷ []) rest (done ++ report ∷ []) next
-        with_turn turned still =
+        with_execution turned still =
             stepped turned.memory
-            (λ _. turn_so kinds registry_of may_leave second alike options plan front old.contents now.contents places.0 places.2 planned places.1 u.moment (standing_next turned.memory) report turned.turn)
+            (λ _. execution_so kinds registry_of may_leave second alike options plan front old.contents now.contents places.0 places.2 planned places.1 u.moment (standing_next turned.memory) report turned.execution)
             (inl (record { standing = turned.records; same = others rest (others_apart planned.task.path rest once) still.same.1 }))
           where
             turned_over : (one other : Path) → bytes_eq one other ≡ false → bytes_eq other one ≡ false
@@ -251,7 +251,7 @@ module _ (kinds : Kinds) (registry_of : Registering) (may_leave : Tearing) (clea
                 → AllByRecursion (λ (other : Planned). recalled turned.memory other.task.path ≡ recalled old.remembered other.task.path) rest
             others [] apart_all same_all = tt
             others (other ∷ more) apart_all same_all = (
-              turn_leaves_others (rules_in (setting_with kinds registry_of second) (own_files now.contents) options plan) u.moment planned report (standing_next turned.memory) turned.turn other.task.path
+              execution_leaves_others (rules_in (setting_with kinds registry_of second) (own_files now.contents) options plan) u.moment planned report (standing_next turned.memory) turned.execution other.task.path
                   (turned_over planned.task.path other.task.path apart_all.0)
                   ∙ same_all.0,
               others more apart_all.1 same_all.1,
@@ -264,7 +264,7 @@ module _ (kinds : Kinds) (registry_of : Registering) (may_leave : Tearing) (clea
     remembered = u.moment.world.memory;
     builds = inr (
       wet,
-      subst (λ (all : List TaskReport). Turns rules granted seen plan (first_moment (record { world = world_in old; failures = old.failures })) all last) (none_behind done)
+      subst (λ (all : List TaskReport). Executions rules assumed seen plan (first_moment (record { world = world_in old; failures = old.failures })) all last) (none_behind done)
           (u.joins [] last (ap (λ (folder : Contents). let w : World = record { folder = folder; memory = u.moment.world.memory } in w) (sym u.folder), at_most u.failures)),
     );
     records = λ given. elim u.known [

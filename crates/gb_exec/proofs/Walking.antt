@@ -13,9 +13,9 @@ use Rattle.gb_plan.specs.declared.plan.Planned.{Planned}
 use Rattle.gb_plan.proofs.Tests.{any_append, left_of, no_longer, or_right, right_of}
 use Rattle.gb_store.specs.Changes.{ChangesOnly}
 use Rattle.gb_store.proofs.Machine.{changes_chain}
-use Rattle.gb_turn.specs.Turned.{is_of_turn}
-use Rattle.gb_turn.proofs.Parts.{widened}
-use Rattle.gb_exec.specs.Building.{is_of_turns}
+use Rattle.gb_task.specs.Executing.{is_of_execution}
+use Rattle.gb_task.proofs.Parts.{widened}
+use Rattle.gb_exec.specs.Building.{is_of_executions}
 
 -- ---- Lists
 
@@ -73,14 +73,14 @@ once_behind (p ∷ front) rest planned e =
 
 -- ---- Changes
 
-pub changes_more : (front : List Planned) (planned : Planned) (old now next : Contents) → ChangesOnly (is_of_turns front) old now → ChangesOnly (is_of_turn planned.task) now next
-    → ChangesOnly (is_of_turns (front ++ planned ∷ [])) old next
+pub changes_more : (front : List Planned) (planned : Planned) (old now next : Contents) → ChangesOnly (is_of_executions front) old now → ChangesOnly (is_of_execution planned.task) now next
+    → ChangesOnly (is_of_executions (front ++ planned ∷ [])) old next
 changes_more front planned old now next before here =
-    let all = is_of_turns (front ++ planned ∷ []) in
+    let all = is_of_executions (front ++ planned ∷ []) in
     changes_chain all old now next
-    (widened (is_of_turns front) all (λ q e. any_append (λ (p : Planned). is_of_turn p.task q) front (planned ∷ []) ∙ ap (λ b. b || list_any (λ (p : Planned). is_of_turn p.task q) (planned ∷ [])) e) old now before)
-    (widened (is_of_turn planned.task) all
-    (λ q e. any_append (λ (p : Planned). is_of_turn p.task q) front (planned ∷ []) ∙ or_right (is_of_turns front q) (is_of_turn planned.task q || false) (ap (λ b. b || false) e)) now next here)
+    (widened (is_of_executions front) all (λ q e. any_append (λ (p : Planned). is_of_execution p.task q) front (planned ∷ []) ∙ ap (λ b. b || list_any (λ (p : Planned). is_of_execution p.task q) (planned ∷ [])) e) old now before)
+    (widened (is_of_execution planned.task) all
+    (λ q e. any_append (λ (p : Planned). is_of_execution p.task q) front (planned ∷ []) ∙ or_right (is_of_executions front q) (is_of_execution planned.task q || false) (ap (λ b. b || false) e)) now next here)
 
 pub placed_where : (test : Place → Bool) (files : Files) → are_placed files ≡ true → are_placed (files_where test files) ≡ true
 placed_where test [] e = refl

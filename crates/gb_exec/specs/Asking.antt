@@ -8,17 +8,18 @@ use Rattle.gb_plan.specs.Ready.{Rows}
 use Rattle.gb_plan.specs.declared.plan.Planned.{Planned}
 use Rattle.gb_report.specs.declared.report.Options.{Options}
 use Rattle.gb_report.specs.declared.report.TaskReport.{TaskReport}
-use Rattle.gb_turn.specs.ByOutcome.{TurnAsks}
+use Rattle.gb_task.specs.ByOutcome.{ExecutionAsks}
 
 module _ {F S : Type 0} (failures : F → ℕ) (may_leave : F → Tearing) (asked : F → Call → F → Type 0)
     (meanings : Meanings S) (rows : Rows S) (options : Options) where
   -- The executions of the tasks of a plan, one after another, each from the state in which the one before it
   -- ended: for each task the record that was read of it, and its report.
-  abbrev pub TurnsAsk : List Planned → List (Option Record) → List TaskReport → F → F → Type 0
-  TurnsAsk [] [] [] old new = new ≡ old
-  TurnsAsk (planned ∷ plan) (last ∷ records) (report ∷ reports) old new =
+  abbrev pub ExecutionsAsk : List Planned → List (Option Record) → List TaskReport → F → F → Type 0
+  ExecutionsAsk [] [] [] old new = new ≡ old
+  ExecutionsAsk (planned ∷ plan) (last ∷ records) (report ∷ reports) old new =
       (mid : F)
-      × TurnAsks failures may_leave asked meanings rows options planned.task last report.outcome report.lines
+      × ExecutionAsks failures may_leave asked meanings rows options planned.task last report.outcome
+      report.lines
       old mid
-      × TurnsAsk plan records reports mid new
-  TurnsAsk plan records reports old new = ⊥
+      × ExecutionsAsk plan records reports mid new
+  ExecutionsAsk plan records reports old new = ⊥

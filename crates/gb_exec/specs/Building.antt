@@ -6,8 +6,8 @@ use Rattle.gb_folder.specs.Files.{Place}
 use Rattle.gb_plan.specs.Graph.{IsSound, Plan, no_repeats, order, stuck}
 use Rattle.gb_plan.specs.Ready.{Rows}
 use Rattle.gb_plan.specs.declared.plan.Planned.{Planned}
-use Rattle.gb_turn.specs.Buildable.{IsBuildable}
-use Rattle.gb_turn.specs.Turned.{is_of_turn}
+use Rattle.gb_task.specs.Buildable.{IsBuildable}
+use Rattle.gb_task.specs.Executing.{is_of_execution}
 
 -- Each task of the plan can be built, occurs once and gets ready, and the plan is sound.
 pub record CanBuild {S : Type 0} (meanings : Meanings S) (rows : Rows S) (plan : Plan) : Type 0 where
@@ -17,5 +17,5 @@ pub record CanBuild {S : Type 0} (meanings : Meanings S) (rows : Rows S) (plan :
   pub sound : IsSound plan
 
 -- the place is at an output of one of these tasks, or that of its record
-abbrev pub is_of_turns : List Planned → Place → Bool
-is_of_turns plan place = list_any (λ planned. is_of_turn planned.task place) plan
+abbrev pub is_of_executions : List Planned → Place → Bool
+is_of_executions plan place = list_any (λ planned. is_of_execution planned.task place) plan

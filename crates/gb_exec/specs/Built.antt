@@ -10,7 +10,7 @@ use Rattle.gb_meaning.specs.Kinds.{Kinds}
 use Rattle.gb_meaning.specs.Label.{Moment}
 use Rattle.gb_meaning.specs.Memory.{Memory}
 use Rattle.gb_meaning.specs.TrueRecord.{IsMade, contents_of, outside}
-use Rattle.gb_meaning.specs.Turn.{Builds, Guard, Turn}
+use Rattle.gb_meaning.specs.Execution.{Builds, Guard, Execution}
 use Rattle.gb_plan.specs.Graph.{Plan, order}
 use Rattle.gb_plan.specs.declared.plan.Planned.{Planned}
 use Rattle.gb_records.specs.Said.{IsReadAt}
@@ -33,10 +33,10 @@ pub record AreWorth (kinds : Kinds) (plan : Plan) (records : List (Option Record
 -- ---- One execution
 
 -- This was the execution of a task of the plan, and the records of what is remembered after it exist.
-pub record IsTurnOf (setting : Setting) (options : Options) (plan : Plan) (moment : Moment)
+pub record IsExecutionOf (setting : Setting) (options : Options) (plan : Plan) (moment : Moment)
     (planned : Planned) (report : TaskReport) (old : Contents) (after : ℕ) (new : Contents) : Type 0 where
   pub memory : Memory
-  pub turn : Turn (rules_in setting (own_files old) options plan) moment planned report
+  pub execution : Execution (rules_in setting (own_files old) options plan) moment planned report
       (record { world = record { folder = outside new; memory = memory }; failures = after })
   pub records : Standing new.files memory
 

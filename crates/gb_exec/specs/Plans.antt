@@ -2,7 +2,7 @@
 use Rattle.std.specs.Prelude.{ℕ, ◌≡◌, ◌<◌, ◌≤◌, ◌↔◌, ◌⊎◌, true, List, [], length, Contains, IsTrue}
 use Rattle.std.specs.Prelude.{Some, slice_get, slice_index_or}
 use Rattle.gb_meaning.specs.Label.{Moment, some_outcome}
-use Rattle.gb_meaning.specs.Turn as meant
+use Rattle.gb_meaning.specs.Execution as meant
 use Rattle.gb_plan.specs.declared.plan.Planned.{Planned}
 use Rattle.gb_plan.specs.Task.{Path, has_path}
 use Rattle.gb_plan.specs.Graph.{no_repeats, order, needs_in}
@@ -20,7 +20,7 @@ path_at plan number = slice_index_or (order plan) number []
 -- Each row has the numbers of the tasks of the plan whose paths its task lists.
 pub record TellRows (paths : Planned → List Path) (plan : List Planned) (table : List (List ℕ)) : Type 0 where
   pub each : length table ≡ length plan
-  pub told : (task number : ℕ) (planned : Planned) → slice_get plan task ≡ Some planned →
+  pub reported : (task number : ℕ) (planned : Planned) → slice_get plan task ≡ Some planned →
       Contains (row table task) number
       ↔ ((number < length plan) × IsTrue (has_path (paths planned) (path_at plan number)))
 

@@ -1,6 +1,6 @@
 -- The definitions that the contract of `execute` uses.
-pub use Rattle.gb_exec.specs.Asking.{TurnsAsk}
-pub use Rattle.gb_exec.specs.Building.{CanBuild, is_of_turns}
+pub use Rattle.gb_exec.specs.Asking.{ExecutionsAsk}
+pub use Rattle.gb_exec.specs.Building.{CanBuild, is_of_executions}
 pub use Rattle.gb_exec.specs.Built.{AreWorth, HasBuilt}
 pub use Rattle.gb_exec.specs.Failing.{times_blamed}
 pub use Rattle.gb_exec.specs.Reports.{IsOf}
@@ -15,9 +15,9 @@ pub use Rattle.gb_meaning.specs.Outline.{Outlines}
 pub use Rattle.gb_printer.specs.Printing.{Prints, parts_text}
 pub use Rattle.gb_records.specs.Said.{IsText}
 pub use Rattle.gb_store.specs.Changes.{ChangesOnly}
-pub use Rattle.gb_turn.specs.Buildable.{IsBuildable}
-pub use Rattle.gb_records.specs.Granted.{IsGranted}
-pub use Rattle.gb_turn.specs.Turned.{Registering, setting_with}
+pub use Rattle.gb_task.specs.Buildable.{IsBuildable}
+pub use Rattle.gb_records.specs.Assumed.{IsAssumed}
+pub use Rattle.gb_task.specs.Executing.{Registering, setting_with}
 pub use Rattle.gb_report.specs.declared.report.Heard.{Heard}
 pub use Rattle.gb_report.specs.declared.report.Options.{Options}
 pub use Rattle.gb_report.specs.declared.report.Outcome.{Outcome}

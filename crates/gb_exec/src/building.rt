@@ -8,21 +8,21 @@ ghost use Rattle.gb_meaning.specs.Memory.{Memory};
 ghost use Rattle.gb_meaning.specs.Outline.{Outlines};
 ghost use Rattle.gb_plan.specs.Graph.{order};
 ghost use Rattle.gb_printer.specs.Printing.{Prints, parts_text};
-ghost use Rattle.gb_records.specs.Granted.{IsGranted};
+ghost use Rattle.gb_records.specs.Assumed.{IsAssumed};
 ghost use Rattle.gb_store.specs.Changes.{ChangesOnly};
-ghost use Rattle.gb_turn.specs.Turned.{Registering, setting_with};
-ghost use Rattle.gb_exec.specs.Asking.{TurnsAsk};
-ghost use Rattle.gb_exec.specs.Building.{CanBuild, is_of_turns};
+ghost use Rattle.gb_task.specs.Executing.{Registering, setting_with};
+ghost use Rattle.gb_exec.specs.Asking.{ExecutionsAsk};
+ghost use Rattle.gb_exec.specs.Building.{CanBuild, is_of_executions};
 ghost use Rattle.gb_exec.specs.Built.{AreWorth, HasBuilt};
 ghost use Rattle.gb_exec.specs.Failing.{times_blamed};
 ghost use Rattle.gb_exec.specs.Reports.{IsOf};
 
 use crate::dry::dry_reports;
-use crate::heard_laws::told_is_heard;
+use crate::heard_laws::reported_is_heard;
 use crate::listener::TaskListener;
 use crate::one::Build;
 use crate::plans::starts_of;
-use crate::turns::take_turns;
+use crate::executions::execute_tasks;
 use gb_action::actions::Actions;
 use gb_action::table::ActionTable;
 use gb_core::path::TaskPath;
@@ -67,19 +67,19 @@ pub fn execute<A: Actions, F: Folder, L: TaskListener, P: Printer>(
     ensures tearing { SameTearing (F.may_leave folder.old) (F.may_leave folder.new) }
     // Over any folder: task after task, each from the state in which the one before it ended, makes
     // the calls that its outcome permits.
-    ensures asks { IfOk result (λ report. TurnsAsk F.failures F.may_leave F.asked A.meanings table.now options
-        plan.now records.now report.tasks folder.old folder.new) }
+    ensures asks { IfOk result (λ report. ExecutionsAsk F.failures F.may_leave F.asked A.meanings table.now
+        options plan.now records.now report.tasks folder.old folder.new) }
     // Faults are attributed to the device no more often than it failed.
     ensures device { IfOk result (λ report.
         HasFailed (times_blamed report.tasks) (F.failures folder.old) (F.failures folder.new)) }
     ensures dry { options.dry_run ≡ true → folder.new ≡ folder.old }
     ensures changes { IsTrue F.tells
-        → ChangesOnly (is_of_turns plan.now) (F.contents folder.old) (F.contents folder.new) }
+        → ChangesOnly (is_of_executions plan.now) (F.contents folder.old) (F.contents folder.new) }
     // If `AreWorth` holds of the records, this is a build of the plan, and the records of what is
     // remembered exist after it.
     ensures build { IsTrue F.tells → IfOk result (λ report. (kinds : Kinds) (registry_of : Registering)
         (remembered : Memory) (clear : Bool) (seen : List Bytes)
-        → IsGranted A.meanings table.now kinds (F.may_leave folder.old)
+        → IsAssumed A.meanings table.now kinds (F.may_leave folder.old)
         → (IsTrue clear → AreWorth kinds plan.now records.now seen (F.contents folder.old) remembered)
         → HasBuilt (setting_with kinds registry_of (F.may_leave folder.old)) clear seen options plan.now
         (record {
@@ -90,10 +90,10 @@ pub fn execute<A: Actions, F: Folder, L: TaskListener, P: Printer>(
         report.tasks
         (record { contents = F.contents folder.new; failures = F.failures folder.new })) }
 {
-    told_is_heard();
+    reported_is_heard();
     let tasks = plan.as_slice();
     if options.dry_run {
-        return Ok(reported(dry_reports(alloc, tasks)?, true, true));
+        return Ok(with_reports(dry_reports(alloc, tasks)?, true, true));
     }
     let paths = paths_of(alloc, tasks)?;
     let mut starts = starts_of(alloc, tasks)?;
@@ -104,7 +104,7 @@ pub fn execute<A: Actions, F: Folder, L: TaskListener, P: Printer>(
         records,
         options,
     };
-    let all_heard = take_turns::<A, F, L, P>(
+    let all_heard = execute_tasks::<A, F, L, P>(
         alloc,
         folder,
         &build,
@@ -114,11 +114,11 @@ pub fn execute<A: Actions, F: Folder, L: TaskListener, P: Printer>(
         printer,
         &mut reports,
     );
-    Ok(reported(reports, false, all_heard))
+    Ok(with_reports(reports, false, all_heard))
 }
 
 /// The report of a build.
-fn reported(tasks: Vec<TaskReport>, dry_run: bool, all_heard: bool) -> Report
+fn with_reports(tasks: Vec<TaskReport>, dry_run: bool, all_heard: bool) -> Report
     ensures tasks { result.tasks ≡ tasks.items }
     ensures dry_run { result.dry_run ≡ dry_run }
     ensures refused { result.listener_refused ≡ not all_heard }

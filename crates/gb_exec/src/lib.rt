@@ -6,7 +6,7 @@
 //! each.
 //!
 //! How it works: [`starts`] decides which tasks start, by the outcomes of those before them. For
-//! each that starts, the listeners are notified, `gb_turn` executes it, the listeners are notified
+//! each that starts, the listeners are notified, `gb_task` executes it, the listeners are notified
 //! again, and its part of the report is printed. Memory for the report is reserved before the first
 //! task, so that a build that has begun always has one. A dry run executes nothing.
 //!
@@ -23,7 +23,7 @@ mod plans;
 mod start_laws;
 mod starts;
 pub mod telling;
-mod turns;
+mod executions;
 
 pub use crate::building::execute;
 pub use crate::listener::{Recorder, TaskListener};

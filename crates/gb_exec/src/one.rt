@@ -6,22 +6,22 @@ ghost use Rattle.gb_meaning.specs.Kinds.{Kinds};
 ghost use Rattle.gb_meaning.specs.Label.{Moment};
 ghost use Rattle.gb_meaning.specs.Outline.{IsOutline};
 ghost use Rattle.gb_meaning.specs.TrueRecord.{outside};
-ghost use Rattle.gb_meaning.specs.Turn.{heard_of};
+ghost use Rattle.gb_meaning.specs.Execution.{heard_of};
 ghost use Rattle.gb_plan.specs.declared.plan.Planned.{Planned};
-ghost use Rattle.gb_records.specs.Granted.{IsGranted};
+ghost use Rattle.gb_records.specs.Assumed.{IsAssumed};
 ghost use Rattle.gb_records.specs.Standing.{Standing};
 ghost use Rattle.gb_report.specs.declared.report.Outcome.TheVariants.{Failed, NotRun};
 ghost use Rattle.gb_store.specs.Changes.{ChangesOnly};
-ghost use Rattle.gb_turn.specs.Case.{IsKnown};
-ghost use Rattle.gb_turn.specs.ByOutcome.{TurnAsks};
-ghost use Rattle.gb_turn.specs.Turned.{Registering, is_of_turn, setting_with};
-ghost use Rattle.gb_exec.specs.Telling.{AllTold};
+ghost use Rattle.gb_task.specs.Case.{IsKnown};
+ghost use Rattle.gb_task.specs.ByOutcome.{ExecutionAsks};
+ghost use Rattle.gb_task.specs.Executing.{Registering, is_of_execution, setting_with};
+ghost use Rattle.gb_exec.specs.Telling.{AllReported};
 ghost use Rattle.gb_exec.specs.Plans.{AreEndings, AreOfPlan};
 ghost use Rattle.gb_exec.specs.Building.{CanBuild};
-ghost use Rattle.gb_exec.specs.Built.{IsTurnOf};
+ghost use Rattle.gb_exec.specs.Built.{IsExecutionOf};
 ghost use Rattle.gb_exec.specs.Reports.{IsOf, report_with};
 
-use crate::heard_laws::told_more;
+use crate::heard_laws::reported_more;
 use crate::listener::TaskListener;
 use crate::start_laws::{needs_by_number, starts_by_number};
 use crate::starts::Starts;
@@ -35,7 +35,7 @@ use gb_history::record::Record;
 use gb_plan::plan::Planned;
 use gb_report::fault::Fault;
 use gb_report::report::{Options, Outcome, TaskReport};
-use gb_turn::turn::take_turn;
+use gb_task::execution::execute_task;
 use std::alloc::Global;
 
 /// The input of a build: its tasks in their order, what is stored of their actions, the record that
@@ -87,18 +87,18 @@ pub(crate) fn take_one<A: Actions, F: Folder, L: TaskListener>(
     ensures starts { starts.new ≡ starts.old }
     ensures of_task { (planned : Planned) → slice_get build.now.tasks.now index ≡ Some planned
         → IsOf planned result.report }
-    ensures heard { AllTold (heard_of false (result.report ∷ [])) result.all_heard
+    ensures heard { AllReported (heard_of false (result.report ∷ [])) result.all_heard
         (map L.ear listeners.old.items) (map L.ear listeners.new.items) }
     // Over any folder: it makes the calls that its outcome permits.
     ensures asks { (planned : Planned) → slice_get build.now.tasks.now index ≡ Some planned
-        → TurnAsks F.failures F.may_leave F.asked A.meanings build.now.table.now build.now.options
+        → ExecutionAsks F.failures F.may_leave F.asked A.meanings build.now.table.now build.now.options
         planned.task (slice_index_or build.now.records.now index None) result.report.outcome
         result.report.lines folder.old folder.new }
     ensures blame { (place : List ℕ) → result.report.outcome ≡ Failed (Fault.Device place)
         → HasRisen (F.failures folder.old) (F.failures folder.new) }
     ensures changes { IsTrue F.tells → (planned : Planned)
         → slice_get build.now.tasks.now index ≡ Some planned
-        → ChangesOnly (is_of_turn planned.task) (F.contents folder.old) (F.contents folder.new) }
+        → ChangesOnly (is_of_execution planned.task) (F.contents folder.old) (F.contents folder.new) }
     // Over any folder, at each moment with the outcomes so far, its report is one that the outline
     // permits.
     ensures outline { (moment : Moment) (planned : Planned)
@@ -106,21 +106,21 @@ pub(crate) fn take_one<A: Actions, F: Folder, L: TaskListener>(
         → AreEndings build.now.tasks.now moment.outcomes starts.old.endings
         → IsOutline build.now.options build.now.tasks.now moment planned result.report }
     // Where the record that was read of the task is known of it, this is its execution.
-    ensures turn { IsTrue F.tells → (kinds : Kinds) (registry_of : Registering) (moment : Moment)
+    ensures execution { IsTrue F.tells → (kinds : Kinds) (registry_of : Registering) (moment : Moment)
         (planned : Planned) → slice_get build.now.tasks.now index ≡ Some planned
-        → IsGranted A.meanings build.now.table.now kinds (F.may_leave folder.old)
+        → IsAssumed A.meanings build.now.table.now kinds (F.may_leave folder.old)
         → moment.world.folder ≡ outside (F.contents folder.old)
         → moment.failures ≡ F.failures folder.old
         → Standing (F.contents folder.old).files moment.world.memory
         → AreEndings build.now.tasks.now moment.outcomes starts.old.endings
         → IsKnown kinds planned.task moment.world (slice_index_or build.now.records.now index None)
-        → IsTurnOf (setting_with kinds registry_of (F.may_leave folder.old)) build.now.options
+        → IsExecutionOf (setting_with kinds registry_of (F.may_leave folder.old)) build.now.options
         build.now.tasks.now moment planned result.report (F.contents folder.old) (F.failures folder.new)
         (F.contents folder.new) }
 {
     starts_by_number();
     needs_by_number();
-    told_more();
+    reported_more();
     let planned = &build.tasks[index];
     if !starts.does_start(index, build.options.keep_going) {
         return Taken {
@@ -131,7 +131,7 @@ pub(crate) fn take_one<A: Actions, F: Folder, L: TaskListener>(
     let need = starts.has_executed_need(index);
     let last = build.records[index].as_ref();
     let begun = tell(alloc, listeners, &planned.task.path, None);
-    let report = take_turn::<A, F>(
+    let report = execute_task::<A, F>(
         alloc,
         folder,
         &planned.task,

@@ -1,7 +1,7 @@
 //! The notification of all listeners.
 ghost use Rattle.std.specs.Prelude.{◌≡◌, ◌∷◌, [], map, true, false};
 ghost use Rattle.gb_meaning.specs.Headline.{HearsAll};
-ghost use Rattle.gb_exec.specs.Telling.{AllTold, Refuses, told_of};
+ghost use Rattle.gb_exec.specs.Telling.{AllReported, Refuses, reported_of};
 
 use crate::listener::TaskListener;
 use gb_core::path::TaskPath;
@@ -16,7 +16,7 @@ fn tell_one<L: TaskListener>(
     task: &TaskPath,
     ended: Option<&Outcome>,
 ) -> bool
-    ensures heard { result ≡ true → HearsAll (told_of task.now ended.entry ∷ []) (L.ear listener.old)
+    ensures heard { result ≡ true → HearsAll (reported_of task.now ended.entry ∷ []) (L.ear listener.old)
         (L.ear listener.new) }
     ensures refused { result ≡ false → Refuses (L.ear listener.old) (L.ear listener.new) }
 {
@@ -35,7 +35,7 @@ pub fn tell<L: TaskListener>(
     task: &TaskPath,
     ended: Option<&Outcome>,
 ) -> bool
-    ensures { AllTold (told_of task.now ended.entry ∷ []) result (map L.ear listeners.old.items)
+    ensures { AllReported (reported_of task.now ended.entry ∷ []) result (map L.ear listeners.old.items)
         (map L.ear listeners.new.items) }
 {
     let mut all_heard = true;

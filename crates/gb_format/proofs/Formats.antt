@@ -40,12 +40,12 @@ is_formatted text out w h =
     }
 
 -- if a text parses as a value, the formatted text parses as it, too
-pub formatted_spells : {A : Type 0} (Is : A → Type 0) (spelled : A → List Leveled) (text out : List ℕ) → IsWhole text → out ≡ formatted text → length out ≤ 1048576 → IsUtf8 out → (told : A) → IsSpelled Is spelled text told → IsSpelled Is spelled out told
-formatted_spells Is spelled text out w h short utf8 told s =
+pub formatted_spells : {A : Type 0} (Is : A → Type 0) (spelled : A → List Leveled) (text out : List ℕ) → IsWhole text → out ≡ formatted text → length out ≤ 1048576 → IsUtf8 out → (reported : A) → IsSpelled Is spelled text reported → IsSpelled Is spelled out reported
+formatted_spells Is spelled text out w h short utf8 reported s =
     let same : out ≡ layout rules w.pieces = h ∙ formatted_is text w.pieces w.cut in
-    subst (λ (l : List ℕ). IsSpelled Is spelled l told) (sym same)
-    (spelled_same Is spelled rules steady text w.pieces told w.cut s (subst (λ (l : List ℕ). length l ≤ 1048576) same short) (subst IsUtf8 same utf8))
+    subst (λ (l : List ℕ). IsSpelled Is spelled l reported) (sym same)
+    (spelled_same Is spelled rules steady text w.pieces reported w.cut s (subst (λ (l : List ℕ). length l ≤ 1048576) same short) (subst IsUtf8 same utf8))
 
 -- a text that is read consists of pieces up to its end
-pub read_whole : {A : Type 0} (Is : A → Type 0) (spelled : A → List Leveled) → ((a : A) → Real (spelled a)) → (text : List ℕ) (told : A) → IsSpelled Is spelled text told → IsWhole text
-read_whole Is spelled real text told s = let w = whole Is spelled real text told s in record { pieces = w.0; cut = w.1 }
+pub read_whole : {A : Type 0} (Is : A → Type 0) (spelled : A → List Leveled) → ((a : A) → Real (spelled a)) → (text : List ℕ) (reported : A) → IsSpelled Is spelled text reported → IsWhole text
+read_whole Is spelled real text reported s = let w = whole Is spelled real text reported s in record { pieces = w.0; cut = w.1 }

@@ -18,8 +18,8 @@ use Rattle.gb_format.specs.declared.rule.Rule.{Rule}
 use Rattle.gb_format.specs.declared.rule.Rule.TheVariants.{Close, Space, Line, Part, Behind}
 use Rattle.gb_format.specs.declared.state.State.{State}
 use Rattle.gb_format.specs.declared.state.Advance.{Advance}
-use Rattle.gb_format.specs.declared.state.Turn.{Turn}
-use Rattle.gb_format.specs.declared.state.Turn.TheVariants as turns
+use Rattle.gb_format.specs.declared.state.Execution.{Execution}
+use Rattle.gb_format.specs.declared.state.Execution.TheVariants as turns
 use Rattle.gb_format.specs.Kinds.{kind_of, is_tight, is_open}
 use Rattle.gb_format.specs.Places.{at_start, deeper, shallower, depth, begins, after}
 use Rattle.gb_format.specs.Fits.{fits, fits_from}
@@ -43,7 +43,7 @@ abbrev pub is_stepped : State → Bool
 is_stepped s = s.is_inner_chain && (s.broken == 1)
 
 -- an element begins after a bracket, a comma or a comment
-abbrev pub turn_after : Kind → Turn
+abbrev pub turn_after : Kind → Execution
 turn_after kinds.OpenParen = turns.Inside
 turn_after kinds.OpenBracket = turns.Inside
 turn_after kinds.Comma = turns.Inside
@@ -51,13 +51,13 @@ turn_after kinds.Comment = turns.Inside
 turn_after before = turns.Flat
 
 -- the line break in a broken bracket
-abbrev pub turn_in : State → Kind → Kind → Turn
+abbrev pub turn_in : State → Kind → Kind → Execution
 turn_in s before kinds.Close = turns.Closing
 turn_in s before kinds.Dot = if is_stepped s then turns.InnerStep else turn_after before
 turn_in s before k = turn_after before
 
 -- the line break outside of brackets
-abbrev pub turn_out : State → Kind → Kind → Turn
+abbrev pub turn_out : State → Kind → Kind → Execution
 turn_out s kinds.Comment k = turns.Resumed
 turn_out s kinds.Comma kinds.Dot =
     if s.is_cut then turns.Element else (if s.is_chain then turns.Step else turns.Flat)
@@ -65,7 +65,7 @@ turn_out s kinds.Comma k = if s.is_cut then turns.Element else turns.Flat
 turn_out s before kinds.Dot = if s.is_chain then turns.Step else turns.Flat
 turn_out s before k = turns.Flat
 
-abbrev pub turn_of : State → Kind → Kind → Turn
+abbrev pub turn_of : State → Kind → Kind → Execution
 turn_of s before k =
     if is_broken s then turn_in s before k
     else (if s.place.brackets == 0 then turn_out s before k else turns.Flat)
@@ -74,7 +74,7 @@ turn_of s before k =
 abbrev pub inside_indent : State → ℕ
 inside_indent s = if s.broken == 1 then s.inner else s.indent
 
-abbrev pub turn_rule : State → Turn → Bool → Rule
+abbrev pub turn_rule : State → Execution → Bool → Rule
 turn_rule s turns.Flat tight = if tight then Close else Space
 turn_rule s turns.Inside tight = Line (inside_indent s)
 turn_rule s turns.InnerStep tight = Line (deeper s.inner)
@@ -105,7 +105,7 @@ entered s t ts = record s {
   is_inner_chain = not (fits_from (reaches.Inner s.broken) s.place (room_at (inside_indent s)) t ts);
 }
 
-abbrev pub turned : State → Turn → Bool → List ℕ → List (List ℕ) → State
+abbrev pub turned : State → Execution → Bool → List ℕ → List (List ℕ) → State
 turned s turns.Flat tight t ts = record s { room = s.room - (if tight then 0 else 1) - length t }
 turned s turns.Inside tight t ts =
     if s.broken == 1 then entered s t ts else record s { room = room_after s.indent t }

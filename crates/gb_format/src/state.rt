@@ -40,7 +40,7 @@ pub struct State {
 
 /// Why a line breaks before a token within a clause, or that it does not break.
 #[derive(Clone, Copy)]
-pub enum Turn {
+pub enum Execution {
     /// It does not break.
     Flat,
     /// An element of a broken bracket begins.
@@ -85,39 +85,39 @@ fn is_stepped(state: State) -> bool
 }
 
 /// The line break in a broken bracket, except before steps and the bracket that closes.
-fn turn_after(before: Kind) -> Turn
+fn turn_after(before: Kind) -> Execution
     ensures { result ≡ turn_after before }
 {
     match before {
-        Kind::OpenParen | Kind::OpenBracket | Kind::Comma | Kind::Comment => Turn::Inside,
-        _ => Turn::Flat,
+        Kind::OpenParen | Kind::OpenBracket | Kind::Comma | Kind::Comment => Execution::Inside,
+        _ => Execution::Flat,
     }
 }
 
 /// The line break in a broken bracket.
-fn turn_in(state: State, before: Kind, kind: Kind) -> Turn
+fn turn_in(state: State, before: Kind, kind: Kind) -> Execution
     ensures { result ≡ turn_in state before kind }
 {
     match kind {
-        Kind::Close => Turn::Closing,
-        Kind::Dot if is_stepped(state) => Turn::InnerStep,
+        Kind::Close => Execution::Closing,
+        Kind::Dot if is_stepped(state) => Execution::InnerStep,
         _ => turn_after(before),
     }
 }
 
 /// The line break outside of brackets.
-fn turn_out(state: State, before: Kind, kind: Kind) -> Turn
+fn turn_out(state: State, before: Kind, kind: Kind) -> Execution
     ensures { result ≡ turn_out state before kind }
 {
     match (before, kind) {
-        (Kind::Comment, _) => Turn::Resumed,
-        (Kind::Comma, _) if state.is_cut => Turn::Element,
-        (_, Kind::Dot) if state.is_chain => Turn::Step,
-        _ => Turn::Flat,
+        (Kind::Comment, _) => Execution::Resumed,
+        (Kind::Comma, _) if state.is_cut => Execution::Element,
+        (_, Kind::Dot) if state.is_chain => Execution::Step,
+        _ => Execution::Flat,
     }
 }
 
-fn turn_of(state: State, before: Kind, kind: Kind) -> Turn
+fn turn_of(state: State, before: Kind, kind: Kind) -> Execution
     ensures { result ≡ turn_of state before kind }
 {
     if is_broken(state) {
@@ -125,7 +125,7 @@ fn turn_of(state: State, before: Kind, kind: Kind) -> Turn
     } else if state.place.brackets == 0 {
         turn_out(state, before, kind)
     } else {
-        Turn::Flat
+        Execution::Flat
     }
 }
 
@@ -140,16 +140,16 @@ fn inside_indent(state: State) -> usize
     }
 }
 
-fn turn_rule(state: State, turn: Turn, tight: bool) -> Rule
+fn turn_rule(state: State, turn: Execution, tight: bool) -> Rule
     ensures { result ≡ turn_rule state turn tight }
 {
     match turn {
-        Turn::Flat => { if tight { Rule::Close } else { Rule::Space } }
-        Turn::Inside => Rule::Line(inside_indent(state)),
-        Turn::InnerStep => Rule::Line(deeper(state.inner)),
-        Turn::Closing => Rule::Line(shallower(inside_indent(state))),
-        Turn::Resumed | Turn::Element => Rule::Line(depth(state.place) + 1),
-        Turn::Step => Rule::Line(deeper(state.base)),
+        Execution::Flat => { if tight { Rule::Close } else { Rule::Space } }
+        Execution::Inside => Rule::Line(inside_indent(state)),
+        Execution::InnerStep => Rule::Line(deeper(state.inner)),
+        Execution::Closing => Rule::Line(shallower(inside_indent(state))),
+        Execution::Resumed | Execution::Element => Rule::Line(depth(state.place) + 1),
+        Execution::Step => Rule::Line(deeper(state.base)),
     }
 }
 
@@ -193,7 +193,7 @@ fn entered(state: State, text: &str, rest: &[Item]) -> State
 
 /// The state where an element of a broken bracket begins.
 fn inside(state: State, text: &str, rest: &[Item]) -> State
-    ensures { result ≡ turned state Turn.Inside true text.now (texts_of rest.now) }
+    ensures { result ≡ turned state Execution.Inside true text.now (texts_of rest.now) }
 {
     if state.broken == 1 {
         entered(state, text, rest)
@@ -205,32 +205,32 @@ fn inside(state: State, text: &str, rest: &[Item]) -> State
     }
 }
 
-fn turned(state: State, turn: Turn, tight: bool, text: &str, rest: &[Item]) -> State
+fn turned(state: State, turn: Execution, tight: bool, text: &str, rest: &[Item]) -> State
     ensures { result ≡ turned state turn tight text.now (texts_of rest.now) }
 {
     match turn {
-        Turn::Flat => State {
+        Execution::Flat => State {
             room: state
                 .room
                 .saturating_sub(if tight { 0 } else { 1 })
                 .saturating_sub(text.len()),
             ..state
         },
-        Turn::Inside => inside(state, text, rest),
-        Turn::InnerStep => State {
+        Execution::Inside => inside(state, text, rest),
+        Execution::InnerStep => State {
             indent: deeper(state.inner),
             room: room_after(deeper(state.inner), text),
             ..state
         },
-        Turn::Closing => State {
+        Execution::Closing => State {
             broken: shallower(state.broken),
             indent: shallower(inside_indent(state)),
             room: room_after(shallower(inside_indent(state)), text),
             ..state
         },
-        Turn::Resumed => resumed(state, is_clause_cut(state, text, rest), text, rest),
-        Turn::Element => resumed(state, true, text, rest),
-        Turn::Step => State {
+        Execution::Resumed => resumed(state, is_clause_cut(state, text, rest), text, rest),
+        Execution::Element => resumed(state, true, text, rest),
+        Execution::Step => State {
             indent: deeper(state.base),
             room: room_after(deeper(state.base), text),
             ..state

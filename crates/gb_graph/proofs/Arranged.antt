@@ -87,7 +87,7 @@ module _ (plan : Plan) (z : Planned) where
 
 module _ (n : ℕ) (f : ℕ → Planned) (table : List (List ℕ)) (done others : List ℕ)
     (each : length table ≡ n)
-    (told : (k j : ℕ) → Contains (row table k) j ↔ ((k < n) × (j < n) × (comes_after (f k) (f j) ≡ true)))
+    (reported : (k j : ℕ) → Contains (row table k) j ↔ ((k < n) × (j < n) × (comes_after (f k) (f j) ≡ true)))
     (ranked : (i j : ℕ) → i < j → j < n → precedes (f i) (f j) ≡ true)
     (paths : (i j : ℕ) → i < n → j < n → (f i).task.path ≡ (f j).task.path → i ≡ j)
     (is_order : IsOrder table done) (are_others : AreOthers n done others) where
@@ -143,12 +143,12 @@ module _ (n : ℕ) (f : ℕ → Planned) (table : List (List ℕ)) (done others 
       let same : path number.0 ≡ p = ap (λ (y : Planned). y.task.path) (sym number.2) ∙ at.2 in
       let edge : comes_after (f k) (f number.0) ≡ true = after_is plan (f k) plan_once (f number.0) (subst (λ (y : Planned). In y plan) number.2 at.1)
       (subst (λ q. has_path (after plan (f k).task) q ≡ true) (sym same) g) in
-      let stands : Contains front number.0 = h number.0 ((told k number.0).1 (lt, known, edge)) in
+      let stands : Contains front number.0 = h number.0 ((reported k number.0).1 (lt, known, edge)) in
       subst (λ q. has_path (map path front) q ≡ true) same (has_mapped path front number.0 (in_of front number.0 stands)))
 
   ready_only : (front : List ℕ) (k : ℕ) → ((i : ℕ) → In i front → i < n) → is_ready plan (map path front) (f k).task ≡ true → IsReady table front k
   ready_only front k known h j c =
-      let edge = (told k j).0 c in
+      let edge = (reported k j).0 c in
       let comes = after_so plan (f k) (f j) (into_map f (done ++ others) j (in_numbers j edge.1)) edge.2 in
       let stands = at_member (has_path (map path front)) (after plan (f k).task) (path j) h comes in
       let at = of_mapped path front (path j) stands in
@@ -255,23 +255,23 @@ module _ (tasks : List Planned) (are_ranked : AreRanked tasks) where
           let lt : at.0 < length tasks = known at.0 at.1 in
           subst (Contains tasks) (sym at.2) (Contains-get_or tasks at.0 d lt);
       back = λ z c.
-          let i = in_numbers (length tasks) (λ k. get_or tasks k d) after done others ranks.told.each (λ k j. ranks.told.told k j d) (λ i j. are_ranked.ranked i j d) (one_path d) ranks.is_order ranks.are_others c.0 c.1 in
+          let i = in_numbers (length tasks) (λ k. get_or tasks k d) after done others ranks.reported.each (λ k j. ranks.reported.reported k j d) (λ i j. are_ranked.ranked i j d) (one_path d) ranks.is_order ranks.are_others c.0 c.1 in
           of_in z (map (λ k. get_or tasks k d) (done ++ others))
           (subst (λ y. In y (map (λ k. get_or tasks k d) (done ++ others))) (get_or_default tasks c.0 d z c.1 ∙ c.2) (into_map (λ k. get_or tasks k d) (done ++ others) c.0 i));
     }
       where
         known : (k : ℕ) → In k (done ++ others) → k < length tasks
-        known = number_known (length tasks) (λ k. get_or tasks k d) after done others ranks.told.each (λ k j. ranks.told.told k j d) (λ i j. are_ranked.ranked i j d) (one_path d) ranks.is_order ranks.are_others
+        known = number_known (length tasks) (λ k. get_or tasks k d) after done others ranks.reported.each (λ k j. ranks.reported.reported k j d) (λ i j. are_ranked.ranked i j d) (one_path d) ranks.is_order ranks.are_others
 
     pub is_arranged : IsArranged tasks (map (λ k. get_or tasks k d) (done ++ others))
     is_arranged = record {
       same = same_tasks;
-      once = plan_once (length tasks) (λ k. get_or tasks k d) after done others ranks.told.each (λ k j. ranks.told.told k j d) (λ i j. are_ranked.ranked i j d) (one_path d) ranks.is_order ranks.are_others;
-      in_order = plan_in_order (length tasks) (λ k. get_or tasks k d) after done others ranks.told.each (λ k j. ranks.told.told k j d) (λ i j. are_ranked.ranked i j d) (one_path d) ranks.is_order ranks.are_others;
+      once = plan_once (length tasks) (λ k. get_or tasks k d) after done others ranks.reported.each (λ k j. ranks.reported.reported k j d) (λ i j. are_ranked.ranked i j d) (one_path d) ranks.is_order ranks.are_others;
+      in_order = plan_in_order (length tasks) (λ k. get_or tasks k d) after done others ranks.reported.each (λ k j. ranks.reported.reported k j d) (λ i j. are_ranked.ranked i j d) (one_path d) ranks.is_order ranks.are_others;
     }
 
     pub stuck_others_are : stuck (map (λ k. get_or tasks k d) (done ++ others)) [] (map (λ k. get_or tasks k d) (done ++ others)) ≡ map (λ k. get_or tasks k d) others
-    stuck_others_are = plan_stuck (length tasks) (λ k. get_or tasks k d) after done others ranks.told.each (λ k j. ranks.told.told k j d) (λ i j. are_ranked.ranked i j d) (one_path d) ranks.is_order ranks.are_others
+    stuck_others_are = plan_stuck (length tasks) (λ k. get_or tasks k d) after done others ranks.reported.each (λ k j. ranks.reported.reported k j d) (λ i j. are_ranked.ranked i j d) (one_path d) ranks.is_order ranks.are_others
 
 -- ---- Sorting
 

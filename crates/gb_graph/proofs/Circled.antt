@@ -77,13 +77,13 @@ module _ (tasks : List Planned) (ranked : AreRanked tasks) (table : List (List �
   path_is k lt = path_of tasks ranked d k lt
 
   in_plan : (k : ℕ) → k < length tasks → In (get_or tasks k d) plan
-  in_plan k lt = into_map f (done ++ others) k (in_numbers (length tasks) f table done others ranks.told.each (λ k j. ranks.told.told k j d) (λ i j. ranked.ranked i j d) (one_path tasks ranked d) ranks.is_order ranks.are_others k lt)
+  in_plan k lt = into_map f (done ++ others) k (in_numbers (length tasks) f table done others ranks.reported.each (λ k j. ranks.reported.reported k j d) (λ i j. ranked.ranked i j d) (one_path tasks ranked d) ranks.is_order ranks.are_others k lt)
 
   once : no_repeats (order plan) ≡ true
-  once = plan_once (length tasks) f table done others ranks.told.each (λ k j. ranks.told.told k j d) (λ i j. ranked.ranked i j d) (one_path tasks ranked d) ranks.is_order ranks.are_others
+  once = plan_once (length tasks) f table done others ranks.reported.each (λ k j. ranks.reported.reported k j d) (λ i j. ranked.ranked i j d) (one_path tasks ranked d) ranks.is_order ranks.are_others
 
   mapped : (ks : List ℕ) → order (map f ks) ≡ map path ks
-  mapped = order_mapped (length tasks) f table done others ranks.told.each (λ k j. ranks.told.told k j d) (λ i j. ranked.ranked i j d) (one_path tasks ranked d) ranks.is_order ranks.are_others
+  mapped = order_mapped (length tasks) f table done others ranks.reported.each (λ k j. ranks.reported.reported k j d) (λ i j. ranked.ranked i j d) (one_path tasks ranked d) ranks.is_order ranks.are_others
 
   abbrev unplaced : List Path
   unplaced = order (stuck plan [] plan)
@@ -112,14 +112,14 @@ module _ (tasks : List Planned) (ranked : AreRanked tasks) (table : List (List �
 
   edge_to : (k j : ℕ) → Contains (row table k) j → has_path (after_at plan (path k)) (path j) ≡ true
   edge_to k j c =
-      let e = (ranks.told.told k j d).0 c in
+      let e = (ranks.reported.reported k j d).0 c in
       from_after plan (path k) (path j) (f k) plan (in_plan k e.0) refl (after_so plan (f k) (f j) (in_plan j e.1) e.2)
 
   edge_from : (k j : ℕ) → k < length tasks → j < length tasks → has_path (after_at plan (path k)) (path j) ≡ true → Contains (row table k) j
   edge_from k j lk lj h =
       let at = to_after plan (path k) (path j) plan h in
       let same : at.0 ≡ f k = path_once plan once at.0 (f k) at.1 (in_plan k lk) at.2 in
-      (ranks.told.told k j d).1 (lk, lj, after_is plan (f k) once (f j) (in_plan j lj) (ap (λ (z : Planned). has_path (after plan z.task) (path j)) (sym same) ∙ at.3))
+      (ranks.reported.reported k j d).1 (lk, lj, after_is plan (f k) once (f j) (in_plan j lj) (ap (λ (z : Planned). has_path (after plan z.task) (path j)) (sym same) ∙ at.3))
 
   step_path : (k j : ℕ) → k < length tasks → IsNextNumber tasks table marks k j → IsLeastBefore plan unplaced (path k) (path j)
   step_path k j lk is =
@@ -153,7 +153,7 @@ module _ (tasks : List Planned) (ranked : AreRanked tasks) (table : List (List �
         from_least = subst (λ ps. IsLeastOf ps (path is.start)) (sym unplaced_is) (least_path others known marked is.start is.from_least);
         comes_to = way_path is.start is.first is.way (known is.start (shows is.start is.from_least.marked)) is.comes_to;
         goes_round = way_path is.first is.first circle (known is.first (shows is.first is.least_first.marked)) is.goes_round;
-        once = ap no_repeats (sym (mapped circle)) ∙ once_mapped (length tasks) f table done others ranks.told.each (λ k j. ranks.told.told k j d) (λ i j. ranked.ranked i j d) (one_path tasks ranked d) ranks.is_order ranks.are_others
+        once = ap no_repeats (sym (mapped circle)) ∙ once_mapped (length tasks) f table done others ranks.reported.each (λ k j. ranks.reported.reported k j d) (λ i j. ranked.ranked i j d) (one_path tasks ranked d) ranks.is_order ranks.are_others
             circle is.once (λ k i. low k (of_in k circle i));
         least_first = least_path circle low all is.first is.least_first;
       }
@@ -184,8 +184,8 @@ pub comes_after_other : (tasks : List Planned) (table : List (List ℕ)) (done o
 comes_after_other tasks table done others ranks k c =
     let at = ranks.are_others.within k c in
     elim (some_lacks (row table k) done) [
-      | inl found ↦ (found.0, found.1, ranks.are_others.back found.0 (ranks.told.known k found.0 found.1).1 found.2)
-      | inr all ↦ absurd (ranks.is_order.whole k (omega (arith, at.0, ranks.told.each)) at.1 all)
+      | inl found ↦ (found.0, found.1, ranks.are_others.back found.0 (ranks.reported.known k found.0 found.1).1 found.2)
+      | inr all ↦ absurd (ranks.is_order.whole k (omega (arith, at.0, ranks.reported.each)) at.1 all)
     ]
 
 pub some_number : (xs : List ℕ) (n : ℕ) → n ≡ length xs → (n == 0) ≡ false → (k : ℕ) × Contains xs k
@@ -239,6 +239,6 @@ cycle_refused request tasks sorted table done others circle s same ranked ranks 
         some_stuck = ap is_empty (stuck_others_are sorted ranked table done others ranks d) ∙ not_empty_map (λ k. get_or sorted k d) others some.0 some.1;
         circle = circle;
         is_circle = is d;
-        told = refl;
+        reported = refl;
       }),
     )

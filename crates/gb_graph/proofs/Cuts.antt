@@ -172,16 +172,16 @@ overlaps_so text place h =
 
 pub one_more : (initial found : List ℕ) (first n : ℕ) → first ≤ n → ((k : ℕ) → Contains found k ↔ (Contains initial k ⊎ ((first ≤ k) × (k < n))))
     → (k : ℕ) → Contains (found ++ n ∷ []) k ↔ (Contains initial k ⊎ ((first ≤ k) × (k < n + 1)))
-one_more initial found first n le told k = (
+one_more initial found first n le reported k = (
   λ h. elim (Contains-push_cases found n k h) [
-    | inl o ↦ elim ((told k).0 o) [ inl c ↦ inl c | inr at ↦ inr (at.0, omega (arith, at.1)) ]
+    | inl o ↦ elim ((reported k).0 o) [ inl c ↦ inl c | inr at ↦ inr (at.0, omega (arith, at.1)) ]
     | inr e ↦ inr (omega (arith, e, le), omega (arith, e))
   ],
   λ h. elim h [
-    | inl c ↦ Contains-append_left found (n ∷ []) k ((told k).1 (inl c))
+    | inl c ↦ Contains-append_left found (n ∷ []) k ((reported k).1 (inl c))
     | inr at ↦ elim (cases_eq k n) [
       | inl e ↦ subst (λ v. Contains (found ++ n ∷ []) v) (sym e) (Contains-push found n)
-      | inr apart ↦ Contains-append_left found (n ∷ []) k ((told k).1 (inr (at.0, omega (arith, at.1, apart))))
+      | inr apart ↦ Contains-append_left found (n ∷ []) k ((reported k).1 (inr (at.0, omega (arith, at.1, apart))))
     ]
   ],
 )
@@ -233,31 +233,31 @@ cut_same text n place other = (
 -- one more folder is found
 pub cut_found : (row : List TaskPlace) (text : List ℕ) (n : ℕ) (initial old new : List ℕ) → get_or text n 0 ≡ 47 → ((k : ℕ) → Contains old k ↔ (Contains initial k ⊎ ((k < length row) × IsCut text n (place_at row k))))
     → FindsToo row (λ p. bytes_eq p (take n text)) old new → (k : ℕ) → Contains new k ↔ (Contains initial k ⊎ ((k < length row) × IsCut text (n + 1) (place_at row k)))
-cut_found row text n initial old new is told finds k =
+cut_found row text n initial old new is reported finds k =
     let x = place_at row k in
     let more = cut_more text n x is in (
       λ h. elim ((finds k).0 h) [
-        | inl o ↦ elim ((told k).0 o) [ inl c ↦ inl c | inr at ↦ inr (at.0, more.1 (inl at.1)) ]
+        | inl o ↦ elim ((reported k).0 o) [ inl c ↦ inl c | inr at ↦ inr (at.0, more.1 (inl at.1)) ]
         | inr at ↦ inr (at.0, more.1 (inr ((bytes_decides x (take n text)).0 at.1)))
       ],
       λ h. (finds k).1 (elim h [
-        | inl c ↦ inl ((told k).1 (inl c))
-        | inr at ↦ elim (more.0 at.1) [ inl cut ↦ inl ((told k).1 (inr (at.0, cut))) | inr e ↦ inr (at.0, (bytes_decides x (take n text)).1 e) ]
+        | inl c ↦ inl ((reported k).1 (inl c))
+        | inr at ↦ elim (more.0 at.1) [ inl cut ↦ inl ((reported k).1 (inr (at.0, cut))) | inr e ↦ inr (at.0, (bytes_decides x (take n text)).1 e) ]
       ]),
     )
 
 pub cut_passed : (row : List TaskPlace) (text : List ℕ) (n : ℕ) (initial old : List ℕ) → (get_or text n 0 ≡ 47 → ⊥) → ((k : ℕ) → Contains old k ↔ (Contains initial k ⊎ ((k < length row) × IsCut text n (place_at row k))))
     → (k : ℕ) → Contains old k ↔ (Contains initial k ⊎ ((k < length row) × IsCut text (n + 1) (place_at row k)))
-cut_passed row text n initial old other told k =
+cut_passed row text n initial old other reported k =
     let same = cut_same text n (place_at row k) other in (
-      λ h. elim ((told k).0 h) [ inl c ↦ inl c | inr at ↦ inr (at.0, same.1 at.1) ],
-      λ h. (told k).1 (elim h [ inl c ↦ inl c | inr at ↦ inr (at.0, same.0 at.1) ]),
+      λ h. elim ((reported k).0 h) [ inl c ↦ inl c | inr at ↦ inr (at.0, same.1 at.1) ],
+      λ h. (reported k).1 (elim h [ inl c ↦ inl c | inr at ↦ inr (at.0, same.0 at.1) ]),
     )
 
 -- at the end all folders are found
 pub cuts_all : (row : List TaskPlace) (text : List ℕ) (n : ℕ) (initial old : List ℕ) → n ≡ length text → ((k : ℕ) → Contains old k ↔ (Contains initial k ⊎ ((k < length row) × IsCut text n (place_at row k))))
     → FindsToo row (λ p. is_beneath text p) initial old
-cuts_all row text n initial old is told k = (
-  λ h. elim ((told k).0 h) [ inl c ↦ inl c | inr at ↦ inr (at.0, of_cut text (place_at row k) (subst (λ m. IsCut text m (place_at row k)) is at.1)) ],
-  λ h. (told k).1 (elim h [ inl c ↦ inl c | inr at ↦ inr (at.0, subst (λ m. IsCut text m (place_at row k)) (sym is) (cut_of text (place_at row k) at.1)) ]),
+cuts_all row text n initial old is reported k = (
+  λ h. elim ((reported k).0 h) [ inl c ↦ inl c | inr at ↦ inr (at.0, of_cut text (place_at row k) (subst (λ m. IsCut text m (place_at row k)) is at.1)) ],
+  λ h. (reported k).1 (elim h [ inl c ↦ inl c | inr at ↦ inr (at.0, subst (λ m. IsCut text m (place_at row k)) (sym is) (cut_of text (place_at row k) at.1)) ]),
 )

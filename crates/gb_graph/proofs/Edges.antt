@@ -52,13 +52,13 @@ pub numbers_next : (old new : Path → Option ℕ) (paths : List Path) (i : ℕ)
     → ((q : Path) → new q ≡ cond (bytes_eq key q) (Some i) (old q))
     → ((q : Path) (k : ℕ) → (old q ≡ Some k) ↔ ((k < i) × (get_or paths k [] ≡ q)))
     → (q : Path) (k : ℕ) → (new q ≡ Some k) ↔ ((k < i + 1) × (get_or paths k [] ≡ q))
-numbers_next old new paths i key once lt is next told q k = (to, back)
+numbers_next old new paths i key once lt is next reported q k = (to, back)
   where
     to : new q ≡ Some k → (k < i + 1) × (get_or paths k [] ≡ q)
     to h = elim (bytes_eq key q) as (λ b. bytes_eq key q ≡ b → cond b (Some i) (old q) ≡ Some k → (k < i + 1) × (get_or paths k [] ≡ q)) [
       | true ↦ λ e g. let same = some_same i k g in
           (omega (arith, same), ap (λ j. get_or paths j []) (sym same) ∙ (sym is ∙ (bytes_decides key q).0 e))
-      | false ↦ λ _ g. let at = (told q k).0 g in (omega (arith, at.0), at.1)
+      | false ↦ λ _ g. let at = (reported q k).0 g in (omega (arith, at.0), at.1)
     ] refl (sym (next q) ∙ h)
 
     differs : k < i → get_or paths k [] ≡ q → bytes_eq key q ≡ false
@@ -72,7 +72,7 @@ numbers_next old new paths i key once lt is next told q k = (to, back)
       | inl e ↦ next q ∙ (ap (λ b. cond b (Some i) (old q)) ((bytes_decides key q).1 (is ∙ (ap (λ j. get_or paths j []) (sym e) ∙ at.1))) ∙ ap Some (sym e))
       | inr apart ↦
           let low : k < i = omega (arith, at.0, apart) in
-          next q ∙ (ap (λ b. cond b (Some i) (old q)) (differs low at.1) ∙ (told q k).1 (low, at.1))
+          next q ∙ (ap (λ b. cond b (Some i) (old q)) (differs low at.1) ∙ (reported q k).1 (low, at.1))
     ]
 
 -- ---- The results of a map over a list
@@ -151,8 +151,8 @@ module _ (m : Numbers) where
     into_numbers d paths j lt h =
         into_kept (number_at m) paths (get_or tasks j d).task.path j h ((numbers (get_or tasks j d).task.path j).1 (omega (arith, lt, same_length), path_of d j lt))
 
-    told_to : (k j : ℕ) (d : Planned) → Contains (edges_from m 0 tasks) (k, j) → (k < length tasks) × (j < length tasks) × (comes_after (get_or tasks k d) (get_or tasks j d) ≡ true)
-    told_to k j d c =
+    reported_to : (k j : ℕ) (d : Planned) → Contains (edges_from m 0 tasks) (k, j) → (k < length tasks) × (j < length tasks) × (comes_after (get_or tasks k d) (get_or tasks j d) ≡ true)
+    reported_to k j d c =
         let at = of_edges tasks 0 k j (in_of (edges_from m 0 tasks) (k, j) c) in
         let here : 0 + at.0 ≡ at.0 = omega arith in
         let is : get_or tasks at.0 d ≡ at.1 = get_or_default tasks at.0 d at.1 at.2 ∙ sym at.3 in
@@ -183,8 +183,8 @@ module _ (m : Numbers) where
               )
         ]
 
-    told_back : (k j : ℕ) (d : Planned) → (k < length tasks) × (j < length tasks) × (comes_after (get_or tasks k d) (get_or tasks j d) ≡ true) → Contains (edges_from m 0 tasks) (k, j)
-    told_back k j d (lk, lj, h) =
+    reported_back : (k j : ℕ) (d : Planned) → (k < length tasks) × (j < length tasks) × (comes_after (get_or tasks k d) (get_or tasks j d) ≡ true) → Contains (edges_from m 0 tasks) (k, j)
+    reported_back k j d (lk, lj, h) =
         let x = get_or tasks k d in
         let y = get_or tasks j d in
         of_in (k, j) (edges_from m 0 tasks) (either_of (has_path x.task.needs y.task.path) (has_path y.task.finalizers x.task.path) (has_path x.task.must_run_after y.task.path) h
@@ -198,12 +198,12 @@ module _ (m : Numbers) where
         edge_at : (i : ℕ) (z : Planned) → In (k, j) (edges_at m i z) → In (k, j) (edges_at m (0 + i) z)
         edge_at i z at = subst (λ n. In (k, j) (edges_at m n z)) (let e : i ≡ 0 + i = omega arith in e) at
 
-    pub edges_told : TellEdges tasks (edges_from m 0 tasks)
-    edges_told = record {
+    pub edges_reported : TellEdges tasks (edges_from m 0 tasks)
+    edges_reported = record {
       known = λ k j c.
           let at = of_edges tasks 0 k j (in_of (edges_from m 0 tasks) (k, j) c) in
-          let told = told_to k j at.1 c in (told.0, told.1);
-      told = λ k j d. (told_to k j d, told_back k j d);
+          let reported = reported_to k j at.1 c in (reported.0, reported.1);
+      reported = λ k j d. (reported_to k j d, reported_back k j d);
     }
 
 -- ---- A front that grows

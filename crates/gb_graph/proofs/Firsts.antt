@@ -227,13 +227,13 @@ push_at (y ∷ ys) x (suc k) d lt = elim (push_at ys x k d (omega (arith, lt))) 
 
 pub worded_more : (old : List Planned) (next : Planned) (words : List ℕ) → ((k : ℕ) (d : Planned) → k < length old → (get_or old k d).word ≡ get_or words k 0) → next.word ≡ get_or words (length old) 0
     → (k : ℕ) (d : Planned) → k < length (old ++ next ∷ []) → (get_or (old ++ next ∷ []) k d).word ≡ get_or words k 0
-worded_more old next words told here k d lt = elim (push_at old next k d lt) [
-  | inl at ↦ ap (λ (p : Planned). p.word) at.1 ∙ told k d at.0
+worded_more old next words reported here k d lt = elim (push_at old next k d lt) [
+  | inl at ↦ ap (λ (p : Planned). p.word) at.1 ∙ reported k d at.0
   | inr at ↦ ap (λ (p : Planned). p.word) at.1 ∙ (here ∙ ap (λ n. get_or words n 0) (sym at.0))
 ]
 
 pub same_more : (old : List Planned) (next : Planned) (rest whole all : List TaskDeclaration) → whole ≡ next.task ∷ rest → map (λ (p : Planned). p.task) old ++ whole ≡ all
     → map (λ (p : Planned). p.task) (old ++ next ∷ []) ++ rest ≡ all
-same_more old next rest whole all is told =
+same_more old next rest whole all is reported =
     ap (λ ts. ts ++ rest) (map-append (λ (p : Planned). p.task) old (next ∷ []))
-    ∙ (sym (grouped (map (λ (p : Planned). p.task) old) next.task rest) ∙ (ap (λ ts. map (λ (p : Planned). p.task) old ++ ts) (sym is) ∙ told))
+    ∙ (sym (grouped (map (λ (p : Planned). p.task) old) next.task rest) ∙ (ap (λ ts. map (λ (p : Planned). p.task) old ++ ts) (sym is) ∙ reported))

@@ -8,7 +8,7 @@ use Rattle.gb_folder.specs.Files.{Place}
 use Rattle.gb_plan.specs.declared.plan.Planned.{Planned}
 use Rattle.gb_plan.specs.Task.{Path, output_places, roots_of}
 use Rattle.gb_plan.specs.Graph.{Plan, order, no_repeats, some_overlap, reads_output_of, IsSound, IsReadInOrder}
-use Rattle.gb_plan.specs.Refusal.{Meeting, outputs_of, IsOverlap, IsRead, IsOwnInput, IsUndeclared}
+use Rattle.gb_plan.specs.Refusal.{Conflict, outputs_of, IsOverlap, IsRead, IsOwnInput, IsUndeclared}
 use Rattle.gb_plan.proofs.Tests.{itself, neither}
 use Rattle.gb_plan.proofs.Same.{In}
 use Rattle.gb_plan.proofs.Refused.{places_of}
@@ -21,7 +21,7 @@ use Rattle.gb_graph.specs.declared.met.Search.TheVariants.{Overlaps, OwnInputs, 
 use Rattle.gb_graph.specs.declared.places.TaskPlace.{TaskPlace}
 use Rattle.gb_graph.specs.declared.tables.Tables.{Tables}
 use Rattle.gb_graph.specs.Places.{AreSamePlaces, places_from, with_places}
-use Rattle.gb_graph.specs.Meetings.{AreTables, IsLeast, IsMet, Meets, places_for}
+use Rattle.gb_graph.specs.Conflicts.{AreTables, IsLeast, IsMet, Meets, places_for}
 use Rattle.gb_graph.proofs.Bridges.{At, in_at, at_get, any_in, some_in, parted, of_row}
 use Rattle.gb_graph.proofs.Lesser.{least_same}
 use Rattle.gb_graph.proofs.Thinned.{met_thinned, met_whole}
@@ -83,7 +83,7 @@ module _ (plan : Plan) (once : no_repeats (order plan) ≡ true) (tables : Table
       none_of [] h = refl
       none_of (y ∷ ys) h = neither (overlaps x.1 y.1) (list_any (overlaps x.1) (map (λ (output : Path × Place). output.1) ys)) (h 0 y refl) (none_of ys (λ j z at. h (suc j) z at))
 
-  some_apart : ((meeting : Meeting) → ¬ IsOverlap plan meeting) → (i j : ℕ) (x y : Path × Place) → At (outputs_of plan) i x → At (outputs_of plan) j y → (i ≡ j → ⊥) → overlaps x.1 y.1 ≡ false
+  some_apart : ((conflict : Conflict) → ¬ IsOverlap plan conflict) → (i j : ℕ) (x y : Path × Place) → At (outputs_of plan) i x → At (outputs_of plan) j y → (i ≡ j → ⊥) → overlaps x.1 y.1 ≡ false
   some_apart none i j x y a b apart = elim (cases_Bool (overlaps x.1 y.1)) [
     | inr f ↦ f
     | inl t ↦
@@ -118,7 +118,7 @@ module _ (plan : Plan) (once : no_repeats (order plan) ≡ true) (tables : Table
         },
       )
 
-  reads_none : ((meeting : Meeting) → ¬ IsOwnInput plan meeting) → (z : Planned) → In z plan → reads_output_of z.task z.task ≡ false
+  reads_none : ((conflict : Conflict) → ¬ IsOwnInput plan conflict) → (z : Planned) → In z plan → reads_output_of z.task z.task ≡ false
   reads_none none z i = elim (cases_Bool (reads_output_of z.task z.task)) [
     | inr f ↦ f
     | inl t ↦
@@ -126,19 +126,19 @@ module _ (plan : Plan) (once : no_repeats (order plan) ≡ true) (tables : Table
         absurd (none (record { task = z.task.path; other = z.task.path; place = read.0 }) (record { task = z.task; is_task = refl; is_same = refl; reads = read.1 }))
   ]
 
-  reads_in_order : ((meeting : Meeting) → ¬ IsUndeclared plan meeting) → (z w : Planned) → In z plan → In w plan → IsReadInOrder plan z.task w.task
+  reads_in_order : ((conflict : Conflict) → ¬ IsUndeclared plan conflict) → (z w : Planned) → In z plan → In w plan → IsReadInOrder plan z.task w.task
   reads_in_order none z w i j t two =
       let read = read_of z w i j t in
       let k = in_at plan z i in
       let l = in_at plan w j in
-      let told = chain plan once outs (same_row outs) ins (same_row ins) chained are.chains k.0 l.0 z w k.1 l.1 in
+      let reported = chain plan once outs (same_row outs) ins (same_row ins) chained are.chains k.0 l.0 z w k.1 l.1 in
       elim (cases_eq (bit_in (row (rows tables.chains.items) k.0) l.0) 1) [
-        | inl e ↦ told.0 e
+        | inl e ↦ reported.0 e
         | inr apart ↦ absurd (none (record { task = z.task.path; other = w.task.path; place = read.0 })
-            (record { reader = z.task; writer = w.task; is_reader = refl; is_writer = refl; two = two; reads = read.1; not_after = λ h. apart (told.1 h) }))
+            (record { reader = z.task; writer = w.task; is_reader = refl; is_writer = refl; two = two; reads = read.1; not_after = λ h. apart (reported.1 h) }))
       ]
 
-  pub is_sound : ((meeting : Meeting) → ¬ IsOverlap plan meeting) → ((meeting : Meeting) → ¬ IsOwnInput plan meeting) → ((meeting : Meeting) → ¬ IsUndeclared plan meeting) → IsSound plan
+  pub is_sound : ((conflict : Conflict) → ¬ IsOverlap plan conflict) → ((conflict : Conflict) → ¬ IsOwnInput plan conflict) → ((conflict : Conflict) → ¬ IsUndeclared plan conflict) → IsSound plan
   is_sound no_overlap no_own no_undeclared = record {
     outputs_apart = ap some_overlap (sym (places_of plan)) ∙ apart_of (outputs_of plan) (some_apart no_overlap);
     inputs_apart = all_of (λ z. reads_output_of z.task z.task ≡ false) plan (reads_none no_own);

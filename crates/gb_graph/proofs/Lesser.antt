@@ -10,7 +10,7 @@ use Rattle.std.specs.Ordering.{is_gt, is_lt, ordering_then, ordering_reverse}
 use Rattle.std.specs.declared.cmp.Ordering.{Ordering}
 use Rattle.gb_core.specs.Lists.{byte_order}
 use Rattle.gb_plan.specs.declared.plan.Planned.{Planned}
-use Rattle.gb_plan.specs.Refusal.{Meeting, is_before}
+use Rattle.gb_plan.specs.Refusal.{Conflict, is_before}
 use Rattle.gb_graph.proofs.Edges.{take_grows}
 use Rattle.gb_graph.specs.Circle.{path_at}
 use Rattle.gb_graph.specs.declared.least.Found.{Found}
@@ -18,40 +18,40 @@ use Rattle.gb_graph.specs.declared.least.Met.{Met}
 use Rattle.gb_graph.specs.declared.met.Search.{Search}
 use Rattle.gb_graph.specs.declared.places.TaskPlace.{TaskPlace}
 use Rattle.gb_graph.specs.Places.{place_at}
-use Rattle.gb_graph.specs.Meetings.{IsLeast, IsLeastTask, IsMet, IsMetAt, IsWithin, found_by, lesser, meeting_of}
+use Rattle.gb_graph.specs.Conflicts.{IsLeast, IsLeastTask, IsMet, IsMetAt, IsWithin, found_by, lesser, conflict_of}
 use Rattle.gb_graph.proofs.Sorted.{texts_weak}
 
-abbrev meeting_order : Meeting → Meeting → Ordering
-meeting_order a b = ordering_then (byte_order a.task b.task) (ordering_then (byte_order a.other b.other) (byte_order a.place b.place))
+abbrev conflict_order : Conflict → Conflict → Ordering
+conflict_order a b = ordering_then (byte_order a.task b.task) (ordering_then (byte_order a.other b.other) (byte_order a.place b.place))
 
-meeting_total : IsTotalOrder meeting_order
-meeting_total =
-    then_total (on_total (λ (m : Meeting). m.task) nat_list_cmp_total)
-    (then_total (on_total (λ (m : Meeting). m.other) nat_list_cmp_total) (on_total (λ (m : Meeting). m.place) nat_list_cmp_total))
+conflict_total : IsTotalOrder conflict_order
+conflict_total =
+    then_total (on_total (λ (m : Conflict). m.task) nat_list_cmp_total)
+    (then_total (on_total (λ (m : Conflict). m.other) nat_list_cmp_total) (on_total (λ (m : Conflict). m.place) nat_list_cmp_total))
 
-pub meetings_weak : IsStrictWeakOrder is_before
-meetings_weak = ranks_by meeting_total (λ (m : Meeting). m)
+pub conflicts_weak : IsStrictWeakOrder is_before
+conflicts_weak = ranks_by conflict_total (λ (m : Conflict). m)
 
-pub not_before_itself : (m : Meeting) → is_before m m ≡ false
-not_before_itself m = elim (cases_Bool (is_before m m)) [ inl t ↦ meetings_weak.one_way m m t | inr f ↦ f ]
+pub not_before_itself : (m : Conflict) → is_before m m ≡ false
+not_before_itself m = elim (cases_Bool (is_before m m)) [ inl t ↦ conflicts_weak.one_way m m t | inr f ↦ f ]
 
-pub least_same : (P Q : Meeting → Type 0) → ((m : Meeting) → P m → Q m) → ((m : Meeting) → Q m → P m) → (o : Option Found) → IsLeast P o → IsLeast Q o
+pub least_same : (P Q : Conflict → Type 0) → ((m : Conflict) → P m → Q m) → ((m : Conflict) → Q m → P m) → (o : Option Found) → IsLeast P o → IsLeast Q o
 least_same P Q to back None h = λ m q. h m (back m q)
-least_same P Q to back (Some f) h = record { meets = to (meeting_of f) h.meets; least = λ m q. h.least m (back m q) }
+least_same P Q to back (Some f) h = record { meets = to (conflict_of f) h.meets; least = λ m q. h.least m (back m q) }
 
-pub least_one : (found : Found) → IsLeast (λ m. m ≡ meeting_of found) (Some found)
-least_one found = record { meets = refl; least = λ m e. ap (λ v. is_before v (meeting_of found)) e ∙ not_before_itself (meeting_of found) }
+pub least_one : (found : Found) → IsLeast (λ m. m ≡ conflict_of found) (Some found)
+least_one found = record { meets = refl; least = λ m e. ap (λ v. is_before v (conflict_of found)) e ∙ not_before_itself (conflict_of found) }
 
-pub least_either : (P Q : Meeting → Type 0) (a b : Option Found) → IsLeast P a → IsLeast Q b → IsLeast (λ m. P m ⊎ Q m) (lesser a b)
+pub least_either : (P Q : Conflict → Type 0) (a b : Option Found) → IsLeast P a → IsLeast Q b → IsLeast (λ m. P m ⊎ Q m) (lesser a b)
 least_either P Q None None h g = λ m e. elim e [ inl p ↦ h m p | inr q ↦ g m q ]
 least_either P Q None (Some f) h g = record { meets = inr g.meets; least = λ m e. elim e [ inl p ↦ absurd (h m p) | inr q ↦ g.least m q ] }
 least_either P Q (Some f) None h g = record { meets = inl h.meets; least = λ m e. elim e [ inl p ↦ h.least m p | inr q ↦ absurd (g m q) ] }
 least_either P Q (Some f) (Some e) h g =
-    elim (is_before (meeting_of e) (meeting_of f)) as (λ b. is_before (meeting_of e) (meeting_of f) ≡ b → IsLeast (λ m. P m ⊎ Q m) (cond b (Some e) (Some f))) [
+    elim (is_before (conflict_of e) (conflict_of f)) as (λ b. is_before (conflict_of e) (conflict_of f) ≡ b → IsLeast (λ m. P m ⊎ Q m) (cond b (Some e) (Some f))) [
       | true ↦ λ t. record {
         meets = inr g.meets;
         least = λ m either. elim either [
-          | inl p ↦ meetings_weak.chain m (meeting_of f) (meeting_of e) (h.least m p) (meetings_weak.one_way (meeting_of e) (meeting_of f) t)
+          | inl p ↦ conflicts_weak.chain m (conflict_of f) (conflict_of e) (h.least m p) (conflicts_weak.one_way (conflict_of e) (conflict_of f) t)
           | inr q ↦ g.least m q
         ];
       }
@@ -59,17 +59,17 @@ least_either P Q (Some f) (Some e) h g =
         meets = inl h.meets;
         least = λ m either. elim either [
           | inl p ↦ h.least m p
-          | inr q ↦ meetings_weak.chain m (meeting_of e) (meeting_of f) (g.least m q) n
+          | inr q ↦ conflicts_weak.chain m (conflict_of e) (conflict_of f) (g.least m q) n
         ];
       }
     ] refl
 
-pub none_meets : (P : Meeting → Type 0) (o : Option Found) → o ≡ None → IsLeast P o → (m : Meeting) → ¬ P m
+pub none_meets : (P : Conflict → Type 0) (o : Option Found) → o ≡ None → IsLeast P o → (m : Conflict) → ¬ P m
 none_meets P o e h = let none : IsLeast P None = subst (IsLeast P) e h in none
 
-pub no_meeting : (P : Meeting → Type 0) (o : Option Found) → ((found : Found) → o ≡ Some found → ⊥) → IsLeast P o → (m : Meeting) → ¬ P m
-no_meeting P None differs h = h
-no_meeting P (Some found) differs h = absurd (differs found refl)
+pub no_conflict : (P : Conflict → Type 0) (o : Option Found) → ((found : Found) → o ≡ Some found → ⊥) → IsLeast P o → (m : Conflict) → ¬ P m
+no_conflict P None differs h = h
+no_conflict P (Some found) differs h = absurd (differs found refl)
 
 -- ---- The least of tasks
 
@@ -95,10 +95,10 @@ task_lesser tasks numbers i k lt is None none first = record {
     | inr e ↦ ap (λ n. is_lt (byte_order (path_at tasks n) (path_at tasks k))) (sym e) ∙ texts_apart (path_at tasks k)
   ];
 }
-task_lesser tasks numbers i k lt is (Some least) told first = record {
+task_lesser tasks numbers i k lt is (Some least) reported first = record {
   is_in = (take_grows numbers i k k lt is).1 (inr refl);
   least = λ other c. elim ((take_grows numbers i k other lt is).0 c) [
-    | inl before ↦ texts_weak.chain (path_at tasks other) (path_at tasks least) (path_at tasks k) (told.least other before) (texts_weak.one_way (path_at tasks k) (path_at tasks least) (sym first))
+    | inl before ↦ texts_weak.chain (path_at tasks other) (path_at tasks least) (path_at tasks k) (reported.least other before) (texts_weak.one_way (path_at tasks k) (path_at tasks least) (sym first))
     | inr e ↦ ap (λ n. is_lt (byte_order (path_at tasks n) (path_at tasks k))) (sym e) ∙ texts_apart (path_at tasks k)
   ];
 }
@@ -108,10 +108,10 @@ pub task_passed : (tasks : List Planned) (numbers : List ℕ) (i k : ℕ) → i 
     → MatchOption least (take i numbers ≡ []) (IsLeastTask tasks (take i numbers)) → MatchOption least (false ≡ true) (λ l. false ≡ is_lt (byte_order (path_at tasks k) (path_at tasks l)))
     → MatchOption least (take (i + 1) numbers ≡ []) (IsLeastTask tasks (take (i + 1) numbers))
 task_passed tasks numbers i k lt is None none first = absurd (false≢true first)
-task_passed tasks numbers i k lt is (Some least) told first = record {
-  is_in = (take_grows numbers i k least lt is).1 (inl told.is_in);
+task_passed tasks numbers i k lt is (Some least) reported first = record {
+  is_in = (take_grows numbers i k least lt is).1 (inl reported.is_in);
   least = λ other c. elim ((take_grows numbers i k other lt is).0 c) [
-    | inl before ↦ told.least other before
+    | inl before ↦ reported.least other before
     | inr e ↦ ap (λ n. is_lt (byte_order (path_at tasks n) (path_at tasks least))) (sym e) ∙ sym first
   ];
 }
@@ -144,9 +144,9 @@ pub passed_by : (search : Search) (chains : List (List ℕ)) (tasks : List Plann
     → IsLeast (IsMet search chains tasks outputs (take i places)) (Some found) → IsLeast (IsMet search chains tasks outputs (take (i + 1) places)) (Some found)
 passed_by search chains tasks outputs places i at lt is found later h = record {
   meets = let m = h.meets in record { at = m.at; at_in = (take_grows places i at m.at lt is).1 (inl m.at_in); other = m.other; met = m.met; is_task = m.is_task; is_other = m.is_other; is_place = m.is_place };
-  least = λ meeting m. elim ((take_grows places i at m.at lt is).0 m.at_in) [
-    | inl o ↦ h.least meeting (record { at = m.at; at_in = o; other = m.other; met = m.met; is_task = m.is_task; is_other = m.is_other; is_place = m.is_place })
-    | inr e ↦ greater_first (byte_order meeting.task found.task) (ordering_then (byte_order meeting.other found.other) (byte_order meeting.place found.place))
+  least = λ conflict m. elim ((take_grows places i at m.at lt is).0 m.at_in) [
+    | inl o ↦ h.least conflict (record { at = m.at; at_in = o; other = m.other; met = m.met; is_task = m.is_task; is_other = m.is_other; is_place = m.is_place })
+    | inr e ↦ greater_first (byte_order conflict.task found.task) (ordering_then (byte_order conflict.other found.other) (byte_order conflict.place found.place))
         (ap (λ p. is_gt (byte_order p found.task)) (m.is_task ∙ ap (λ (p : TaskPlace). path_at tasks p.task) (sym e)) ∙ later)
   ];
 }

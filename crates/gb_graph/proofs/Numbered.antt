@@ -10,7 +10,7 @@ use Rattle.gb_plan.specs.declared.plan.Planned.{Planned}
 use Rattle.gb_plan.specs.declared.task.TaskDeclaration.{TaskDeclaration}
 use Rattle.gb_plan.specs.Task.{Path, has_path, output_places, roots_of}
 use Rattle.gb_plan.specs.Graph.{Plan, order, no_repeats, IsAfter}
-use Rattle.gb_plan.specs.Refusal.{Meeting, outputs_of, IsOverlap, IsRead, IsOwnInput, IsUndeclared}
+use Rattle.gb_plan.specs.Refusal.{Conflict, outputs_of, IsOverlap, IsRead, IsOwnInput, IsUndeclared}
 use Rattle.gb_plan.proofs.Tests.{left_of, right_of, itself}
 use Rattle.gb_plan.proofs.Same.{In}
 use Rattle.gb_graph.specs.Order.{row}
@@ -21,7 +21,7 @@ use Rattle.gb_graph.proofs.Numbers.{in_of, of_in, both}
 use Rattle.gb_graph.specs.declared.met.Search.TheVariants.{Overlaps, OwnInputs, Undeclared}
 use Rattle.gb_graph.specs.declared.places.TaskPlace.{TaskPlace}
 use Rattle.gb_graph.specs.Places.{AreSamePlaces, with_places, places_from}
-use Rattle.gb_graph.specs.Meetings.{IsMet, TellChains}
+use Rattle.gb_graph.specs.Conflicts.{IsMet, TellChains}
 use Rattle.gb_graph.proofs.Bridges.{At, at_in, in_at, at_get, at_map, of_at_map, parted, around, any_in, some_in, of_row, into_row, into_placed, outputs_mapped}
 use Rattle.gb_graph.proofs.Planned.{one_path}
 
@@ -89,7 +89,7 @@ module _ (plan : Plan) (once : no_repeats (order plan) ≡ true) where
 
     -- ---- Overlaps
 
-    pub to_overlap : (chains : List (List ℕ)) (m : Meeting) → IsMet Overlaps chains plan outputs outputs m → IsOverlap plan m
+    pub to_overlap : (chains : List (List ℕ)) (m : Conflict) → IsMet Overlaps chains plan outputs outputs m → IsOverlap plan m
     to_overlap chains m met =
         let at = met.at in
         let output = met.met.output in
@@ -109,7 +109,7 @@ module _ (plan : Plan) (once : no_repeats (order plan) ≡ true) where
               (ap (λ p. overlaps p output.place) met.is_place ∙ met.met.overlapped));
         }
 
-    pub of_overlap : (chains : List (List ℕ)) (m : Meeting) → IsOverlap plan m → IsMet Overlaps chains plan outputs outputs m
+    pub of_overlap : (chains : List (List ℕ)) (m : Conflict) → IsOverlap plan m → IsMet Overlaps chains plan outputs outputs m
     of_overlap chains m h =
         let some = some_in (λ (o : Path × Place). bytes_eq o.0 m.other && overlaps m.place o.1) (h.front ++ h.back) h.overlapped in
         let y = some.0 in
@@ -180,7 +180,7 @@ module _ (plan : Plan) (once : no_repeats (order plan) ≡ true) where
             w.3,
           )
 
-      pub to_own : (chains : List (List ℕ)) (m : Meeting) → IsMet OwnInputs chains plan outputs roots m → IsOwnInput plan m
+      pub to_own : (chains : List (List ℕ)) (m : Conflict) → IsMet OwnInputs chains plan outputs roots m → IsOwnInput plan m
       to_own chains m met =
           let at = met.at in
           let output = met.met.output in
@@ -193,7 +193,7 @@ module _ (plan : Plan) (once : no_repeats (order plan) ≡ true) where
             reads = subst (λ (w : Planned). IsRead plan read.0.task w.task m.place) one read.4;
           }
 
-      pub of_own : (chains : List (List ℕ)) (m : Meeting) → IsOwnInput plan m → IsMet OwnInputs chains plan outputs roots m
+      pub of_own : (chains : List (List ℕ)) (m : Conflict) → IsOwnInput plan m → IsMet OwnInputs chains plan outputs roots m
       of_own chains m h =
           let read = of_read h.task h.task m.place h.reads in
           let z_path : read.2.task.path ≡ h.task.path = ap (λ (t : TaskDeclaration). t.path) read.10 in
@@ -214,17 +214,17 @@ module _ (plan : Plan) (once : no_repeats (order plan) ≡ true) where
             is_place = sym read.7;
           }
 
-      module _ (chains : List (List ℕ)) (told : TellChains plan chains) where
+      module _ (chains : List (List ℕ)) (reported : TellChains plan chains) where
         pub chain : (t b : ℕ) (z w : Planned) → At plan t z → At plan b w → (bit_in (row chains t) b ≡ 1) ↔ IsAfter plan z.task w.task.path
         chain t b z w at bt =
-            let tell = told t b z (low_of t z at) (low_of b w bt) in
+            let tell = reported t b z (low_of t z at) (low_of b w bt) in
             let is : get_or plan t z ≡ z = (at_get plan t z z at).1 in
             let path = path_of b w bt in (
               λ h. subst (λ p. IsAfter plan z.task p) path (subst (λ (y : Planned). IsAfter plan y.task (path_at plan b)) is (tell.0 h)),
               λ h. tell.1 (subst (λ (y : Planned). IsAfter plan y.task (path_at plan b)) (sym is) (subst (λ p. IsAfter plan z.task p) (sym path) h)),
             )
 
-        pub to_undeclared : (m : Meeting) → IsMet Undeclared chains plan outputs roots m → IsUndeclared plan m
+        pub to_undeclared : (m : Conflict) → IsMet Undeclared chains plan outputs roots m → IsUndeclared plan m
         to_undeclared m met =
             let at = met.at in
             let output = met.met.output in
@@ -244,7 +244,7 @@ module _ (plan : Plan) (once : no_repeats (order plan) ≡ true) where
               not_after = λ h. differ (bit_in (row chains at.task) output.task) 1 unset ((chain at.task output.task read.0 read.1 read.2 read.3).1 h);
             }
 
-        pub of_undeclared : (m : Meeting) → IsUndeclared plan m → IsMet Undeclared chains plan outputs roots m
+        pub of_undeclared : (m : Conflict) → IsUndeclared plan m → IsMet Undeclared chains plan outputs roots m
         of_undeclared m h =
             let read = of_read h.reader h.writer m.place h.reads in
             let z_path : read.2.task.path ≡ h.reader.path = ap (λ (t : TaskDeclaration). t.path) read.10 in

@@ -16,7 +16,7 @@ use Rattle.gb_graph.specs.Order.{row}
 use Rattle.gb_graph.specs.Ranked.{TellAfter}
 use Rattle.gb_graph.specs.Chains as chains
 use Rattle.gb_graph.specs.Chains.{bit_in}
-use Rattle.gb_graph.specs.Meetings.{TellChains}
+use Rattle.gb_graph.specs.Conflicts.{TellChains}
 use Rattle.gb_graph.specs.Circle.{path_at}
 use Rattle.gb_graph.proofs.Edges.{one_number, at_path}
 use Rattle.gb_graph.proofs.Firsts.{element}
@@ -62,16 +62,16 @@ module _ (plan : Plan) (once : no_repeats (order plan) ≡ true) where
   pub one_path : (i j : ℕ) → i < length plan → j < length plan → path_at plan i ≡ path_at plan j → i ≡ j
   one_path i j li lj e = one_number (order plan) once i j (omega (arith, li, same_length)) (omega (arith, lj, same_length)) e
 
-  module _ (table : List (List ℕ)) (told : TellAfter plan table) where
+  module _ (table : List (List ℕ)) (reported : TellAfter plan table) where
     -- the tasks that a task comes after are before it, where all get ready
     pub lower : stuck plan [] plan ≡ [] → (t b : ℕ) → Contains (row table t) b → b < t
     lower none t b c =
-        let known = told.known t b c in
+        let known = reported.known t b c in
         let d = (element plan t known.0).0 in
         let z = get_or plan t d in
         let y = get_or plan b d in
         let stands = at_member (has_path (before_at plan t [])) (after plan z.task) y.task.path (ready_at plan [] plan t d none known.0)
-        (after_so plan z y (in_plan d b known.1) ((told.told t b d).0 c).2) in
+        (after_so plan z y (in_plan d b known.1) ((reported.reported t b d).0 c).2) in
         elim (of_before plan t [] y.task.path stands) [
           | inl no_more ↦ not_true no_more
           | inr at ↦ (let same = one_path at.0 b at.2 known.1 (at.3 ∙ sym (path_is d b known.1)) in omega (arith, at.1, same))
@@ -79,13 +79,13 @@ module _ (plan : Plan) (once : no_repeats (order plan) ≡ true) where
 
     edge : (d : Planned) (t b : ℕ) → Contains (row table t) b → has_path (after plan (get_or plan t d).task) (path_at plan b) ≡ true
     edge d t b c =
-        let at = (told.told t b d).0 c in
+        let at = (reported.reported t b d).0 c in
         ap (has_path (after plan (get_or plan t d).task)) (path_is d b at.1) ∙ after_so plan (get_or plan t d) (get_or plan b d) (in_plan d b at.1) at.2
 
     pub to_path : (d : Planned) (t b : ℕ) → chains.IsAfter table t b → IsAfter plan (get_or plan t d).task (path_at plan b)
     to_path d t b (chains.start c) = graph.start (edge d t b c) refl
     to_path d t b (chains.step {between = m} h c) =
-        let known = told.known m b c in
+        let known = reported.known m b c in
         graph.step (to_path d t m h)
         (from_after plan (path_at plan m) (path_at plan b) (get_or plan m d) plan (in_plan d m known.0) (sym (path_is d m known.0)) (edge d m b c)) refl
 
@@ -96,7 +96,7 @@ module _ (plan : Plan) (once : no_repeats (order plan) ≡ true) where
         let at = at_path (order plan) p (after_known plan z p h) in
         let low : at.0 < length plan = omega (arith, at.1, same_length) in
         let y = get_or plan at.0 d in
-        (at.0, at.2, low, (told.told t at.0 d).1 (lt, low, after_is plan z once y (in_plan d at.0 low) (ap (has_path (after plan z.task)) (sym (path_is d at.0 low) ∙ at.2) ∙ h)))
+        (at.0, at.2, low, (reported.reported t at.0 d).1 (lt, low, after_is plan z once y (in_plan d at.0 low) (ap (has_path (after plan z.task)) (sym (path_is d at.0 low) ∙ at.2) ∙ h)))
 
     to_number : (d : Planned) (t : ℕ) → t < length plan → (p : Path) → IsAfter plan (get_or plan t d).task p
         → (b : ℕ) × (path_at plan b ≡ p) × (b < length plan) × chains.IsAfter table t b
@@ -113,8 +113,8 @@ module _ (plan : Plan) (once : no_repeats (order plan) ≡ true) where
         let at = to_number d t lt (path_at plan b) h in
         subst (chains.IsAfter table t) (one_path at.0 b at.2 low at.1) at.3
 
-    pub chains_told : (numbers : List ℕ) → ((t : ℕ) → t < length table → Contains numbers t) → (found : List (List ℕ))
+    pub chains_reported : (numbers : List ℕ) → ((t : ℕ) → t < length table → Contains numbers t) → (found : List (List ℕ))
         → ((t b : ℕ) → Contains numbers t → (bit_in (row found t) b ≡ 1) ↔ chains.IsAfter table t b) → TellChains plan found
-    chains_told numbers all found bits t b d lt low =
-        let bit = bits t b (all t (omega (arith, lt, told.each))) in
+    chains_reported numbers all found bits t b d lt low =
+        let bit = bits t b (all t (omega (arith, lt, reported.each))) in
         (λ h. to_path d t b (bit.0 h), λ h. bit.1 (of_path d t b lt low h))

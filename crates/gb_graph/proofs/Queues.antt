@@ -379,22 +379,22 @@ cond_or false false = refl
 
 known_as : (old : Path → Bool) (queue : List Path) (key path : Path) → key ≡ path → ((p : Path) → old p ≡ has_path queue p)
     → (p : Path) → now_known old key p ≡ has_path (queue ++ path ∷ []) p
-known_as old queue key path same told p =
+known_as old queue key path same reported p =
     ap (λ b. cond b true (old p)) (is_eq-slice_cmp key p) ∙ (cond_or (bytes_eq key p) (old p)
-    ∙ ((λ i. told p i || (turned key p ∙ ap (bytes_eq p) same) i) ∙ sym (has_push queue path p)))
+    ∙ ((λ i. reported p i || (turned key p ∙ ap (bytes_eq p) same) i) ∙ sym (has_push queue path p)))
 
 -- a path that is new is appended
 pub known_new : (old new shut : Path → Bool) (queue : List Path) (key path : Path) → key ≡ path → ((p : Path) → old p ≡ has_path queue p)
     → ((p : Path) → new p ≡ now_known old key p) → (p : Path) → new p ≡ has_path (queue ++ path ∷ []) p
-known_new old new shut queue key path same told next p = next p ∙ known_as old queue key path same told p
+known_new old new shut queue key path same reported next p = next p ∙ known_as old queue key path same reported p
 
 -- a path that is known changes nothing
 pub known_still : (old new : Path → Bool) (queue : List Path) (key path : Path) → key ≡ path → ((p : Path) → old p ≡ has_path queue p)
     → ((p : Path) → new p ≡ now_known old key p) → old key ≡ true → (p : Path) → new p ≡ has_path queue p
-known_still old new queue key path same told next known p =
+known_still old new queue key path same reported next known p =
     next p ∙ (elim (bytes_eq key p) as (λ b. bytes_eq key p ≡ b → now_known old key p ≡ has_path queue p) [
-      | true ↦ λ e. ap (λ b. cond b true (old p)) (is_eq-slice_cmp key p ∙ e) ∙ sym (sym (told p) ∙ (ap old (sym ((bytes_decides key p).0 e)) ∙ known))
-      | false ↦ λ e. ap (λ b. cond b true (old p)) (is_eq-slice_cmp key p ∙ e) ∙ told p
+      | true ↦ λ e. ap (λ b. cond b true (old p)) (is_eq-slice_cmp key p ∙ e) ∙ sym (sym (reported p) ∙ (ap old (sym ((bytes_decides key p).0 e)) ∙ known))
+      | false ↦ λ e. ap (λ b. cond b true (old p)) (is_eq-slice_cmp key p ∙ e) ∙ reported p
     ] refl)
 
 pub queue_shut : (shut : Path → Bool) (queue : List Path) (path : Path) → shut path ≡ true → next_queue shut queue path ≡ queue
@@ -409,7 +409,7 @@ queue_new shut queue path e h = (λ i. cond (e i || h i) queue (queue ++ path �
 -- the rest of a loop continues
 pub queue_goes : (shut : Path → Bool) (queue later rest whole : List Path) (path : Path) (all : List Path) → whole ≡ path ∷ rest → added shut queue whole ≡ all → next_queue shut queue path ≡ later
     → added shut later rest ≡ all
-queue_goes shut queue later rest whole path all is told next = ap (λ q. added shut q rest) (sym next) ∙ (ap (added shut queue) (sym is) ∙ told)
+queue_goes shut queue later rest whole path all is reported next = ap (λ q. added shut q rest) (sym next) ∙ (ap (added shut queue) (sym is) ∙ reported)
 
 pub turned_not : (added known : Bool) → added ≡ not known → added ≡ false → known ≡ true
 turned_not added true e f = refl

@@ -182,13 +182,13 @@ module _ (tasks : List Planned) (marks : List Bool) (numbers : List ℕ) (i t : 
 
 pub met_grows : (met : List Bool) (trail : List ℕ) (at : ℕ) → at < length met → ((k : ℕ) → (stands_in met k ≡ true) ↔ Contains trail k)
     → (k : ℕ) → (stands_in (set met at true) k ≡ true) ↔ Contains (trail ++ at ∷ []) k
-met_grows met trail at lt told k = (
+met_grows met trail at lt reported k = (
   λ h. elim (cases_eq k at) [
     | inl e ↦ subst (Contains (trail ++ at ∷ [])) (sym e) (Contains-push trail at)
-    | inr apart ↦ Contains-append_left trail (at ∷ []) k ((told k).0 (sym (mark_other met at k apart) ∙ h))
+    | inr apart ↦ Contains-append_left trail (at ∷ []) k ((reported k).0 (sym (mark_other met at k apart) ∙ h))
   ],
   λ c. elim (Contains-push_cases trail at k c) [
-    | inl old ↦ mark_kept met at k lt ((told k).1 old)
+    | inl old ↦ mark_kept met at k lt ((reported k).1 old)
     | inr e ↦ ap (stands_in (set met at true)) (sym e) ∙ get_or-set_same met at true false lt
   ],
 )

@@ -49,7 +49,7 @@ asks_for registry requested excluded lists others is are = record {
 -- a queue that includes all of these paths begins with what is selected
 pub is_asked : (request : Request) (registry : Registry) (lists others : List (List Path)) → AsksFor request registry lists others → (shut : Path → Bool) → ((p : Path) → shut p ≡ has_path (joined_paths others) p)
     → (empty queue : List Path) → empty ≡ [] → queue ≡ added shut empty (joined_paths lists) → IsAsked request registry queue shut
-is_asked request registry lists others asks shut told empty queue none is = record {
+is_asked request registry lists others asks shut reported empty queue none is = record {
   of = asks.of;
   begins =
       is ∙ ap (λ e. added shut e (joined_paths lists)) none ∙ asks.selects shut ∙ added_distinct shut [] (selected request)
@@ -58,7 +58,7 @@ is_asked request registry lists others asks shut told empty queue none is = reco
 }
   where
     shuts : (p : Path) → shut p ≡ leaves_out request p
-    shuts p = told p ∙ asks.leaves p
+    shuts p = reported p ∙ asks.leaves p
 
 pub are_done : (request : Request) (registry : Registry) (found : List TaskDeclaration) (lists : List (List Path)) → request.registry ≡ registry → AllByRecursion (IsRegistered registry) found
     → Queued request (paths_in found) [] → lists ≡ newly_selected request.registry [] request.words → AreDone request found lists
@@ -75,7 +75,7 @@ are_done request registry found lists of declared queued selects =
 
 module _ (request : Request) (found : List TaskDeclaration) (lists : List (List Path)) (done : AreDone request found lists) (words : List ℕ)
     (first : (k : ℕ) → k < length found → IsFirstWord request (get_or (paths_in found) k []) (get_or words k 0))
-    (these : Path → Bool) (told : (p : Path) → these p ≡ has_path (joined_paths lists) p) (planned : List Planned) (worded : AreWorded found words these planned) where
+    (these : Path → Bool) (reported : (p : Path) → these p ≡ has_path (joined_paths lists) p) (planned : List Planned) (worded : AreWorded found words these planned) where
   same_order : order planned ≡ paths_in found
   same_order = sym (map-map (λ (task : TaskDeclaration). task.path) (λ (p : Planned). p.task) planned) ∙ ap paths_in worded.same
 
@@ -87,7 +87,7 @@ module _ (request : Request) (found : List TaskDeclaration) (lists : List (List 
   all_mapped_back P f (x ∷ xs) all = (all.0, all_mapped_back P f xs all.1)
 
   selects : (p : Path) → these p ≡ has_path (selected request) p
-  selects p = told p ∙ (ap (λ ls. has_path (joined_paths ls) p) done.selects ∙ has_newly request.registry request.words p)
+  selects p = reported p ∙ (ap (λ ls. has_path (joined_paths ls) p) done.selects ∙ has_newly request.registry request.words p)
 
   pub are_scheduled : no_repeats (paths_in found) ≡ true → AreScheduled request planned
   are_scheduled once = record {

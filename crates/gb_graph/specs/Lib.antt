@@ -8,5 +8,5 @@ pub mod Words
 pub mod Circle
 pub mod Places
 pub mod Overlaps
-pub mod Meetings
+pub mod Conflicts
 pub mod Answer

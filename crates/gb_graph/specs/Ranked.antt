@@ -29,7 +29,7 @@ pub record TellAfter (tasks : List Planned) (after : List (List ℕ)) : Type 0 w
   pub each : length after ≡ length tasks
   pub known : (task before : ℕ) → Contains (row after task) before
       → (task < length tasks) × (before < length tasks)
-  pub told : (task before : ℕ) (d : Planned) → Contains (row after task) before
+  pub reported : (task before : ℕ) (d : Planned) → Contains (row after task) before
       ↔ ((task < length tasks) × (before < length tasks)
       × IsTrue (comes_after (slice_index_or tasks task d) (slice_index_or tasks before d)))
 
@@ -95,17 +95,17 @@ edges_from numbers first (planned ∷ tasks) =
 pub record TellEdges (tasks : List Planned) (edges : List (ℕ × ℕ)) : Type 0 where
   pub known : (task before : ℕ) → Contains edges (task, before)
       → (task < length tasks) × (before < length tasks)
-  pub told : (task before : ℕ) (d : Planned) → Contains edges (task, before)
+  pub reported : (task before : ℕ) (d : Planned) → Contains edges (task, before)
       ↔ ((task < length tasks) × (before < length tasks)
       × IsTrue (comes_after (slice_index_or tasks task d) (slice_index_or tasks before d)))
 
 -- a row for each number below `count`: the second numbers of its edges
 pub record HoldEdges (count : ℕ) (edges : List (ℕ × ℕ)) (after : List (List ℕ)) : Type 0 where
   pub each : length after ≡ count
-  pub told : (task before : ℕ) → Contains (row after task) before ↔ Contains edges (task, before)
+  pub reported : (task before : ℕ) → Contains (row after task) before ↔ Contains edges (task, before)
 
 -- what each task comes after, the numbers of the tasks that are in order, and the others
 pub record AreRanks (tasks : List Planned) (after : List (List ℕ)) (order others : List ℕ) : Type 0 where
-  pub told : TellAfter tasks after
+  pub reported : TellAfter tasks after
   pub is_order : IsOrder after order
   pub are_others : AreOthers (length tasks) order others

@@ -2,7 +2,7 @@
 ghost use Rattle.std.specs.Prelude.{◌≡◌, ◌<◌, ℕ, [], length, true, Contains, IfOk};
 ghost use Rattle.gb_plan.specs.Graph.{order, no_repeats, stuck};
 ghost use Rattle.gb_graph.specs.Order.{rows, row, InOrder};
-ghost use Rattle.gb_graph.specs.Meetings.{TellChains};
+ghost use Rattle.gb_graph.specs.Conflicts.{TellChains};
 
 use crate::chains::chains_of;
 use crate::ranked::after_of;

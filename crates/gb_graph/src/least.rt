@@ -8,8 +8,8 @@ ghost use Rattle.gb_graph.specs.Order.{rows};
 ghost use Rattle.gb_graph.specs.Circle.{path_at};
 ghost use Rattle.gb_graph.specs.Places.{IsRising, place_at};
 ghost use Rattle.gb_graph.specs.declared.places.TaskPlace.{TaskPlace};
-ghost use Rattle.gb_graph.specs.Meetings.{IsLeast, IsLeastTask, IsMet, IsWithin};
-ghost use Rattle.gb_graph.specs.Meetings.{found_by, lesser, meeting_by};
+ghost use Rattle.gb_graph.specs.Conflicts.{IsLeast, IsLeastTask, IsMet, IsWithin};
+ghost use Rattle.gb_graph.specs.Conflicts.{found_by, lesser, conflict_by};
 
 use crate::met::{Search, met_at};
 use crate::places::TaskPlace;
@@ -59,7 +59,7 @@ fn place_of(places: &[TaskPlace], index: usize) -> &Place
 fn is_before(tasks: &[Planned], places: &[TaskPlace], a: Met, b: Met) -> bool
     requires a { IsWithin tasks.now places.now a }
     requires b { IsWithin tasks.now places.now b }
-    ensures { result ≡ is_before (meeting_by tasks.now places.now a) (meeting_by tasks.now places.now b) }
+    ensures { result ≡ is_before (conflict_by tasks.now places.now a) (conflict_by tasks.now places.now b) }
 {
     let by_place = place_of(places, a.place).cmp(place_of(places, b.place));
     let by_other = path_of(tasks, a.other)

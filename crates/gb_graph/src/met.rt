@@ -3,7 +3,7 @@ ghost use Rattle.std.specs.Prelude.{◌≡◌, ◌↔◌, ℕ, Contains, IfOk, I
 ghost use Rattle.gb_graph.specs.Order.{row, rows};
 ghost use Rattle.gb_graph.specs.Chains.{bit_in};
 ghost use Rattle.gb_graph.specs.Places.{IsRising};
-ghost use Rattle.gb_graph.specs.Meetings.{IsMetTask, counts};
+ghost use Rattle.gb_graph.specs.Conflicts.{IsMetTask, counts};
 
 use crate::overlaps::overlapped;
 use crate::places::TaskPlace;

@@ -3,7 +3,7 @@ ghost use Rattle.std.specs.Prelude.{◌≡◌, IfOk, IfErr};
 ghost use Rattle.gb_graph.specs.Answer.{IsPlanOf, IsRefusalOf};
 
 use crate::plans::ordered;
-use crate::refusal::{refusal_of, told};
+use crate::refusal::{refusal_of, reported};
 use crate::tasks::Tasks;
 use gb_core::text::Text;
 use gb_plan::plan::Plan;
@@ -27,6 +27,6 @@ pub fn plan<T: Tasks>(
     let ordered = ordered(alloc, tasks, requested, excluded)?;
     match refusal_of(alloc, ordered.as_slice())? {
         None => Ok(Plan::from_vec(ordered)),
-        Some(refusal) => Err(told(refusal)),
+        Some(refusal) => Err(reported(refusal)),
     }
 }

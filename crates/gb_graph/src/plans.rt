@@ -22,7 +22,7 @@ use std::alloc::{AllocError, Global};
 fn marks_of(alloc: Global, count: usize, numbers: &[usize]) -> Result<Vec<bool>, AllocError>
     requires { (number : ℕ) → Contains numbers.now number → number < count }
     ensures each { IfOk result (λ marks. length marks.items ≡ count) }
-    ensures told { IfOk result (λ marks. (number : ℕ) →
+    ensures reported { IfOk result (λ marks. (number : ℕ) →
         (stands_in marks.items number ≡ true) ↔ Contains numbers.now number) }
 {
     let mut marks = vec![in alloc; false; count]?;

@@ -3,7 +3,7 @@ ghost use Rattle.std.specs.Prelude.{◌≡◌, [], true, IfOk};
 ghost use Rattle.gb_plan.specs.Graph.{Plan, order, no_repeats, stuck};
 ghost use Rattle.gb_plan.specs.Refusal.{IsScheduleFault};
 ghost use Rattle.gb_graph.specs.Answer.{IsFirst, IsJudged};
-ghost use Rattle.gb_graph.specs.Meetings.{meeting_of};
+ghost use Rattle.gb_graph.specs.Conflicts.{conflict_of};
 
 use crate::least::Found;
 use crate::met::Search;
@@ -46,9 +46,9 @@ pub fn refusal_of(alloc: Global, tasks: &[Planned]) -> Result<Option<Refusal>, A
 }
 
 /// The fault that reports the reason: 61, 63 or 62.
-pub fn told(refusal: Refusal) -> Fault
+pub fn reported(refusal: Refusal) -> Fault
     ensures { (plan : Plan) → stuck plan [] plan ≡ []
-        → IsFirst plan refusal.search (meeting_of refusal.found) → IsScheduleFault plan result }
+        → IsFirst plan refusal.search (conflict_of refusal.found) → IsScheduleFault plan result }
 {
     let found = refusal.found;
     match refusal.search {

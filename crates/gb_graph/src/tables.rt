@@ -1,7 +1,7 @@
 //! The tables that are used to check a plan.
 ghost use Rattle.std.specs.Prelude.{◌≡◌, [], true, IfOk};
 ghost use Rattle.gb_plan.specs.Graph.{order, no_repeats, stuck};
-ghost use Rattle.gb_graph.specs.Meetings.{AreTables, IsLeast, Meets, places_for};
+ghost use Rattle.gb_graph.specs.Conflicts.{AreTables, IsLeast, Meets, places_for};
 
 use crate::chained::chains_in;
 use crate::least::{Found, least_met};

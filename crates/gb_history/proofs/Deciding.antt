@@ -14,10 +14,10 @@ all_zip_one_more R xs ys i x y low high at to all here =
     rw (take_more xs i x low, take_more ys i y high, ← at, ← to) (AllZip-push R (take i xs) (take i ys) x y all here)
 
 -- one more pair of elements is mapped
-pub told_one_more : {X Y : Type 0} (f : X × X → List Y) (xs ys : List X) (i : ℕ) (x y : X) → i < length xs → length xs ≡ length ys
+pub reported_one_more : {X Y : Type 0} (f : X × X → List Y) (xs ys : List X) (i : ℕ) (x y : X) → i < length xs → length xs ≡ length ys
     → x ≡ get_or xs i x → y ≡ get_or ys i y → (out more : List Y) → out ≡ flat_map f (take i (zip xs ys)) → more ≡ out ++ f (x, y)
     → more ≡ flat_map f (take (i + 1) (zip xs ys))
-told_one_more {Y = Y} f xs ys i x y low long at to out more done here =
+reported_one_more {Y = Y} f xs ys i x y low long at to out more done here =
     let high : i < length ys = omega arith in
     let both : i < length (zip xs ys) = omega (arith, length-zip xs ys) in
     let pair : get_or (zip xs ys) i (x, y) ≡ (x, y) = get_or-zip xs ys i (x, y) low high ∙ ap₂ (λ a b. (a, b)) (sym at) (sym to) in

@@ -105,8 +105,8 @@ all_any (x ∷ xs) = (tt, all_any xs)
 input_back : (v w : List ℕ × Value) → input_json v ≡ input_json w → v ≡ w
 input_back v w e =
     let name : v.0 ≡ w.0 = cc in
-    let told : value_json v.1 ≡ value_json w.1 = cc in
-    ap₂ (λ (n : List ℕ) (x : Value). (n, x)) name (value_back v.1 w.1 told)
+    let reported : value_json v.1 ≡ value_json w.1 = cc in
+    ap₂ (λ (n : List ℕ) (x : Value). (n, x)) name (value_back v.1 w.1 reported)
 
 args_back : (xs ys : List Value) → items_of (map value_json xs) ≡ items_of (map value_json ys) → xs ≡ ys
 args_back xs ys e = map_back value_json Any (λ v w p q k. value_back v w k) xs ys (all_any xs) (all_any ys) e
@@ -114,13 +114,13 @@ args_back xs ys e = map_back value_json Any (λ v w p q k. value_back v w k) xs 
 action_back : (edition : Edition) (a b : Action) → IsActionIn edition a → IsActionIn edition b → action_json edition a ≡ action_json edition b → a ≡ b
 action_back editions.First a b p q e =
     let kind : a.kind ≡ b.kind = cc in
-    let told : items_of (map value_json a.args) ≡ items_of (map value_json b.args) = cc in
-    let args : a.args ≡ b.args = args_back a.args b.args told in
+    let reported : items_of (map value_json a.args) ≡ items_of (map value_json b.args) = cc in
+    let args : a.args ≡ b.args = args_back a.args b.args reported in
     same₃ action_with kind (p.1 ∙ sym q.1) args
 action_back editions.Second a b p q e =
     let kind : a.kind ≡ b.kind = cc in
-    let told : items_of (map value_json a.args) ≡ items_of (map value_json b.args) = cc in
-    let args : a.args ≡ b.args = args_back a.args b.args told in
+    let reported : items_of (map value_json a.args) ≡ items_of (map value_json b.args) = cc in
+    let args : a.args ≡ b.args = args_back a.args b.args reported in
     let version : a.version ≡ b.version = cc in
     same₃ action_with kind version args
 
@@ -136,8 +136,8 @@ print_back p q h k e =
 prints_back : (p q : Prints) → ArePrints p → ArePrints q → prints_json p ≡ prints_json q → p ≡ q
 prints_back p q h k e =
     let name : p.0 ≡ q.0 = cc in
-    let told : items_of (map print_json p.1) ≡ items_of (map print_json q.1) = cc in
-    ap₂ (λ (a : List ℕ) (b : List (List ℕ × List ℕ)). (a, b)) name (map_back print_json IsPrint print_back p.1 q.1 h.1 k.1 told)
+    let reported : items_of (map print_json p.1) ≡ items_of (map print_json q.1) = cc in
+    ap₂ (λ (a : List ℕ) (b : List (List ℕ × List ℕ)). (a, b)) name (map_back print_json IsPrint print_back p.1 q.1 h.1 k.1 reported)
 
 shape_back : (a b : Form) → shape_text a ≡ shape_text b → a ≡ b
 shape_back forms.File forms.File e = refl
@@ -149,10 +149,10 @@ output_back : (a b : OutputRecord) → IsOutput a → IsOutput b → output_json
 output_back a b p q e =
     let name : a.prints.0 ≡ b.prints.0 = cc in
     let place : a.place ≡ b.place = cc in
-    let told : items_of (map print_json a.prints.1) ≡ items_of (map print_json b.prints.1) = cc in
+    let reported : items_of (map print_json a.prints.1) ≡ items_of (map print_json b.prints.1) = cc in
     let shape : shape_text a.form ≡ shape_text b.form = cc in
     let form : a.form ≡ b.form = shape_back a.form b.form shape in
-    let digests : a.prints.1 ≡ b.prints.1 = map_back print_json IsPrint print_back a.prints.1 b.prints.1 p.2.1 q.2.1 told in
+    let digests : a.prints.1 ≡ b.prints.1 = map_back print_json IsPrint print_back a.prints.1 b.prints.1 p.2.1 q.2.1 reported in
     let prints : a.prints ≡ b.prints = ap₂ (λ (x : List ℕ) (y : List (List ℕ × List ℕ)). (x, y)) name digests in
     same₃ (λ (f : Form) (at : List ℕ) (d : Prints). record { form = f; place = at; prints = d }) form place prints
 
@@ -165,15 +165,15 @@ edition_back editions.Second editions.Second e = refl
 run_back : (edition : Edition) (path : List ℕ) (a b : Record) → IsWellFormed a → IsWellFormed b → AllByRecursion (FitsEdition edition) a.actions
     → AllByRecursion (FitsEdition edition) b.actions → run_json edition path a ≡ run_json edition path b → a ≡ b
 run_back edition path a b p q f g e =
-    let told_actions : items_of (map (action_json edition) a.actions) ≡ items_of (map (action_json edition) b.actions) = cc in
-    let told_inputs : items_of (map prints_json a.inputs) ≡ items_of (map prints_json b.inputs) = cc in
-    let told_outputs : items_of (map output_json a.outputs) ≡ items_of (map output_json b.outputs) = cc in
-    let told_values : items_of (map input_json a.values) ≡ items_of (map input_json b.values) = cc in
+    let reported_actions : items_of (map (action_json edition) a.actions) ≡ items_of (map (action_json edition) b.actions) = cc in
+    let reported_inputs : items_of (map prints_json a.inputs) ≡ items_of (map prints_json b.inputs) = cc in
+    let reported_outputs : items_of (map output_json a.outputs) ≡ items_of (map output_json b.outputs) = cc in
+    let reported_values : items_of (map input_json a.values) ≡ items_of (map input_json b.values) = cc in
     let actions : a.actions ≡ b.actions = map_back (action_json edition) (IsActionIn edition) (action_back edition) a.actions b.actions
-    (all_both IsAction (FitsEdition edition) a.actions p.actions f) (all_both IsAction (FitsEdition edition) b.actions q.actions g) told_actions in
-    let inputs : a.inputs ≡ b.inputs = map_back prints_json ArePrints prints_back a.inputs b.inputs p.inputs q.inputs told_inputs in
-    let outputs : a.outputs ≡ b.outputs = map_back output_json IsOutput output_back a.outputs b.outputs p.outputs q.outputs told_outputs in
-    let values_same : a.values ≡ b.values = map_back input_json Any (λ v w x y k. input_back v w k) a.values b.values (all_any a.values) (all_any b.values) told_values in
+    (all_both IsAction (FitsEdition edition) a.actions p.actions f) (all_both IsAction (FitsEdition edition) b.actions q.actions g) reported_actions in
+    let inputs : a.inputs ≡ b.inputs = map_back prints_json ArePrints prints_back a.inputs b.inputs p.inputs q.inputs reported_inputs in
+    let outputs : a.outputs ≡ b.outputs = map_back output_json IsOutput output_back a.outputs b.outputs p.outputs q.outputs reported_outputs in
+    let values_same : a.values ≡ b.values = map_back input_json Any (λ v w x y k. input_back v w k) a.values b.values (all_any a.values) (all_any b.values) reported_values in
     same₄ (λ (w : List Action) (x : List (List ℕ × Value)) (y : List Prints) (z : List OutputRecord). record { actions = w; values = x; inputs = y; outputs = z }) actions values_same inputs outputs
 
 some_back : (a b : Data) → Some a ≡ Some b → a ≡ b
@@ -201,10 +201,10 @@ records_back ea eb a b p q f g e =
     some_back _ _ (sym (read-history ea a p) ∙ ap read (text_back ea eb a b e) ∙ read-history eb b q) in
     let numbers : edition_number ea ≡ edition_number eb = cc in
     let editions_same : ea ≡ eb = edition_back ea eb numbers in
-    let told : items_of (map (held_json ea) a) ≡ items_of (map (held_json eb) b) = cc in
+    let reported : items_of (map (held_json ea) a) ≡ items_of (map (held_json eb) b) = cc in
     map_back (held_json eb) (IsSaidIn eb) (held_back eb) a b
     (all_both IsSaid (RecordFits eb) a p (subst (λ x. AllByRecursion (RecordFits x) a) editions_same f)) (all_both IsSaid (RecordFits eb) b q g)
-    (ap (λ x. items_of (map (held_json x) a)) (sym editions_same) ∙ told)
+    (ap (λ x. items_of (map (held_json x) a)) (sym editions_same) ∙ reported)
 
 pub one_history : (a b : List (List ℕ × Record)) (text : List ℕ) → AreHeld a → AreHeld b → IsHistoryText a text → IsHistoryText b text → a ≡ b
 one_history a b text p q of on =

@@ -47,11 +47,11 @@ tree_ordered (tree ∷ trees) name h =
     ]
 
 -- whether or not `src` has a list, its changes are known
-pub source_told : (old : Trees) (request : Request) → TellsChangesFrom old request → source_changes request.changes.lists ≡ changes_between (tree_at old source) (tree_at request.files source)
-source_told old request tells = by (find byte_order source request.changes.lists) refl
+pub source_reported : (old : Trees) (request : Request) → TellsChangesFrom old request → source_changes request.changes.lists ≡ changes_between (tree_at old source) (tree_at request.files source)
+source_reported old request tells = by (find byte_order source request.changes.lists) refl
   where
     by : (o : Option (List Change)) → find byte_order source request.changes.lists ≡ o → unwrap_or o [] ≡ changes_between (tree_at old source) (tree_at request.files source)
-    by (Some list) e = tells.told source list e
+    by (Some list) e = tells.reported source list e
     by None e =
         let same : tree_at old source ≡ tree_at request.files source = ap (λ (o : Option Tree). unwrap_or o []) (tells.same_others source e) in
         sym (unchanged (tree_at request.files source)) ∙ ap (λ tree. changes_between tree (tree_at request.files source)) (sym same)
@@ -123,10 +123,10 @@ module _ (edit : List Value → List ℕ → List ℕ) where
       stood output path = follows.stands output path ∙ ap (λ files. written_at files output path) (sym (same_ok follows.was_made))
 
       writes_are : reply.writes ≡ flat_map (writes_for (edit request.args) request.outputs now) (changes_between was now)
-      writes_are = is.writes changed ∙ ap (flat_map (writes_for (edit request.args) request.outputs now)) (source_told old request follows.tells)
+      writes_are = is.writes changed ∙ ap (flat_map (writes_for (edit request.args) request.outputs now)) (source_reported old request follows.tells)
 
       removes_are : reply.removes ≡ flat_map removes_for (changes_between was now)
-      removes_are = is.removes changed ∙ ap (flat_map removes_for) (source_told old request follows.tells)
+      removes_are = is.removes changed ∙ ap (flat_map removes_for) (source_reported old request follows.tells)
 
       after_is : written_at (by_file (edit request.args) now) output path ≡ written_at after output path
       after_is = ap (λ files. written_at files output path) (same_ok makes_after)

@@ -8,10 +8,10 @@ use Rattle.gb_core.specs.Place.{is_rel_path}
 use Rattle.gb_core.specs.Lists.{byte_order}
 use Rattle.gb_action.specs.Files.{Tree, file_at}
 use Rattle.gb_action.specs.declared.change.Change.{Change}
-use Rattle.gb_kinds.specs.Carried.{as_files, holds_in, is_carried, is_line_of, is_looked_at, is_of_change, lines_where, path_of, told_at, IsCarried, IsEntry}
+use Rattle.gb_kinds.specs.Carried.{as_files, holds_in, is_carried, is_line_of, is_looked_at, is_of_change, lines_where, path_of, reported_at, IsCarried, IsEntry}
 use Rattle.gb_kinds.specs.Words.{path_line}
 use Rattle.gb_kinds.proofs.CarriedLines.{are_lines, at_path, first_is, lines_cut, on, path_is_line, second_is, tells}
-use Rattle.gb_kinds.proofs.LinesWhere.{told_so_far}
+use Rattle.gb_kinds.proofs.LinesWhere.{reported_so_far}
 use Rattle.gb_kinds.proofs.WordFiles.{both}
 
 pub same_any : {X : Type 0} (left right : X → Bool) → ((x : X) → left x ≡ right x) → (xs : List X) → list_any left xs ≡ list_any right xs
@@ -41,19 +41,19 @@ module _ (standing : Tree) (changes : List Change) (files index new : Tree) (gon
       looks word
       ∙ ap (λ b. b || list_any (λ (f : List ℕ × List ℕ). bytes_eq f.0 word && list_any gone (lines_of f.1)) standing) (held word)
       ∙ ap (λ b. list_any (λ (c : Change). holds_in (file_at files (path_of c)) word) changes || b)
-      (at_path word (λ told. list_any gone (lines_of told)) standing (subst T (sym sorted) tt) ∙ by (file_at standing word) ∙ same_any gone (is_of_change changes) lines (told_at standing word))
+      (at_path word (λ reported. list_any gone (lines_of reported)) standing (subst T (sym sorted) tt) ∙ by (file_at standing word) ∙ same_any gone (is_of_change changes) lines (reported_at standing word))
     where
-      by : (o : Option (List ℕ)) → on (λ told. list_any gone (lines_of told)) o ≡ list_any gone (lines_of (unwrap_or o []))
+      by : (o : Option (List ℕ)) → on (λ reported. list_any gone (lines_of reported)) o ≡ list_any gone (lines_of (unwrap_or o []))
       by None = ap (list_any gone) (sym lines-nil)
-      by (Some told) = refl
+      by (Some reported) = refl
 
   carried : (word line : List ℕ) → is_line_of (unwrap_or (file_at standing word) []) gone (unwrap_or (file_at new word) []) line ≡ is_carried standing changes files word line
   carried word line =
       let chosen = λ (f : List ℕ × List ℕ). holds_in (file_at files f.0) word in
-      ap (λ b. (list_any (bytes_eq line) (told_at standing word) && not b) || list_any (bytes_eq line) (lines_of (unwrap_or (file_at new word) []))) (lines line)
-      ∙ ap (λ b. (list_any (bytes_eq line) (told_at standing word) && not (is_of_change changes line)) || b)
+      ap (λ b. (list_any (bytes_eq line) (reported_at standing word) && not b) || list_any (bytes_eq line) (lines_of (unwrap_or (file_at new word) []))) (lines line)
+      ∙ ap (λ b. (list_any (bytes_eq line) (reported_at standing word) && not (is_of_change changes line)) || b)
       (ap (λ o. list_any (bytes_eq line) (lines_of (unwrap_or o []))) (news word)
-      ∙ ap (λ told. list_any (bytes_eq line) (lines_of told)) (told_so_far chosen (as_files changes))
+      ∙ ap (λ reported. list_any (bytes_eq line) (lines_of reported)) (reported_so_far chosen (as_files changes))
       ∙ ap (list_any (bytes_eq line)) (lines_cut chosen (as_files changes) (changed_lines changes changed_paths))
       ∙ tells chosen line (as_files changes)
       ∙ of_changes (λ path. bytes_eq (path_line path) line && holds_in (file_at files path) word) changes)

@@ -22,17 +22,17 @@ use Rattle.gb_action.specs.declared.change.Change.{Change}
 use Rattle.gb_action.specs.declared.change.Change.TheVariants.{Modified}
 use Rattle.gb_core.proofs.Found.{tied_same, find-same, find-other}
 use Rattle.gb_core.proofs.Booleans.{left_false, right_false}
-use Rattle.gb_kinds.specs.Carried.{file_of_lines, holds_in, is_carried, is_looked_at, is_of_change, path_of, told_at, IsCarried}
+use Rattle.gb_kinds.specs.Carried.{file_of_lines, holds_in, is_carried, is_looked_at, is_of_change, path_of, reported_at, IsCarried}
 use Rattle.gb_kinds.specs.ByFile.{source_changes}
 use Rattle.gb_kinds.specs.Remade.{as_made, standing}
 use Rattle.gb_kinds.specs.Words.{holds_word, index_of, path_line}
 use Rattle.gb_kinds.proofs.CarriedFound.{same_any}
 use Rattle.gb_kinds.proofs.CarriedLines.{are_lines, at_path as one_at_path, first_is, is_one_line, lines_cut, on, path_is_line, second_is, tells}
 use Rattle.gb_kinds.proofs.Carrying.{either, has_line, same_line}
-use Rattle.gb_kinds.proofs.ByFileAnswers.{same_ok, source_told, tree_ordered}
+use Rattle.gb_kinds.proofs.ByFileAnswers.{same_ok, source_reported, tree_ordered}
 use Rattle.gb_kinds.proofs.FileLaw.{and_false, and_true, differs, itself, or_false, or_itself}
 use Rattle.gb_kinds.proofs.Filtered.{filter_sorted, kept, kept_at, kept_none, lines_are, lines_rise, same_lines}
-use Rattle.gb_kinds.proofs.LinesWhere.{told_so_far}
+use Rattle.gb_kinds.proofs.LinesWhere.{reported_so_far}
 use Rattle.gb_kinds.proofs.Paths.{at_path}
 use Rattle.gb_kinds.proofs.RemadeAnswers.{IsRightAt}
 use Rattle.gb_kinds.proofs.RemadeLaw.{stood_at}
@@ -193,20 +193,20 @@ module _ (line : List ℕ) (no_path : bytes_eq (path_line (front line)) line ≡
 
 -- ---- The index
 
-module _ (standing index was now : Tree) (changes : List Change) (looked_at : List ℕ → Bool) (told : changes ≡ changes_between was now)
+module _ (standing index was now : Tree) (changes : List Change) (looked_at : List ℕ → Bool) (reported : changes ≡ changes_between was now)
     (before : IsTrue (is_sorted byte_order was)) (stood : (word : List ℕ) → file_at standing word ≡ entry_of word was) (is : IsCarried standing changes now looked_at index) where
   old_lines : are_lines was ≡ true
   old_lines = all_lines was (λ q bytes old. path_is_line q (path q bytes old (file_at now q) refl))
     where
       path : (q bytes : List ℕ) → file_at was q ≡ Some bytes → (o : Option (List ℕ)) → file_at now q ≡ o → is_rel_path q ≡ true
       path q bytes old (Some new) e = path_found q now is.paths new e
-      path q bytes old None e = path_changed q changes is.changed_paths (ap (λ cs. is_changed cs q) told ∙ gone was now q bytes old e)
+      path q bytes old None e = path_changed q changes is.changed_paths (ap (λ cs. is_changed cs q) reported ∙ gone was now q bytes old e)
 
   abbrev holds : List ℕ → List ℕ × List ℕ → Bool
   holds word file = holds_word word file.1
 
-  told_then : (word : List ℕ) → told_at standing word ≡ map (λ (f : List ℕ × List ℕ). path_line f.0) (filter (holds word) was)
-  told_then word = ap (λ o. lines_of (unwrap_or o [])) (stood word) ∙ ap lines_of (told_so_far (holds word) was) ∙ lines_cut (holds word) was old_lines
+  reported_then : (word : List ℕ) → reported_at standing word ≡ map (λ (f : List ℕ × List ℕ). path_line f.0) (filter (holds word) was)
+  reported_then word = ap (λ o. lines_of (unwrap_or o [])) (stood word) ∙ ap lines_of (reported_so_far (holds word) was) ∙ lines_cut (holds word) was old_lines
 
   -- whether a tree has the line of a path for a word
   at_line : (word p : List ℕ) (files : Tree) → IsTrue (is_sorted byte_order files) → list_any (λ (f : List ℕ × List ℕ). bytes_eq (path_line f.0) (path_line p) && holds word f) files ≡ holds_in (file_at files p) word
@@ -220,12 +220,12 @@ module _ (standing index was now : Tree) (changes : List Change) (looked_at : Li
       by (Some bytes) = refl
 
   unchanged : (p : List ℕ) → is_changed changes p ≡ false → file_at was p ≡ file_at now p
-  unchanged p e = stays was now p (ap (λ cs. is_changed cs p) (sym told) ∙ e)
+  unchanged p e = stays was now p (ap (λ cs. is_changed cs p) (sym reported) ∙ e)
 
   -- a line is carried exactly if a current file has it
   members : (word line : List ℕ) → is_carried standing changes now word line ≡ list_any (bytes_eq line) (map (λ (f : List ℕ × List ℕ). path_line f.0) (filter (holds word) now))
   members word line =
-      ap (λ b. (b && not (is_of_change changes line)) || news line) (ap (list_any (bytes_eq line)) (told_then word) ∙ tells (holds word) line was)
+      ap (λ b. (b && not (is_of_change changes line)) || news line) (ap (list_any (bytes_eq line)) (reported_then word) ∙ tells (holds word) line was)
       ∙ by (bytes_eq (path_line (front line)) line) refl
       ∙ sym (tells (holds word) line now)
     where
@@ -269,8 +269,8 @@ module _ (standing index was now : Tree) (changes : List Change) (looked_at : Li
       where
         by : (b : Bool) → holds_in (file_at was p) word ≡ b → b ≡ false
         by true e =
-            sym (one_passes (path_line p) (is_of_change changes) (told_at standing word)
-            (ap (list_any (bytes_eq (path_line p))) (told_then word) ∙ tells (holds word) (path_line p) was ∙ at_line word p was before ∙ e)
+            sym (one_passes (path_line p) (is_of_change changes) (reported_at standing word)
+            (ap (list_any (bytes_eq (path_line p))) (reported_then word) ∙ tells (holds word) (path_line p) was ∙ at_line word p was before ∙ e)
             (line_of_change p changes ∙ changed))
             ∙ right_false (list_any (λ (c : Change). holds_in (file_at now (path_of c)) word) changes) _ at
         by false e = refl
@@ -326,8 +326,8 @@ module _ (request : Request) (index : Tree) (looked_at : BTreeSet (List ℕ)) (i
           same None = refl
           same (Some x) = refl
 
-      told : changes ≡ changes_between was now
-      told = source_told old request follows.tells
+      reported : changes ≡ changes_between was now
+      reported = source_reported old request follows.tells
 
       before : IsTrue (is_sorted byte_order was)
       before = tree_ordered old source follows.tells.ordered
@@ -336,5 +336,5 @@ module _ (request : Request) (index : Tree) (looked_at : BTreeSet (List ℕ)) (i
       there b e = has_line looked_at path ∙ is.looked path ∙ e
 
       by : (b : Bool) → is_looked_at (standing request.outputs) changes now path ≡ b → IsRightAt request.outputs index looked_at.keys (index_of now) path
-      by true e = inl (there true e, looked_entry (standing request.outputs) index was now changes (contains byte_order looked_at) told before stood is path e ∙ sym (index-entry now path))
-      by false e = inr (there false e, is.others path e, other_entry (standing request.outputs) index was now changes (contains byte_order looked_at) told before stood is path e ∙ sym (index-entry now path))
+      by true e = inl (there true e, looked_entry (standing request.outputs) index was now changes (contains byte_order looked_at) reported before stood is path e ∙ sym (index-entry now path))
+      by false e = inr (there false e, is.others path e, other_entry (standing request.outputs) index was now changes (contains byte_order looked_at) reported before stood is path e ∙ sym (index-entry now path))

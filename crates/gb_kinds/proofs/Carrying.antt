@@ -111,9 +111,9 @@ module _ (files : Tree) (changes : List Change) (i : ℕ) (change : Change) (wit
       ∙ lines_where_more (λ (f : List ℕ × List ℕ). holds_in (file_at files f.0) word) (as_files (take i changes)) (path_of change, [])
 
 -- one more file of an index in which words are searched
-pub told_more : (test : List ℕ × List ℕ → Bool) (files : Tree) (i : ℕ) (file : List ℕ × List ℕ) → i < length files → file ≡ get_or files i file
+pub reported_more : (test : List ℕ × List ℕ → Bool) (files : Tree) (i : ℕ) (file : List ℕ × List ℕ) → i < length files → file ≡ get_or files i file
     → list_any test (take (i + 1) files) ≡ (list_any test (take i files) || test file)
-told_more test files i file within is =
+reported_more test files i file within is =
     ap (list_any test) (take_more files i file within ∙ ap (λ f. take i files ++ f ∷ []) (sym is))
     ∙ list_any-append test (take i files) (file ∷ [])
     ∙ ap (λ b. list_any test (take i files) || b) (or_false (test file))

@@ -24,8 +24,8 @@ module _ (chosen : List ℕ × List ℕ → Bool) where
       by true e later = absurd (true≢false e)
       by false e later = later e
 
-  pub told_so_far : (files : Tree) → unwrap_or (lines_where chosen files) [] ≡ chosen_lines files
-  told_so_far files = by (list_any chosen files) refl
+  pub reported_so_far : (files : Tree) → unwrap_or (lines_where chosen files) [] ≡ chosen_lines files
+  reported_so_far files = by (list_any chosen files) refl
     where
       by : (b : Bool) → list_any chosen files ≡ b → unwrap_or (if b then Some (chosen_lines files) else None) [] ≡ chosen_lines files
       by true e = refl
@@ -53,7 +53,7 @@ module _ (chosen : List ℕ × List ℕ → Bool) where
       by true =
           ap (λ a. if a then Some (chosen_lines files ++ (path_line file.0 ++ [])) else None) (first (list_any chosen files))
           ∙ ap (λ line. Some (chosen_lines files ++ line)) (append-nil (path_line file.0))
-          ∙ ap (λ lines. Some (lines ++ path_line file.0)) (sym (told_so_far files))
+          ∙ ap (λ lines. Some (lines ++ path_line file.0)) (sym (reported_so_far files))
       by false =
           ap (λ a. if a then Some (chosen_lines files ++ []) else None) (or_false (list_any chosen files))
           ∙ ap (λ lines. if list_any chosen files then Some lines else None) (append-nil (chosen_lines files))

@@ -8,14 +8,14 @@ use Rattle.gb_action.specs.Changes.{change_at, in_order, changes_between}
 use Rattle.gb_action.specs.declared.change.Change.{Change}
 use Rattle.gb_action.specs.declared.change.Change.TheVariants.{Modified}
 use Rattle.gb_core.proofs.Found.{find-same, find-other}
-use Rattle.gb_action.proofs.Told.{in_order-find, either-find}
+use Rattle.gb_action.proofs.Reported.{in_order-find, either-find}
 
 -- a value of change lists that is joined from the values of their parts
 module _ {V : Type 0} (none : V) (or : V → V → V) (left : (v : V) → or none v ≡ v) (right : (v : V) → or v none ≡ v) (same : (v : V) → or v v ≡ v)
     (F : List Change → V) (empty : F [] ≡ none) (joins : (xs ys : List Change) → F (xs ++ ys) ≡ or (F ys) (F xs)) (old new : Tree) (path : List ℕ)
     (elsewhere : (other : List ℕ) → other ≢ path → F (change_at other (file_at old other) (file_at new other)) ≡ none) where
-  abbrev told : List ℕ × List ℕ → List Change
-  told file = change_at file.0 (file_at old file.0) (file_at new file.0)
+  abbrev reported : List ℕ × List ℕ → List Change
+  reported file = change_at file.0 (file_at old file.0) (file_at new file.0)
 
   abbrev here : V
   here = F (change_at path (file_at old path) (file_at new path))
@@ -24,11 +24,11 @@ module _ {V : Type 0} (none : V) (or : V → V → V) (left : (v : V) → or non
   again None = left here
   again (Some x) = same here
 
-  at_keys : (keys : Tree) → F (flat_map told keys) ≡ (if is_some (file_at keys path) then here else none)
+  at_keys : (keys : Tree) → F (flat_map reported keys) ≡ (if is_some (file_at keys path) then here else none)
   at_keys [] = empty
-  at_keys (key ∷ keys) = joins (told key) (flat_map told keys) ∙ ap (λ v. or v (F (told key))) (at_keys keys) ∙ by (bytes_eq key.0 path) refl
+  at_keys (key ∷ keys) = joins (reported key) (flat_map reported keys) ∙ ap (λ v. or v (F (reported key))) (at_keys keys) ∙ by (bytes_eq key.0 path) refl
     where
-      by : (b : Bool) → bytes_eq key.0 path ≡ b → or (if is_some (file_at keys path) then here else none) (F (told key)) ≡ (if is_some (file_at (key ∷ keys) path) then here else none)
+      by : (b : Bool) → bytes_eq key.0 path ≡ b → or (if is_some (file_at keys path) then here else none) (F (reported key)) ≡ (if is_some (file_at (key ∷ keys) path) then here else none)
       by true e =
           let is : key.0 ≡ path = (bytes_decides key.0 path).0 e in
           ap (λ q. or (if is_some (file_at keys path) then here else none) (F (change_at q (file_at old q) (file_at new q)))) is

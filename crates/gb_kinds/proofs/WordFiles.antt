@@ -19,7 +19,7 @@ use Rattle.gb_core.specs.Lists.{byte_order}
 use Rattle.gb_action.specs.Files.{Tree, file_at}
 use Rattle.gb_core.proofs.Found.{tied_same, find-same, find-other}
 use Rattle.gb_action.proofs.Ordered.{ordered-put}
-use Rattle.gb_action.proofs.Told.{in_order-find}
+use Rattle.gb_action.proofs.Reported.{in_order-find}
 use Rattle.gb_kinds.specs.Words.{Index, holds_word, index_files, index_of, lines_for, path_line, with_path, words_of}
 use Rattle.gb_kinds.specs.Carried.{lines_where}
 use Rattle.gb_kinds.proofs.LinesWhere.{lines_where_more}
@@ -142,24 +142,24 @@ module _ (path word : List ℕ) (rest : List (List ℕ)) (distinct : IsStrictlyS
 -- ---- All files
 
 -- the words of files, each with its lines
-abbrev told : Tree → List (List ℕ) → Tree
-told files words = map {B = List ℕ × List ℕ} (λ word. (word, lines_for word files)) words
+abbrev reported : Tree → List (List ℕ) → Tree
+reported files words = map {B = List ℕ × List ℕ} (λ word. (word, lines_for word files)) words
 
 abbrev all_words : Tree → List (List ℕ)
 all_words files = flat_map (λ (file : List ℕ × List ℕ). words_of file.1) files
 
-told_at : (q : List ℕ) (files : Tree) (words : List (List ℕ)) → file_at (told files words) q ≡ (if list_any (bytes_eq q) words then Some (lines_for q files) else None)
-told_at q files [] = refl
-told_at q files (word ∷ words) = by (bytes_eq q word) refl (told_at q files words)
+reported_at : (q : List ℕ) (files : Tree) (words : List (List ℕ)) → file_at (reported files words) q ≡ (if list_any (bytes_eq q) words then Some (lines_for q files) else None)
+reported_at q files [] = refl
+reported_at q files (word ∷ words) = by (bytes_eq q word) refl (reported_at q files words)
   where
-    by : (b : Bool) → bytes_eq q word ≡ b → file_at (told files words) q ≡ (if list_any (bytes_eq q) words then Some (lines_for q files) else None)
-        → file_at (told files (word ∷ words)) q ≡ (if b || list_any (bytes_eq q) words then Some (lines_for q files) else None)
+    by : (b : Bool) → bytes_eq q word ≡ b → file_at (reported files words) q ≡ (if list_any (bytes_eq q) words then Some (lines_for q files) else None)
+        → file_at (reported files (word ∷ words)) q ≡ (if b || list_any (bytes_eq q) words then Some (lines_for q files) else None)
     by true e later =
         let is : word ≡ q = sym ((bytes_decides q word).0 e) in
-        find-same q (word, lines_for word files) (told files words) is ∙ ap (λ w. Some (lines_for w files)) is
+        find-same q (word, lines_for word files) (reported files words) is ∙ ap (λ w. Some (lines_for w files)) is
     by false e later =
         let other : word ≢ q = λ is. true≢false (sym ((bytes_decides q word).1 (sym is)) ∙ e) in
-        find-other q (word, lines_for word files) (told files words) other ∙ later
+        find-other q (word, lines_for word files) (reported files words) other ∙ later
 
 in_all : (q : List ℕ) (files : Tree) → list_any (bytes_eq q) (all_words files) ≡ is_in q files
 in_all q [] = refl
@@ -170,12 +170,12 @@ in_order-sorted [] = refl
 in_order-sorted (file ∷ files) = ordered-put (in_order files) file.0 file.1 (in_order-sorted files)
 
 pub index-sorted : (files : Tree) → IsTrue (is_sorted byte_order (index_of files))
-index-sorted files = in_order-sorted (told files (all_words files))
+index-sorted files = in_order-sorted (reported files (all_words files))
 
 pub index-entry : (files : Tree) (q : List ℕ) → file_at (index_of files) q ≡ entry_of q files
 index-entry files q =
-    in_order-find (told files (all_words files)) q
-    ∙ told_at q files (all_words files)
+    in_order-find (reported files (all_words files)) q
+    ∙ reported_at q files (all_words files)
     ∙ ap (λ b. if b then Some (lines_for q files) else None) (in_all q files)
 
 true_T : (b : Bool) → IsTrue b → T b

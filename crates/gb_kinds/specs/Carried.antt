@@ -31,20 +31,20 @@ holds_in None word = false
 holds_in (Some bytes) word = holds_word word bytes
 
 -- the lines that the old index has at the word
-abbrev pub told_at : Tree → List ℕ → List (List ℕ)
-told_at index word = lines_of (unwrap_or (file_at index word) [])
+abbrev pub reported_at : Tree → List ℕ → List (List ℕ)
+reported_at index word = lines_of (unwrap_or (file_at index word) [])
 
 -- a file that changed contains the word now, or contained it by the old index
 abbrev pub is_looked_at : Tree → List Change → Tree → List ℕ → Bool
 is_looked_at old changes files word =
     list_any (λ change. holds_in (file_at files (path_of change)) word) changes
-    || list_any (is_of_change changes) (told_at old word)
+    || list_any (is_of_change changes) (reported_at old word)
 
 -- The line stays, or it is new: the old index has it and its path did not change, or its path changed and the
 -- file at the path contains the word now.
 abbrev pub is_carried : Tree → List Change → Tree → List ℕ → List ℕ → Bool
 is_carried old changes files word line =
-    (list_any (bytes_eq line) (told_at old word) && not (is_of_change changes line))
+    (list_any (bytes_eq line) (reported_at old word) && not (is_of_change changes line))
     || list_any (λ change. bytes_eq (path_line (path_of change)) line
     && holds_in (file_at files (path_of change)) word) changes
 

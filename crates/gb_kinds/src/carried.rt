@@ -65,7 +65,7 @@ pub fn carried_index(alloc: Global, request: &Request) -> Result<Remade, AllocEr
         words: mut looked_at,
         index,
     } = changed;
-    add_told(alloc, &mut looked_at, standing(request, &output), &lines)?;
+    add_reported(alloc, &mut looked_at, standing(request, &output), &lines)?;
     let made = index_at(alloc, request, &looked_at, &lines, &index)?;
     Ok(Remade { looked_at, made })
 }
@@ -171,7 +171,7 @@ fn words_in(alloc: Global, contents: Option<&Bytes>) -> Result<Words, AllocError
 }
 
 /// Adds the words for which an index contains one of the lines.
-fn add_told(
+fn add_reported(
     alloc: Global,
     words: &mut Words,
     index: &[(RelPath, Bytes)],
@@ -183,36 +183,37 @@ fn add_told(
         || list_any (λ file. bytes_eq file.0 word
         && list_any (contains byte_order lines.now) (lines_of file.1)) index.now)) }
 {
-    for (word, told) in index {
-        add_where_told(alloc, words, word, told.as_slice(), lines)?;
+    for (word, reported) in index {
+        add_where_reported(alloc, words, word, reported.as_slice(), lines)?;
     }
     Ok(())
 }
 
-fn add_where_told(
+fn add_where_reported(
     alloc: Global,
     words: &mut Words,
     word: &RelPath,
-    told: &[u8],
+    reported: &[u8],
     lines: &Lines,
 ) -> Result<(), AllocError>
     ensures { OnOk result ((other : _)
         → contains byte_order words.new other
         ≡ (contains byte_order words.old other
         || (bytes_eq word.now other
-        && list_any (contains byte_order lines.now) (lines_of told.now)))) }
+        && list_any (contains byte_order lines.now) (lines_of reported.now)))) }
 {
-    if tells_one(alloc, told, lines)? {
+    if tells_one(alloc, reported, lines)? {
         words.insert(word.copy()?)?;
     }
     Ok(())
 }
 
 /// Whether one of the lines is among these bytes.
-fn tells_one(alloc: Global, told: &[u8], lines: &Lines) -> Result<bool, AllocError>
-    ensures { IfOk result (λ tells. tells ≡ list_any (contains byte_order lines.now) (lines_of told.now)) }
+fn tells_one(alloc: Global, reported: &[u8], lines: &Lines) -> Result<bool, AllocError>
+    ensures { IfOk result
+        (λ tells. tells ≡ list_any (contains byte_order lines.now) (lines_of reported.now)) }
 {
-    for line in told.lines_with_terminator() {
+    for line in reported.lines_with_terminator() {
         if lines.contains(&Line::from_slice(alloc, line)?) {
             return Ok(true);
         }
@@ -240,7 +241,7 @@ fn index_at(
     let mut index = BTreeMap::new(alloc);
     for word in words.iter() {
         let stood = stood_at(request, &output, word);
-        let lines = carried_lines(alloc, stood, gone, told_at(new, word))?;
+        let lines = carried_lines(alloc, stood, gone, reported_at(new, word))?;
         add_entry(alloc, &mut index, word, &lines)?;
     }
     Ok(index)
@@ -257,7 +258,7 @@ fn stood_at<'a>(request: &'a Request, output: &Name, word: &RelPath) -> &'a [u8]
 }
 
 /// The bytes of an index at a word.
-fn told_at<'a>(index: &'a Index, word: &RelPath) -> &'a [u8]
+fn reported_at<'a>(index: &'a Index, word: &RelPath) -> &'a [u8]
     ensures { result.now ≡ unwrap_or (file_at (index_files index.now) word.now) [] }
 {
     match index.get(word) {
@@ -317,9 +318,9 @@ fn add_entry(
         then option_or (file_of_lines lines.now.keys) (file_at (index_files index.old) other)
         else file_at (index_files index.old) other)) }
 {
-    let told = joined(alloc, lines)?;
+    let reported = joined(alloc, lines)?;
     if !lines.is_empty() {
-        index.insert(word.copy()?, told)?;
+        index.insert(word.copy()?, reported)?;
     }
     Ok(())
 }

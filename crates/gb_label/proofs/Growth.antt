@@ -4,7 +4,7 @@ use Rattle.std.specs.List.{AllByRecursion, filter, flat_map, list_any}
 use Rattle.std.proofs.Common.{refl, sym, ap, subst, ◌∙◌, inl, inr, cond}
 use Rattle.gb_core.specs.Lists.{first_of}
 use Rattle.gb_folder.specs.Files.{Contents, Files, Place, is_empty, is_odd_under, is_own, places_under}
-use Rattle.gb_meaning.specs.Tree.{listing_faults, told_of_tree}
+use Rattle.gb_meaning.specs.Tree.{listing_faults, reported_of_tree}
 use Rattle.gb_meaning.proofs.Common.{none_some, some_same}
 use Rattle.gb_plan.proofs.Tests.{not_false}
 use Rattle.gb_plan.specs.Task.{output_places}
@@ -21,11 +21,11 @@ use Rattle.gb_label.specs.Reading.{CannotRead, print_faults}
 use Rattle.gb_label.specs.Deciding.{IsGrown}
 
 abbrev Grown : TreeFault → Type 0
-Grown fault = IsGrown (told_of_tree fault)
+Grown fault = IsGrown (reported_of_tree fault)
 
-told : (fs : List TreeFault) → AllByRecursion Grown fs → AllByRecursion IsGrown (map told_of_tree fs)
-told [] all = tt
-told (f ∷ fs) all = (all.0, told fs all.1)
+reported : (fs : List TreeFault) → AllByRecursion Grown fs → AllByRecursion IsGrown (map reported_of_tree fs)
+reported [] all = tt
+reported (f ∷ fs) all = (all.0, reported fs all.1)
 
 large : (files : Files) (entries : Entries) → AllByRecursion Grown (too_large files entries)
 large files entries = each (filter _ entries)
@@ -44,7 +44,7 @@ many name entries = by _
 -- the faults of reading an output without an unsupported entry
 one : (folder : Contents) (output : Output) → is_odd_under folder output.place ≡ false → AllByRecursion IsGrown (print_faults folder output)
 one folder output none =
-    told (output_faults output.name output.place folder)
+    reported (output_faults output.name output.place folder)
     (all_append Grown (output_listing_faults output.name output.place folder) _ (listing (is_own output.place)) (large folder.files _))
   where
     odd : odd_roots folder (output.place ∷ []) ≡ []
@@ -56,28 +56,28 @@ one folder output none =
 
 -- the first output has no unsupported entry, nor have the others
 pub odd_parts : (folder : Contents) (output : Output) (outputs : List Output)
-    → map told_of_tree (odd_roots folder (map (λ (o : Output). o.place) (output ∷ outputs))) ≡ []
-    → (is_odd_under folder output.place ≡ false) × (map told_of_tree (odd_roots folder (map (λ (o : Output). o.place) outputs)) ≡ [])
+    → map reported_of_tree (odd_roots folder (map (λ (o : Output). o.place) (output ∷ outputs))) ≡ []
+    → (is_odd_under folder output.place ≡ false) × (map reported_of_tree (odd_roots folder (map (λ (o : Output). o.place) outputs)) ≡ [])
 odd_parts folder output outputs none = by (is_odd_under folder output.place) refl none
   where
     places : List Place
     places = map (λ (o : Output). o.place) outputs
 
     by : (b : Bool) → is_odd_under folder output.place ≡ b
-        → map told_of_tree (map trees.BadFileName (cond b (output.place ∷ filter (is_odd_under folder) places) (filter (is_odd_under folder) places))) ≡ []
-        → (is_odd_under folder output.place ≡ false) × (map told_of_tree (odd_roots folder places) ≡ [])
+        → map reported_of_tree (map trees.BadFileName (cond b (output.place ∷ filter (is_odd_under folder) places) (filter (is_odd_under folder) places))) ≡ []
+        → (is_odd_under folder output.place ≡ false) × (map reported_of_tree (odd_roots folder places) ≡ [])
     by true is e = not_false (sym (ap is_empty e))
     by false is e = (is, e)
 
-all : (folder : Contents) (outputs : List Output) → map told_of_tree (odd_roots folder (map (λ (o : Output). o.place) outputs)) ≡ []
+all : (folder : Contents) (outputs : List Output) → map reported_of_tree (odd_roots folder (map (λ (o : Output). o.place) outputs)) ≡ []
     → AllByRecursion IsGrown (flat_map (print_faults folder) outputs)
 all folder [] none = tt
 all folder (output ∷ outputs) none =
     let p = odd_parts folder output outputs none in
     all_append IsGrown (print_faults folder output) _ (one folder output p.0) (all folder outputs p.1)
 
-abbrev odd_told : Contents → List Output → List Fault
-odd_told folder outputs = map told_of_tree (odd_roots folder (map (λ output. output.place) outputs))
+abbrev odd_reported : Contents → List Output → List Fault
+odd_reported folder outputs = map reported_of_tree (odd_roots folder (map (λ output. output.place) outputs))
 
 -- the first of grown ones and of others
 split : (fs gs : List Fault) (fault : Fault) → AllByRecursion IsGrown fs → first_of (fs ++ gs) ≡ Some fault → IsGrown fault ⊎ (first_of gs ≡ Some fault)
@@ -87,14 +87,14 @@ split (f ∷ fs) gs fault grown first = inl (subst IsGrown (some_same first) gro
 module _ (folder : Contents) (output : Output) (outputs : List Output) where
   -- the faults of listing outputs, by whether the first has an unsupported entry
   odd_if : (b : Bool) → is_odd_under folder output.place ≡ b
-      → odd_told folder (output ∷ outputs) ≡ cond b (faults.BadFileName output.place ∷ odd_told folder outputs) (odd_told folder outputs)
-  odd_if b is = ap (λ c. map told_of_tree (map trees.BadFileName (cond c (output.place ∷ others) others))) is ∙ by_test b
+      → odd_reported folder (output ∷ outputs) ≡ cond b (faults.BadFileName output.place ∷ odd_reported folder outputs) (odd_reported folder outputs)
+  odd_if b is = ap (λ c. map reported_of_tree (map trees.BadFileName (cond c (output.place ∷ others) others))) is ∙ by_test b
     where
       others : List Place
       others = filter (is_odd_under folder) (map (λ (o : Output). o.place) outputs)
 
-      by_test : (c : Bool) → map told_of_tree (map trees.BadFileName (cond c (output.place ∷ others) others))
-          ≡ cond c (faults.BadFileName output.place ∷ odd_told folder outputs) (odd_told folder outputs)
+      by_test : (c : Bool) → map reported_of_tree (map trees.BadFileName (cond c (output.place ∷ others) others))
+          ≡ cond c (faults.BadFileName output.place ∷ odd_reported folder outputs) (odd_reported folder outputs)
       by_test true = refl
       by_test false = refl
 
@@ -102,8 +102,8 @@ module _ (folder : Contents) (output : Output) (outputs : List Output) where
   first_if : (rest : List Fault) → is_own output.place ≡ false → is_odd_under folder output.place ≡ true
       → first_of (print_faults folder output ++ rest) ≡ Some (faults.BadFileName output.place)
   first_if rest own odd =
-      ap (λ b. first_of (map told_of_tree ((if b then [] else (odd_roots folder (output.place ∷ []) ++ many_of)) ++ large_of) ++ rest)) own
-      ∙ ap (λ b. first_of (map told_of_tree ((map trees.BadFileName (cond b (output.place ∷ []) []) ++ many_of) ++ large_of) ++ rest)) odd
+      ap (λ b. first_of (map reported_of_tree ((if b then [] else (odd_roots folder (output.place ∷ []) ++ many_of)) ++ large_of) ++ rest)) own
+      ∙ ap (λ b. first_of (map reported_of_tree ((map trees.BadFileName (cond b (output.place ∷ []) []) ++ many_of) ++ large_of) ++ rest)) odd
     where
       many_of : List TreeFault
       many_of = too_many output.name (entries_from output.place (places_under folder.files output.place))
@@ -120,14 +120,14 @@ apart true b e = not_false e
 apart false b e = (refl, e)
 
 -- the fault of reading outputs is that they have grown, or the first fault of listing them
-first_told : (folder : Contents) (outputs : List Output) (fault : Fault) → Foreign outputs → first_of (flat_map (print_faults folder) outputs) ≡ Some fault
-    → IsGrown fault ⊎ (first_of (odd_told folder outputs) ≡ Some fault)
-first_told folder [] fault own first = none_some first
-first_told folder (output ∷ outputs) fault own first =
-    by (first_told folder outputs fault (apart (is_own output.place) _ own).1) (is_odd_under folder output.place) refl
+first_reported : (folder : Contents) (outputs : List Output) (fault : Fault) → Foreign outputs → first_of (flat_map (print_faults folder) outputs) ≡ Some fault
+    → IsGrown fault ⊎ (first_of (odd_reported folder outputs) ≡ Some fault)
+first_reported folder [] fault own first = none_some first
+first_reported folder (output ∷ outputs) fault own first =
+    by (first_reported folder outputs fault (apart (is_own output.place) _ own).1) (is_odd_under folder output.place) refl
   where
-    by : (first_of (flat_map (print_faults folder) outputs) ≡ Some fault → IsGrown fault ⊎ (first_of (odd_told folder outputs) ≡ Some fault))
-        → (b : Bool) → is_odd_under folder output.place ≡ b → IsGrown fault ⊎ (first_of (odd_told folder (output ∷ outputs)) ≡ Some fault)
+    by : (first_of (flat_map (print_faults folder) outputs) ≡ Some fault → IsGrown fault ⊎ (first_of (odd_reported folder outputs) ≡ Some fault))
+        → (b : Bool) → is_odd_under folder output.place ≡ b → IsGrown fault ⊎ (first_of (odd_reported folder (output ∷ outputs)) ≡ Some fault)
     by next true odd =
         inr (ap first_of (odd_if folder output outputs true odd) ∙ sym (first_if folder output outputs (flat_map (print_faults folder) outputs) (apart (is_own output.place) _ own).0 odd) ∙ first)
     by next false none = elim (split (print_faults folder output) (flat_map (print_faults folder) outputs) fault (one folder output none) first) [
@@ -139,13 +139,13 @@ first_told folder (output ∷ outputs) fault own first =
     ]
 
 -- outputs that can be read can be listed
-pub none_told : (folder : Contents) (outputs : List Output) → Foreign outputs → flat_map (print_faults folder) outputs ≡ [] → odd_told folder outputs ≡ []
-none_told folder [] own none = refl
-none_told folder (output ∷ outputs) own none =
-    by (none_told folder outputs (apart (is_own output.place) _ own).1 (none_after (print_faults folder output) (flat_map (print_faults folder) outputs) none))
+pub none_reported : (folder : Contents) (outputs : List Output) → Foreign outputs → flat_map (print_faults folder) outputs ≡ [] → odd_reported folder outputs ≡ []
+none_reported folder [] own none = refl
+none_reported folder (output ∷ outputs) own none =
+    by (none_reported folder outputs (apart (is_own output.place) _ own).1 (none_after (print_faults folder output) (flat_map (print_faults folder) outputs) none))
     (is_odd_under folder output.place) refl
   where
-    by : odd_told folder outputs ≡ [] → (b : Bool) → is_odd_under folder output.place ≡ b → odd_told folder (output ∷ outputs) ≡ []
+    by : odd_reported folder outputs ≡ [] → (b : Bool) → is_odd_under folder output.place ≡ b → odd_reported folder (output ∷ outputs) ≡ []
     by next true odd =
         none_some (ap first_of (sym none) ∙ first_if folder output outputs (flat_map (print_faults folder) outputs) (apart (is_own output.place) _ own).0 odd)
     by next false fine = odd_if folder output outputs false fine ∙ next
@@ -163,7 +163,7 @@ some_first (f ∷ fs) fault first = refl
 pub cannot_print : (task : Task) (folder : Contents) (before after : ℕ) (fault : Fault) → Foreign task.outputs
     → CannotRead before after (flat_map (print_faults folder) task.outputs) fault → CannotPrint task folder before after fault
 cannot_print task folder before after fault own (inl machine) = inr (inl machine)
-cannot_print task folder before after fault own (inr first) = elim (first_told folder task.outputs fault own first) [
+cannot_print task folder before after fault own (inr first) = elim (first_reported folder task.outputs fault own first) [
   | inl grown ↦ inl (grown, some_first (flat_map (print_faults folder) task.outputs) fault first)
   | inr odd ↦ inr (inr odd)
 ]
@@ -195,7 +195,7 @@ listing_is_not task folder before after fault (inl (inl memory)) = ap is_large m
 listing_is_not task folder before after fault (inl (inr device)) = ap is_large device.1
 listing_is_not task folder before after fault (inr first) = odd (filter (is_odd_under folder) (output_places task)) first
   where
-    odd : (places : List Place) → first_of (map told_of_tree (map trees.BadFileName places)) ≡ Some fault → is_large fault ≡ false
+    odd : (places : List Place) → first_of (map reported_of_tree (map trees.BadFileName places)) ≡ Some fault → is_large fault ≡ false
     odd [] first = none_some first
     odd (place ∷ places) first = ap is_large (sym (some_same first))
 

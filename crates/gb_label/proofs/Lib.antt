@@ -1,4 +1,4 @@
-pub mod Told
+pub mod Reported
 pub mod Loops
 pub mod Readings
 pub mod ReadingAnswering

@@ -40,12 +40,12 @@ seen_more {A} {B} R xs ys next i x y less is added so_far holds =
     (all_zipped_more R (take i xs) ys x y so_far holds))
 
 -- the digests of what is read are those of the first ones, and of one more
-pub prints_more : {X : Type 0} (told : X → Prints) (readings next : List Read) (x : Read) (xs : List X) (i : ℕ) (y : X) → i < length xs → y ≡ get_or xs i y → next ≡ readings ++ x ∷ [] → x.0 ≡ (told y).0 → digests_seen x.1 ≡ (told y).1
-    → prints_read readings ≡ map told (take i xs) → prints_read next ≡ map told (take (i + 1) xs)
-prints_more told readings next x xs i y less is added name digests so_far =
-    gathered_more told (prints_read readings) (prints_read next) (x.0, digests_seen x.1) xs i y less is
+pub prints_more : {X : Type 0} (reported : X → Prints) (readings next : List Read) (x : Read) (xs : List X) (i : ℕ) (y : X) → i < length xs → y ≡ get_or xs i y → next ≡ readings ++ x ∷ [] → x.0 ≡ (reported y).0 → digests_seen x.1 ≡ (reported y).1
+    → prints_read readings ≡ map reported (take i xs) → prints_read next ≡ map reported (take (i + 1) xs)
+prints_more reported readings next x xs i y less is added name digests so_far =
+    gathered_more reported (prints_read readings) (prints_read next) (x.0, digests_seen x.1) xs i y less is
     (ap prints_read added ∙ map-append (λ (reading : Read). let found : Prints = (reading.0, digests_seen reading.1) in found) readings (x ∷ []))
-    (pair_is (x.0, digests_seen x.1) (told y).0 (told y).1 name digests) so_far
+    (pair_is (x.0, digests_seen x.1) (reported y).0 (reported y).1 name digests) so_far
 
 -- ---- Where they are
 

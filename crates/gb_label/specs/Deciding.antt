@@ -55,15 +55,15 @@ IsCause options task old other = ⊥
 
 -- The decision follows from its basis: a cause to run in full, or the record and what the task has now.
 abbrev pub GoesBy : Options → Task → Option Record → Decision → Basis → Type 0
-GoesBy options task old decision (bases.Anew cause) = (decision ≡ Full) × IsCause options task old cause
+GoesBy options task old decision (bases.Recheck cause) = (decision ≡ Full) × IsCause options task old cause
 GoesBy options task (Some run) decision (bases.Compared present) = DecidesFrom run present decision
 GoesBy options task None decision (bases.Compared present) = ⊥
 
 -- The basis holds in this folder: the outputs are such as no execution leaves, or it is what the task has.
 abbrev pub IsBasisIn : Options → Task → Contents → Basis → Type 0
-IsBasisIn options task folder (bases.Anew causes.Grown) =
+IsBasisIn options task folder (bases.Recheck causes.Grown) =
     is_empty (flat_map (print_faults folder) task.outputs) ≡ false
-IsBasisIn options task folder (bases.Anew other) = ⊤
+IsBasisIn options task folder (bases.Recheck other) = ⊤
 IsBasisIn options task folder (bases.Compared present) =
     IsPresentOf options task (digests_in (trees_of task folder.files))
     (map (recorded_of folder.files) task.outputs) present

@@ -9,7 +9,7 @@ use Rattle.gb_core.specs.Place.{is_under}
 use Rattle.gb_folder.specs.Files.{Contents, Files, Place}
 use Rattle.gb_history.specs.Record.{Prints}
 use Rattle.gb_history.specs.declared.record.OutputRecord.{OutputRecord}
-use Rattle.gb_meaning.specs.Tree.{told_of_tree}
+use Rattle.gb_meaning.specs.Tree.{reported_of_tree}
 use Rattle.gb_meaning.specs.TrueRecord.{output_record_of}
 use Rattle.gb_plan.specs.declared.task.FileProperty.{FileProperty}
 use Rattle.gb_plan.specs.declared.task.Output.{Output}
@@ -41,7 +41,7 @@ recorded_of files output = output_record_of sha256 files output
 
 -- the faults of reading the files of an output
 abbrev pub print_faults : Contents → Output → List Fault
-print_faults folder output = map told_of_tree (output_faults output.name output.place folder)
+print_faults folder output = map reported_of_tree (output_faults output.name output.place folder)
 
 -- ---- What was read once
 

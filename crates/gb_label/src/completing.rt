@@ -8,7 +8,7 @@ ghost use Rattle.gb_tree.specs.Prints.{digests_of};
 ghost use Rattle.gb_tree.specs.Reading.{IsSeenIn, entries_seen};
 ghost use Rattle.gb_tree.specs.Tree.{contents_at, is_among};
 
-use crate::fault::told;
+use crate::fault::reported;
 use gb_action::snapshot::Snapshot;
 use gb_folder::folder::Folder;
 use gb_report::fault::Fault;
@@ -41,6 +41,6 @@ pub(crate) fn complete<F: Folder>(
 {
     match reading.completed(alloc, folder) {
         Ok(made) => Ok(made),
-        Err(fault) => Err(told(fault)),
+        Err(fault) => Err(reported(fault)),
     }
 }

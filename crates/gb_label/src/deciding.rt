@@ -47,7 +47,7 @@ pub enum Cause {
 #[derive(Drop)]
 pub enum Basis {
     /// This cause alone.
-    Anew(Cause),
+    Recheck(Cause),
     /// Its record, compared with this.
     Compared(Present),
 }
@@ -125,7 +125,7 @@ fn in_full<F: Folder>(
     ensures blamed { BlamesOnly (is_output_of task.now) result }
     ensures same { IsTrue F.tells → F.contents folder.new ≡ F.contents folder.old }
     ensures full { IfOk result (λ found.
-        (found.decision ≡ Decision.Full) × (found.basis ≡ Basis.Anew cause)) }
+        (found.decision ≡ Decision.Full) × (found.basis ≡ Basis.Recheck cause)) }
     ensures none_odd { IsTrue F.tells → OnOk result (listing_faults task.now (F.contents folder.old) ≡ []) }
     ensures err { IsTrue F.tells → IfErr result (CannotRead (F.failures folder.old) (F.failures folder.new)
         (listing_faults task.now (F.contents folder.old))) }
@@ -133,7 +133,7 @@ fn in_full<F: Folder>(
     check_outputs(alloc, folder, task)?;
     Ok(Verdict {
         decision: Decision::Full,
-        basis: Basis::Anew(cause),
+        basis: Basis::Recheck(cause),
         outputs: Vec::new(alloc),
     })
 }

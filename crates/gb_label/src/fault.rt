@@ -1,13 +1,13 @@
 //! Faults of trees, as a build reports them.
 ghost use Rattle.std.specs.Prelude.{◌≡◌};
-ghost use Rattle.gb_meaning.specs.Tree.{told_of_tree};
+ghost use Rattle.gb_meaning.specs.Tree.{reported_of_tree};
 
 use gb_report::fault::Fault;
 use gb_tree::fault::TreeFault;
 
 /// Why a tree is not read, as a build reports it.
-pub fn told(fault: TreeFault) -> Fault
-    ensures { result ≡ told_of_tree fault }
+pub fn reported(fault: TreeFault) -> Fault
+    ensures { result ≡ reported_of_tree fault }
 {
     match fault {
         TreeFault::OutOfMemory => Fault::OutOfMemory,

@@ -13,7 +13,7 @@ ghost use Rattle.gb_label.specs.Reading.{AreInputs, AreInputsSeen, CannotRead, I
 ghost use Rattle.gb_label.specs.Reading.{digests_in, is_input_of, prints_read};
 
 use crate::completing::complete;
-use crate::fault::told;
+use crate::fault::reported;
 use gb_action::snapshot::Snapshots;
 use gb_folder::folder::Folder;
 use gb_plan::task::{FileProperty, TaskDeclaration};
@@ -59,7 +59,7 @@ fn read_one<F: Folder>(
         room,
     ) {
         Ok(reading) => Ok(reading),
-        Err(fault) => Err(told(fault)),
+        Err(fault) => Err(reported(fault)),
     }
 }
 

@@ -16,7 +16,7 @@ ghost use Rattle.gb_label.specs.Reading.{AreOutputs, AreOutputsSeen, CannotRead,
 ghost use Rattle.gb_label.specs.Reading.{prints_read, prints_seen, recorded_of, records_with, seen_of};
 
 use crate::completing::complete;
-use crate::fault::told;
+use crate::fault::reported;
 use gb_action::output::{OutputFiles, OutputSnapshots};
 use gb_folder::folder::Folder;
 use gb_history::record::OutputRecord;
@@ -53,7 +53,7 @@ fn read_one<F: Folder>(
 {
     match output_reading(alloc, folder, &output.name, &output.place, room) {
         Ok(reading) => Ok(reading),
-        Err(fault) => Err(told(fault)),
+        Err(fault) => Err(reported(fault)),
     }
 }
 

@@ -63,7 +63,7 @@ impl<T: Drop> From<AllocFailed<T>> for LineFault {
 impl From<PlaceFault> for LineFault {
     ghost use Rattle.gb_lines.specs.Lines.{line_fault_of};
 
-    ghost from_gives = { λ told fault. fault ≡ line_fault_of told };
+    ghost from_gives = { λ reported fault. fault ≡ line_fault_of reported };
 
     fn from(fault: PlaceFault) -> LineFault {
         match fault {

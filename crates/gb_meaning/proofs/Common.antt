@@ -2,7 +2,7 @@
 use Rattle.std.specs.Prelude.{◌≡◌, Some, None, is_some, unwrap_or, ⊤}
 use Rattle.std.proofs.Common.{sym, ap}
 use mathlib.Core.Bool.{true≢false}
-use Rattle.gb_meaning.specs.Turn.{Guard}
+use Rattle.gb_meaning.specs.Execution.{Guard}
 
 pub some_same : {A : Type 0} {x y : A} → Some x ≡ Some y → x ≡ y
 some_same {x = x} e = ap (λ o. unwrap_or o x) e
@@ -11,5 +11,5 @@ pub none_some : {A B : Type 0} {x : A} → None ≡ Some x → B
 none_some e = absurd (true≢false (sym (ap is_some e)))
 
 -- every guard holds
-abbrev pub all_granted : Guard
-all_granted contents = ⊤
+abbrev pub all_assumed : Guard
+all_assumed contents = ⊤

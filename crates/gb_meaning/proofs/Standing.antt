@@ -7,7 +7,7 @@ use Rattle.gb_plan.specs.declared.plan.Planned.{Planned}
 use Rattle.gb_meaning.specs.Kinds.{Kinds}
 use Rattle.gb_meaning.specs.Label.{Moment}
 use Rattle.gb_meaning.specs.Memory.{World}
-use Rattle.gb_meaning.specs.Turn.{GuardedTurn, May, Rules, Standing, Turn}
+use Rattle.gb_meaning.specs.Execution.{GuardedExecution, May, Rules, Standing, Execution}
 
 abbrev pub rules_of : Kinds → Options → May → Plan → Rules
 rules_of kinds options may plan = record { kinds = kinds; options = options; may = may; plan = plan }
@@ -16,6 +16,6 @@ abbrev pub standing : World → ℕ → Standing
 standing world failures = record { world = world; failures = failures }
 
 -- the part of an execution that needs no guard, with an execution by other rules under another guard
-pub with_turn : {rules others : Rules} {granted other : Type 0} {moment : Moment} {planned : Planned} {report : TaskReport} {new : Standing}
-    → GuardedTurn rules granted moment planned report new → (other → Turn others moment planned report new) → GuardedTurn others other moment planned report new
-with_turn guarded turn = record { folder = guarded.folder; files = guarded.files; odd = guarded.odd; count = guarded.count; turn = turn }
+pub with_execution : {rules others : Rules} {assumed other : Type 0} {moment : Moment} {planned : Planned} {report : TaskReport} {new : Standing}
+    → GuardedExecution rules assumed moment planned report new → (other → Execution others moment planned report new) → GuardedExecution others other moment planned report new
+with_execution guarded execution = record { folder = guarded.folder; files = guarded.files; odd = guarded.odd; count = guarded.count; execution = execution }

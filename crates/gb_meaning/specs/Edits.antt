@@ -22,7 +22,7 @@ pub record IsTornEdit (may_leave : Tearing) (place : Place) (next : Option Bytes
     (fault : Fault) (new : Shown) : Type 0 where
   pub outside : is_own place ≡ false
   pub rose : HasRisen old.failures new.failures
-  pub told : fault ≡ faults.Device place
+  pub reported : fault ≡ faults.Device place
   pub torn : IsTorn may_leave place next old.contents new.contents
 
 -- an edit was stopped: memory ran out and nothing changed, or the device failed in it

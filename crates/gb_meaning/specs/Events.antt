@@ -28,7 +28,7 @@ use Rattle.gb_core.specs.Path.{is_task_path}
 use Rattle.gb_meaning.specs.Edits.{Shown, PutStep, RemoveStep, LossStep}
 use Rattle.gb_meaning.specs.Scratch.{from_scratch}
 use Rattle.gb_tree.specs.Property.{last_segment}
-use Rattle.gb_meaning.specs.Turn.{May, Rules, Guard, Builds, TouchesRecord, IsWritten}
+use Rattle.gb_meaning.specs.Execution.{May, Rules, Guard, Builds, TouchesRecord, IsWritten}
 use Rattle.gb_history.specs.Record.{Record}
 use Rattle.gb_meaning.specs.TrueRecord.{RecordTexts, record_of, outside}
 
@@ -152,7 +152,7 @@ abbrev pub AreStarted : Report → Type 0
 AreStarted report = report.dry_run ≡ false → IsTrue (list_all (λ task. is_started task.outcome) report.tasks)
 
 -- A build from one state to another, where the contents so far satisfy the guard.
-pub record IsBuild (setting : Setting) (granted : Guard) (seen : List Bytes) (old : State)
+pub record IsBuild (setting : Setting) (assumed : Guard) (seen : List Bytes) (old : State)
     (invocation : Invocation) (report : Report) (new : State) : Type 0 where
   pub plan : Plan
   pub planned : HasPlan setting (outside old.contents) invocation plan
@@ -161,11 +161,11 @@ pub record IsBuild (setting : Setting) (granted : Guard) (seen : List Bytes) (ol
   pub elsewhere : AreRecordsOf setting plan (own_files old.contents) (own_files new.contents)
   -- in a dry run nothing there differs
   pub dry_keeps : IsTrue report.dry_run → own_files new.contents ≡ own_files old.contents
-  pub builds : Builds (rules_in setting (own_files old.contents) invocation.options plan) granted seen
+  pub builds : Builds (rules_in setting (own_files old.contents) invocation.options plan) assumed seen
       (record { world = world_in old; failures = old.failures }) report.tasks
       (record { world = world_in new; failures = new.failures })
   -- Where no task failed, each was started, and the folder is what the tasks make from scratch.
-  pub success : granted (seen ++ folder_contents (world_in old) ++ folder_contents (world_in new))
+  pub success : assumed (seen ++ folder_contents (world_in old) ++ folder_contents (world_in new))
       → has_failure report ≡ false →
       AreStarted report × (from_scratch setting.kinds invocation.options plan (outside old.contents)
       ≡ Some (outside new.contents).files)
@@ -215,23 +215,23 @@ RemembersAfter setting old answer new = KeepsWhatStands setting old new
 -- ---- Steps
 
 abbrev pub InvokeStep : Setting → Guard → List Bytes → State → Invocation → Answer → State → Type 0
-InvokeStep setting granted seen old invocation (answers.Built report) new =
-    IsBuild setting granted seen old invocation report new
-InvokeStep setting granted seen old invocation (answers.NotBuilt fault) new =
+InvokeStep setting assumed seen old invocation (answers.Built report) new =
+    IsBuild setting assumed seen old invocation report new
+InvokeStep setting assumed seen old invocation (answers.NotBuilt fault) new =
     IsNotBuilt setting.registers (shown_in old) invocation fault new.failures × (new.contents ≡ old.contents)
     × (new.remembered ≡ old.remembered)
-InvokeStep setting granted seen old invocation answers.Edited new = ⊥
-InvokeStep setting granted seen old invocation (answers.Refused fault) new = ⊥
+InvokeStep setting assumed seen old invocation answers.Edited new = ⊥
+InvokeStep setting assumed seen old invocation (answers.Refused fault) new = ⊥
 
 -- The event may have this result in the first state, and lead to the second.
 abbrev pub Step : Setting → Guard → List Bytes → State → Event → Answer → State → Type 0
-Step setting granted seen old (events.Put place bytes) answer new =
+Step setting assumed seen old (events.Put place bytes) answer new =
     PutStep setting.may_leave place bytes (shown_in old) answer (shown_in new)
     × (new.remembered ≡ old.remembered)
-Step setting granted seen old (events.Remove place) answer new =
+Step setting assumed seen old (events.Remove place) answer new =
     RemoveStep setting.may_leave place (shown_in old) answer (shown_in new)
     × (new.remembered ≡ old.remembered)
-Step setting granted seen old events.Lost answer new =
+Step setting assumed seen old events.Lost answer new =
     LossStep setting.may_leave (shown_in old) answer (shown_in new) × RemembersAfter setting old answer new
-Step setting granted seen old (events.Invoke invocation) answer new =
-    InvokeStep setting granted seen old invocation answer new
+Step setting assumed seen old (events.Invoke invocation) answer new =
+    InvokeStep setting assumed seen old invocation answer new

@@ -11,7 +11,7 @@ use Rattle.gb_folder.specs.Files.{Bytes, Contents}
 use Rattle.gb_meaning.specs.Memory.{Memory}
 use Rattle.gb_meaning.specs.TrueRecord.{AreApart, outside, memory_contents}
 use Rattle.gb_plan.specs.Graph.{Plan}
-use Rattle.gb_meaning.specs.Turn.{Guard}
+use Rattle.gb_meaning.specs.Execution.{Guard}
 use Rattle.gb_meaning.specs.Scratch.{from_scratch}
 use Rattle.gb_meaning.specs.Edits.{Shown}
 use Rattle.gb_meaning.specs.Events.{AreStarted, Setting, State, Step, HasPlan, has_failure, world_in}

@@ -23,7 +23,7 @@ use Rattle.gb_action.specs.Meanings.{Meanings, makes_of, prints_of, shape_of}
 use Rattle.gb_plan.specs.Ready.{Rows}
 use Rattle.gb_meaning.specs.Memory.{Memory}
 use Rattle.gb_plan.specs.Graph.{Registry, IsRegistry, build_folder}
-use Rattle.gb_meaning.specs.Turn.{Guard, heard_of}
+use Rattle.gb_meaning.specs.Execution.{Guard, heard_of}
 use Rattle.gb_history.specs.Record.{Record}
 use Rattle.gb_meaning.specs.TrueRecord.{RecordTexts, SaysNoRecord, AreApart}
 use Rattle.gb_meaning.specs.TrueRecord.{StandsFor, outside, memory_contents}
@@ -219,14 +219,14 @@ counted before times = before + min times (2 ^ 64 - 1 - before)
 
 -- It has received all notifications, in their order, and refused none of them.
 abbrev pub HearsAll : List Heard → Ear → Ear → Type 0
-HearsAll told old new = new ≡ (old.0 ++ told, old.1)
+HearsAll reported old new = new ≡ (old.0 ++ reported, old.1)
 
 -- It has received the notifications in their order, except for the calls that it refused, and has counted
 -- each of those.
 abbrev pub HearsSome : List Heard → Ear → Ear → Type 0
-HearsSome told old new =
-    (kept : List Bool) × (length kept ≡ length told)
-    × (new ≡ (old.0 ++ items_where_true kept told, counted old.1 (count_by not kept)))
+HearsSome reported old new =
+    (kept : List Bool) × (length kept ≡ length reported)
+    × (new ≡ (old.0 ++ items_where_true kept reported, counted old.1 (count_by not kept)))
 
 -- Each listener has been notified of the build, except for the calls that it refused. The report shows a
 -- refusal exactly where one of them refused a call.

@@ -4,7 +4,7 @@ pub mod Made
 pub mod Scratch
 pub mod Memory
 pub mod Label
-pub mod Turn
+pub mod Execution
 pub mod TrueRecord
 pub mod Edits
 pub mod Events
@@ -14,5 +14,5 @@ pub mod Run
 pub mod Outline
 pub mod Every
 pub mod Sessions
-pub mod Granted
+pub mod Assumed
 pub mod Pinned

@@ -16,7 +16,7 @@ use Rattle.gb_plan.specs.Graph.{Registry, IsRegistry, Request, IsPlan, Plan, nee
 use Rattle.gb_plan.specs.declared.plan.Planned.{Planned}
 use Rattle.gb_meaning.specs.Label.{Moment, some_outcome}
 use Rattle.gb_report.specs.Outcome.{is_executed}
-use Rattle.gb_meaning.specs.Turn.{DoesStart, dry_reports}
+use Rattle.gb_meaning.specs.Execution.{DoesStart, dry_reports}
 
 -- the moment by its outcomes alone; whether a task starts depends on nothing else
 abbrev pub moment_by : List (Path × Outcome) → Moment

@@ -11,7 +11,7 @@ use Rattle.gb_plan.specs.Graph.{Request, Plan, IsPlan, IsSound}
 use Rattle.gb_plan.specs.Task.{IsShaped}
 use Rattle.gb_plan.specs.declared.task.TaskDeclaration.{TaskDeclaration as Task}
 use Rattle.gb_report.specs.Outcome.{is_failed, is_started}
-use Rattle.gb_meaning.specs.Turn.{May, Rules, Standing, StartedTurn, Builds}
+use Rattle.gb_meaning.specs.Execution.{May, Rules, Standing, StartedExecution, Builds}
 use Rattle.gb_meaning.specs.Label.{Moment}
 use Rattle.gb_meaning.specs.Made.{made_of}
 use Rattle.gb_meaning.specs.Tree.{trees_of}
@@ -59,7 +59,7 @@ UpToDateIsMade =
     (new : Standing)
     → AllByRecursion (λ entry. IsMade kinds entry.1) moment.world.memory → is_empty task.actions ≡ false
     → report.outcome ≡ outcomes.UpToDate
-    → StartedTurn (any_rules kinds options plan) moment task report new
+    → StartedExecution (any_rules kinds options plan) moment task report new
     → (new.world ≡ moment.world)
     × (made_of kinds task.actions task.values (trees_of task moment.world.folder.files) task.outputs
     ≡ Ok (output_files task new.world.folder.files))

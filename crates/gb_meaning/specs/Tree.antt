@@ -31,20 +31,20 @@ has_no_source task files =
 -- ---- Faults
 
 -- why a tree is not read, as a build reports it
-abbrev pub told_of_tree : TreeFault → Fault
-told_of_tree trees.OutOfMemory = faults.OutOfMemory
-told_of_tree (trees.Device place) = faults.Device place
-told_of_tree (trees.Missing place) = faults.Missing place
-told_of_tree (trees.Blocked place) = faults.Blocked place
-told_of_tree (trees.TooLarge place) = faults.TooLarge place
-told_of_tree (trees.BadFileName place) = faults.BadFileName place
-told_of_tree (trees.DuplicateInput name path) = faults.DuplicateInput name path
-told_of_tree (trees.TooManyFiles name) = faults.TooManyFiles name
+abbrev pub reported_of_tree : TreeFault → Fault
+reported_of_tree trees.OutOfMemory = faults.OutOfMemory
+reported_of_tree (trees.Device place) = faults.Device place
+reported_of_tree (trees.Missing place) = faults.Missing place
+reported_of_tree (trees.Blocked place) = faults.Blocked place
+reported_of_tree (trees.TooLarge place) = faults.TooLarge place
+reported_of_tree (trees.BadFileName place) = faults.BadFileName place
+reported_of_tree (trees.DuplicateInput name path) = faults.DuplicateInput name path
+reported_of_tree (trees.TooManyFiles name) = faults.TooManyFiles name
 
 -- the faults in reading the property's tree, in order
 abbrev pub tree_faults : FileProperty → Contents → List Fault
 tree_faults property folder =
-    map told_of_tree
+    map reported_of_tree
     (faults_by property.name property.naming property.roots property.include property.exclude folder)
 
 -- the faults in reading the task's inputs, by property
@@ -53,4 +53,4 @@ input_faults task folder = flat_map (λ property. tree_faults property folder) t
 
 -- the faults in listing its outputs: things at or under their places that no place can name
 abbrev pub listing_faults : Task → Contents → List Fault
-listing_faults task folder = map told_of_tree (odd_roots folder (output_places task))
+listing_faults task folder = map reported_of_tree (odd_roots folder (output_places task))

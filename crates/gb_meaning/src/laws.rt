@@ -1,6 +1,6 @@
 //! Laws of the definitions, each the contract of a function that does nothing.
 ghost use Rattle.gb_meaning.specs.Every.{ClearRunIsPlain, EverySuccessIsFromScratch, Headline};
-ghost use Rattle.gb_meaning.specs.Granted.{MemoryGrants, SomeKindsAgree};
+ghost use Rattle.gb_meaning.specs.Assumed.{MemoryGrants, SomeKindsAgree};
 ghost use Rattle.gb_meaning.specs.Pinned.{StatesAreOne};
 ghost use Rattle.gb_meaning.specs.Promise.{SuccessIsFromScratch, TruthIsKept, UpToDateIsMade};
 ghost use Rattle.gb_meaning.specs.Run.{EndedIsMade};

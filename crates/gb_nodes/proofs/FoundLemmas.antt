@@ -3,7 +3,7 @@ use Rattle.std.proofs.Common.{◌≡◌, ℕ, Bool, true, false, List, [], ◌�
 use Rattle.std.specs.Prelude.{cond}
 use Rattle.gb_registry.specs.Projects.{is_among}
 use Rattle.gb_registry.specs.Tables.{Tables}
-use Rattle.gb_registry.specs.Wrong as told
+use Rattle.gb_registry.specs.Wrong as reported
 use Rattle.gb_registry.specs.Wrong.{Scope, found_in, found_at, found_in_all, found_along, found_by, property_faults, tree_faults}
 use Rattle.gb_script.specs.Tree.{Tree, Chain, Root, TextOf, FlagOf, ListOf, PropertyOf, DirOf, FileOf, TheBuildDir, GradlePropertyOf, TaskOf, Link, MapBy, FlatMapBy, ZipBy, Else, Trees, NoTree, AndTree, Links, NoLink, AndLink}
 use Rattle.gb_provider.specs.declared.expression.Node.{Node}
@@ -73,12 +73,12 @@ among_if_none false x none = absurd (cc)
 
 module _ {M F Z S A : Type 0} (tables : Tables M F Z S A) (site : Site) (scope : Scope) (there : site.project ≡ scope.project)
     (tasks : (text : List ℕ) → scope.task_faults text ≡ [] → name_faults scope.project text ≡ []) (nodes : HasNodesOf site scope.properties) where
-  root_none : (r : Root) → told.root_faults scope r ≡ [] → root_faults site r ≡ []
+  root_none : (r : Root) → reported.root_faults scope r ≡ [] → root_faults site r ≡ []
   root_none (PropertyOf name) none =
       let found = nodes name (among_if_none (is_among scope.properties name) _ none) in
       ap (known_faults name) found.1
-  root_none (DirOf t) none = ap (λ p. told.place_faults p t) there ∙ none
-  root_none (FileOf t) none = ap (λ p. told.place_faults p t) there ∙ none
+  root_none (DirOf t) none = ap (λ p. reported.place_faults p t) there ∙ none
+  root_none (FileOf t) none = ap (λ p. reported.place_faults p t) there ∙ none
   root_none (TaskOf t) none = ap (λ p. name_faults p t) there ∙ tasks t none
   root_none (ListOf trees) none = refl
   root_none (TextOf t) none = refl
@@ -86,7 +86,7 @@ module _ {M F Z S A : Type 0} (tables : Tables M F Z S A) (site : Site) (scope :
   root_none TheBuildDir none = refl
   root_none (GradlePropertyOf t) none = refl
 
-  link_none : (l : Link) → told.link_faults tables l ≡ [] → link_faults tables.means tables.functions l ≡ []
+  link_none : (l : Link) → reported.link_faults tables l ≡ [] → link_faults tables.means tables.functions l ≡ []
   link_none (MapBy f) none = none
   link_none (FlatMapBy f) none = none
   link_none (ZipBy tree f) none = none
@@ -95,4 +95,4 @@ module _ {M F Z S A : Type 0} (tables : Tables M F Z S A) (site : Site) (scope :
   -- an expression without a fault there is made without a fault
   pub made_good : (tree : Tree) → tree_faults tables scope tree ≡ [] → making_faults tables.means tables.functions site tree ≡ []
   made_good tree none =
-      tree_none (told.root_faults scope) (told.link_faults tables) (root_faults site) (link_faults tables.means tables.functions) root_none link_none tree none
+      tree_none (reported.root_faults scope) (reported.link_faults tables) (root_faults site) (link_faults tables.means tables.functions) root_none link_none tree none

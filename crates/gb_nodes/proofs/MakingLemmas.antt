@@ -128,12 +128,12 @@ module _ {M F Z S : Type 0} where
       links_first fault first = first_among (found_by (root_faults site) (by table) (link_of step)) (found_along (root_faults site) (by functions) (links_of (map link_of (drop (i + 1) steps)))) all fault links_split first
 
     -- the faults of a tree whose source has none are those of its steps
-    pub tree_told : {X : Type 0} (tree : Tree) (r : Root) (ls : Links) (answer : Result X Fault) → r ≡ root tree → ls ≡ links tree → found_at (root_faults site) (by functions) r ≡ []
+    pub tree_reported : {X : Type 0} (tree : Tree) (r : Root) (ls : Links) (answer : Result X Fault) → r ≡ root tree → ls ≡ links tree → found_at (root_faults site) (by functions) r ≡ []
         → TellsFirst (found_along (root_faults site) (by table) ls) answer → TellsFirst (making_faults means functions site tree) answer
-    tree_told (Chain r' ls') r ls answer is_root is_links good told =
+    tree_reported (Chain r' ls') r ls answer is_root is_links good reported =
         let whole : making_faults means functions site (Chain r' ls') ≡ found_along (root_faults site) (by table) ls =
         ap (λ x. found_at (root_faults site) (by functions) x ++ found_along (root_faults site) (by functions) ls') (sym is_root)
         ∙ nil_on (found_at (root_faults site) (by functions) r) (found_along (root_faults site) (by functions) ls') good
         ∙ ap (λ l. found_along (root_faults site) (by functions) l) (sym is_links)
         ∙ ap (λ f. found_along (root_faults site) (by f) ls) (sym same) in
-        subst (λ fs. TellsFirst fs answer) (sym whole) told
+        subst (λ fs. TellsFirst fs answer) (sym whole) reported

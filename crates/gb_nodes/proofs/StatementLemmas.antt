@@ -18,7 +18,7 @@ use Rattle.gb_registry.specs.Projects.{is_among}
 use Rattle.gb_registry.specs.Said.{Said, convention_after, declared_property, properties_of, script_of, set_after}
 use Rattle.gb_registry.specs.Source.{Source}
 use Rattle.gb_registry.specs.Tables.{Tables}
-use Rattle.gb_registry.specs.Wrong as told
+use Rattle.gb_registry.specs.Wrong as reported
 use Rattle.gb_script.specs.Tree.{Tree, PropertyOf}
 use Rattle.gb_script.specs.declared.script.Assignment.{Assignment}
 use Rattle.gb_script.specs.declared.script.Statement.{Statement}
@@ -260,8 +260,8 @@ module _ {M F Z S A : Type 0} (tables : Tables M F Z S A) (source : Source) (all
 
     unset_done : (name : List ℕ) → configured.change_faults own_script name ≡ [] → IsDone (statements.Unset name) number nodes
     unset_done name none =
-        let known = knows name (among_if_none (is_among (filter_map declared_property own_script) name) _ (nil_front (told.property_faults (filter_map declared_property own_script) name) _ none)) in
-        let free = not_final (list_any (finalizes name) own_script) _ (nil_back (told.property_faults (filter_map declared_property own_script) name) _ none) in
+        let known = knows name (among_if_none (is_among (filter_map declared_property own_script) name) _ (nil_front (reported.property_faults (filter_map declared_property own_script) name) _ none)) in
+        let free = not_final (list_any (finalizes name) own_script) _ (nil_back (reported.property_faults (filter_map declared_property own_script) name) _ none) in
         let h = held tables source all site done number nodes stage right name known in
         let untouched = unset_untouched name in
         let said : IsAsSaid tables source all site done number nodes stage right (statements.Unset name) name known Unset tt untouched = record {
@@ -275,7 +275,7 @@ module _ {M F Z S A : Type 0} (tables : Tables M F Z S A) (source : Source) (all
           good = change_good tables source all site done number nodes stage right (statements.Unset name) name known Unset tt untouched said;
         }
 
-    final_done : (name : List ℕ) → told.property_faults (filter_map declared_property own_script) name ≡ [] → IsDone (statements.DisallowChanges name) number nodes
+    final_done : (name : List ℕ) → reported.property_faults (filter_map declared_property own_script) name ≡ [] → IsDone (statements.DisallowChanges name) number nodes
     final_done name none =
         let known = knows name (among_if_none (is_among (filter_map declared_property own_script) name) _ none) in
         let h = held tables source all site done number nodes stage right name known in
@@ -293,7 +293,7 @@ module _ {M F Z S A : Type 0} (tables : Tables M F Z S A) (source : Source) (all
 
     -- ---- An expression, and then a change
 
-    module _ (tree : Tree) (fine : told.tree_faults tables (statement_scope done site.project) tree ≡ []) (among : AllByRecursion (IsAmong all) (parts site.project tree)) where
+    module _ (tree : Tree) (fine : reported.tree_faults tables (statement_scope done site.project) tree ≡ []) (among : AllByRecursion (IsAmong all) (parts site.project tree)) where
       abbrev made : Made M F Z ℕ
       made = tree_made tables.functions site nodes tree
 
@@ -314,12 +314,12 @@ module _ {M F Z S A : Type 0} (tables : Tables M F Z S A) (source : Source) (all
 
       module _ (name : List ℕ) (none : configured.change_faults own_script name ≡ []) where
         known_here : IsKnown tables source all site name
-        known_here = knows name (among_if_none (is_among (filter_map declared_property own_script) name) _ (nil_front (told.property_faults (filter_map declared_property own_script) name) _ none))
+        known_here = knows name (among_if_none (is_among (filter_map declared_property own_script) name) _ (nil_front (reported.property_faults (filter_map declared_property own_script) name) _ none))
 
         free_here : list_any (finalizes name) own_script ≡ false
-        free_here = not_final (list_any (finalizes name) own_script) _ (nil_back (told.property_faults (filter_map declared_property own_script) name) _ none)
+        free_here = not_final (list_any (finalizes name) own_script) _ (nil_back (reported.property_faults (filter_map declared_property own_script) name) _ none)
 
-    set_done : (a : Assignment) → configured.change_faults own_script a.name ≡ [] → told.tree_faults tables (statement_scope done site.project) a.value ≡ [] → AllByRecursion (IsAmong all) (parts site.project a.value)
+    set_done : (a : Assignment) → configured.change_faults own_script a.name ≡ [] → reported.tree_faults tables (statement_scope done site.project) a.value ≡ [] → AllByRecursion (IsAmong all) (parts site.project a.value)
         → IsDone (statements.Set a) number nodes
     set_done a none fine among =
         let statement = statements.Set a in
@@ -344,7 +344,7 @@ module _ {M F Z S A : Type 0} (tables : Tables M F Z S A) (source : Source) (all
               (change_good tables source all site done grown.steps.numbers mid.nodes mid_stage mid_right statement a.name known change grown.within (set_untouched a) said);
         }
 
-    convention_done : (a : Assignment) → configured.change_faults own_script a.name ≡ [] → told.tree_faults tables (statement_scope done site.project) a.value ≡ [] → AllByRecursion (IsAmong all) (parts site.project a.value)
+    convention_done : (a : Assignment) → configured.change_faults own_script a.name ≡ [] → reported.tree_faults tables (statement_scope done site.project) a.value ≡ [] → AllByRecursion (IsAmong all) (parts site.project a.value)
         → IsDone (statements.Convention a) number nodes
     convention_done a none fine among =
         let statement = statements.Convention a in

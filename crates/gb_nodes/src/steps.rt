@@ -18,8 +18,8 @@ use gb_script::function::Function;
 use std::alloc::{AllocError, Global};
 
 /// The fault of a step as it is reported to users.
-fn told(alloc: Global, function: &Function, fault: StepFault) -> Result<Fault, AllocError>
-    ensures { IfOk result (λ told. told ≡ step_fault function.now fault) }
+fn reported(alloc: Global, function: &Function, fault: StepFault) -> Result<Fault, AllocError>
+    ensures { IfOk result (λ reported. reported ≡ step_fault function.now fault) }
 {
     match fault {
         StepFault::UnknownTransform => Ok(Fault::UnknownTransform(function.name.copy()?)),
@@ -49,7 +49,7 @@ pub fn add_map<T: Transforms>(
     let arguments = function.arguments.copy(alloc)?;
     match providers.map(node, function.name.as_str(), arguments) {
         Ok(made) => Ok(made),
-        Err(fault) => Err(told(alloc, function, fault)?),
+        Err(fault) => Err(reported(alloc, function, fault)?),
     }
 }
 
@@ -70,7 +70,7 @@ pub(crate) fn add_flat_map<T: Transforms>(
     let arguments = function.arguments.copy(alloc)?;
     match providers.flat_map(node, function.name.as_str(), arguments) {
         Ok(made) => Ok(made),
-        Err(fault) => Err(told(alloc, function, fault)?),
+        Err(fault) => Err(reported(alloc, function, fault)?),
     }
 }
 
@@ -93,6 +93,6 @@ pub fn add_zip<T: Transforms>(
     let arguments = function.arguments.copy(alloc)?;
     match providers.zip(left, right, function.name.as_str(), arguments) {
         Ok(made) => Ok(made),
-        Err(fault) => Err(told(alloc, function, fault)?),
+        Err(fault) => Err(reported(alloc, function, fault)?),
     }
 }

@@ -97,8 +97,8 @@ wrong_link files page html address =
 abbrev pub line_mark : ℕ → List ℕ
 line_mark line = codes ":" ++ decimal line ++ codes ": "
 
-abbrev pub told : List ℕ → ℕ → List ℕ → List ℕ → List ℕ
-told page line wrong address = page ++ (line_mark line ++ (wrong ++ (codes " at " ++ address)))
+abbrev pub reported : List ℕ → ℕ → List ℕ → List ℕ → List ℕ
+reported page line wrong address = page ++ (line_mark line ++ (wrong ++ (codes " at " ++ address)))
 
 -- the line where an address occurs first after a sign
 abbrev pub line_in : List ℕ → List ℕ → List ℕ → ℕ
@@ -107,7 +107,7 @@ line_in html sign address = line_of (sign ++ (address ++ codes "\"")) html
 -- what is wrong with the address after the sign of an attribute
 abbrev pub dead_address : Tree → List ℕ → List ℕ → List ℕ → List ℕ → Option (List ℕ)
 dead_address files page html sign address =
-    option_map (λ wrong. told page (line_in html sign address) wrong (shown address))
+    option_map (λ wrong. reported page (line_in html sign address) wrong (shown address))
     (wrong_link files page html address)
 
 abbrev pub dead_at : Tree → List ℕ → List ℕ → List ℕ → List ℕ → Option (List ℕ)

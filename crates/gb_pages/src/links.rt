@@ -6,7 +6,7 @@ ghost use Rattle.gb_pages.specs.Layouts.{line_of};
 ghost use Rattle.memchr.specs.Find.{first_of, matches};
 ghost use Rattle.gb_pages.specs.Links.{above, as_file, dead_at, dead_by, dead_in, file_in, first_dead, from};
 ghost use Rattle.gb_pages.specs.Links.{id_sign, leads_out, led_to, path_in, start, step, target_of};
-ghost use Rattle.gb_pages.specs.Links.{line_mark, told};
+ghost use Rattle.gb_pages.specs.Links.{line_mark, reported};
 ghost use Rattle.gb_pages.specs.Links.{unrooted, walk, wrong_in_site, wrong_link, wrong_with};
 ghost use Rattle.gb_pages.specs.Paths.{before};
 ghost use Rattle.percent_encoding.specs.Percent.{percent_decode as decoded};
@@ -126,18 +126,18 @@ fn dead_at(
         return Ok(None);
     };
     let line = line_of_address(alloc, site.html, sign, address)?;
-    Ok(Some(told(alloc, site.page, line, wrong, shown(address))?))
+    Ok(Some(reported(alloc, site.page, line, wrong, shown(address))?))
 }
 
 /// The message for a link.
-fn told(
+fn reported(
     alloc: Global,
     page: &RelPath,
     line: usize,
     wrong: &str,
     address: &str,
 ) -> Result<Text, AllocError>
-    ensures { IfOk result (λ text. text ≡ told page.now line wrong.now address.now) }
+    ensures { IfOk result (λ text. text ≡ reported page.now line wrong.now address.now) }
 {
     let mut text = String::from_str(alloc, page.as_str())?;
     push_line(alloc, &mut text, line)?;

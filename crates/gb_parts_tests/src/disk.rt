@@ -17,7 +17,7 @@ use std::{fs, io};
 type Row<'a> = (&'a str, &'a str);
 
 /// The places, with a space after each.
-fn told(alloc: Global, places: &[Place]) -> Result<Vec<u8>, FolderFault> {
+fn reported(alloc: Global, places: &[Place]) -> Result<Vec<u8>, FolderFault> {
     let mut text = Vec::new(alloc);
     for place in places {
         text.extend_from_slice(place.as_str().as_bytes())?;
@@ -50,7 +50,7 @@ fn answer<F: Folder>(
     place: &Place,
 ) -> Result<Vec<u8>, FolderFault> {
     match word {
-        "list" => told(alloc, folder.list(alloc, place)?.as_slice()),
+        "list" => reported(alloc, folder.list(alloc, place)?.as_slice()),
         "read" => folder.read(alloc, place, 5),
         "read4" => folder.read(alloc, place, 4),
         "read9" => folder.read(alloc, place, 9),
@@ -457,19 +457,19 @@ fn folders_that_are_not_made_are_answered(rt: HostRuntime) -> Result<(), Fail> {
 /// Names of entries of a folder `d`, and the resulting places or fault.
 const NAMES: [(&[u8], &str); 2] = [(b".\0..\0b\0", "d/b "), (b"a\0b\xff\0", "14")];
 
-fn places_told(alloc: Global, folder: &Place, names: &[u8]) -> Result<Vec<u8>, FolderFault> {
-    told(alloc, places_in(alloc, folder, names)?.as_slice())
+fn places_reported(alloc: Global, folder: &Place, names: &[u8]) -> Result<Vec<u8>, FolderFault> {
+    reported(alloc, places_in(alloc, folder, names)?.as_slice())
 }
 
-fn names_told(alloc: Global, names: &[u8]) -> Result<Vec<u8>, Fail> {
+fn names_reported(alloc: Global, names: &[u8]) -> Result<Vec<u8>, Fail> {
     let folder = Place::read(alloc, "d")?;
-    Ok(shown(alloc, places_told(alloc, &folder, names))?)
+    Ok(shown(alloc, places_reported(alloc, &folder, names))?)
 }
 
 #[test]
 fn names_tell_places(rt: HostRuntime) -> Result<(), Fail> {
     for (names, wanted) in &NAMES {
-        is_answered(wanted, names_told(rt.alloc(), names)?.as_slice())?;
+        is_answered(wanted, names_reported(rt.alloc(), names)?.as_slice())?;
     }
     Ok(())
 }
@@ -539,7 +539,7 @@ fn on_failing(alloc: Global, row: &FailingRow) -> Result<Vec<u8>, Fail> {
 }
 
 #[test]
-fn devices_that_fail_are_told(rt: HostRuntime) -> Result<(), Fail> {
+fn devices_that_fail_are_reported(rt: HostRuntime) -> Result<(), Fail> {
     for row in &FAILING {
         is_answered(row.4, on_failing(rt.alloc(), row)?.as_slice())?;
     }

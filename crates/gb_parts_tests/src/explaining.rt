@@ -34,12 +34,12 @@ fn hold(alloc: Global, task: &TaskPath, first: &Record, row: &Row) -> Result<(),
     let (text, asked, wanted) = row;
     let present = present(alloc, task, text, asked)?;
     let old = if *asked == "new" { None } else { Some(first) };
-    let mut told = String::new(alloc);
+    let mut reported = String::new(alloc);
     for reason in explain(alloc, old, &present)?.iter() {
-        push_reason(&mut told, reason)?;
-        told.push_str("\n")?;
+        push_reason(&mut reported, reason)?;
+        reported.push_str("\n")?;
     }
-    is_answered(wanted, told.as_bytes())
+    is_answered(wanted, reported.as_bytes())
 }
 
 fn hold_all(alloc: Global, task: &TaskPath, first: &Record) -> Result<(), Fail> {
@@ -50,7 +50,7 @@ fn hold_all(alloc: Global, task: &TaskPath, first: &Record) -> Result<(), Fail> 
 }
 
 #[test]
-fn what_differs_is_told(rt: HostRuntime) -> Result<(), Fail> {
+fn what_differs_is_reported(rt: HostRuntime) -> Result<(), Fail> {
     let task = TaskPath::read(rt.alloc(), ":gen")?;
     let first = read_record(rt.alloc(), &task, FIRST.as_bytes())?;
     hold_all(rt.alloc(), &task, &first)

@@ -73,12 +73,12 @@ fn push_change(
 
 /// Adds an argument, as `arg text`, a file of `src` or `out`, as `src path=text`, or a change, as `A path`.
 fn take_step(alloc: Global, asked: &mut Asked, step: &str) -> Result<(), PlaceFault> {
-    let (word, told) = cut(step, ' ');
+    let (word, reported) = cut(step, ' ');
     match word {
-        "arg" => Ok(asked.args.push(Value::Text(Text::from_str(alloc, told)?))?),
-        "src" => put(alloc, &mut asked.files, told),
-        "out" => put(alloc, &mut asked.stood, told),
-        _ => push_change(alloc, &mut asked.changes, word, told),
+        "arg" => Ok(asked.args.push(Value::Text(Text::from_str(alloc, reported)?))?),
+        "src" => put(alloc, &mut asked.files, reported),
+        "out" => put(alloc, &mut asked.stood, reported),
+        _ => push_change(alloc, &mut asked.changes, word, reported),
     }
 }
 
@@ -531,6 +531,6 @@ const WORDS: [Row; 12] = [
 ];
 
 #[test]
-fn words_are_told(rt: HostRuntime) -> Result<(), Fail> {
+fn words_are_reported(rt: HostRuntime) -> Result<(), Fail> {
     hold(rt.alloc(), &WORDS)
 }

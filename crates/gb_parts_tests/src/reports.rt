@@ -95,7 +95,7 @@ fn reports_of(alloc: Global, rows: &[Row<'_>]) -> Result<TaskReports, Fail> {
 }
 
 /// Whether the report is of a build that ended with this success, and is printed as this text.
-fn is_told_so(alloc: Global, report: &Report, is_successful: bool, want: &str) -> bool {
+fn is_reported_so(alloc: Global, report: &Report, is_successful: bool, want: &str) -> bool {
     match render(alloc, report) {
         Ok(bytes) => {
             bytes.as_slice() == want.as_bytes() && report.is_successful() == is_successful
@@ -119,7 +119,7 @@ fn a_build_is_printed(alloc: Global) -> Result<bool, Fail> {
     let want = "> Task :hi\n2\n> Task :a UP-TO-DATE\n> Task :t FAILED\na\n\
          FAILED :t: 42 no\nFAILED listener: 91 listener refused\nBUILD FAILED\n\
          3 actionable tasks: 2 executed, 1 up-to-date\n";
-    Ok(is_told_so(alloc, &report, false, want))
+    Ok(is_reported_so(alloc, &report, false, want))
 }
 
 fn a_dry_run_is_printed(alloc: Global) -> Result<bool, Fail> {
@@ -129,7 +129,7 @@ fn a_dry_run_is_printed(alloc: Global) -> Result<bool, Fail> {
         listener_refused: false,
     };
     let want = ":a SKIPPED\nBUILD SUCCESSFUL\n";
-    Ok(is_told_so(alloc, &report, true, want))
+    Ok(is_reported_so(alloc, &report, true, want))
 }
 
 fn no_task_is_printed(alloc: Global) -> bool {
@@ -138,7 +138,7 @@ fn no_task_is_printed(alloc: Global) -> bool {
         dry_run: false,
         listener_refused: false,
     };
-    is_told_so(alloc, &report, true, "BUILD SUCCESSFUL\n")
+    is_reported_so(alloc, &report, true, "BUILD SUCCESSFUL\n")
 }
 
 #[test]
@@ -162,7 +162,7 @@ fn copy_printed(alloc: Global, fault: &Fault) -> Result<Vec<u8>, AllocError> {
 }
 
 /// Whether a copy of the fault is printed as this text.
-fn is_told(alloc: Global, fault: Fault, want: &str) -> Result<bool, AllocError> {
+fn is_reported(alloc: Global, fault: Fault, want: &str) -> Result<bool, AllocError> {
     let bytes = copy_printed(alloc, &fault);
     drop(fault);
     Ok(bytes?.as_slice() == want.as_bytes())
@@ -172,25 +172,25 @@ fn is_told(alloc: Global, fault: Fault, want: &str) -> Result<bool, AllocError> 
 const LONG: &str =
     "é\n34567890123456789012345678901234567890123456789012345678901234567890123456789\x7f1";
 
-fn a_long_text_is_told(alloc: Global) -> Result<bool, AllocError> {
+fn a_long_text_is_reported(alloc: Global) -> Result<bool, AllocError> {
     let text = Text::from_str(alloc, LONG)?;
     let want =
         "2 bad place é?34567890123456789012345678901234567890123456789012345678901234567890123456789?";
-    is_told(alloc, Fault::BadPlace(text), want)
+    is_reported(alloc, Fault::BadPlace(text), want)
 }
 
-fn a_line_is_told(alloc: Global) -> Result<bool, PlaceFault> {
+fn a_line_is_reported(alloc: Global) -> Result<bool, PlaceFault> {
     let script = Place::read(alloc, "build.gb")?;
-    Ok(is_told(alloc, Fault::Syntax(script, 12), "20 syntax build.gb:12")?)
+    Ok(is_reported(alloc, Fault::Syntax(script, 12), "20 syntax build.gb:12")?)
 }
 
-fn names_are_told(alloc: Global) -> Result<bool, AllocError> {
+fn names_are_reported(alloc: Global) -> Result<bool, AllocError> {
     let names = texts_of(alloc, &[":#a", ":lib#b"])?;
-    is_told(alloc, Fault::Circular(names), "30 circular :#a, :lib#b")
+    is_reported(alloc, Fault::Circular(names), "30 circular :#a, :lib#b")
 }
 
-fn a_limit_is_told(alloc: Global) -> Result<bool, AllocError> {
-    is_told(alloc, Fault::TooMany(Limited::Tasks), "58 too many tasks")
+fn a_limit_is_reported(alloc: Global) -> Result<bool, AllocError> {
+    is_reported(alloc, Fault::TooMany(Limited::Tasks), "58 too many tasks")
 }
 
 fn task_list(alloc: Global, paths: &[&str]) -> Result<TaskList, NameFault> {
@@ -201,39 +201,39 @@ fn task_list(alloc: Global, paths: &[&str]) -> Result<TaskList, NameFault> {
     Ok(tasks)
 }
 
-fn tasks_are_told(alloc: Global) -> Result<bool, NameFault> {
+fn tasks_are_reported(alloc: Global) -> Result<bool, NameFault> {
     let tasks = task_list(alloc, &[":b", ":a"])?;
-    Ok(is_told(alloc, Fault::Cycle(tasks), "60 cycle :b, :a")?)
+    Ok(is_reported(alloc, Fault::Cycle(tasks), "60 cycle :b, :a")?)
 }
 
-fn an_input_is_told(alloc: Global, path: RelPath) -> Result<bool, NameFault> {
+fn an_input_is_reported(alloc: Global, path: RelPath) -> Result<bool, NameFault> {
     let name = Name::read(alloc, "src")?;
     let want = "71 duplicate input src m/a";
-    Ok(is_told(alloc, Fault::DuplicateInput(name, path), want)?)
+    Ok(is_reported(alloc, Fault::DuplicateInput(name, path), want)?)
 }
 
-fn a_path_is_told(alloc: Global) -> Result<bool, PlaceFault> {
+fn a_path_is_reported(alloc: Global) -> Result<bool, PlaceFault> {
     let path = RelPath::read(alloc, "m/a")?;
-    Ok(an_input_is_told(alloc, path) == Ok(true))
+    Ok(an_input_is_reported(alloc, path) == Ok(true))
 }
 
 #[test]
-fn faults_are_copied_and_told(rt: HostRuntime) -> Result<(), Fail> {
+fn faults_are_copied_and_reported(rt: HostRuntime) -> Result<(), Fail> {
     let alloc = rt.alloc();
     all_hold(&[
-        ("2 bad place", a_long_text_is_told(alloc) == Ok(true)),
-        ("20 syntax", a_line_is_told(alloc) == Ok(true)),
-        ("30 circular", names_are_told(alloc) == Ok(true)),
+        ("2 bad place", a_long_text_is_reported(alloc) == Ok(true)),
+        ("20 syntax", a_line_is_reported(alloc) == Ok(true)),
+        ("30 circular", names_are_reported(alloc) == Ok(true)),
     ])
 }
 
 #[test]
-fn faults_of_builds_are_copied_and_told(rt: HostRuntime) -> Result<(), Fail> {
+fn faults_of_builds_are_copied_and_reported(rt: HostRuntime) -> Result<(), Fail> {
     let alloc = rt.alloc();
     all_hold(&[
-        ("58 too many", a_limit_is_told(alloc) == Ok(true)),
-        ("60 cycle", tasks_are_told(alloc) == Ok(true)),
-        ("71 duplicate input", a_path_is_told(alloc) == Ok(true)),
+        ("58 too many", a_limit_is_reported(alloc) == Ok(true)),
+        ("60 cycle", tasks_are_reported(alloc) == Ok(true)),
+        ("71 duplicate input", a_path_is_reported(alloc) == Ok(true)),
     ])
 }
 

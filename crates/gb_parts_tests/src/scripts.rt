@@ -34,7 +34,7 @@ fn unwrapped(alloc: Global, text: String) -> Result<String, AllocError> {
 }
 
 /// The reading of the bytes: a script, or the fault's number and text.
-fn told(alloc: Global, bytes: &[u8]) -> Result<String, AllocError> {
+fn reported(alloc: Global, bytes: &[u8]) -> Result<String, AllocError> {
     match read_script(alloc, bytes) {
         Ok(script) => unwrapped(alloc, format!(in alloc; "{script:?}")?),
         Err(fault) => format!(in alloc; "{} {fault}", fault.number()),
@@ -42,19 +42,19 @@ fn told(alloc: Global, bytes: &[u8]) -> Result<String, AllocError> {
 }
 
 /// The reading of the bytes: settings, or the fault's number and text.
-fn told_settings(alloc: Global, bytes: &[u8]) -> Result<String, AllocError> {
+fn reported_settings(alloc: Global, bytes: &[u8]) -> Result<String, AllocError> {
     match read_settings(alloc, bytes) {
         Ok(settings) => unwrapped(alloc, format!(in alloc; "{settings:?}")?),
         Err(fault) => format!(in alloc; "{} {fault}", fault.number()),
     }
 }
 
-fn is_told(alloc: Global, bytes: &[u8], want: &str) -> Result<bool, AllocError> {
-    Ok(told(alloc, bytes)?.as_str() == want)
+fn is_reported(alloc: Global, bytes: &[u8], want: &str) -> Result<bool, AllocError> {
+    Ok(reported(alloc, bytes)?.as_str() == want)
 }
 
-fn is_told_of_settings(alloc: Global, bytes: &[u8], want: &str) -> Result<bool, AllocError> {
-    Ok(told_settings(alloc, bytes)?.as_str() == want)
+fn is_reported_of_settings(alloc: Global, bytes: &[u8], want: &str) -> Result<bool, AllocError> {
+    Ok(reported_settings(alloc, bytes)?.as_str() == want)
 }
 
 fn is_read(alloc: Global, text: &str) -> bool {
@@ -81,22 +81,22 @@ fn between(alloc: Global, around: &Pair, text: &str) -> Result<String, AllocErro
     repeated(alloc, around[0], text, 1, around[1])
 }
 
-fn is_told_between(
+fn is_reported_between(
     alloc: Global,
     around: &Pair,
-    around_told: &Pair,
+    around_reported: &Pair,
     case: &Case,
 ) -> Result<bool, AllocError> {
     let text = between(alloc, around, case.0)?;
-    let want = between(alloc, around_told, case.1)?;
-    is_told(alloc, text.as_bytes(), want.as_str())
+    let want = between(alloc, around_reported, case.1)?;
+    is_reported(alloc, text.as_bytes(), want.as_str())
 }
 
 /// Whether each text between the first two reads as its own reading between the last two; if not,
 /// which one does not.
-fn are_told(alloc: Global, around: Pair, around_told: Pair, cases: &[Case]) -> Result<(), Fail> {
+fn are_reported(alloc: Global, around: Pair, around_reported: Pair, cases: &[Case]) -> Result<(), Fail> {
     for case in cases {
-        if is_told_between(alloc, &around, &around_told, case) != Ok(true) {
+        if is_reported_between(alloc, &around, &around_reported, case) != Ok(true) {
             return Err(Fail::new(case.0));
         }
     }
@@ -157,7 +157,7 @@ const STATEMENTS: [Case; 12] = [
 
 #[test]
 fn reads_each_statement(rt: HostRuntime) -> Result<(), Fail> {
-    are_told(rt.alloc(), NONE, NONE, &STATEMENTS)
+    are_reported(rt.alloc(), NONE, NONE, &STATEMENTS)
 }
 
 const CLAUSES: [Case; 14] = [
@@ -210,7 +210,7 @@ const CLAUSES: [Case; 14] = [
 
 #[test]
 fn reads_each_clause(rt: HostRuntime) -> Result<(), Fail> {
-    are_told(
+    are_reported(
         rt.alloc(),
         ["named t {\n", "\n}"],
         ["[Named(Configurationname:\"t\",block:[", "])]"],
@@ -241,7 +241,7 @@ const VALUES: [Case; 7] = [
 
 #[test]
 fn reads_each_value(rt: HostRuntime) -> Result<(), Fail> {
-    are_told(
+    are_reported(
         rt.alloc(),
         ["set p = ", ""],
         ["[Set(Assignmentname:\"p\",value:", ")]"],
@@ -266,7 +266,7 @@ fn is_a_name(alloc: Global, word: &str) -> Result<bool, AllocError> {
 
 fn is_refused_behind(alloc: Global, statement: &str, word: &str) -> Result<bool, AllocError> {
     let text = format!(in alloc; "\n{statement} {word} = \"a\"")?;
-    is_told(alloc, text.as_bytes(), "20 syntax error in line 2")
+    is_reported(alloc, text.as_bytes(), "20 syntax error in line 2")
 }
 
 /// Fails at the first word that is no name.
@@ -330,7 +330,7 @@ const LINES: [Case; 22] = [
 
 #[test]
 fn tells_the_line_of_a_fault(rt: HostRuntime) -> Result<(), Fail> {
-    are_told(rt.alloc(), NONE, ["20 syntax error in line ", ""], &LINES)
+    are_reported(rt.alloc(), NONE, ["20 syntax error in line ", ""], &LINES)
 }
 
 fn write_line(out: &mut String, alloc: Global, before: &str, line: u64) -> Result<(), AllocError> {
@@ -421,9 +421,9 @@ fn is_a_word_of(alloc: Global, count: usize) -> Result<bool, AllocError> {
     Ok(is_read(alloc, text.as_str()))
 }
 
-fn is_told_behind_a_word_of(alloc: Global, count: usize, want: &str) -> Result<bool, AllocError> {
+fn is_reported_behind_a_word_of(alloc: Global, count: usize, want: &str) -> Result<bool, AllocError> {
     let text = repeated(alloc, "\nproperty ", "w", count, "")?;
-    is_told(alloc, text.as_bytes(), want)
+    is_reported(alloc, text.as_bytes(), want)
 }
 
 #[test]
@@ -433,25 +433,25 @@ fn takes_words_of_64_bytes(rt: HostRuntime) -> Result<(), Fail> {
         ("64 bytes", is_a_word_of(rt.alloc(), 64) == Ok(true)),
         (
             "65 bytes",
-            is_told_behind_a_word_of(rt.alloc(), 65, refused) == Ok(true),
+            is_reported_behind_a_word_of(rt.alloc(), 65, refused) == Ok(true),
         ),
     ])
 }
 
 /// Whether 64 open brackets followed by this text have this reading.
-fn is_told_behind_64_brackets(alloc: Global, then: &str, want: &str) -> Result<bool, AllocError> {
+fn is_reported_behind_64_brackets(alloc: Global, then: &str, want: &str) -> Result<bool, AllocError> {
     let text = repeated(alloc, "set a = ", "[", 64, then)?;
-    is_told(alloc, text.as_bytes(), want)
+    is_reported(alloc, text.as_bytes(), want)
 }
 
 /// Whether 64 closing brackets followed by this text have this reading.
-fn is_told_behind_closed_brackets(
+fn is_reported_behind_closed_brackets(
     alloc: Global,
     then: &str,
     want: &str,
 ) -> Result<bool, AllocError> {
     let close = repeated(alloc, "", "]", 64, then)?;
-    is_told_behind_64_brackets(alloc, close.as_str(), want)
+    is_reported_behind_64_brackets(alloc, close.as_str(), want)
 }
 
 fn are_64_brackets_read(alloc: Global) -> Result<bool, AllocError> {
@@ -461,9 +461,9 @@ fn are_64_brackets_read(alloc: Global) -> Result<bool, AllocError> {
 }
 
 /// Whether 64 open steps and one more in the next line have this reading.
-fn is_told_of_nested_steps(alloc: Global, want: &str) -> Result<bool, AllocError> {
+fn is_reported_of_nested_steps(alloc: Global, want: &str) -> Result<bool, AllocError> {
     let text = repeated(alloc, "set a = ", "a.orElse(", 64, "a.map\n(f)")?;
-    is_told(alloc, text.as_bytes(), want)
+    is_reported(alloc, text.as_bytes(), want)
 }
 
 #[test]
@@ -475,15 +475,15 @@ fn takes_64_brackets(rt: HostRuntime) -> Result<(), Fail> {
         ("64", are_64_brackets_read(alloc) == Ok(true)),
         (
             "65",
-            is_told_behind_64_brackets(alloc, "\n[", deep) == Ok(true),
+            is_reported_behind_64_brackets(alloc, "\n[", deep) == Ok(true),
         ),
         (
             "65 at one token that is refused",
-            is_told_behind_64_brackets(alloc, "\n(", refused) == Ok(true),
+            is_reported_behind_64_brackets(alloc, "\n(", refused) == Ok(true),
         ),
         (
             "64 steps and one more",
-            is_told_of_nested_steps(alloc, deep) == Ok(true),
+            is_reported_of_nested_steps(alloc, deep) == Ok(true),
         ),
     ])
 }
@@ -494,14 +494,14 @@ fn a_bracket_that_closes_makes_room_again(rt: HostRuntime) -> Result<(), Fail> {
     let refused = "20 syntax error in line 2";
     all_hold(&[(
         text,
-        is_told_behind_closed_brackets(rt.alloc(), text, refused) == Ok(true),
+        is_reported_behind_closed_brackets(rt.alloc(), text, refused) == Ok(true),
     )])
 }
 
 /// Whether 64 steps between these have this reading.
-fn is_told_of_64_steps(alloc: Global, around: &Pair, want: &str) -> Result<bool, AllocError> {
+fn is_reported_of_64_steps(alloc: Global, around: &Pair, want: &str) -> Result<bool, AllocError> {
     let text = repeated(alloc, around[0], ".map(f)", 64, around[1])?;
-    is_told(alloc, text.as_bytes(), want)
+    is_reported(alloc, text.as_bytes(), want)
 }
 
 fn are_64_steps_read(alloc: Global, around: &Pair) -> Result<bool, AllocError> {
@@ -520,7 +520,7 @@ fn takes_64_steps(rt: HostRuntime) -> Result<(), Fail> {
         ),
         (
             "65",
-            is_told_of_64_steps(alloc, &["set a = a", "\n.map(f)"], deep) == Ok(true),
+            is_reported_of_64_steps(alloc, &["set a = a", "\n.map(f)"], deep) == Ok(true),
         ),
         (
             "64 and one of another chain",
@@ -537,13 +537,13 @@ fn a_mebibyte_and(alloc: Global, then: &[u8]) -> Result<Vec<u8>, AllocError> {
 }
 
 /// Whether these bytes have this reading, as a script and as settings.
-fn is_told_of_both(alloc: Global, bytes: &[u8], want: &str) -> Result<bool, AllocError> {
-    Ok(is_told(alloc, bytes, want)? && is_told_of_settings(alloc, bytes, want)?)
+fn is_reported_of_both(alloc: Global, bytes: &[u8], want: &str) -> Result<bool, AllocError> {
+    Ok(is_reported(alloc, bytes, want)? && is_reported_of_settings(alloc, bytes, want)?)
 }
 
-fn is_told_of_a_mebibyte(alloc: Global, then: &[u8], want: &str) -> Result<bool, AllocError> {
+fn is_reported_of_a_mebibyte(alloc: Global, then: &[u8], want: &str) -> Result<bool, AllocError> {
     let bytes = a_mebibyte_and(alloc, then)?;
-    is_told_of_both(alloc, bytes.as_slice(), want)
+    is_reported_of_both(alloc, bytes.as_slice(), want)
 }
 
 #[test]
@@ -553,15 +553,15 @@ fn takes_a_mebibyte_of_text(rt: HostRuntime) -> Result<(), Fail> {
     all_hold(&[
         (
             "a mebibyte",
-            is_told_of_a_mebibyte(alloc, b"", "[]") == Ok(true),
+            is_reported_of_a_mebibyte(alloc, b"", "[]") == Ok(true),
         ),
         (
             "a byte more",
-            is_told_of_a_mebibyte(alloc, b" ", long) == Ok(true),
+            is_reported_of_a_mebibyte(alloc, b" ", long) == Ok(true),
         ),
         (
             "more, and no text",
-            is_told_of_a_mebibyte(alloc, b" \xff", long) == Ok(true),
+            is_reported_of_a_mebibyte(alloc, b" \xff", long) == Ok(true),
         ),
     ])
 }
@@ -620,7 +620,7 @@ fn tells_other_faults(rt: HostRuntime) -> Result<(), Fail> {
     all_hold(&[
         (
             "no text",
-            is_told(rt.alloc(), b"\xff", "23 not UTF-8") == Ok(true),
+            is_reported(rt.alloc(), b"\xff", "23 not UTF-8") == Ok(true),
         ),
         ("out of memory", ScriptFault::OutOfMemory.number() == 3),
     ])
@@ -635,9 +635,9 @@ const SETTINGS: [Case; 5] = [
 ];
 
 /// Fails at the first text that does not read as its settings.
-fn are_told_as_settings(alloc: Global, cases: &[Case]) -> Result<(), Fail> {
+fn are_reported_as_settings(alloc: Global, cases: &[Case]) -> Result<(), Fail> {
     for case in cases {
-        if is_told_of_settings(alloc, case.0.as_bytes(), case.1) != Ok(true) {
+        if is_reported_of_settings(alloc, case.0.as_bytes(), case.1) != Ok(true) {
             return Err(Fail::new(case.0));
         }
     }
@@ -646,7 +646,7 @@ fn are_told_as_settings(alloc: Global, cases: &[Case]) -> Result<(), Fail> {
 
 #[test]
 fn reads_settings(rt: HostRuntime) -> Result<(), Fail> {
-    are_told_as_settings(rt.alloc(), &SETTINGS)
+    are_reported_as_settings(rt.alloc(), &SETTINGS)
 }
 
 /// Whether the one configuration has these clauses: a list of one element, and a call with two arguments.

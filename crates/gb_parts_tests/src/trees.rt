@@ -597,7 +597,7 @@ const DIGESTS: [Row; 8] = [
 ];
 
 #[test]
-fn digests_are_told(rt: HostRuntime) -> Result<(), Fail> {
+fn digests_are_reported(rt: HostRuntime) -> Result<(), Fail> {
     hold(rt.alloc(), &DIGESTS)
 }
 

@@ -28,7 +28,7 @@ circle_of_three = has_cycle (record {
     once = refl;
     least_first = record { is_in = refl; least = refl };
   };
-  told = refl;
+  reported = refl;
 })
 
 -- the least unplaced task leads into a cycle that it is not on: `:a` needs `:c`, which must run after `:b`,
@@ -51,7 +51,7 @@ circle_through_order = has_cycle (record {
     once = refl;
     least_first = record { is_in = refl; least = refl };
   };
-  told = refl;
+  reported = refl;
 })
 
 -- a task that needs its own finalizer
@@ -72,5 +72,5 @@ circle_through_finalizer = has_cycle (record {
     once = refl;
     least_first = record { is_in = refl; least = refl };
   };
-  told = refl;
+  reported = refl;
 })

@@ -2,7 +2,7 @@ pub mod Tests
 pub mod Chains
 pub mod Same
 pub mod Refused
-pub mod Meetings
+pub mod Conflicts
 pub mod Circles
 pub mod Once
 pub mod Places

@@ -15,7 +15,7 @@ use Rattle.gb_tree.specs.Property.{distinct}
 use Rattle.gb_plan.specs.declared.task.TaskDeclaration.{TaskDeclaration}
 use Rattle.gb_plan.specs.Task.{Path, has_path}
 use Rattle.gb_plan.specs.Graph.{Plan, Request, order, stuck, after_at, declaration_at, selected, IsSchedule}
-use Rattle.gb_plan.specs.Refusal.{Queued, newly_brought, begins, goes_on, open_of, IsTaskFault, IsLeastOf, IsLeastBefore, Leads, is_there, goes, IsCircle, Meeting, IsLeastMeeting, IsScheduleFault, has_cycle, has_overlap, has_own_input, is_undeclared, IsCycleFault, IsRefused}
+use Rattle.gb_plan.specs.Refusal.{Queued, newly_brought, begins, goes_on, open_of, IsTaskFault, IsLeastOf, IsLeastBefore, Leads, is_there, goes, IsCircle, Conflict, IsLeastConflict, IsScheduleFault, has_cycle, has_overlap, has_own_input, is_undeclared, IsCycleFault, IsRefused}
 use Rattle.gb_plan.proofs.Tests.{not_true, not_false, at_member, all_of_members, in_filter, into_filter}
 use Rattle.gb_plan.proofs.Same.{schedules_are_one, same_stuck, same_after_at}
 use Rattle.gb_plan.proofs.Refused.{no_task_fault}
@@ -92,8 +92,8 @@ neither_before x y r s e f =
     cases Equal e f = (refl, e, f)
     cases Greater e f = not_false f
 
-pub meetings_are_one : (Meets : Meeting → Type 0) (a b : Meeting) → IsLeastMeeting Meets a → IsLeastMeeting Meets b → a ≡ b
-meetings_are_one Meets a b of_a of_b =
+pub conflicts_are_one : (Meets : Conflict → Type 0) (a b : Conflict) → IsLeastConflict Meets a → IsLeastConflict Meets b → a ≡ b
+conflicts_are_one Meets a b of_a of_b =
     let first = neither_before a.task b.task _ _ (of_b.least a of_a.meets) (of_a.least b of_b.meets) in
     let second = neither_before a.other b.other _ _ first.1 first.2 in
     let third = neither_less a.place b.place second.1 second.2 in
@@ -105,19 +105,19 @@ schedule_faults : (plan : Plan) (f g : Fault) → stuck plan [] plan ≡ [] → 
 schedule_faults plan f g ready (has_cycle a) other = not_false (sym (ap is_empty ready) ∙ a.some_stuck)
 schedule_faults plan f g ready (has_overlap a) (has_cycle b) = not_false (sym (ap is_empty ready) ∙ b.some_stuck)
 schedule_faults plan f g ready (has_overlap a) (has_overlap b) =
-    a.told ∙ (ap (λ (m : Meeting). faults.OverlappingOutputs m.task m.other m.place) (meetings_are_one _ a.meeting b.meeting a.is_least b.is_least) ∙ sym b.told)
-schedule_faults plan f g ready (has_overlap a) (has_own_input b) = absurd (b.outputs_apart a.meeting a.is_least.meets)
-schedule_faults plan f g ready (has_overlap a) (is_undeclared b) = absurd (b.outputs_apart a.meeting a.is_least.meets)
+    a.reported ∙ (ap (λ (m : Conflict). faults.OverlappingOutputs m.task m.other m.place) (conflicts_are_one _ a.conflict b.conflict a.is_least b.is_least) ∙ sym b.reported)
+schedule_faults plan f g ready (has_overlap a) (has_own_input b) = absurd (b.outputs_apart a.conflict a.is_least.meets)
+schedule_faults plan f g ready (has_overlap a) (is_undeclared b) = absurd (b.outputs_apart a.conflict a.is_least.meets)
 schedule_faults plan f g ready (has_own_input a) (has_cycle b) = not_false (sym (ap is_empty ready) ∙ b.some_stuck)
-schedule_faults plan f g ready (has_own_input a) (has_overlap b) = absurd (a.outputs_apart b.meeting b.is_least.meets)
+schedule_faults plan f g ready (has_own_input a) (has_overlap b) = absurd (a.outputs_apart b.conflict b.is_least.meets)
 schedule_faults plan f g ready (has_own_input a) (has_own_input b) =
-    a.told ∙ (ap (λ (m : Meeting). faults.OwnOutputAsInput m.task m.place) (meetings_are_one _ a.meeting b.meeting a.is_least b.is_least) ∙ sym b.told)
-schedule_faults plan f g ready (has_own_input a) (is_undeclared b) = absurd (b.inputs_apart a.meeting a.is_least.meets)
+    a.reported ∙ (ap (λ (m : Conflict). faults.OwnOutputAsInput m.task m.place) (conflicts_are_one _ a.conflict b.conflict a.is_least b.is_least) ∙ sym b.reported)
+schedule_faults plan f g ready (has_own_input a) (is_undeclared b) = absurd (b.inputs_apart a.conflict a.is_least.meets)
 schedule_faults plan f g ready (is_undeclared a) (has_cycle b) = not_false (sym (ap is_empty ready) ∙ b.some_stuck)
-schedule_faults plan f g ready (is_undeclared a) (has_overlap b) = absurd (a.outputs_apart b.meeting b.is_least.meets)
-schedule_faults plan f g ready (is_undeclared a) (has_own_input b) = absurd (a.inputs_apart b.meeting b.is_least.meets)
+schedule_faults plan f g ready (is_undeclared a) (has_overlap b) = absurd (a.outputs_apart b.conflict b.is_least.meets)
+schedule_faults plan f g ready (is_undeclared a) (has_own_input b) = absurd (a.inputs_apart b.conflict b.is_least.meets)
 schedule_faults plan f g ready (is_undeclared a) (is_undeclared b) =
-    a.told ∙ (ap (λ (m : Meeting). faults.UndeclaredDependency m.task m.other m.place) (meetings_are_one _ a.meeting b.meeting a.is_least b.is_least) ∙ sym b.told)
+    a.reported ∙ (ap (λ (m : Conflict). faults.UndeclaredDependency m.task m.other m.place) (conflicts_are_one _ a.conflict b.conflict a.is_least b.is_least) ∙ sym b.reported)
 
 -- the least of a list is the least of a list with the same paths
 least_of_same : (xs ys : List Path) → ((x : Path) → has_path xs x ≡ true → has_path ys x ≡ true) → ((x : Path) → has_path ys x ≡ true → has_path xs x ≡ true) → (path : Path) → IsLeastOf xs path → IsLeastOf ys path
@@ -158,7 +158,7 @@ module _ (request : Request) (p q : Plan) (of_p : IsSchedule request p) (of_q : 
 
   cycle_faults : (f g : Fault) → IsCycleFault p f → IsCycleFault q g → f ≡ g
   cycle_faults f g of_f of_g =
-      of_f.told ∙ (ap faults.Cycle (circles_are_one p (left p) of_f.circle of_g.circle of_f.is_circle (circle_of of_g.circle of_g.is_circle)) ∙ sym of_g.told)
+      of_f.reported ∙ (ap faults.Cycle (circles_are_one p (left p) of_f.circle of_g.circle of_f.is_circle (circle_of of_g.circle of_g.is_circle)) ∙ sym of_g.reported)
 
   -- where all become ready in the second, the two are equal
   ready_faults : (f g : Fault) → stuck q [] q ≡ [] → IsScheduleFault p f → IsScheduleFault q g → f ≡ g

@@ -4,10 +4,10 @@ use Rattle.std.proofs.Common.{lit<}
 use Rattle.gb_report.specs.declared.fault.Fault.TheVariants as faults
 use Rattle.gb_plan.specs.declared.task.TaskDeclaration.{TaskDeclaration}
 use Rattle.gb_plan.specs.Graph.{Request, Plan, start, selected, brings, leaves_out, after, after_at, stands_in_order, IsScheduled, IsAfter, IsSound}
-use Rattle.gb_plan.specs.Refusal.{Meeting, IsScheduleFault, has_overlap, has_own_input, is_undeclared}
+use Rattle.gb_plan.specs.Refusal.{Conflict, IsScheduleFault, has_overlap, has_own_input, is_undeclared}
 use Rattle.gb_plan.proofs.Tests.{not_true, reached_in}
 use Rattle.gb_plan.proofs.Refused.{no_overlap, no_own_input}
-use Rattle.gb_plan.proofs.Meetings.{least_overlap, least_own_input, least_undeclared}
+use Rattle.gb_plan.proofs.Conflicts.{least_overlap, least_own_input, least_undeclared}
 use Rattle.gb_plan.proofs.RowTasks.{planned, to_file, to_folder, a, b, reads_x, two}
 
 -- ---- Overlapping outputs
@@ -15,30 +15,30 @@ use Rattle.gb_plan.proofs.RowTasks.{planned, to_file, to_folder, a, b, reads_x, 
 abbrev pub overlapping : Plan
 overlapping = two (b (codes "src") (to_folder (codes "build/x")) [] [])
 
-abbrev at_x : Meeting
+abbrev at_x : Conflict
 at_x = record { task = codes ":a"; other = codes ":b"; place = codes "build/x" }
 
 -- the lesser task is named first
-pub overlap_told : IsScheduleFault overlapping (faults.OverlappingOutputs (codes ":a") (codes ":b") (codes "build/x"))
-overlap_told = has_overlap (record {
+pub overlap_reported : IsScheduleFault overlapping (faults.OverlappingOutputs (codes ":a") (codes ":b") (codes "build/x"))
+overlap_reported = has_overlap (record {
   all_ready = refl;
-  meeting = at_x;
+  conflict = at_x;
   is_least = least_overlap overlapping at_x
       (record { front = []; back = (codes ":b", codes "build/x") ∷ []; stands = refl; overlapped = refl }) refl;
-  told = refl;
+  reported = refl;
 })
 
 -- two outputs of one task
 abbrev pub doubled : TaskDeclaration
 doubled = record a { outputs = to_folder (codes "build/x") ∷ to_file (codes "build/x/y") ∷ [] }
 
-pub own_overlap_told : IsScheduleFault (planned doubled 0 ∷ []) (faults.OverlappingOutputs (codes ":a") (codes ":a") (codes "build/x"))
-own_overlap_told = has_overlap (record {
+pub own_overlap_reported : IsScheduleFault (planned doubled 0 ∷ []) (faults.OverlappingOutputs (codes ":a") (codes ":a") (codes "build/x"))
+own_overlap_reported = has_overlap (record {
   all_ready = refl;
-  meeting = record { task = codes ":a"; other = codes ":a"; place = codes "build/x" };
+  conflict = record { task = codes ":a"; other = codes ":a"; place = codes "build/x" };
   is_least = least_overlap (planned doubled 0 ∷ []) _
       (record { front = []; back = (codes ":a", codes "build/x/y") ∷ []; stands = refl; overlapped = refl }) refl;
-  told = refl;
+  reported = refl;
 })
 
 -- ---- An own output as input
@@ -46,11 +46,11 @@ own_overlap_told = has_overlap (record {
 abbrev pub reads_itself : Plan
 reads_itself = planned (b (codes "build") (to_file (codes "build/y")) [] []) 0 ∷ []
 
-pub own_input_told : IsScheduleFault reads_itself (faults.OwnOutputAsInput (codes ":b") (codes "build"))
-own_input_told = has_own_input (record {
+pub own_input_reported : IsScheduleFault reads_itself (faults.OwnOutputAsInput (codes ":b") (codes "build"))
+own_input_reported = has_own_input (record {
   all_ready = refl;
   outputs_apart = no_overlap reads_itself refl;
-  meeting = record { task = codes ":b"; other = codes ":b"; place = codes "build" };
+  conflict = record { task = codes ":b"; other = codes ":b"; place = codes "build" };
   is_least = least_own_input reads_itself _
       (record {
         task = b (codes "build") (to_file (codes "build/y")) [] [];
@@ -58,7 +58,7 @@ own_input_told = has_own_input (record {
         is_same = refl;
         reads = record { reader_in = (0, lit< tt, refl); writer_in = (0, lit< tt, refl); is_root = refl; overlapped = refl };
       }) refl;
-  told = refl;
+  reported = refl;
 })
 
 -- ---- An undeclared dependency
@@ -69,12 +69,12 @@ undeclared = two (reads_x [] [])
 b_not_after_a : ¬ IsAfter undeclared (reads_x [] []) (codes ":a")
 b_not_after_a r = not_true (reached_in (after undeclared (reads_x [] [])) (after_at undeclared) _ [] refl refl r)
 
-pub undeclared_told : IsScheduleFault undeclared (faults.UndeclaredDependency (codes ":b") (codes ":a") (codes "build/x"))
-undeclared_told = is_undeclared (record {
+pub undeclared_reported : IsScheduleFault undeclared (faults.UndeclaredDependency (codes ":b") (codes ":a") (codes "build/x"))
+undeclared_reported = is_undeclared (record {
   all_ready = refl;
   outputs_apart = no_overlap undeclared refl;
   inputs_apart = no_own_input undeclared (refl, (refl, tt));
-  meeting = record { task = codes ":b"; other = codes ":a"; place = codes "build/x" };
+  conflict = record { task = codes ":b"; other = codes ":a"; place = codes "build/x" };
   is_least = least_undeclared undeclared _
       (record {
         reader = reads_x [] [];
@@ -85,7 +85,7 @@ undeclared_told = is_undeclared (record {
         reads = record { reader_in = (1, lit< tt, refl); writer_in = (0, lit< tt, refl); is_root = refl; overlapped = refl };
         not_after = b_not_after_a;
       }) refl;
-  told = refl;
+  reported = refl;
 })
 
 -- ---- With an order it is declared

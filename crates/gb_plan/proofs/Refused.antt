@@ -13,7 +13,7 @@ use Rattle.gb_plan.specs.declared.plan.Planned.{Planned}
 use Rattle.gb_plan.specs.declared.task.TaskDeclaration.{TaskDeclaration}
 use Rattle.gb_plan.specs.Task.{Path, has_path, roots_of, output_places}
 use Rattle.gb_plan.specs.Graph.{Plan, Request, start, step, brings, declaration_at, selected, leaves_out, stuck, some_overlap, reads_output_of, IsScheduled, IsSchedule, IsReadInOrder, IsSound, IsPlan}
-use Rattle.gb_plan.specs.Refusal.{Queued, begins, goes_on, open_of, IsTaskFault, Meeting, outputs_of, IsOverlap, IsRead, IsOwnInput, IsUndeclared, IsScheduleFault, has_cycle, has_overlap, has_own_input, is_undeclared, IsRefused}
+use Rattle.gb_plan.specs.Refusal.{Queued, begins, goes_on, open_of, IsTaskFault, Conflict, outputs_of, IsOverlap, IsRead, IsOwnInput, IsUndeclared, IsScheduleFault, has_cycle, has_overlap, has_own_input, is_undeclared, IsRefused}
 use Rattle.gb_plan.proofs.Tests.{not_true, not_false, no_longer, none_left, none_right, neither, or_right, any_append, any_map, in_filter}
 use Rattle.gb_plan.proofs.Same.{at_in, planned_at, schedules_are_one}
 
@@ -105,10 +105,10 @@ fewer_pass p q (x ∷ xs) e = neither (p x && q x) _ (fails (p x) (q x) (none_le
     fails true b e = e
     fails false b e = refl
 
-pub no_overlap : (plan : Plan) → some_overlap (flat_map (λ (planned : Planned). output_places planned.task) plan) ≡ false → (meeting : Meeting) → ¬ IsOverlap plan meeting
-no_overlap plan apart meeting at =
-    not_true (sym (fewer_pass (λ (output : Path × Place). bytes_eq output.0 meeting.other) (λ output. overlaps meeting.place output.1) (at.front ++ at.back)
-    (none_meet at.front meeting.task meeting.place at.back (ap (λ os. some_overlap (map (λ (output : Path × Place). output.1) os)) (sym at.stands) ∙ (ap some_overlap (places_of plan) ∙ apart)))) ∙ at.overlapped)
+pub no_overlap : (plan : Plan) → some_overlap (flat_map (λ (planned : Planned). output_places planned.task) plan) ≡ false → (conflict : Conflict) → ¬ IsOverlap plan conflict
+no_overlap plan apart conflict at =
+    not_true (sym (fewer_pass (λ (output : Path × Place). bytes_eq output.0 conflict.other) (λ output. overlaps conflict.place output.1) (at.front ++ at.back)
+    (none_meet at.front conflict.task conflict.place at.back (ap (λ os. some_overlap (map (λ (output : Path × Place). output.1) os)) (sym at.stands) ∙ (ap some_overlap (places_of plan) ∙ apart)))) ∙ at.overlapped)
 
 -- ---- Reads
 
@@ -132,25 +132,25 @@ does_read plan reader writer root read = walk (roots_of reader) read.is_root
           | false ↦ λ _ h. or_right (list_any (overlaps r) (output_places writer)) _ (walk roots h)
         ] refl h
 
-pub no_own_input : (plan : Plan) → AllByRecursion (λ (planned : Planned). reads_output_of planned.task planned.task ≡ false) plan → (meeting : Meeting) → ¬ IsOwnInput plan meeting
-no_own_input plan apart meeting at =
-    not_true (sym (of_task (λ task. reads_output_of task task ≡ false) plan at.task apart at.reads.reader_in) ∙ does_read plan at.task at.task meeting.place at.reads)
+pub no_own_input : (plan : Plan) → AllByRecursion (λ (planned : Planned). reads_output_of planned.task planned.task ≡ false) plan → (conflict : Conflict) → ¬ IsOwnInput plan conflict
+no_own_input plan apart conflict at =
+    not_true (sym (of_task (λ task. reads_output_of task task ≡ false) plan at.task apart at.reads.reader_in) ∙ does_read plan at.task at.task conflict.place at.reads)
 
 pub none_undeclared : (plan : Plan) → AllByRecursion (λ (reader : Planned). AllByRecursion (λ (writer : Planned). IsReadInOrder plan reader.task writer.task) plan) plan
-    → (meeting : Meeting) → ¬ IsUndeclared plan meeting
-none_undeclared plan declared meeting at =
+    → (conflict : Conflict) → ¬ IsUndeclared plan conflict
+none_undeclared plan declared conflict at =
     at.not_after (of_task (λ writer. IsReadInOrder plan at.reader writer) plan at.writer
     (of_task (λ reader. AllByRecursion (λ (writer : Planned). IsReadInOrder plan reader writer.task) plan) plan at.reader declared at.reads.reader_in) at.reads.writer_in
-    (does_read plan at.reader at.writer meeting.place at.reads) at.two)
+    (does_read plan at.reader at.writer conflict.place at.reads) at.two)
 
 -- ---- Plans
 
 -- a sound plan in which all tasks become ready has no fault
 pub no_schedule_fault : (plan : Plan) (fault : Fault) → stuck plan [] plan ≡ [] → IsSound plan → ¬ IsScheduleFault plan fault
 no_schedule_fault plan fault ready sound (has_cycle at) = not_false (sym (ap is_empty ready) ∙ at.some_stuck)
-no_schedule_fault plan fault ready sound (has_overlap at) = no_overlap plan sound.outputs_apart at.meeting at.is_least.meets
-no_schedule_fault plan fault ready sound (has_own_input at) = no_own_input plan sound.inputs_apart at.meeting at.is_least.meets
-no_schedule_fault plan fault ready sound (is_undeclared at) = none_undeclared plan sound.declared at.meeting at.is_least.meets
+no_schedule_fault plan fault ready sound (has_overlap at) = no_overlap plan sound.outputs_apart at.conflict at.is_least.meets
+no_schedule_fault plan fault ready sound (has_own_input at) = no_own_input plan sound.inputs_apart at.conflict at.is_least.meets
+no_schedule_fault plan fault ready sound (is_undeclared at) = none_undeclared plan sound.declared at.conflict at.is_least.meets
 
 pub refusals_exclude_plans : (request : Request) (plan : Plan) (fault : Fault) → IsPlan request plan → ¬ IsRefused request fault
 refusals_exclude_plans request plan fault of_plan (inl task_fault) = no_task_fault request plan fault of_plan.schedule task_fault

@@ -107,22 +107,22 @@ pub record IsCircle (plan : Plan) (unplaced : List Path) (circle : List Path) : 
 -- ---- Unsound plans
 
 -- A conflict: two tasks, and a place at which the first overlaps the second.
-pub record Meeting : Type 0 where
+pub record Conflict : Type 0 where
   pub task : Path
   pub other : Path
   pub place : Place
 
 -- by the first task, then by the second, then by the place
-abbrev pub is_before : Meeting → Meeting → Bool
+abbrev pub is_before : Conflict → Conflict → Bool
 is_before a b =
     is_lt
     (ordering_then (byte_order a.task b.task)
     (ordering_then (byte_order a.other b.other) (byte_order a.place b.place)))
 
 -- it is one of these conflicts, and none of them comes before it
-pub record IsLeastMeeting (Meets : Meeting → Type 0) (meeting : Meeting) : Type 0 where
-  pub meets : Meets meeting
-  pub least : (other : Meeting) → Meets other → is_before other meeting ≡ false
+pub record IsLeastConflict (Meets : Conflict → Type 0) (conflict : Conflict) : Type 0 where
+  pub meets : Meets conflict
+  pub least : (other : Conflict) → Meets other → is_before other conflict ≡ false
 
 -- output places, each with the path of its task
 abbrev pub outputs_of : Plan → List (Path × Place)
@@ -130,12 +130,13 @@ outputs_of plan =
     flat_map (λ planned. map (λ place. (planned.task.path, place)) (output_places planned.task)) plan
 
 -- an output place of the first task overlaps another, of the second task or of its own
-pub record IsOverlap (plan : Plan) (meeting : Meeting) : Type 0 where
+pub record IsOverlap (plan : Plan) (conflict : Conflict) : Type 0 where
   pub front : List (Path × Place)
   pub back : List (Path × Place)
-  pub stands : outputs_of plan ≡ front ++ (meeting.task, meeting.place) ∷ back
+  pub stands : outputs_of plan ≡ front ++ (conflict.task, conflict.place) ∷ back
   pub overlapped :
-      list_any (λ output. bytes_eq output.0 meeting.other && overlaps meeting.place output.1) (front ++ back)
+      list_any (λ output. bytes_eq output.0 conflict.other && overlaps conflict.place output.1)
+      (front ++ back)
       ≡ true
 
 -- the second task writes a place that overlaps this root of the first
@@ -146,20 +147,20 @@ pub record IsRead (plan : Plan) (reader writer : TaskDeclaration) (root : Place)
   pub overlapped : list_any (overlaps root) (output_places writer) ≡ true
 
 -- a task reads what it writes itself
-pub record IsOwnInput (plan : Plan) (meeting : Meeting) : Type 0 where
+pub record IsOwnInput (plan : Plan) (conflict : Conflict) : Type 0 where
   pub task : TaskDeclaration
-  pub is_task : meeting.task ≡ task.path
-  pub is_same : meeting.other ≡ task.path
-  pub reads : IsRead plan task task meeting.place
+  pub is_task : conflict.task ≡ task.path
+  pub is_same : conflict.other ≡ task.path
+  pub reads : IsRead plan task task conflict.place
 
 -- a task reads what another writes, and does not come after it
-pub record IsUndeclared (plan : Plan) (meeting : Meeting) : Type 0 where
+pub record IsUndeclared (plan : Plan) (conflict : Conflict) : Type 0 where
   pub reader : TaskDeclaration
   pub writer : TaskDeclaration
-  pub is_reader : meeting.task ≡ reader.path
-  pub is_writer : meeting.other ≡ writer.path
+  pub is_reader : conflict.task ≡ reader.path
+  pub is_writer : conflict.other ≡ writer.path
   pub two : bytes_eq reader.path writer.path ≡ false
-  pub reads : IsRead plan reader writer meeting.place
+  pub reads : IsRead plan reader writer conflict.place
   pub not_after : ¬ IsAfter plan reader writer.path
 
 -- ---- The refusal
@@ -169,32 +170,32 @@ pub record IsCycleFault (plan : Plan) (fault : Fault) : Type 0 where
   pub some_stuck : is_empty (stuck plan [] plan) ≡ false
   pub circle : List Path
   pub is_circle : IsCircle plan (order (stuck plan [] plan)) circle
-  pub told : fault ≡ faults.Cycle circle
+  pub reported : fault ≡ faults.Cycle circle
 
 -- all become ready, and outputs overlap
 pub record IsOverlapFault (plan : Plan) (fault : Fault) : Type 0 where
   pub all_ready : stuck plan [] plan ≡ []
-  pub meeting : Meeting
-  pub is_least : IsLeastMeeting (IsOverlap plan) meeting
-  pub told : fault ≡ faults.OverlappingOutputs meeting.task meeting.other meeting.place
+  pub conflict : Conflict
+  pub is_least : IsLeastConflict (IsOverlap plan) conflict
+  pub reported : fault ≡ faults.OverlappingOutputs conflict.task conflict.other conflict.place
 
 -- all become ready, no outputs overlap, and a task reads its own
 pub record IsOwnInputFault (plan : Plan) (fault : Fault) : Type 0 where
   pub all_ready : stuck plan [] plan ≡ []
-  pub outputs_apart : (other : Meeting) → ¬ IsOverlap plan other
-  pub meeting : Meeting
-  pub is_least : IsLeastMeeting (IsOwnInput plan) meeting
-  pub told : fault ≡ faults.OwnOutputAsInput meeting.task meeting.place
+  pub outputs_apart : (other : Conflict) → ¬ IsOverlap plan other
+  pub conflict : Conflict
+  pub is_least : IsLeastConflict (IsOwnInput plan) conflict
+  pub reported : fault ≡ faults.OwnOutputAsInput conflict.task conflict.place
 
 -- all become ready, no outputs overlap, none is read by its own task, and a task reads another's that it
 -- does not come after
 pub record IsUndeclaredFault (plan : Plan) (fault : Fault) : Type 0 where
   pub all_ready : stuck plan [] plan ≡ []
-  pub outputs_apart : (other : Meeting) → ¬ IsOverlap plan other
-  pub inputs_apart : (other : Meeting) → ¬ IsOwnInput plan other
-  pub meeting : Meeting
-  pub is_least : IsLeastMeeting (IsUndeclared plan) meeting
-  pub told : fault ≡ faults.UndeclaredDependency meeting.task meeting.other meeting.place
+  pub outputs_apart : (other : Conflict) → ¬ IsOverlap plan other
+  pub inputs_apart : (other : Conflict) → ¬ IsOwnInput plan other
+  pub conflict : Conflict
+  pub is_least : IsLeastConflict (IsUndeclared plan) conflict
+  pub reported : fault ≡ faults.UndeclaredDependency conflict.task conflict.other conflict.place
 
 -- the fault of a schedule of tasks that are declared
 pub data IsScheduleFault (plan : Plan) (fault : Fault) : Type 0 where

@@ -10,19 +10,19 @@ use Rattle.gb_registry.specs.Said as said
 use Rattle.gb_registry.specs.Source.{Source}
 use Rattle.gb_registry.specs.Tables.{Tables}
 use Rattle.gb_declare.specs.Realised.{Trouble, Plain, Endless, realised}
-use Rattle.gb_declare.specs.Told.{IsTold}
+use Rattle.gb_declare.specs.Reported.{IsReported}
 use Rattle.gb_evaluate.specs.Over.{Tells}
 use Rattle.gb_project.proofs.FindLemmas.{find_made, found_made}
-use Rattle.gb_declare.proofs.CircleNamesLemmas.{told_by_names}
+use Rattle.gb_declare.proofs.CircleNamesLemmas.{reported_by_names}
 use Rattle.gb_declare.proofs.RisingLemmas.{realised_names_rise}
 use Rattle.gb_project.proofs.SoundLemmas.{paths_said}
 use Rattle.gb_declare.specs.Registered.{DeclaredNamesRise, declaration_of, registry_said, settled}
 
 module _ {M F Z S A : Type 0} (tables : Tables M F Z S A) (source : Source) where
   -- a trouble is reported by the fault that `settled` gives
-  settled_as : (trouble : Trouble) (fault : Fault) → IsTold tables source trouble fault → settled tables source (Err trouble) ≡ Err fault
-  settled_as (Plain known) fault told = ap Err (sym told)
-  settled_as (Endless entry) fault told = ap Err (sym (told_by_names tables source entry fault told))
+  settled_as : (trouble : Trouble) (fault : Fault) → IsReported tables source trouble fault → settled tables source (Err trouble) ≡ Err fault
+  settled_as (Plain known) fault reported = ap Err (sym reported)
+  settled_as (Endless entry) fault reported = ap Err (sym (reported_by_names tables source entry fault reported))
 
   module _ (path : Path) (there : has_path (paths_of (registry_said tables source)) path ≡ true) where
     stands : declaration_at (registry_said tables source) path ≡ Some (declaration_of tables source path)

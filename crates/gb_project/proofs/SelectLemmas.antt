@@ -167,11 +167,11 @@ module _ (names : Names) (word : Text) where
     without_fault (Ok found) none = sym same_faults ∙ none
     without_fault (Err fault) first = tt
 
-    pub first_told : (answer : Result (List Path) Fault) → TellsFirst (word_faults names word) answer
+    pub first_reported : (answer : Result (List Path) Fault) → TellsFirst (word_faults names word) answer
         → IfErr answer (λ fault. (fault ≡ faults.OutOfMemory) ⊎ (first_of (refusal.word_faults registry word) ≡ Some fault))
-    first_told (Ok found) none = tt
-    first_told (Err fault) (inl memory) = inl memory
-    first_told (Err fault) (inr first) = inr (ap first_of (sym same_faults) ∙ as_first (word_faults names word) fault first)
+    first_reported (Ok found) none = tt
+    first_reported (Err fault) (inl memory) = inl memory
+    first_reported (Err fault) (inr first) = inr (ap first_of (sym same_faults) ∙ as_first (word_faults names word) fault first)
       where
         as_first : (all : List Fault) (fault : Fault) → first_fault all ≡ Some fault → first_of all ≡ Some fault
         as_first [] fault first = absurd (cc)

@@ -144,8 +144,8 @@ module _ {M F Z S A : Type 0} (tables : Tables M F Z S A) (source : Source) (nod
   pub entry_within : index < length all.entries.items
   entry_within = subst (λ n. index < n) (length-map all.entries.items (option_map entry_of)) (slice_get_within (entries_of all.entries.items) index there.entry there.entry_there)
 
-  its_fault : (told : Option Fault) → told ≡ get_or all.faults.items index told → there.fault ≡ told
-  its_fault told at = some_same there.fault told (sym there.fault_there ∙ slice_get_read all.faults.items (length all.faults.items) index told refl fault_within at)
+  its_fault : (reported : Option Fault) → reported ≡ get_or all.faults.items index reported → there.fault ≡ reported
+  its_fault reported at = some_same there.fault reported (sym there.fault_there ∙ slice_get_read all.faults.items (length all.faults.items) index reported refl fault_within at)
 
   its_entry : (e : Option coded.DeclaredTask) → e ≡ get_or all.entries.items index e → there.entry ≡ option_map entry_of e
   its_entry e at =
@@ -156,24 +156,24 @@ module _ {M F Z S A : Type 0} (tables : Tables M F Z S A) (source : Source) (nod
   realised_is : realised tables source path ≡ realised_at tables source it.at (result_of it.at)
   realised_is = ap (realised_if tables source path) it.found
 
-  pub at_fault : (told : Option Fault) (fault : Fault) → told ≡ get_or all.faults.items index told → told ≡ Some fault → realised tables source path ≡ Err (Plain fault)
-  at_fault told fault at some =
-      realised_is ∙ ap (realised_at tables source it.at) (by there.entry (subst (λ f. IsKeptAs tables source number nodes it.at f there.entry) (its_fault told at ∙ some) there.kept))
+  pub at_fault : (reported : Option Fault) (fault : Fault) → reported ≡ get_or all.faults.items index reported → reported ≡ Some fault → realised tables source path ≡ Err (Plain fault)
+  at_fault reported fault at some =
+      realised_is ∙ ap (realised_at tables source it.at) (by there.entry (subst (λ f. IsKeptAs tables source number nodes it.at f there.entry) (its_fault reported at ∙ some) there.kept))
     where
       by : (e : Option DeclaredTask) → IsKeptAs tables source number nodes it.at (Some fault) e → result_of it.at ≡ Err fault
       by None declared_is = declared_is
       by (Some entry) none = absurd none
 
-  kept_of : (told : Option Fault) (e : Option coded.DeclaredTask) → told ≡ get_or all.faults.items index told → told ≡ None → e ≡ get_or all.entries.items index e → IsKeptAs tables source number nodes it.at None (option_map entry_of e)
-  kept_of told e at none at_e =
-      subst (IsKeptAs tables source number nodes it.at None) (its_entry e at_e) (subst (λ f. IsKeptAs tables source number nodes it.at f there.entry) (its_fault told at ∙ none) there.kept)
+  kept_of : (reported : Option Fault) (e : Option coded.DeclaredTask) → reported ≡ get_or all.faults.items index reported → reported ≡ None → e ≡ get_or all.entries.items index e → IsKeptAs tables source number nodes it.at None (option_map entry_of e)
+  kept_of reported e at none at_e =
+      subst (IsKeptAs tables source number nodes it.at None) (its_entry e at_e) (subst (λ f. IsKeptAs tables source number nodes it.at f there.entry) (its_fault reported at ∙ none) there.kept)
 
-  pub entry_is : (told : Option Fault) (e : Option coded.DeclaredTask) → told ≡ get_or all.faults.items index told → told ≡ None → e ≡ get_or all.entries.items index e → e ≡ None → ⊥
-  entry_is told e at none at_e gone = subst (λ o. IsKeptAs tables source number nodes it.at None (option_map entry_of o)) gone (kept_of told e at none at_e)
+  pub entry_is : (reported : Option Fault) (e : Option coded.DeclaredTask) → reported ≡ get_or all.faults.items index reported → reported ≡ None → e ≡ get_or all.entries.items index e → e ≡ None → ⊥
+  entry_is reported e at none at_e gone = subst (λ o. IsKeptAs tables source number nodes it.at None (option_map entry_of o)) gone (kept_of reported e at none at_e)
 
-  pub entry_kept : (told : Option Fault) (e : Option coded.DeclaredTask) (entry : coded.DeclaredTask) → told ≡ get_or all.faults.items index told → told ≡ None → e ≡ get_or all.entries.items index e → e ≡ Some entry
+  pub entry_kept : (reported : Option Fault) (e : Option coded.DeclaredTask) (entry : coded.DeclaredTask) → reported ≡ get_or all.faults.items index reported → reported ≡ None → e ≡ get_or all.entries.items index e → e ≡ Some entry
       → IsKept tables source number nodes it.at (entry_of entry)
-  entry_kept told e entry at none at_e some = subst (λ o. IsKeptAs tables source number nodes it.at None (option_map entry_of o)) some (kept_of told e at none at_e)
+  entry_kept reported e entry at none at_e some = subst (λ o. IsKeptAs tables source number nodes it.at None (option_map entry_of o)) some (kept_of reported e at none at_e)
 
   module _ (entry : coded.DeclaredTask) (is_kept : IsKept tables source number nodes it.at (entry_of entry)) where
     pub row_within : AreWithin nodes entry.row.items

@@ -101,7 +101,7 @@ fn evaluated_entry<A: Actions, T: Transforms>(
     requires within { AreWithin providers.old.nodes entry.now.row.items }
     requires count { length entry.now.row.items ≡ length (trees_of (joined_of entry.now.task)) }
     requires patterns { HavePatterns (joined_of entry.now.task).files }
-    ensures told { let tables = tables_of T.meanings A.meanings context.now.tables.now in
+    ensures reported { let tables = tables_of T.meanings A.meanings context.now.tables.now in
         TellsOf tables (known_names context.now.projects.now context.now.tasks.now)
         context.now.faults.now providers.old.nodes (IsBuiltIn path.now entry.now.build)
         entry.now.row.items (trees_of (joined_of entry.now.task))
@@ -134,7 +134,7 @@ fn realised_at<A: Actions, T: Transforms>(
     requires kept { IsKeptIn (tables_of T.meanings A.meanings tables.now) registry.now
         (stage_of providers.old.nodes declared.now) }
     requires index { position (bytes_eq path.now) registry.now.names.tasks ≡ Some index }
-    ensures told { let tables = tables_of T.meanings A.meanings tables.now in
+    ensures reported { let tables = tables_of T.meanings A.meanings tables.now in
         Tells tables registry.now (realised tables registry.now path.now) result }
     ensures kept { providers.new ≡ providers.old }
 {
@@ -164,7 +164,7 @@ fn realised<A: Actions, T: Transforms>(
 ) -> Result<TaskDeclaration, Fault>
     requires kept { IsKeptIn (tables_of T.meanings A.meanings tables.now) registry.now
         (stage_of providers.old.nodes declared.now) }
-    ensures told { let tables = tables_of T.meanings A.meanings tables.now in
+    ensures reported { let tables = tables_of T.meanings A.meanings tables.now in
         Tells tables registry.now (realised tables registry.now path.now) result }
     ensures kept { providers.new ≡ providers.old }
 {
@@ -244,7 +244,7 @@ impl<'a, A: Actions, T: Transforms> Workspace<'a, A, T> {
     /// of the script, then of its values. A path under which no task is registered is 50 or 52.
     /// Values that were read are cached; the workspace as contracts see it is unchanged.
     pub fn realise(&mut self, alloc: Global, path: &TaskPath) -> Result<TaskDeclaration, Fault>
-        ensures told { let tables = tables_of T.meanings A.meanings self.old.tables in
+        ensures reported { let tables = tables_of T.meanings A.meanings self.old.tables in
             Tells tables self.old.source (realised tables self.old.source path.now) result }
         ensures kept { self.new ≡ self.old }
     {

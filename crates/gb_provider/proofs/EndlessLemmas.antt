@@ -18,7 +18,7 @@ use Rattle.gb_provider.specs.declared.reading.Reading.TheVariants.{Settles}
 use Rattle.gb_provider.specs.Answers.{IsGot, value_of}
 use Rattle.gb_provider.specs.Called.{Called}
 use Rattle.gb_provider.specs.Meanings.{Meanings, meaning_of}
-use Rattle.gb_provider.specs.Produced.{IsEndlessTold, carrier, carriers, carry_all, carry_property, carry_side, choose_tasks, chosen_tasks, on_tasks, produced_by}
+use Rattle.gb_provider.specs.Produced.{IsEndlessReported, carrier, carriers, carry_all, carry_property, carry_side, choose_tasks, chosen_tasks, on_tasks, produced_by}
 use Rattle.gb_core.specs.Tasks.{with_tasks}
 use Rattle.gb_provider.specs.Remembered.{AreWithin}
 use Rattle.gb_provider.specs.Rounds.{Rule, Answers, Reads, after_operand, and_then, answer_after, reading, settled}
@@ -114,9 +114,9 @@ module _ {M F Z S : Type 0} (meanings : Meanings M F Z S) (nodes : List (Express
         (length (carriers meanings nodes)) entry (Endless chooser) is
 
   -- the result for a value that never has an answer
-  pub endless_told : (chooser : ℕ) → value_of meanings nodes chooser ≡ None → (fault : ProviderFault) → IsGot meanings nodes chooser (Err fault) → IsEndlessTold meanings nodes chooser fault
-  endless_told chooser none (faults.Circular names) got = got
-  endless_told chooser none (faults.Step fault) got = absurd got
-  endless_told chooser none faults.NoValue got = absurd got
-  endless_told chooser none (faults.Value fault) got = cc
-  endless_told chooser none faults.OutOfMemory got = tt
+  pub endless_reported : (chooser : ℕ) → value_of meanings nodes chooser ≡ None → (fault : ProviderFault) → IsGot meanings nodes chooser (Err fault) → IsEndlessReported meanings nodes chooser fault
+  endless_reported chooser none (faults.Circular names) got = got
+  endless_reported chooser none (faults.Step fault) got = absurd got
+  endless_reported chooser none faults.NoValue got = absurd got
+  endless_reported chooser none (faults.Value fault) got = cc
+  endless_reported chooser none faults.OutOfMemory got = tt

@@ -74,9 +74,9 @@ some_known None some = absurd (some refl)
 some_known (Some a) some = (a, refl)
 
 -- an evaluation that ends with the end of its path, which is a circle
-pub circle_told : {A : Type 0} (rules : List (Rule A)) (entry : ℕ) (states : List (State A)) (path : List ℕ) (operand : ℕ) (result : Result (Option (Vec ℕ Global)) AllocError) → ((k : ℕ) → k < length path → slice_index path k ≡ operand → (answer rules entry ≡ None) × IsCircle rules entry (drop k path)) → IsPathEnd path operand result → IsEvaluated rules entry states result
-circle_told rules entry states path operand (Ok (Some circle)) all ends =
+pub circle_reported : {A : Type 0} (rules : List (Rule A)) (entry : ℕ) (states : List (State A)) (path : List ℕ) (operand : ℕ) (result : Result (Option (Vec ℕ Global)) AllocError) → ((k : ℕ) → k < length path → slice_index path k ≡ operand → (answer rules entry ≡ None) × IsCircle rules entry (drop k path)) → IsPathEnd path operand result → IsEvaluated rules entry states result
+circle_reported rules entry states path operand (Ok (Some circle)) all ends =
     let found = all ends.0 ends.1 ends.2 in
     (found.0, rw ends.3 found.1)
-circle_told rules entry states path operand (Ok None) all ends = absurd ends
-circle_told rules entry states path operand (Err failed) all ends = tt
+circle_reported rules entry states path operand (Ok None) all ends = absurd ends
+circle_reported rules entry states path operand (Err failed) all ends = tt

@@ -65,9 +65,9 @@ round_twice names place within =
     ∙ (ap (λ n. take n (drop place names ++ names)) count ∙ take-append-add (drop place names) names place)
 
 -- of names that occur twice in a row the least rotation is returned
-pub told_round : (names : List (List ℕ)) (place : ℕ) (round : List (List ℕ)) → place ≤ length names → round ≡ take (length names) (drop place (names ++ names))
+pub reported_round : (names : List (List ℕ)) (place : ℕ) (round : List (List ℕ)) → place ≤ length names → round ≡ take (length names) (drop place (names ++ names))
     → ((k : ℕ) → k < length names → names_order (take (length names) (drop place (names ++ names))) (take (length names) (drop k (names ++ names))) ≢ Greater) → IsLeastRound names round
-told_round names place round within is all = (
+reported_round names place round within is all = (
   (place, is ∙ round_twice names place within),
   λ k below.
       subst (λ other. names_order round other ≢ Greater) (round_twice names k (omega arith))

@@ -10,7 +10,7 @@ use Rattle.gb_provider.specs.declared.reading.State.{State}
 use Rattle.gb_provider.specs.declared.reading.State.TheVariants.{New, Open}
 use Rattle.gb_provider.specs.Answers.{IsGot}
 use Rattle.gb_provider.specs.Meanings.{Meanings}
-use Rattle.gb_provider.specs.Remembered.{IsTold, IsRemembered}
+use Rattle.gb_provider.specs.Remembered.{IsReported, IsRemembered}
 use Rattle.gb_provider.specs.Rounds.{Rule, answer}
 use Rattle.gb_provider.specs.Rules.{rules}
 use Rattle.gb_provider.specs.Search.{IsSound, known}
@@ -44,12 +44,12 @@ module _ {A : Type 0} where
   }
 
 -- a known answer that is returned is the result of `get`
-pub told_got : {M F Z S : Type 0} (meanings : Meanings M F Z S) (nodes : List (Expression M F Z)) (number : ℕ) (o : Option Outcome) → ((a : Outcome) → o ≡ Some a → answer (rules meanings nodes) number ≡ Some a)
-    → (result : Result (Option Value) ProviderFault) → IsTold o result → IsGot meanings nodes number result
-told_got meanings nodes number o right (Ok (Some value)) told = right _ told
-told_got meanings nodes number o right (Ok None) told = right _ told
-told_got meanings nodes number o right (Err (faults.Circular names)) told = absurd told
-told_got meanings nodes number o right (Err (faults.Step fault)) told = absurd told
-told_got meanings nodes number o right (Err faults.NoValue) told = absurd told
-told_got meanings nodes number o right (Err (faults.Value fault)) told = right _ told
-told_got meanings nodes number o right (Err faults.OutOfMemory) told = tt
+pub reported_got : {M F Z S : Type 0} (meanings : Meanings M F Z S) (nodes : List (Expression M F Z)) (number : ℕ) (o : Option Outcome) → ((a : Outcome) → o ≡ Some a → answer (rules meanings nodes) number ≡ Some a)
+    → (result : Result (Option Value) ProviderFault) → IsReported o result → IsGot meanings nodes number result
+reported_got meanings nodes number o right (Ok (Some value)) reported = right _ reported
+reported_got meanings nodes number o right (Ok None) reported = right _ reported
+reported_got meanings nodes number o right (Err (faults.Circular names)) reported = absurd reported
+reported_got meanings nodes number o right (Err (faults.Step fault)) reported = absurd reported
+reported_got meanings nodes number o right (Err faults.NoValue) reported = absurd reported
+reported_got meanings nodes number o right (Err (faults.Value fault)) reported = right _ reported
+reported_got meanings nodes number o right (Err faults.OutOfMemory) reported = tt

@@ -38,6 +38,6 @@ table_fault_number tables.DuplicateTransform = 37
 table_fault_number tables.OutOfMemory = 3
 
 -- why a table did not take a function
-abbrev pub told_of : AddFault → TableFault
-told_of adding.Taken = tables.DuplicateTransform
-told_of adding.OutOfMemory = tables.OutOfMemory
+abbrev pub reported_of : AddFault → TableFault
+reported_of adding.Taken = tables.DuplicateTransform
+reported_of adding.OutOfMemory = tables.OutOfMemory

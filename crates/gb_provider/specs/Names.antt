@@ -49,9 +49,9 @@ IsLeastRound names round =
     × ((k : ℕ) → k < length names → names_order round (round_from names k) ≢ Greater)
 
 -- a circle is reported with its names, unless memory runs out
-abbrev pub IsCircleTold : {M F Z : Type 0} → List (Expression M F Z) → List ℕ → ProviderFault → Type 0
-IsCircleTold nodes circle (faults.Circular names) = IsLeastRound (names_on nodes circle) names
-IsCircleTold nodes circle (faults.Step fault) = ⊥
-IsCircleTold nodes circle faults.NoValue = ⊥
-IsCircleTold nodes circle (faults.Value fault) = ⊥
-IsCircleTold nodes circle faults.OutOfMemory = Unit {0}
+abbrev pub IsCircleReported : {M F Z : Type 0} → List (Expression M F Z) → List ℕ → ProviderFault → Type 0
+IsCircleReported nodes circle (faults.Circular names) = IsLeastRound (names_on nodes circle) names
+IsCircleReported nodes circle (faults.Step fault) = ⊥
+IsCircleReported nodes circle faults.NoValue = ⊥
+IsCircleReported nodes circle (faults.Value fault) = ⊥
+IsCircleReported nodes circle faults.OutOfMemory = Unit {0}

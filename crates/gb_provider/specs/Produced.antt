@@ -125,14 +125,15 @@ module _ {M F Z S : Type 0} (meanings : Meanings M F Z S) where
       AreProducers (Err providers.OutOfMemory) = Unit {0}
 
 -- the fault that reports that the value of an expression never has an answer
-abbrev pub IsEndlessTold : {M F Z S : Type 0} → Meanings M F Z S → List (Expression M F Z) → ℕ → ProviderFault
+abbrev pub IsEndlessReported : {M F Z S : Type 0} → Meanings M F Z S → List (Expression M F Z) → ℕ
+    → ProviderFault
     → Type 0
-IsEndlessTold meanings nodes chooser (providers.Circular names) =
+IsEndlessReported meanings nodes chooser (providers.Circular names) =
     IsFault meanings nodes chooser (providers.Circular names)
-IsEndlessTold meanings nodes chooser (providers.Step fault) = ⊥
-IsEndlessTold meanings nodes chooser providers.NoValue = ⊥
-IsEndlessTold meanings nodes chooser (providers.Value fault) = ⊥
-IsEndlessTold meanings nodes chooser providers.OutOfMemory = Unit {0}
+IsEndlessReported meanings nodes chooser (providers.Step fault) = ⊥
+IsEndlessReported meanings nodes chooser providers.NoValue = ⊥
+IsEndlessReported meanings nodes chooser (providers.Value fault) = ⊥
+IsEndlessReported meanings nodes chooser providers.OutOfMemory = Unit {0}
 
 -- the invariant of providers: operands are expressions of the table, and cached answers are right
 pub record AreKept {M F Z S : Type 0} (meanings : Meanings M F Z S) (nodes : List (Expression M F Z))

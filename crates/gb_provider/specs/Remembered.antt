@@ -24,11 +24,11 @@ abbrev pub IsForgotten : {A : Type 0} → ℕ → List (State A) → List (State
 IsForgotten entry old new = (new ≡ []) ⊎ ((new ≡ old) × (known old entry ≡ None))
 
 -- how an answer is returned
-abbrev pub IsTold : Option Outcome → Result (Option Value) ProviderFault → Type 0
-IsTold answer (Ok (Some value)) = answer ≡ Some (Given value)
-IsTold answer (Ok None) = answer ≡ Some Absent
-IsTold answer (Err (faults.Circular names)) = ⊥
-IsTold answer (Err (faults.Step fault)) = ⊥
-IsTold answer (Err faults.NoValue) = ⊥
-IsTold answer (Err (faults.Value fault)) = answer ≡ Some (Refused fault)
-IsTold answer (Err faults.OutOfMemory) = Unit {0}
+abbrev pub IsReported : Option Outcome → Result (Option Value) ProviderFault → Type 0
+IsReported answer (Ok (Some value)) = answer ≡ Some (Given value)
+IsReported answer (Ok None) = answer ≡ Some Absent
+IsReported answer (Err (faults.Circular names)) = ⊥
+IsReported answer (Err (faults.Step fault)) = ⊥
+IsReported answer (Err faults.NoValue) = ⊥
+IsReported answer (Err (faults.Value fault)) = answer ≡ Some (Refused fault)
+IsReported answer (Err faults.OutOfMemory) = Unit {0}

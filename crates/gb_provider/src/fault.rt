@@ -231,9 +231,9 @@ impl TableFault {
 
 impl From<AddFault> for TableFault {
     ghost use Rattle.std.specs.Prelude.{◌≡◌};
-    ghost use Rattle.gb_provider.specs.Faults.{told_of};
+    ghost use Rattle.gb_provider.specs.Faults.{reported_of};
 
-    ghost from_gives = { λ fault told. told ≡ told_of fault };
+    ghost from_gives = { λ fault reported. reported ≡ reported_of fault };
 
     fn from(fault: AddFault) -> TableFault {
         match fault {

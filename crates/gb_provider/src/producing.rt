@@ -1,7 +1,7 @@
 //! Finds the tasks that produce the value of an expression, and caches them.
 ghost use Rattle.std.specs.Prelude.{◌≡◌, ◌≢◌, ◌<◌, None, length};
 ghost use Rattle.gb_provider.specs.Answers.{value_of};
-ghost use Rattle.gb_provider.specs.Produced.{AreProducers, IsEndlessTold, carriers};
+ghost use Rattle.gb_provider.specs.Produced.{AreProducers, IsEndlessReported, carriers};
 ghost use Rattle.gb_provider.specs.Indexed.{IsIndexed};
 ghost use Rattle.gb_provider.specs.Remembered.{AreWithin, IsRemembered};
 ghost use Rattle.gb_provider.specs.Rules.{rules};
@@ -67,7 +67,7 @@ fn tell_endless<T: Transforms>(
     requires within { AreWithin nodes.now }
     requires values { IsRemembered (rules T.meanings nodes.now) values.old.items }
     ensures values { IsRemembered (rules T.meanings nodes.now) values.new.items }
-    ensures told { IsEndlessTold T.meanings nodes.now chooser result }
+    ensures reported { IsEndlessReported T.meanings nodes.now chooser result }
 {
     match recall::<T>(alloc, nodes, outputs, values, chooser) {
         Ok(_) => unreachable!(),

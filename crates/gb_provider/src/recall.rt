@@ -3,8 +3,8 @@ ghost use Rattle.std.specs.Prelude.{◌≡◌, ◌≢◌, ◌<◌, ◌≤◌, �
 ghost use Rattle.std.specs.Bool.{OnFalse};
 ghost use Rattle.gb_provider.specs.Answers.{IsGot, value_of};
 ghost use Rattle.gb_provider.specs.Indexed.{IsIndexed};
-ghost use Rattle.gb_provider.specs.Names.{IsCircleTold};
-ghost use Rattle.gb_provider.specs.Remembered.{AreWithin, IsForgotten, IsRemembered, IsTold};
+ghost use Rattle.gb_provider.specs.Names.{IsCircleReported};
+ghost use Rattle.gb_provider.specs.Remembered.{AreWithin, IsForgotten, IsRemembered, IsReported};
 ghost use Rattle.gb_provider.specs.Rules.{rules};
 ghost use Rattle.gb_provider.specs.Search.{IsEvaluated, known};
 
@@ -63,7 +63,7 @@ fn tell(
 ) -> Result<Option<Value>, ProviderFault>
     requires within { number < length states.now }
     requires known { known states.now number ≢ None }
-    ensures { IsTold (known states.now number) result }
+    ensures { IsReported (known states.now number) result }
 {
     match known_at(states, number) {
         Some(Outcome::Given(value)) => Ok(Some(value.copy(alloc)?)),
@@ -102,7 +102,7 @@ pub(crate) fn tell_circle<M, F, Z>(
     nodes: &[Expression<M, F, Z>],
     circle: &[usize],
 ) -> ProviderFault
-    ensures { IsCircleTold nodes.now circle.now result }
+    ensures { IsCircleReported nodes.now circle.now result }
 {
     match circle_names(alloc, nodes, circle) {
         Ok(names) => ProviderFault::Circular(names),

@@ -10,7 +10,7 @@ use Rattle.gb_core.proofs.Found.{tied_same}
 use Rattle.gb_core.specs.Lists.{byte_order}
 use Rattle.gb_core.specs.declared.value.Value.{Value}
 use Rattle.gb_core.specs.declared.value.Value.TheVariants as values
-use Rattle.gb_action.proofs.Told.{is_change-told, told-is_change}
+use Rattle.gb_action.proofs.Reported.{is_change-reported, reported-is_change}
 use Rattle.gb_action.specs.Changes.{IsChange, changes_between}
 use Rattle.gb_action.specs.Files.{Tree, file_at}
 use Rattle.gb_action.specs.Shapes.{is_form}
@@ -83,7 +83,7 @@ form_own forms.Dir = refl
 -- a list of changes without a change
 module _ (old new : Tree) (none : changes_between old new ≡ []) where
   no_change : (change : Change) → IsChange old new change → ⊥
-  no_change change is = none_of (changes_between old new) change none (is_change-told old new change is)
+  no_change change is = none_of (changes_between old new) change none (is_change-reported old new change is)
 
   same_at : (path : List ℕ) (o n : Option (List ℕ)) → file_at old path ≡ o → file_at new path ≡ n → file_at old path ≡ file_at new path
   same_at path None None p q = p ∙ sym q
@@ -115,7 +115,7 @@ none_between tree = by (changes_between tree tree) refl
     by : (changes : List Change) → changes_between tree tree ≡ changes → changes ≡ []
     by [] e = refl
     by (change ∷ changes) e =
-        absurd (never change (told-is_change tree tree change (subst (λ l. Contains l change) (sym e) (contains_first change changes))))
+        absurd (never change (reported-is_change tree tree change (subst (λ l. Contains l change) (sym e) (contains_first change changes))))
       where
         none_some : (o : Option (List ℕ)) → o ≡ None → is_some o ≡ true → ⊥
         none_some o e some = true≢false (sym some ∙ ap is_some e)

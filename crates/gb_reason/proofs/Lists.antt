@@ -46,23 +46,23 @@ from_map f (x ∷ xs) y h = elim (Contains-append_cases (f x ∷ []) (map f xs) 
 ]
 
 -- the pair that an element comes from
-pub record Told {X Y : Type 0} (E : X → X → Bool) (f : X × X → List Y) (xs ys : List X) (y : Y) : Type 0 where
+pub record Reported {X Y : Type 0} (E : X → X → Bool) (f : X × X → List Y) (xs ys : List X) (y : Y) : Type 0 where
   pub old : X
   pub new : X
   pub in_old : Contains xs old
   pub in_new : Contains ys new
   pub declared : E old new ≡ true
-  pub told : Contains (f (old, new)) y
+  pub reported : Contains (f (old, new)) y
 
 pub from_pairs : {X Y : Type 0} (E : X → X → Bool) (f : X × X → List Y) (xs ys : List X) (y : Y) → pointwise E xs ys ≡ true
-    → Contains (flat_map f (zip xs ys)) y → Told E f xs ys y
+    → Contains (flat_map f (zip xs ys)) y → Reported E f xs ys y
 from_pairs E f [] ys y e h = absurd (contains_none y h)
 from_pairs E f (a ∷ xs) [] y e h = absurd (contains_none y h)
 from_pairs E f (a ∷ xs) (b ∷ ys) y e h =
     let parts = and_parts (E a b) (pointwise E xs ys) e in
     elim (Contains-append_cases (f (a, b)) (flat_map f (zip xs ys)) y h) [
       | inl here ↦
-          record { old = a; new = b; in_old = contains_first a xs; in_new = contains_first b ys; declared = parts.0; told = here }
+          record { old = a; new = b; in_old = contains_first a xs; in_new = contains_first b ys; declared = parts.0; reported = here }
       | inr later ↦
           let t = from_pairs E f xs ys y parts.1 later in
           record {
@@ -71,7 +71,7 @@ from_pairs E f (a ∷ xs) (b ∷ ys) y e h =
             in_old = contains_later a xs t.old t.in_old;
             in_new = contains_later b ys t.new t.in_new;
             declared = t.declared;
-            told = t.told;
+            reported = t.reported;
           }
     ]
 

@@ -25,9 +25,9 @@ module _ {X : Type 0} (E : X → X → Bool) (xs ys : List X) (i : ℕ) (x y : X
   one_fails all so_far here = so_far ∙ one_tested ∙ ap (λ b. b && pointwise E (drop (i + 1) xs) (drop (i + 1) ys)) here
 
   -- one pair gives its reasons
-  pub one_told : {Y : Type 0} (f : X × X → List Y) (all out more : List Y) → out ++ flat_map f (zip (drop i xs) (drop i ys)) ≡ all → more ≡ out ++ f (x, y)
+  pub one_reported : {Y : Type 0} (f : X × X → List Y) (all out more : List Y) → out ++ flat_map f (zip (drop i xs) (drop i ys)) ≡ all → more ≡ out ++ f (x, y)
       → more ++ flat_map f (zip (drop (i + 1) xs) (drop (i + 1) ys)) ≡ all
-  one_told f all out more so_far here =
+  one_reported f all out more so_far here =
       let later = flat_map f (zip (drop (i + 1) xs) (drop (i + 1) ys)) in
       ap (λ l. l ++ later) here ∙ append_assoc out (f (x, y)) later
       ∙ ap₂ (λ a b. out ++ flat_map f (zip a b)) (sym (rest xs i x low at)) (sym (rest ys i y high to)) ∙ so_far
@@ -49,8 +49,8 @@ pub all_passed : {X : Type 0} (E : X → X → Bool) (xs ys : List X) (i : ℕ) 
 all_passed E xs ys i long end =
     ap₂ (pointwise E) (drop_all i xs (omega arith)) (drop_all i ys (omega arith))
 
-pub all_told : {X Y : Type 0} (f : X × X → List Y) (xs ys : List X) (i : ℕ) → i ≡ length xs → zip (drop i xs) (drop i ys) ≡ []
-all_told f xs ys i end = ap (λ l. zip l (drop i ys)) (drop_all i xs (omega arith))
+pub all_reported : {X Y : Type 0} (f : X × X → List Y) (xs ys : List X) (i : ℕ) → i ≡ length xs → zip (drop i xs) (drop i ys) ≡ []
+all_reported f xs ys i end = ap (λ l. zip l (drop i ys)) (drop_all i xs (omega arith))
 
 -- what holds of the rest and of one more
 pub all_from : {X : Type 0} (P : X → Type 0) (xs : List X) (i : ℕ) (x : X) → i < length xs → x ≡ get_or xs i x → P x → AllByRecursion P (drop (i + 1) xs)

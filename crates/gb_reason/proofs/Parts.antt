@@ -4,7 +4,7 @@ use Rattle.std.specs.Cmp.Lexicographic.{pointwise}
 use Rattle.std.specs.List.{AllByRecursion, Contains, flat_map, zip}
 use Rattle.gb_reason.specs.Reasons.{part}
 use Rattle.gb_reason.specs.declared.reason.Reason.{Reason}
-use Rattle.gb_reason.proofs.Lists.{Told, contains_one, from_pairs, none_of_same, own_pairs, same_pairs}
+use Rattle.gb_reason.proofs.Lists.{Reported, contains_one, from_pairs, none_of_same, own_pairs, same_pairs}
 
 module _ {X : Type 0} (E : X → X → Bool) (f : X × X → List Reason) (otherwise : Reason) where
   -- a part without a reason is the same
@@ -22,11 +22,11 @@ module _ {X : Type 0} (E : X → X → Bool) (f : X × X → List Reason) (other
       ap (λ b. cond b (flat_map f (zip xs xs)) (otherwise ∷ [])) (own_pairs E own xs) ∙ none_of_same f none xs
 
   -- the reasons: that they are declared differently, or the reasons of a pair
-  pub part_told : (xs ys : List X) (reason : Reason) → Contains (part E f otherwise xs ys) reason
-      → ((otherwise ≡ reason) × (pointwise E xs ys ≡ false)) ⊎ Told E f xs ys reason
-  part_told xs ys reason h = by (pointwise E xs ys) refl h
+  pub part_reported : (xs ys : List X) (reason : Reason) → Contains (part E f otherwise xs ys) reason
+      → ((otherwise ≡ reason) × (pointwise E xs ys ≡ false)) ⊎ Reported E f xs ys reason
+  part_reported xs ys reason h = by (pointwise E xs ys) refl h
     where
       by : (b : Bool) → pointwise E xs ys ≡ b → Contains (cond b (flat_map f (zip xs ys)) (otherwise ∷ [])) reason
-          → ((otherwise ≡ reason) × (pointwise E xs ys ≡ false)) ⊎ Told E f xs ys reason
+          → ((otherwise ≡ reason) × (pointwise E xs ys ≡ false)) ⊎ Reported E f xs ys reason
       by true e c = inr (from_pairs E f xs ys reason e c)
       by false e c = inl (contains_one otherwise reason c, e)

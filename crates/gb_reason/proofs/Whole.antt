@@ -5,7 +5,7 @@ use Rattle.std.specs.Cmp.{unsigned_Decides}
 use Rattle.std.specs.Cmp.Lexicographic.{pointwise}
 use Rattle.std.specs.List.{AllByRecursion, Contains}
 use Rattle.std.specs.Prelude.{◌↔◌}
-use Rattle.gb_action.proofs.Told.{told-is_change}
+use Rattle.gb_action.proofs.Reported.{reported-is_change}
 use Rattle.gb_action.specs.Changes.{changes_between}
 use Rattle.gb_folder.specs.Files.{is_empty}
 use Rattle.gb_history.specs.Decision.{DecidesFrom, IsUpToDate}
@@ -22,8 +22,8 @@ use Rattle.gb_reason.specs.declared.reason.Reason.{Reason}
 use Rattle.gb_reason.specs.declared.reason.Reason.TheVariants as reasons
 use Rattle.gb_reason.proofs.Elements.{HasOrder, files_none, files_same, name_alike, name_back, name_own, output_alike, output_back, output_none, output_own, output_same, value_none, value_other, value_same}
 use Rattle.gb_reason.proofs.Actions.{action_none, action_same, argument_is, argument_of, argument_was, first_is, kind_back, kind_own, kinds_alike}
-use Rattle.gb_reason.proofs.Lists.{Told, alike_pairs, both_none, contains_none, contains_one, from_map}
-use Rattle.gb_reason.proofs.Parts.{part_none, part_same, part_told}
+use Rattle.gb_reason.proofs.Lists.{Reported, alike_pairs, both_none, contains_none, contains_one, from_map}
+use Rattle.gb_reason.proofs.Parts.{part_none, part_same, part_reported}
 
 -- ---- None
 
@@ -119,9 +119,9 @@ module _ (run : Record) (present : Present) where
   Real = IsRealFrom run present
 
   real_action : (reason : Reason) → Contains (of_actions run present.now) reason → Real reason
-  real_action reason h = elim (part_told has_kind of_action (kind_reason old new) old new reason h) [
+  real_action reason h = elim (part_reported has_kind of_action (kind_reason old new) old new reason h) [
     | inl other ↦ subst Real other.0 (by_kind (first_other old new) (first_other new old) refl refl other.1)
-    | inr told ↦ pair told (told.old.version == told.new.version) (length told.old.args == length told.new.args) refl refl told.told
+    | inr reported ↦ pair reported (reported.old.version == reported.new.version) (length reported.old.args == length reported.new.args) refl refl reported.reported
   ]
     where
       old : List Action
@@ -136,76 +136,76 @@ module _ (run : Record) (present : Present) where
       by_kind None (Some kind) e f others = first_is new old kind f
       by_kind None None e f others = λ same. true≢false (sym (kinds_alike old new same) ∙ others)
 
-      pair : (told : Told has_kind of_action old new reason) (version long : Bool) → (told.old.version == told.new.version) ≡ version
-          → (length told.old.args == length told.new.args) ≡ long
-          → Contains (cond (not version) (reasons.ActionVersion told.old.kind ∷ [])
-          (cond (not long) (reasons.ArgumentCount told.old.kind ∷ []) (of_arguments told.old.kind 1 told.old.args told.new.args))) reason → Real reason
-      pair told false long one two c =
-          subst Real (contains_one (reasons.ActionVersion told.old.kind) reason c) (
-            told.old,
-            told.new,
-            (told.in_old, told.in_new, refl, sym (kind_back told.old told.new told.declared)),
-            λ same. true≢false (sym ((unsigned_Decides told.old.version told.new.version).1 same) ∙ one),
+      pair : (reported : Reported has_kind of_action old new reason) (version long : Bool) → (reported.old.version == reported.new.version) ≡ version
+          → (length reported.old.args == length reported.new.args) ≡ long
+          → Contains (cond (not version) (reasons.ActionVersion reported.old.kind ∷ [])
+          (cond (not long) (reasons.ArgumentCount reported.old.kind ∷ []) (of_arguments reported.old.kind 1 reported.old.args reported.new.args))) reason → Real reason
+      pair reported false long one two c =
+          subst Real (contains_one (reasons.ActionVersion reported.old.kind) reason c) (
+            reported.old,
+            reported.new,
+            (reported.in_old, reported.in_new, refl, sym (kind_back reported.old reported.new reported.declared)),
+            λ same. true≢false (sym ((unsigned_Decides reported.old.version reported.new.version).1 same) ∙ one),
           )
-      pair told true false one two c =
-          subst Real (contains_one (reasons.ArgumentCount told.old.kind) reason c) (
-            told.old,
-            told.new,
-            (told.in_old, told.in_new, refl, sym (kind_back told.old told.new told.declared)),
-            λ same. true≢false (sym ((unsigned_Decides (length told.old.args) (length told.new.args)).1 same) ∙ two),
+      pair reported true false one two c =
+          subst Real (contains_one (reasons.ArgumentCount reported.old.kind) reason c) (
+            reported.old,
+            reported.new,
+            (reported.in_old, reported.in_new, refl, sym (kind_back reported.old reported.new reported.declared)),
+            λ same. true≢false (sym ((unsigned_Decides (length reported.old.args) (length reported.new.args)).1 same) ∙ two),
           )
-      pair told true true one two c =
-          let found = argument_of told.old.kind 1 told.old.args told.new.args reason c in
+      pair reported true true one two c =
+          let found = argument_of reported.old.kind 1 reported.old.args reported.new.args reason c in
           subst Real found.says (
-            told.old,
-            told.new,
-            (told.in_old, told.in_new, refl, sym (kind_back told.old told.new told.declared)),
-            argument_was told.old.kind told.old.args told.new.args reason found,
-            argument_is told.old.kind told.old.args told.new.args reason found,
+            reported.old,
+            reported.new,
+            (reported.in_old, reported.in_new, refl, sym (kind_back reported.old reported.new reported.declared)),
+            argument_was reported.old.kind reported.old.args reported.new.args reason found,
+            argument_is reported.old.kind reported.old.args reported.new.args reason found,
             found.other,
           )
 
   real_value : (reason : Reason) → Contains (of_values run present.now) reason → Real reason
-  real_value reason h = elim (part_told has_name of_value reasons.ValueNames run.values present.now.values reason h) [
+  real_value reason h = elim (part_reported has_name of_value reasons.ValueNames run.values present.now.values reason h) [
     | inl other ↦
         subst Real other.0
         (λ same. true≢false (sym (alike_pairs has_name (λ entry. entry.0) name_alike run.values present.now.values same) ∙ other.1))
-    | inr told ↦ pair told (is_value told.old.1 told.new.1) refl told.told
+    | inr reported ↦ pair reported (is_value reported.old.1 reported.new.1) refl reported.reported
   ]
     where
-      pair : (told : Told has_name of_value run.values present.now.values reason) (b : Bool) → is_value told.old.1 told.new.1 ≡ b
-          → Contains (cond b [] (reasons.Value told.old.0 told.old.1 told.new.1 ∷ [])) reason → Real reason
-      pair told true e c = absurd (contains_none reason c)
-      pair told false e c =
-          let same : told.old.0 ≡ told.new.0 = name_back told.old told.new told.declared in
-          let stands : Contains present.now.values (told.old.0, told.new.1) =
-          subst (λ (name : List ℕ). Contains present.now.values (name, told.new.1)) (sym same) told.in_new in
-          subst Real (contains_one (reasons.Value told.old.0 told.old.1 told.new.1) reason c)
-          (told.in_old, stands, value_other told.old.1 told.new.1 e)
+      pair : (reported : Reported has_name of_value run.values present.now.values reason) (b : Bool) → is_value reported.old.1 reported.new.1 ≡ b
+          → Contains (cond b [] (reasons.Value reported.old.0 reported.old.1 reported.new.1 ∷ [])) reason → Real reason
+      pair reported true e c = absurd (contains_none reason c)
+      pair reported false e c =
+          let same : reported.old.0 ≡ reported.new.0 = name_back reported.old reported.new reported.declared in
+          let stands : Contains present.now.values (reported.old.0, reported.new.1) =
+          subst (λ (name : List ℕ). Contains present.now.values (name, reported.new.1)) (sym same) reported.in_new in
+          subst Real (contains_one (reasons.Value reported.old.0 reported.old.1 reported.new.1) reason c)
+          (reported.in_old, stands, value_other reported.old.1 reported.new.1 e)
 
   real_output : (reason : Reason) → Contains (of_outputs run present.now) reason → Real reason
-  real_output reason h = elim (part_told is_output of_output reasons.OutputNames run.outputs present.now.outputs reason h) [
+  real_output reason h = elim (part_reported is_output of_output reasons.OutputNames run.outputs present.now.outputs reason h) [
     | inl other ↦
         subst Real other.0
         (λ same. true≢false (sym (alike_pairs is_output declared output_alike run.outputs present.now.outputs same) ∙ other.1))
-    | inr told ↦
-        let m = from_map (reasons.Output told.old.place) (changes_between told.old.prints.1 told.new.prints.1) reason told.told in
-        let one = output_back told.old told.new told.declared in
+    | inr reported ↦
+        let m = from_map (reasons.Output reported.old.place) (changes_between reported.old.prints.1 reported.new.prints.1) reason reported.reported in
+        let one = output_back reported.old reported.new reported.declared in
         subst Real m.is
-        (told.old, told.new, told.in_old, told.in_new, refl, sym one.place, told-is_change told.old.prints.1 told.new.prints.1 m.from m.in_list)
+        (reported.old, reported.new, reported.in_old, reported.in_new, refl, sym one.place, reported-is_change reported.old.prints.1 reported.new.prints.1 m.from m.in_list)
   ]
 
   real_input : (reason : Reason) → Contains (of_inputs run present.now) reason → Real reason
-  real_input reason h = elim (part_told has_name of_files reasons.FileNames run.inputs present.now.inputs reason h) [
+  real_input reason h = elim (part_reported has_name of_files reasons.FileNames run.inputs present.now.inputs reason h) [
     | inl other ↦
         subst Real other.0
         (λ same. true≢false (sym (alike_pairs has_name (λ entry. entry.0) name_alike run.inputs present.now.inputs same) ∙ other.1))
-    | inr told ↦
-        let m = from_map (reasons.File told.old.0) (changes_between told.old.1 told.new.1) reason told.told in
-        let same : told.old.0 ≡ told.new.0 = name_back told.old told.new told.declared in
-        let stands : Contains present.now.inputs (told.old.0, told.new.1) =
-        subst (λ (name : List ℕ). Contains present.now.inputs (name, told.new.1)) (sym same) told.in_new in
-        subst Real m.is (told.old.1, told.new.1, told.in_old, stands, told-is_change told.old.1 told.new.1 m.from m.in_list)
+    | inr reported ↦
+        let m = from_map (reasons.File reported.old.0) (changes_between reported.old.1 reported.new.1) reason reported.reported in
+        let same : reported.old.0 ≡ reported.new.0 = name_back reported.old reported.new reported.declared in
+        let stands : Contains present.now.inputs (reported.old.0, reported.new.1) =
+        subst (λ (name : List ℕ). Contains present.now.inputs (name, reported.new.1)) (sym same) reported.in_new in
+        subst Real m.is (reported.old.1, reported.new.1, reported.in_old, stands, reported-is_change reported.old.1 reported.new.1 m.from m.in_list)
   ]
 
   real_difference : (reason : Reason) → Contains (differences run present.now) reason → Real reason

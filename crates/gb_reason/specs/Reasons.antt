@@ -18,8 +18,8 @@ use Rattle.gb_reason.specs.declared.reason.Reason.TheVariants as reasons
 -- One reason if the two are declared differently, and else those of each pair.
 abbrev pub part : {X : Type 0} → (X → X → Bool) → (X × X → List Reason) → Reason → List X → List X
     → List Reason
-part is_declared told otherwise old new =
-    if pointwise is_declared old new then flat_map told (zip old new) else otherwise ∷ []
+part is_declared reported otherwise old new =
+    if pointwise is_declared old new then flat_map reported (zip old new) else otherwise ∷ []
 
 -- values of one name
 abbrev pub has_name : {X : Type 0} → List ℕ × X → List ℕ × X → Bool

@@ -18,11 +18,11 @@ use std::alloc::{AllocError, Global};
 /// A named part of a run that another run has too.
 pub(crate) trait Part {
     ghost use Rattle.std.specs.Prelude.{◌≡◌, ◌++◌, Bool, List, OnOk};
-    ghost use Rattle.gb_reason.specs.declared.reason.Reason.{Reason as Told};
+    ghost use Rattle.gb_reason.specs.declared.reason.Reason.{Reason as Reported};
 
     ghost is_declared: { Self → Self → Bool };
 
-    ghost told: { Self × Self → List Told };
+    ghost reported: { Self × Self → List Reported };
 
     /// Whether the other is declared in the same way.
     fn is_declared_as(&self, other: &Self) -> bool
@@ -30,7 +30,7 @@ pub(crate) trait Part {
 
     /// Adds how the other differs.
     fn tell(&self, other: &Self, alloc: Global, reasons: &mut Vec<Reason>) -> Result<(), AllocError>
-        ensures { OnOk result (reasons.new.items ≡ reasons.old.items ++ told (self.now, other.now)) };
+        ensures { OnOk result (reasons.new.items ≡ reasons.old.items ++ reported (self.now, other.now)) };
 }
 
 /// Whether both lists declare equally many, each as the one at the same index.
@@ -56,7 +56,8 @@ fn tell_each<T: Part>(
     reasons: &mut Vec<Reason>,
 ) -> Result<(), AllocError>
     requires { length old.now ≡ length new.now }
-    ensures { OnOk result (reasons.new.items ≡ reasons.old.items ++ flat_map T.told (zip old.now new.now)) }
+    ensures { OnOk result (reasons.new.items ≡ reasons.old.items
+        ++ flat_map T.reported (zip old.now new.now)) }
 {
     for (at, one) in old.iter().enumerate() {
         one.tell(&new[at], alloc, reasons)?;
@@ -73,7 +74,7 @@ pub(crate) fn tell_part<T: Part>(
     reasons: &mut Vec<Reason>,
 ) -> Result<(), AllocError>
     ensures { OnOk result (reasons.new.items
-        ≡ reasons.old.items ++ part T.is_declared T.told otherwise old.now new.now) }
+        ≡ reasons.old.items ++ part T.is_declared T.reported otherwise old.now new.now) }
 {
     if are_declared_as(old, new) {
         return tell_each(alloc, old, new, reasons);
@@ -182,7 +183,7 @@ impl Part for (Name, Value) {
 
     ghost is_declared = { has_name };
 
-    ghost told = { of_value };
+    ghost reported = { of_value };
 
     fn is_declared_as(&self, other: &(Name, Value)) -> bool {
         self.0 == other.0
@@ -207,7 +208,7 @@ impl Part for Action {
 
     ghost is_declared = { has_kind };
 
-    ghost told = { of_action };
+    ghost reported = { of_action };
 
     fn is_declared_as(&self, other: &Action) -> bool {
         self.kind == other.kind
@@ -237,7 +238,7 @@ impl Part for OutputRecord {
 
     ghost is_declared = { is_output };
 
-    ghost told = { of_output };
+    ghost reported = { of_output };
 
     fn is_declared_as(&self, other: &OutputRecord) -> bool {
         self.prints.name() == other.prints.name()
@@ -264,7 +265,7 @@ impl Part for Prints {
 
     ghost is_declared = { has_name };
 
-    ghost told = { of_files };
+    ghost reported = { of_files };
 
     fn is_declared_as(&self, other: &Prints) -> bool {
         self.name() == other.name()

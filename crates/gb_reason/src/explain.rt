@@ -24,7 +24,7 @@ pub fn explain(
     old: Option<&Record>,
     present: &Present,
 ) -> Result<Vec<Reason>, AllocError>
-    ensures told { IfOk result (λ found.
+    ensures reported { IfOk result (λ found.
         found.items ≡ reasons_of (option_copied old.entry) present.entry.now) }
     // There is none exactly if the decision is that the task is up to date.
     ensures none { IfOk result (λ found. (decision : Decision)

@@ -78,7 +78,7 @@ fn push_value(text: &mut String, value: &Value) -> Result<(), AllocError>
     ensures { OnOk result (string_bytes text.new ≡ string_bytes text.old ++ value_text value.now) }
 {
     match value {
-        Value::Text(told) => push_quoted(text, told),
+        Value::Text(reported) => push_quoted(text, reported),
         Value::Flag(true) => write!(text, "true"),
         Value::Flag(false) => write!(text, "false"),
         Value::List(texts) => push_list(text, texts.as_slice()),
@@ -93,26 +93,26 @@ fn push_list(text: &mut String, texts: &[Text]) -> Result<(), AllocError>
         ≡ string_bytes text.old ++ value_text (Value.List texts.now)) }
 {
     text.push_str("[")?;
-    for told in texts {
+    for reported in texts {
         text.push_str(" ")?;
-        push_quoted(text, told)?;
+        push_quoted(text, reported)?;
     }
     text.push_str(" ]")
 }
 
-fn push_quoted(text: &mut String, told: &Text) -> Result<(), AllocError>
-    ensures { OnOk result (string_bytes text.new ≡ string_bytes text.old ++ quoted told.now) }
+fn push_quoted(text: &mut String, reported: &Text) -> Result<(), AllocError>
+    ensures { OnOk result (string_bytes text.new ≡ string_bytes text.old ++ quoted reported.now) }
 {
     text.push('"')?;
-    push_shown(text, told)?;
+    push_shown(text, reported)?;
     text.push('"')
 }
 
 /// The beginning of a text from outside, with no control character.
-fn push_shown(text: &mut String, told: &Text) -> Result<(), AllocError>
-    ensures { OnOk result (string_bytes text.new ≡ string_bytes text.old ++ shown told.now) }
+fn push_shown(text: &mut String, reported: &Text) -> Result<(), AllocError>
+    ensures { OnOk result (string_bytes text.new ≡ string_bytes text.old ++ shown reported.now) }
 {
-    for character in told.as_str().chars().take(80) {
+    for character in reported.as_str().chars().take(80) {
         text.push(shown_character(character))?;
     }
     Ok(())

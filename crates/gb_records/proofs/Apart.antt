@@ -25,10 +25,10 @@ module _ (digest : Bytes → List ℕ) (P : Bytes → Type 0) (apart : (a b : By
   abbrev pub AllSeen : Tree → Type 0
   AllSeen tree = AllByRecursion (λ (file : Place × Bytes). P file.1) tree
 
-  abbrev pub told : Tree → List (Place × List ℕ)
-  told tree = map (λ (file : Place × Bytes). let pair : Place × List ℕ = (file.0, digest file.1) in pair) tree
+  abbrev pub reported : Tree → List (Place × List ℕ)
+  reported tree = map (λ (file : Place × Bytes). let pair : Place × List ℕ = (file.0, digest file.1) in pair) tree
 
-  pub tree_back : (old new : Tree) → AllSeen old → AllSeen new → told old ≡ told new → old ≡ new
+  pub tree_back : (old new : Tree) → AllSeen old → AllSeen new → reported old ≡ reported new → old ≡ new
   tree_back [] [] p q e = refl
   tree_back [] (b ∷ new) p q e = absurd (cc)
   tree_back (a ∷ old) [] p q e = absurd (cc)
@@ -38,7 +38,7 @@ module _ (digest : Bytes → List ℕ) (P : Bytes → Type 0) (apart : (a b : By
       let head : left ≡ right = cc in
       let path : a.0 ≡ b.0 = ap (λ (p : Place × List ℕ). p.0) head in
       let one : digest a.1 ≡ digest b.1 = ap (λ (p : Place × List ℕ). p.1) head in
-      let rest : told old ≡ told new = cc in
+      let rest : reported old ≡ reported new = cc in
       let bytes : a.1 ≡ b.1 = apart a.1 b.1 p.0 q.0 one in
       ap₂ (λ (x : Place × Bytes) (l : Tree). x ∷ l) (ap₂ (λ (x : Place) (y : Bytes). (x, y)) path bytes) (tree_back old new p.1 q.1 rest)
 
@@ -48,11 +48,11 @@ module _ (digest : Bytes → List ℕ) (P : Bytes → Type 0) (apart : (a b : By
   trees_back [] (b ∷ new) p q e = absurd (cc)
   trees_back (a ∷ old) [] p q e = absurd (cc)
   trees_back (a ∷ old) (b ∷ new) p q e =
-      let left : List ℕ × List (Place × List ℕ) = (a.0, told a.1) in
-      let right : List ℕ × List (Place × List ℕ) = (b.0, told b.1) in
+      let left : List ℕ × List (Place × List ℕ) = (a.0, reported a.1) in
+      let right : List ℕ × List (Place × List ℕ) = (b.0, reported b.1) in
       let head : left ≡ right = cc in
       let name : a.0 ≡ b.0 = ap (λ (p : List ℕ × List (Place × List ℕ)). p.0) head in
-      let one : told a.1 ≡ told b.1 = ap (λ (p : List ℕ × List (Place × List ℕ)). p.1) head in
+      let one : reported a.1 ≡ reported b.1 = ap (λ (p : List ℕ × List (Place × List ℕ)). p.1) head in
       let rest : prints_of digest old ≡ prints_of digest new = cc in
       ap₂ (λ (x : List ℕ × Tree) (l : Trees). x ∷ l) (ap₂ (λ (x : List ℕ) (y : Tree). (x, y)) name (tree_back a.1 b.1 p.0 q.0 one)) (trees_back old new p.1 q.1 rest)
 

@@ -60,7 +60,7 @@ pub nothing_of : (may_leave : Tearing) (path : Path) (before after : ℕ) (old n
     → (fault ≢ folders.Device → new ≡ old) → (fault ≡ folders.Device → HasRisen before after)
     → (fault ≡ folders.Device → LeftAt may_leave (record_place path) None old new)
     → (fault ≡ folders.Blocked → is_blocked old.files (record_place path) ≡ true) → fault ≢ folders.TooLarge → fault ≢ folders.BadFileName
-    → IfErr (removed_by fault) (λ told. ComesToNothing may_leave path None before after old told new)
+    → IfErr (removed_by fault) (λ reported. ComesToNothing may_leave path None before after old reported new)
 nothing_of may_leave path before after old new folders.OutOfMemory same rose torn blocked large named = same (λ e. cc)
 nothing_of may_leave path before after old new folders.Device same rose torn blocked large named = inr (rose refl, refl, torn refl)
 nothing_of may_leave path before after old new folders.Missing same rose torn blocked large named = tt

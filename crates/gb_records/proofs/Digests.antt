@@ -30,7 +30,7 @@ use Rattle.gb_history.specs.Decision.{IsUpToDate}
 use Rattle.gb_records.proofs.Apart.{found_from, output_seen, trees_back}
 use Rattle.gb_records.proofs.Calls.{unplaced}
 use Rattle.gb_records.proofs.Placed.{made_placed}
-use Rattle.gb_records.proofs.Outputs.{output_trees, prints_told, same_outputs}
+use Rattle.gb_records.proofs.Outputs.{output_trees, prints_reported, same_outputs}
 
 -- ---- the files at the outputs, by their trees
 
@@ -125,9 +125,9 @@ files_in : (all : List Bytes) (entry : Entry) → ((x : Bytes) → Contains (con
 files_in all entry h = tree_in all entry.files (λ x c. h x (Contains-append_right (contents_in entry.inputs) (map (λ file. file.1) entry.files) x c))
 
 -- the files at the outputs, if their records are the same
-pub files_told : (kinds : Kinds) (task : Task) (files : Files) (entry : Entry) → IsClearTo kinds task files entry
+pub files_reported : (kinds : Kinds) (task : Task) (files : Files) (entry : Entry) → IsClearTo kinds task files entry
     → (record_of sha256 entry).outputs ≡ (record_of sha256 (entry_of task files)).outputs → entry.files ≡ output_files task files
-files_told kinds task files entry clear e =
+files_reported kinds task files entry clear e =
     same_by_outputs task.outputs entry.files now.files
     (subst (λ outs. IsRight outs entry.files) outputs (made_of_is_right kinds entry.outputs entry.values entry.inputs entry.actions entry.files clear.is_made))
     (now_right task files clear.is_folder.in_order)
@@ -145,19 +145,19 @@ files_told kinds task files entry clear e =
     outputs : entry.outputs ≡ task.outputs
     outputs = same_outputs entry now e
 
-    told : prints_of sha256 (output_trees entry.files task.outputs) ≡ prints_of sha256 (output_trees now.files task.outputs)
-    told =
-        ap (λ outs. prints_of sha256 (output_trees entry.files outs)) (sym outputs) ∙ sym (prints_told entry.files entry.outputs)
-        ∙ ap prints_in e ∙ prints_told now.files task.outputs
+    reported : prints_of sha256 (output_trees entry.files task.outputs) ≡ prints_of sha256 (output_trees now.files task.outputs)
+    reported =
+        ap (λ outs. prints_of sha256 (output_trees entry.files outs)) (sym outputs) ∙ sym (prints_reported entry.files entry.outputs)
+        ∙ ap prints_in e ∙ prints_reported now.files task.outputs
 
     trees : output_trees entry.files task.outputs ≡ output_trees now.files task.outputs
     trees = trees_back sha256 (Contains all) clear.apart _ _ (outputs_in all entry.files (files_in all entry (old_in entry now)) task.outputs)
-        (outputs_in all now.files (files_in all now (now_in entry now)) task.outputs) told
+        (outputs_in all now.files (files_in all now (now_in entry now)) task.outputs) reported
 
 pub records_tell_entries : RecordsTellEntries
 records_tell_entries kinds task files entry clear e =
     same_entries entry now (ap (λ (r : Record). r.actions) e) (ap (λ (r : Record). r.values) e) inputs outputs
-    (files_told kinds task files entry clear (ap (λ (r : Record). r.outputs) e))
+    (files_reported kinds task files entry clear (ap (λ (r : Record). r.outputs) e))
   where
     now : Entry
     now = entry_of task files

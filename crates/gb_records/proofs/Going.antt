@@ -22,9 +22,9 @@ use Rattle.gb_meaning.specs.TrueRecord.{contents_of, output_record_of, prints_of
 use Rattle.gb_meaning.proofs.Common.{some_same}
 use Rattle.gb_records.specs.Digests.{ChangesAreOfContents, IsClearTo, IsPresent, SinceIsIncremental}
 use Rattle.gb_records.specs.Said.{IsSaidOf}
-use Rattle.gb_records.proofs.Digests.{InAll, files_told, inputs_in, now_in, old_in}
+use Rattle.gb_records.proofs.Digests.{InAll, files_reported, inputs_in, now_in, old_in}
 use Rattle.gb_records.proofs.Outputs.{same_outputs}
-use Rattle.gb_records.proofs.Since.{IsRight, SameUnless, alike_trees, alike_prints, changes_told, found_of, map_where, map_where_back, named_trees, names_right, same_of, sorted_prints}
+use Rattle.gb_records.proofs.Since.{IsRight, SameUnless, alike_trees, alike_prints, changes_reported, found_of, map_where, map_where_back, named_trees, names_right, same_of, sorted_prints}
 
 module _ (kinds : Kinds) (options : Options) (task : Task) (files : Files) (entry : Entry) (run : Record) (present : Present)
     (of : IsSaidOf run entry) (is : IsPresent options task files present) (clear : IsClearTo kinds task files entry) where
@@ -63,13 +63,13 @@ module _ (kinds : Kinds) (options : Options) (task : Task) (files : Files) (entr
       (subst (λ (inputs : List Prints). AllZip (IsAlike present.incremental.items) (prints_of sha256 entry.inputs) inputs) (sym now_inputs)
       (alike_prints all clear.apart present.incremental.items entry.inputs (named_trees files task.files) same))
 
-  pub told : IsSince run present → changes_since run present ≡ changes_from task entry.inputs files
-  told since =
+  pub reported : IsSince run present → changes_since run present ≡ changes_from task entry.inputs files
+  reported since =
       ap₂ (λ (x y : List Prints). flat_map (changes_of present.incremental.items) (zip x y)) run_inputs now_inputs
-      ∙ changes_told all clear.apart files present.incremental.items entry.inputs task.files old_seen now_seen (same_trees since.alike) right sorted
+      ∙ changes_reported all clear.apart files present.incremental.items entry.inputs task.files old_seen now_seen (same_trees since.alike) right sorted
 
 pub changes_are_of_contents : ChangesAreOfContents
-changes_are_of_contents kinds options task files entry run present of is clear since = told kinds options task files entry run present of is clear since
+changes_are_of_contents kinds options task files entry run present of is clear since = reported kinds options task files entry run present of is clear since
 
 pub since_is_incremental : SinceIsIncremental
 since_is_incremental kinds options task world entry run present remembered of is clear = (forward, backward)
@@ -94,7 +94,7 @@ since_is_incremental kinds options task world entry run present remembered of is
           same_actions = sym actions ∙ since.same_actions ∙ ap (λ (r : Record). r.actions) is.now;
           same_values = sym (ap (λ (r : Record). r.values) of) ∙ since.same_values ∙ ap (λ (r : Record). r.values) is.now;
           same_outputs = same_outputs entry (entry_of task world.folder.files) outputs;
-          same_files = files_told kinds task world.folder.files entry clear outputs;
+          same_files = files_reported kinds task world.folder.files entry clear outputs;
           same_properties = found.0;
           same_others = map_where (λ property. tree_at entry.inputs property.name) (λ property. tree_of property world.folder.files) task.files found.1;
           not_stale = sym is.stale ∙ since.not_stale;

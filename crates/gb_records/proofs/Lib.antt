@@ -1,6 +1,6 @@
 pub mod Standing
 pub mod Calls
-pub mod Told
+pub mod Reported
 pub mod Apart
 pub mod Placed
 pub mod Outputs

@@ -19,14 +19,14 @@ output_trees files outputs = map (λ (output : Output). let tree : List ℕ × T
 abbrev pub output_in : OutputRecord → Output
 output_in output = record { name = output.prints.0; form = output.form; place = output.place }
 
-pub outputs_told : (files : Files) (outputs : List Output) → map output_in (map (output_record_of sha256 files) outputs) ≡ outputs
-outputs_told files [] = refl
-outputs_told files (output ∷ outputs) = ap (λ (l : List Output). output ∷ l) (outputs_told files outputs)
+pub outputs_reported : (files : Files) (outputs : List Output) → map output_in (map (output_record_of sha256 files) outputs) ≡ outputs
+outputs_reported files [] = refl
+outputs_reported files (output ∷ outputs) = ap (λ (l : List Output). output ∷ l) (outputs_reported files outputs)
 
-pub prints_told : (files : Files) (outputs : List Output) → prints_in (map (output_record_of sha256 files) outputs) ≡ prints_of sha256 (output_trees files outputs)
-prints_told files [] = refl
-prints_told files (output ∷ outputs) = ap (λ (l : List Prints). (output_record_of sha256 files output).prints ∷ l) (prints_told files outputs)
+pub prints_reported : (files : Files) (outputs : List Output) → prints_in (map (output_record_of sha256 files) outputs) ≡ prints_of sha256 (output_trees files outputs)
+prints_reported files [] = refl
+prints_reported files (output ∷ outputs) = ap (λ (l : List Prints). (output_record_of sha256 files output).prints ∷ l) (prints_reported files outputs)
 
 -- entries whose records have the same outputs have the same
 pub same_outputs : (a b : Entry) → (record_of sha256 a).outputs ≡ (record_of sha256 b).outputs → a.outputs ≡ b.outputs
-same_outputs a b e = sym (outputs_told a.files a.outputs) ∙ ap (map output_in) e ∙ outputs_told b.files b.outputs
+same_outputs a b e = sym (outputs_reported a.files a.outputs) ∙ ap (map output_in) e ∙ outputs_reported b.files b.outputs

@@ -103,40 +103,40 @@ module _ (all : List Bytes) (apart : (a b : Bytes) → Contains all a → Contai
   alike_prints incremental (a ∷ old) [] same = absurd same
   alike_prints incremental (a ∷ old) (b ∷ new) same = ((same.0.0, λ no. ap digests_of (same.0.1 no)), alike_prints incremental old new same.1)
 
-  abbrev told_at : Files → Trees → FileProperty → Changes
-  told_at files old property = (property.name, changes_between (tree_at old property.name) (tree_of property files))
+  abbrev reported_at : Files → Trees → FileProperty → Changes
+  reported_at files old property = (property.name, changes_between (tree_at old property.name) (tree_of property files))
 
-  abbrev told_of : List ℕ → Tree → Tree → Changes
-  told_of name old new = (name, changes_between old new)
+  abbrev reported_of : List ℕ → Tree → Tree → Changes
+  reported_of name old new = (name, changes_between old new)
 
-  first_told : (files : Files) (a : List ℕ × Tree) (old : Trees) (property : FileProperty) → a.0 ≡ property.name
+  first_reported : (files : Files) (a : List ℕ × Tree) (old : Trees) (property : FileProperty) → a.0 ≡ property.name
       → AllByRecursion (λ (file : Place × Bytes). Contains all file.1) a.1 → AllByRecursion (λ (file : Place × Bytes). Contains all file.1) (tree_of property files)
-      → told_of a.0 (digests_of a.1) (digests_of (tree_of property files)) ≡ told_at files (a ∷ old) property
-  first_told files a old property name p q =
+      → reported_of a.0 (digests_of a.1) (digests_of (tree_of property files)) ≡ reported_at files (a ∷ old) property
+  first_reported files a old property name p q =
       let found : tree_at (a ∷ old) property.name ≡ a.1 = ap (tree_at (a ∷ old)) (sym name) ∙ at_first a.0 a.1 old in
-      ap₂ (λ (x : List ℕ) (y : List _). let told : Changes = (x, y) in told) name
+      ap₂ (λ (x : List ℕ) (y : List _). let reported : Changes = (x, y) in reported) name
       (changes_back a.1 (tree_of property files) p q ∙ ap (λ t. changes_between t (tree_of property files)) (sym found))
 
   -- the changes of digests, property by property
-  pub changes_told : (files : Files) (incremental : List (List ℕ)) (old : Trees) (properties : List FileProperty) → AreSeen old → AreSeen (named_trees files properties)
+  pub changes_reported : (files : Files) (incremental : List (List ℕ)) (old : Trees) (properties : List FileProperty) → AreSeen old → AreSeen (named_trees files properties)
       → AllZip (SameUnless (is_incremental incremental)) old (named_trees files properties)
       → AllByRecursion (λ (property : FileProperty). is_incremental incremental property.name ≡ property.incremental) properties
       → is_sorted byte_order (named_trees files properties) ≡ true
       → flat_map (changes_of incremental) (zip (prints_of sha256 old) (prints_of sha256 (named_trees files properties)))
-      ≡ map (told_at files old) (filter (λ property. property.incremental) properties)
-  changes_told files incremental [] [] p q same right sorted = refl
-  changes_told files incremental [] (property ∷ properties) p q same right sorted = absurd same
-  changes_told files incremental (a ∷ old) [] p q same right sorted = absurd same
-  changes_told files incremental (a ∷ old) (property ∷ properties) p q same right sorted =
+      ≡ map (reported_at files old) (filter (λ property. property.incremental) properties)
+  changes_reported files incremental [] [] p q same right sorted = refl
+  changes_reported files incremental [] (property ∷ properties) p q same right sorted = absurd same
+  changes_reported files incremental (a ∷ old) [] p q same right sorted = absurd same
+  changes_reported files incremental (a ∷ old) (property ∷ properties) p q same right sorted =
       let parts = and_parts (below_all byte_order property.name (named_trees files properties)) (is_sorted byte_order (named_trees files properties)) sorted in
-      let rest = changes_told files incremental old properties p.1 q.1 same.1 right.1 parts.1 in
-      let later : map (told_at files old) (filter (λ property. property.incremental) properties) ≡ map (told_at files (a ∷ old)) (filter (λ property. property.incremental) properties) =
-      map_same (told_at files old) (told_at files (a ∷ old)) (λ property. property.incremental) properties
+      let rest = changes_reported files incremental old properties p.1 q.1 same.1 right.1 parts.1 in
+      let later : map (reported_at files old) (filter (λ property. property.incremental) properties) ≡ map (reported_at files (a ∷ old)) (filter (λ property. property.incremental) properties) =
+      map_same (reported_at files old) (reported_at files (a ∷ old)) (λ property. property.incremental) properties
       (each_later files a old property.name same.0.0 properties (apart_names property.name files properties parts.0)) in
       let test : is_incremental incremental a.0 ≡ property.incremental = ap (is_incremental incremental) same.0.0 ∙ right.0 in
-      ap (λ b. cond b (told_of a.0 (digests_of a.1) (digests_of (tree_of property files)) ∷ []) [] ++ flat_map (changes_of incremental) (zip (prints_of sha256 old) (prints_of sha256 (named_trees files properties)))) test
-      ∙ both (first_told files a old property same.0.0 p.0 q.0) (rest ∙ later) property.incremental
-      ∙ inside (told_at files (a ∷ old)) property (filter (λ property. property.incremental) properties) property.incremental
+      ap (λ b. cond b (reported_of a.0 (digests_of a.1) (digests_of (tree_of property files)) ∷ []) [] ++ flat_map (changes_of incremental) (zip (prints_of sha256 old) (prints_of sha256 (named_trees files properties)))) test
+      ∙ both (first_reported files a old property same.0.0 p.0 q.0) (rest ∙ later) property.incremental
+      ∙ inside (reported_at files (a ∷ old)) property (filter (λ property. property.incremental) properties) property.incremental
     where
       inside : (g : FileProperty → Changes) (x : FileProperty) (ys : List FileProperty) (b : Bool) → cond b (g x ∷ map g ys) (map g ys) ≡ map g (cond b (x ∷ ys) ys)
       inside g x ys true = refl
@@ -154,10 +154,10 @@ module _ (all : List Bytes) (apart : (a b : Bytes) → Contains all a → Contai
       ]
 
       each_later : (fs : Files) (a : List ℕ × Tree) (old : Trees) (name : List ℕ) → a.0 ≡ name → (xs : List FileProperty) → AllByRecursion (λ (x : FileProperty). bytes_eq x.name name ≡ false) xs
-          → AllByRecursion (λ (x : FileProperty). told_at fs old x ≡ told_at fs (a ∷ old) x) xs
+          → AllByRecursion (λ (x : FileProperty). reported_at fs old x ≡ reported_at fs (a ∷ old) x) xs
       each_later fs a old name is [] h = tt
       each_later fs a old name is (x ∷ xs) h = (
-        ap (λ t. told_of x.name t (tree_of x fs)) (sym (at_later a.0 x.name a.1 old (ap (bytes_eq x.name) is ∙ h.0))),
+        ap (λ t. reported_of x.name t (tree_of x fs)) (sym (at_later a.0 x.name a.1 old (ap (bytes_eq x.name) is ∙ h.0))),
         each_later fs a old name is xs h.1,
       )
 

@@ -14,9 +14,9 @@ unwritten_number unwritten.OutOfMemory = 3
 unwritten_number unwritten.NotWritten = 90
 
 -- the fault as a build reports it
-abbrev pub told_of : Unwritten → Fault
-told_of unwritten.OutOfMemory = faults.OutOfMemory
-told_of unwritten.NotWritten = faults.HistoryNotWritten
+abbrev pub reported_of : Unwritten → Fault
+reported_of unwritten.OutOfMemory = faults.OutOfMemory
+reported_of unwritten.NotWritten = faults.HistoryNotWritten
 
 -- the result of a folder's fault at a record's place
 abbrev pub unwritten_for : FolderFault → Unwritten

@@ -1,6 +1,6 @@
 pub mod Faults
 pub mod Said
-pub mod Granted
+pub mod Assumed
 pub mod Setting
 pub mod Standing
 pub mod Laws

@@ -1,6 +1,6 @@
 //! Why a record was not written or deleted.
 ghost use Rattle.std.specs.Prelude.{◌≡◌};
-ghost use Rattle.gb_records.specs.Faults.{told_of, unwritten_for, unwritten_number};
+ghost use Rattle.gb_records.specs.Faults.{reported_of, unwritten_for, unwritten_number};
 ghost use Rattle.gb_records.specs.declared.fault.Unwritten.TheVariants.{OutOfMemory};
 
 use gb_folder::folder::FolderFault;
@@ -32,7 +32,7 @@ impl Unwritten {
 
     /// The fault as a build reports it.
     pub fn fault(self) -> Fault
-        ensures { result ≡ told_of self }
+        ensures { result ≡ reported_of self }
     {
         match self {
             Unwritten::OutOfMemory => Fault::OutOfMemory,

@@ -26,7 +26,7 @@ use gb_history::text::record_text;
 use std::alloc::Global;
 
 /// Deletes the record of a task, if one was read.
-pub fn take_out<F: Folder>(
+pub fn delete_record<F: Folder>(
     alloc: Global,
     folder: &mut F,
     path: &TaskPath,
@@ -72,7 +72,7 @@ fn unless_missing(fault: FolderFault) -> Result<(), Unwritten>
 }
 
 /// Stores the record of a task at its place. It replaces the one that is there, if any.
-pub fn put_in<F: Folder>(
+pub fn store_record<F: Folder>(
     alloc: Global,
     folder: &mut F,
     path: &TaskPath,

@@ -92,7 +92,7 @@ pub none_other : (xs ys : List Fault) {More : Type 0} → Alike xs ys More → x
 none_other xs ys (inl (fault, here, there)) none = absurd (none_first xs fault none here)
 none_other xs ys (inr (here, there, more)) none = there
 
-pub first_other : (xs ys : List Fault) {More : Type 0} (told : Fault) → Alike xs ys More → IsFirstFault xs told → IsFirstFault ys told
-first_other xs ys told alike (inl memory) = inl memory
-first_other xs ys told (inl (fault, here, there)) (inr first) = inr (there ∙ sym here ∙ first)
-first_other xs ys told (inr (here, there, more)) (inr first) = absurd (none_first xs told here first)
+pub first_other : (xs ys : List Fault) {More : Type 0} (reported : Fault) → Alike xs ys More → IsFirstFault xs reported → IsFirstFault ys reported
+first_other xs ys reported alike (inl memory) = inl memory
+first_other xs ys reported (inl (fault, here, there)) (inr first) = inr (there ∙ sym here ∙ first)
+first_other xs ys reported (inr (here, there, more)) (inr first) = absurd (none_first xs reported here first)

@@ -16,9 +16,9 @@ first_among faults more whole fault same (inl memory) = inl memory
 first_among faults more whole fault same (inr first) = inr (ap first_of same ∙ first-append faults more fault first)
 
 -- a fault that is passed on is reported
-pub told_on : {T : Type 0} (faults : List Fault) (answer : Result T Fault) (fault : Fault) → IsErrAnd answer (λ handed. handed ≡ fault) → IsFirstFault faults fault → TellsFirst faults answer
-told_on faults (Ok x) fault handed first = absurd handed
-told_on faults (Err told) fault handed first = subst (IsFirstFault faults) (sym handed) first
+pub reported_on : {T : Type 0} (faults : List Fault) (answer : Result T Fault) (fault : Fault) → IsErrAnd answer (λ handed. handed ≡ fault) → IsFirstFault faults fault → TellsFirst faults answer
+reported_on faults (Ok x) fault handed first = absurd handed
+reported_on faults (Err reported) fault handed first = subst (IsFirstFault faults) (sym handed) first
 
 -- what is left of a row from an index on
 pub left_from : {X : Type 0} (xs : List X) (i : ℕ) (x : X) → i < length xs → x ≡ get_or xs i x → drop i xs ≡ x ∷ drop (i + 1) xs

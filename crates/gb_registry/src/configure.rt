@@ -77,7 +77,7 @@ pub fn checked<A: Actions, T: Transforms>(
         (configure_faults (tables_of T.meanings A.meanings tables.now)
         (source_in projects.now scripts.now)) result }
 {
-    let tasks = checked_in_turn(alloc, tables, scripts)?;
+    let tasks = checked_in_execution(alloc, tables, scripts)?;
     match check_names(alloc, projects, &tasks, scripts) {
         Ok(()) => Ok(tasks),
         Err(fault) => {
@@ -87,7 +87,7 @@ pub fn checked<A: Actions, T: Transforms>(
     }
 }
 
-fn checked_in_turn<A: Actions, T: Transforms>(
+fn checked_in_execution<A: Actions, T: Transforms>(
     alloc: Global,
     tables: &Tables<A, T>,
     scripts: &[Scripted],

@@ -330,7 +330,7 @@ impl fmt::Display for Fault {
     ghost output = { λ f. Some (fault_text f) };
 
     fn fmt<W: fmt::Write>(&self, f: &mut fmt::Formatter<W>) -> fmt::Result {
-        let (words, about) = told(self);
+        let (words, about) = reported(self);
         write!(f, "{words}{about}")
     }
 }
@@ -397,7 +397,7 @@ impl<'a> fmt::Display for About<'a> {
 }
 
 /// The number and the words of a fault, and what it is about.
-fn told(fault: &Fault) -> (&'static str, About<'_>)
+fn reported(fault: &Fault) -> (&'static str, About<'_>)
     ensures { fault_text fault.now ≡ result.0.now ++ about_text result.1 }
 {
     match fault {
@@ -421,12 +421,12 @@ fn told(fault: &Fault) -> (&'static str, About<'_>)
         Fault::Final(name) => ("35 final ", About::Name(name)),
         Fault::UnknownAction(name) => ("40 unknown action ", About::Name(name)),
         Fault::ActionFailed(text) => ("42 ", About::Text(text)),
-        _ => told_from_43(fault),
+        _ => reported_from_43(fault),
     }
 }
 
 /// The number and the words of a fault with a number above 42, and what it is about.
-fn told_from_43(fault: &Fault) -> (&'static str, About<'_>)
+fn reported_from_43(fault: &Fault) -> (&'static str, About<'_>)
     ensures { 42 < fault_number fault.now → fault_text fault.now ≡ result.0.now ++ about_text result.1 }
 {
     match fault {
@@ -445,12 +445,12 @@ fn told_from_43(fault: &Fault) -> (&'static str, About<'_>)
         Fault::TooMany(what) => ("58 too many ", About::Limited(*what)),
         Fault::UnknownOutput(task, text) => ("59 unknown output ", About::TaskShown(task, text)),
         Fault::Cycle(tasks) => ("60 cycle ", About::Tasks(tasks)),
-        _ => told_from_61(fault),
+        _ => reported_from_61(fault),
     }
 }
 
 /// The number and the words of a fault with a number above 60, and what it is about.
-fn told_from_61(fault: &Fault) -> (&'static str, About<'_>)
+fn reported_from_61(fault: &Fault) -> (&'static str, About<'_>)
     ensures { 60 < fault_number fault.now → fault_text fault.now ≡ result.0.now ++ about_text result.1 }
 {
     match fault {

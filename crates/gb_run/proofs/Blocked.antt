@@ -31,7 +31,7 @@ use Rattle.gb_run.specs.Steps.{LeadTo, Step, after_steps, in_turn}
 use Rattle.gb_run.specs.Stepping.{HasRoom, IsFree}
 use Rattle.gb_run.proofs.Following.{no_some}
 use Rattle.gb_run.proofs.Leading.{all_found, sorted_after}
-use Rattle.gb_run.proofs.Looks.{after_append, at_in_turn, at_left, find_kept, kept, none_below, sorted_kept}
+use Rattle.gb_run.proofs.Looks.{after_append, at_in_execution, at_left, find_kept, kept, none_below, sorted_kept}
 use Rattle.gb_tree.proofs.InOrder.{is_less}
 
 -- ---- lists
@@ -236,7 +236,7 @@ module _ (task : Task) (files : Files) (folder : IsFolder files) (written : List
 
   -- what is made was there already, or is put by a step
   came : (q : Place) (b : Bytes) → file_at made q ≡ Some b → (file_at files q ≡ Some b) ⊎ (find byte_order q (kept comes steps) ≡ Some (Some b))
-  came q b e = by (find byte_order q steps) (is_place q) refl refl (sym (at_in_turn files steps q sorted) ∙ ap (λ (fs : Files). file_at fs q) leads.reached ∙ new_made q b e)
+  came q b e = by (find byte_order q steps) (is_place q) refl refl (sym (at_in_execution files steps q sorted) ∙ ap (λ (fs : Files). file_at fs q) leads.reached ∙ new_made q b e)
     where
       by : (o : Option (Option Bytes)) (p : Bool) → find byte_order q steps ≡ o → is_place q ≡ p → cond p (unwrap_or o (file_at files q)) (file_at files q) ≡ Some b
           → (file_at files q ≡ Some b) ⊎ (find byte_order q (kept comes steps) ≡ Some (Some b))

@@ -12,7 +12,7 @@ use Rattle.gb_tree.specs.declared.fault.TreeFault.TheVariants as trees
 use Rattle.gb_plan.specs.Task.{output_places}
 use Rattle.gb_plan.specs.declared.task.TaskDeclaration.{TaskDeclaration as Task}
 use Rattle.gb_store.specs.Changes.{IsCutShort, IsHindered, without_all}
-use Rattle.gb_meaning.specs.Tree.{told_of_tree}
+use Rattle.gb_meaning.specs.Tree.{reported_of_tree}
 use Rattle.gb_meaning.specs.Events.{IsTornInRun, Setting, StandsInRun}
 use Rattle.gb_run.specs.Emptying.{places_at}
 use Rattle.gb_run.specs.Laws.{CutEmptyingsInventNothing, TornPlacesAreOfTheEmptying}
@@ -29,10 +29,10 @@ stood_before (place ∷ places) files q bytes e =
     ] (sym (file_at-without files place q) ∙ later)
 
 -- unsupported entries are reported as such, and never as a failure of the device
-odd_is_not_device : (contents : Contents) (roots : List Place) (place : Place) → first_of (map told_of_tree (map trees.BadFileName (filter (is_odd_under contents) roots))) ≡ Some (faults.Device place) → ⊥
+odd_is_not_device : (contents : Contents) (roots : List Place) (place : Place) → first_of (map reported_of_tree (map trees.BadFileName (filter (is_odd_under contents) roots))) ≡ Some (faults.Device place) → ⊥
 odd_is_not_device contents roots place e = go (filter (is_odd_under contents) roots) e
   where
-    go : (odd : List Place) → first_of (map told_of_tree (map trees.BadFileName odd)) ≡ Some (faults.Device place) → ⊥
+    go : (odd : List Place) → first_of (map reported_of_tree (map trees.BadFileName odd)) ≡ Some (faults.Device place) → ⊥
     go [] h = cc
     go (root ∷ odd) h = cc
 

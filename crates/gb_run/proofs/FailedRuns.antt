@@ -19,7 +19,7 @@ use Rattle.gb_meaning.specs.Kinds.{Kinds, kind_of}
 use Rattle.gb_meaning.specs.Tree.{has_no_source, trees_of}
 use Rattle.gb_meaning.specs.Made.{blocked_in, file_faults, full_outputs, placed, put_over, rest_of, step_faults}
 use Rattle.gb_meaning.specs.Run.{Ended, ends, hindrances, or_end, step_by, unless_hindered}
-use Rattle.gb_meaning.specs.Turn.{IsWritten, lines_of}
+use Rattle.gb_meaning.specs.Execution.{IsWritten, lines_of}
 use Rattle.gb_meaning.specs.Events.{IsTornInRun, Setting, StandsInRun}
 use Rattle.gb_meaning.proofs.Lemmas.Ending.{ended_is_made}
 use Rattle.gb_run.specs.Course.{Course, files_at_hand, run_along, whole_run}

@@ -23,7 +23,7 @@ use Rattle.gb_meaning.specs.Kinds.{Kinds, kind_of}
 use Rattle.gb_meaning.specs.Label.{has_one_writer}
 use Rattle.gb_meaning.specs.Made.{act, made_of, placed, put_over, rest_of, step_faults}
 use Rattle.gb_meaning.specs.Tree.{has_no_source, trees_of}
-use Rattle.gb_meaning.specs.Turn.{IsWritten}
+use Rattle.gb_meaning.specs.Execution.{IsWritten}
 use Rattle.gb_meaning.proofs.Lemmas.Ending.{ended_is_made}
 use Rattle.gb_meaning.proofs.Lemmas.Files.{at-put_over, or_else, same_place, sorted-put_over}
 use Rattle.gb_meaning.proofs.Lemmas.Making.{made_of_is_right}

@@ -173,7 +173,7 @@ module _ (kinds : Kinds) (task : Task) (old trees : Trees) (changes : List Chang
   -- the request follows on
   pub follows : FollowsOn (kinds.makes (kind_of writer)) (request_of task trees changes seen writer.args) old
   follows = record {
-    tells = record { ordered = goes_on.tells.ordered; same_names = goes_on.tells.same_names; same_others = goes_on.tells.same_others; told = goes_on.tells.told };
+    tells = record { ordered = goes_on.tells.ordered; same_names = goes_on.tells.same_names; same_others = goes_on.tells.same_others; reported = goes_on.tells.reported };
     before = before.written;
     was_made = before.makes;
     stands = seen_before;

@@ -110,7 +110,7 @@ module _ (may_leave : Tearing) where
   one_stopped (place, Some bytes) (Err folders.OutOfMemory) old mid fault small is answers = inr (inl (let e = is in (cc), answers))
   one_stopped (place, Some bytes) (Err folders.Device) old mid fault small is answers = inr (inr (let e = is in (cc), answers))
   one_stopped (place, Some bytes) (Err folders.Missing) old mid fault small is answers = absurd answers
-  one_stopped (place, Some bytes) (Err folders.Blocked) old mid fault small is answers = inl (record { comes = refl; blocked = answers.0; told = let e = is in (cc); same = answers.1 })
+  one_stopped (place, Some bytes) (Err folders.Blocked) old mid fault small is answers = inl (record { comes = refl; blocked = answers.0; reported = let e = is in (cc); same = answers.1 })
   one_stopped (place, Some bytes) (Err folders.TooLarge) old mid fault small is answers = absurd (omega (arith, small, answers.0))
   one_stopped (place, Some bytes) (Err folders.BadFileName) old mid fault small is answers = absurd answers
 

@@ -18,7 +18,7 @@ use Rattle.gb_run.specs.Asking.{made_by, printed_by}
 use Rattle.gb_run.specs.Course.{EndsWell, course_of}
 use Rattle.gb_run.specs.AskingChanges.{GoesOn, IsFitting, writers}
 use Rattle.gb_run.specs.Failing.{ByChanges, Fails}
-use Rattle.gb_run.specs.Turn.{Ends, IsItsTurn, Stops}
+use Rattle.gb_run.specs.Execution.{Ends, IsItsExecution, Stops}
 use Rattle.gb_run.proofs.Going.{IsGoing, begins, ends_well, fails_reading, fails_writing, reads_on, stands_old, writes_on}
 use Rattle.gb_run.proofs.Writer.{heads, writer_of}
 
@@ -75,14 +75,14 @@ module _ (kinds : Kinds) (task : Task) (trees : Trees) (changes : List Changes) 
       is_one : kinds.writes (kind_of action) ≡ true → writers kinds task.actions ≡ action ∷ []
       is_one writes = one.1 ∙ ap (λ (a : Action). a ∷ []) (sym (the_one kinds going.done left action one.0 writes (ap (writers kinds) (sym going.all) ∙ one.1)))
 
-      turn : kinds.writes (kind_of action) ≡ true → IsItsTurn kinds task action trees changes seen folder
-      turn writes = subst (λ (fs : Files). IsItsTurn kinds task action trees changes seen fs) (sym (stands_old kinds task trees changes old folder lines action left going writes (is_one writes)))
+      turn : kinds.writes (kind_of action) ≡ true → IsItsExecution kinds task action trees changes seen folder
+      turn writes = subst (λ (fs : Files). IsItsExecution kinds task action trees changes seen fs) (sym (stands_old kinds task trees changes old folder lines action left going writes (is_one writes)))
           (record { fitting = fitting; old = before; goes_on = goes_on; writes = is_one writes })
 
       -- the next action ends
       pub goes_further : (new : Files) (lines_now : List Text)
           → (IsFitting kinds task action → kinds.writes (kind_of action) ≡ false → (made_by kinds task action trees ≡ Ok []) × (new ≡ folder))
-          → (IsItsTurn kinds task action trees changes seen folder → Ends kinds task action trees folder new)
+          → (IsItsExecution kinds task action trees changes seen folder → Ends kinds task action trees folder new)
           → lines_now ≡ lines ++ printed_by kinds task action trees changes → IsGoing kinds task trees changes old left new lines_now
       goes_further new lines_now read wrote prints = by (kinds.writes (kind_of action)) refl
         where
@@ -98,7 +98,7 @@ module _ (kinds : Kinds) (task : Task) (trees : Trees) (changes : List Changes) 
       -- it stops
       pub fails_further : (first second : Tearing) (count between after : ℕ) (fault : Fault) (new : Files) (lines_now : List Text) → SameTearing first second → count ≤ between → between ≤ after
           → (kinds.writes (kind_of action) ≡ false → ((fault ≡ faults.OutOfMemory) ⊎ ((text : Text) × (fault ≡ faults.ActionFailed text) × (made_by kinds task action trees ≡ Err text))) × (new ≡ folder))
-          → (IsItsTurn kinds task action trees changes seen folder → Stops kinds task action trees folder second between fault after new)
+          → (IsItsExecution kinds task action trees changes seen folder → Stops kinds task action trees folder second between fault after new)
           → lines_now ≡ lines → Fails (course_of kinds task trees changes (rest_of task old)) (ByChanges old) first count fault lines_now after new
       fails_further first second count between after fault new lines_now same le more unread unwritten prints = by (kinds.writes (kind_of action)) refl
         where

@@ -25,7 +25,7 @@ use Rattle.gb_run.specs.AskingChanges.{writers}
 use Rattle.gb_run.specs.Failing.{AreAtHand, ByChanges, Fails, ended_files}
 use Rattle.gb_run.specs.Stepping.{FailsByMachine}
 use Rattle.gb_run.specs.Steps.{LeadTo, after_steps}
-use Rattle.gb_run.specs.Turn.{AreOfTurn, Ends, Stops}
+use Rattle.gb_run.specs.Execution.{AreOfExecution, Ends, Stops}
 
 abbrev pub course_in : Kinds → Task → Trees → List Changes → Files → Course
 course_in kinds task trees changes old = course_of kinds task trees changes (rest_of task old)
@@ -197,7 +197,7 @@ module _ (kinds : Kinds) (task : Task) (trees : Trees) (changes : List Changes) 
             ended_old : ended_files (course_of kinds task trees changes (rest_of task old)) (ByChanges old) going.done ≡ old
             ended_old = ap (λ b. if b then put_over (rest_of task old) (run_along (course_of kinds task trees changes (rest_of task old)) going.done).held else old) none_before
 
-            at : AreOfTurn kinds task action trees old (stops.front ++ stops.behind)
+            at : AreOfExecution kinds task action trees old (stops.front ++ stops.behind)
                 → AreAtHand (course_of kinds task trees changes (rest_of task old)) (ByChanges old) going.done (action ∷ left) (stops.front ++ stops.behind)
             at (inl none) = inl none
             at (inr leads) = inr (

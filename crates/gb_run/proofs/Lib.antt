@@ -34,7 +34,7 @@ pub mod Owned
 pub mod Following
 pub mod Leading
 pub mod StepTexts
-pub mod Turned
+pub mod Executing
 pub mod SteppedOn
 pub mod Small
 pub mod Blocked

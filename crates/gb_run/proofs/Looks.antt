@@ -111,9 +111,9 @@ after_append old [] ys = refl
 after_append old (x ∷ xs) ys = after_append (with_left old x.0 x.1) xs ys
 
 -- what steps in execution order leave
-pub at_in_turn : (old : Files) (steps : List Step) (q : Place) → is_sorted byte_order steps ≡ true
+pub at_in_execution : (old : Files) (steps : List Step) (q : Place) → is_sorted byte_order steps ≡ true
     → file_at (after_steps old (in_turn steps)) q ≡ cond (is_place q) (unwrap_or (find byte_order q steps) (file_at old q)) (file_at old q)
-at_in_turn old steps q h =
+at_in_execution old steps q h =
     ap (λ (fs : Files). file_at fs q) (after_append old (kept goes steps) (kept comes steps))
     ∙ at_after (after_steps old (kept goes steps)) (kept comes steps) q (sorted_kept comes steps h)
     ∙ ap (unwrap_or (find byte_order q (kept comes steps))) (at_after old (kept goes steps) q (sorted_kept goes steps h))

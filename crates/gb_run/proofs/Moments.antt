@@ -74,7 +74,7 @@ module _ (course : Course) where
     -- memory ran out there
     pub fails_between : (may_leave : Tearing) (before after : ℕ) (fault : Fault) (lines : List Text) (new : Files) → fault ≡ faults.OutOfMemory → lines ≡ lines_by course done → new ≡ ended_files course way done
         → Fails course way may_leave before fault lines after new
-    fails_between may_leave before after fault lines new told printed stands = record { moment = moment_at; printed = printed; why = inr (inl (told, stands)) }
+    fails_between may_leave before after fault lines new reported printed stands = record { moment = moment_at; printed = printed; why = inr (inl (reported, stands)) }
 
 -- ---- at an action
 

@@ -24,7 +24,7 @@ use Rattle.gb_run.specs.Failing.{ByChanges, Fails}
 use Rattle.gb_run.specs.Stepping.{HasRoom}
 use Rattle.gb_run.specs.Steps.{Step, folder_after, in_turn}
 use Rattle.gb_run.specs.Named.{steps_of}
-use Rattle.gb_run.specs.Turn.{IsItsTurn, Stops}
+use Rattle.gb_run.specs.Execution.{IsItsExecution, Stops}
 use Rattle.gb_run.specs.Work.{DoesParts, OrPrints, Part, Work}
 use Rattle.gb_run.specs.WorkByChanges.{EndsSo, FailsWith, Increment, IsPart, IsWorkByChanges, IsWriterPart, increment_of}
 use Rattle.gb_run.proofs.Composed.{Ends, answered_then}
@@ -61,23 +61,23 @@ module _ (kinds : Kinds) (task : Task) (trees : Trees) (changes : List Changes) 
   module _ (action : Action) (left : List Action) (cur : Contents) (lines : List Text) (going : Goes (action ∷ left) cur.files lines) where
     stops : (fault : Fault) (new : Files)
         → (kinds.writes (kind_of action) ≡ false → ((fault ≡ faults.OutOfMemory) ⊎ ((text : Text) × (fault ≡ faults.ActionFailed text) × (made_by kinds task action trees ≡ Err text))) × (new ≡ cur.files))
-        → (IsItsTurn kinds task action trees changes seen cur.files → Stops kinds task action trees cur.files may_leave before fault after new) → FailsNow fault lines new
+        → (IsItsExecution kinds task action trees changes seen cur.files → Stops kinds task action trees cur.files may_leave before fault after new) → FailsNow fault lines new
     stops fault new unread unwritten =
         fails_further kinds task trees changes start seen old goes_on fitting action left cur.files lines going may_leave may_leave before before after fault new lines (SameTearing-same may_leave) (omega arith) rises
         unread unwritten refl
 
     -- the writer begins with the files that were there
-    stands : kinds.writes (kind_of action) ≡ true → IsItsTurn kinds task action trees changes seen cur.files → cur.files ≡ start
+    stands : kinds.writes (kind_of action) ≡ true → IsItsExecution kinds task action trees changes seen cur.files → cur.files ≡ start
     stands writes turn = stands_old kinds task trees changes start cur.files lines action left going writes turn.writes
 
-    folder_now : kinds.writes (kind_of action) ≡ true → IsItsTurn kinds task action trees changes seen cur.files → IsFolder cur.files
+    folder_now : kinds.writes (kind_of action) ≡ true → IsItsExecution kinds task action trees changes seen cur.files → IsFolder cur.files
     folder_now writes turn = subst (λ (fs : Files). IsFolder fs) (sym (stands writes turn)) folder
 
-    good_now : kinds.writes (kind_of action) ≡ true → IsItsTurn kinds task action trees changes seen cur.files → IsTrue (are_placed cur.files)
+    good_now : kinds.writes (kind_of action) ≡ true → IsItsExecution kinds task action trees changes seen cur.files → IsTrue (are_placed cur.files)
     good_now writes turn = subst (λ (fs : Files). IsTrue (are_placed fs)) (sym (stands writes turn)) good
 
-    turn_writes : IsItsTurn kinds task action trees changes seen cur.files → kinds.writes (kind_of action) ≡ true
-    turn_writes turn = (fits_writer kinds task task.actions action [] turn.fitting turn.writes).0
+    execution_writes : IsItsExecution kinds task action trees changes seen cur.files → kinds.writes (kind_of action) ≡ true
+    execution_writes turn = (fits_writer kinds task task.actions action [] turn.fitting turn.writes).0
 
     -- the action itself fails
     fails_itself : (fault : Fault) → FailsWith run action fault → FailsNow fault lines cur.files
@@ -109,7 +109,7 @@ module _ (kinds : Kinds) (task : Task) (trees : Trees) (changes : List Changes) 
 
       -- its part was done, and memory ran out for its lines
       mute : IsPart run action part → Does part.steps calls (Ok tt) → FailsNow faults.OutOfMemory lines between.files
-      mute (inl reader, prints) does = stops faults.OutOfMemory between.files (λ quiet. (inl refl, ap (λ (c : Contents). c.files) (same reader.steps does))) (λ turn. never kinds action (turn_writes turn) reader.quiet)
+      mute (inl reader, prints) does = stops faults.OutOfMemory between.files (λ quiet. (inl refl, ap (λ (c : Contents). c.files) (same reader.steps does))) (λ turn. never kinds action (execution_writes turn) reader.quiet)
       mute (inr writer, prints) does = stops faults.OutOfMemory between.files (λ quiet. never kinds action writer.writes quiet) (λ turn.
           stops_printing kinds task action trees changes seen cur.files (folder_now writer.writes turn) (good_now writer.writes turn) turn writer.reply writer.answers writer.free may_leave before faults.OutOfMemory after between.files
           (ap (λ (c : Contents). c.files) (left_so writer does).0) refl)
@@ -118,7 +118,7 @@ module _ (kinds : Kinds) (task : Task) (trees : Trees) (changes : List Changes) 
       goes : IsPart run action part → Does part.steps calls (Ok tt) → Goes left between.files (lines ++ part.lines)
       goes (inl reader, prints) does =
           goes_further kinds task trees changes start seen old goes_on fitting action left cur.files lines going between.files (lines ++ part.lines)
-          (λ fits quiet. (reader.made fits, ap (λ (c : Contents). c.files) (same reader.steps does))) (λ turn. never kinds action (turn_writes turn) reader.quiet) (ap (λ (ls : List Text). lines ++ ls) prints)
+          (λ fits quiet. (reader.made fits, ap (λ (c : Contents). c.files) (same reader.steps does))) (λ turn. never kinds action (execution_writes turn) reader.quiet) (ap (λ (ls : List Text). lines ++ ls) prints)
       goes (inr writer, prints) does =
           goes_further kinds task trees changes start seen old goes_on fitting action left cur.files lines going between.files (lines ++ part.lines)
           (λ fits quiet. never kinds action writer.writes quiet)

@@ -24,7 +24,7 @@ use Rattle.gb_run.specs.Named.{held_after, named, put, removed, removed_in, stan
 use Rattle.gb_run.specs.Stepping.{IsSmall}
 use Rattle.gb_run.specs.Steps.{Step, in_turn, put_steps}
 use Rattle.gb_run.proofs.Following.{no_some, under_named}
-use Rattle.gb_run.proofs.Leading.{all_found, all_in_turn, at_files}
+use Rattle.gb_run.proofs.Leading.{all_found, all_in_execution, at_files}
 use Rattle.gb_run.proofs.Looks.{at_put, sorted_steps}
 use Rattle.gb_tree.proofs.Holding.{all_append}
 
@@ -56,7 +56,7 @@ small_at (f ∷ files) all q b e = by (small_at files all.1 q b) (eq_by_cmp byte
 pub small_steps : (outputs : List Output) (seen : List OutputFiles) (removes : List OutputPath) (writes : List Written)
     → faults_beside outputs [] (held_after outputs seen removes writes) ≡ [] → AllByRecursion IsSmall (in_turn (steps_of outputs removes writes))
 small_steps outputs seen removes writes none =
-    all_in_turn IsSmall (steps_of outputs removes writes)
+    all_in_execution IsSmall (steps_of outputs removes writes)
     (all_found IsSmall (steps_of outputs removes writes) (sorted_steps [] (named outputs removes writes) refl) one)
   where
     base : List Step
@@ -112,7 +112,7 @@ named_at P held (s ∷ xs) q v start any all e =
 -- the steps of a reply are at outputs
 pub steps_at_outputs : (outputs : List Output) (removes : List OutputPath) (writes : List Written) → AllByRecursion (λ (s : Step). is_at outputs s.0 ≡ true) (in_turn (steps_of outputs removes writes))
 steps_at_outputs outputs removes writes =
-    all_in_turn (λ (s : Step). is_at outputs s.0 ≡ true) (steps_of outputs removes writes)
+    all_in_execution (λ (s : Step). is_at outputs s.0 ≡ true) (steps_of outputs removes writes)
     (all_found (λ (s : Step). is_at outputs s.0 ≡ true) (steps_of outputs removes writes) (sorted_steps [] (named outputs removes writes) refl)
     (λ q v e. named_at (λ (s : Step). is_at outputs s.0 ≡ true) [] (named outputs removes writes) q v (λ w is. no_some None w refl is) (λ p w h u. h)
     (all_append (λ (s : Step). is_at outputs s.0 ≡ true) (removed outputs removes) (put (placed outputs writes)) (removed_at outputs removes) (written_at outputs writes)) e))

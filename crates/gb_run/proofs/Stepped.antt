@@ -39,7 +39,7 @@ module _ (outputs : List Output) (rest held taken folder : Files) (made : Result
 
   -- the action failed
   pub stops_asked : (text : Text) → fault ≡ faults.ActionFailed text → made ≡ Err text → Stops folder
-  stops_asked text told is = stops_itself (ap (step_by outputs rest held) is ∙ ap Err (sym told))
+  stops_asked text reported is = stops_itself (ap (step_by outputs rest held) is ∙ ap Err (sym reported))
 
   module _ (written : List Written) (is : made ≡ Ok written) where
     abbrev by_place : Files
@@ -62,11 +62,11 @@ module _ (outputs : List Output) (rest held taken folder : Files) (made : Result
 
       -- all is written, and memory ran out
       pub stops_printing : (new : Files) → new ≡ after_steps folder (put (put_over [] (placed outputs written))) → fault ≡ faults.OutOfMemory → Stops new
-      stops_printing new now told = record {
+      stops_printing new now reported = record {
         front = put by_place;
         behind = [];
         at_hand = with_none (put by_place) ∙ ap put (sym free_now);
-        why = inr (inl (told, now ∙ ap (λ (m : Files). after_steps m (put by_place)) is_held.files));
+        why = inr (inl (reported, now ∙ ap (λ (m : Files). after_steps m (put by_place)) is_held.files));
       }
 
       module _ (old new : Contents) (stood : old.files ≡ folder) (risen : (place : Place) → fault ≡ faults.Device place → HasRisen before after) where
@@ -104,7 +104,7 @@ module _ (outputs : List Output) (rest held taken folder : Files) (made : Result
                 → ((step_by outputs rest held made ≡ Err fault) × (new.files ≡ after_steps (put_over rest held) cut.front))
                 ⊎ FailsByMachine may_leave before (after_steps (put_over rest held) cut.front) (cut.step ∷ cut.behind) fault after new.files
             at_stop (inl shut) = inl (
-              ap (step_by outputs rest held) is ∙ blocked parts.later parts.behind_is parts.all shut.blocked ∙ ap Err (sym shut.told),
+              ap (step_by outputs rest held) is ∙ blocked parts.later parts.behind_is parts.all shut.blocked ∙ ap Err (sym shut.reported),
               ap (λ (c : Contents). c.files) shut.same ∙ then cut.front,
             )
             at_stop (inr hindered) = inr (by_machine may_leave before after old (after_steps (put_over rest held) cut.front) cut.front cut.step cut.behind fault new (then cut.front) risen hindered)

@@ -33,7 +33,7 @@ use Rattle.gb_run.specs.AskingChanges.{GoesOn, IsFitting, request_of, writers}
 use Rattle.gb_run.specs.ChangeLaws.{IsReplied}
 use Rattle.gb_run.specs.Named.{held_after, steps_of}
 use Rattle.gb_run.specs.Steps.{LeadTo, after_steps, in_turn}
-use Rattle.gb_run.specs.Turn.{IsItsTurn, Makes}
+use Rattle.gb_run.specs.Execution.{IsItsExecution, Makes}
 use Rattle.gb_run.proofs.Further.{some_writes, the_one}
 use Rattle.gb_run.proofs.Going.{none_full, two_writers}
 use Rattle.gb_run.proofs.Leading.{held_is_made, leads}
@@ -58,7 +58,7 @@ goes_on_owned kinds task old trees changes outputs files sorted goes_on = record
 }
 
 module _ (kinds : Kinds) (task : Task) (action : Action) (trees : Trees) (changes : List Changes) (seen : List OutputFiles) (files : Files)
-    (sorted : is_sorted byte_order files ≡ true) (good : are_placed files ≡ true) (turn : IsItsTurn kinds task action trees changes seen files) (reply : Reply)
+    (sorted : is_sorted byte_order files ≡ true) (good : are_placed files ≡ true) (turn : IsItsExecution kinds task action trees changes seen files) (reply : Reply)
     (answers : Answers (kinds.makes (kind_of action)) (kinds.prints (kind_of action)) (request_of task trees changes seen action.args) (Ok reply)) where
   made : (written : List Written) × (made_by kinds task action trees ≡ Ok written)
   made = ok_value (made_by kinds task action trees) (answers.succeeds reply refl)
@@ -159,7 +159,7 @@ module _ (kinds : Kinds) (task : Task) (trees : Trees) (changes : List Changes) 
       -- the next action ends
       pub tells_more : (digests_now : Files)
           → (IsFitting kinds task action → kinds.writes (kind_of action) ≡ false → (made_by kinds task action trees ≡ Ok []) × (digests_now ≡ digests))
-          → (IsItsTurn kinds task action trees changes seen files → digests ≡ digests_of (output_files task files) → Makes kinds task action trees digests_now)
+          → (IsItsExecution kinds task action trees changes seen files → digests ≡ digests_of (output_files task files) → Makes kinds task action trees digests_now)
           → IsTelling left digests_now
       tells_more digests_now read wrote = by (kinds.writes (kind_of action)) refl
         where

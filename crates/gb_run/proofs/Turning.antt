@@ -33,7 +33,7 @@ use Rattle.gb_run.specs.ChangeLaws.{IsReplied}
 use Rattle.gb_run.specs.Named.{held_after, named, steps_of}
 use Rattle.gb_run.specs.Stepping.{FailsByMachine, HasRoom, IsCutShort, IsShutOut}
 use Rattle.gb_run.specs.Steps.{LeadTo, Step, after_steps, folder_after, in_turn}
-use Rattle.gb_run.specs.Turn.{Ends, IsItsTurn, Stops}
+use Rattle.gb_run.specs.Execution.{Ends, IsItsExecution, Stops}
 use Rattle.gb_run.proofs.Blocked.{step_free, step_shut_out}
 use Rattle.gb_run.proofs.Leading.{held_is_made, leads}
 use Rattle.gb_run.proofs.Looks.{sorted_steps}
@@ -63,10 +63,10 @@ module _ (kinds : Kinds) (task : Task) (action : Action) (trees : Trees) (old : 
 
   -- the action failed
   pub stops_asked : (text : Text) → fault ≡ faults.ActionFailed text → made_by kinds task action trees ≡ Err text → StopsWith old
-  stops_asked text told is = stops_itself (ap (step_by task.outputs (rest_of task old) []) is ∙ ap Err (sym told))
+  stops_asked text reported is = stops_itself (ap (step_by task.outputs (rest_of task old) []) is ∙ ap Err (sym reported))
 
 module _ (kinds : Kinds) (task : Task) (action : Action) (trees : Trees) (changes : List Changes) (seen : List OutputFiles) (files : Files)
-    (folder : IsFolder files) (good : IsTrue (are_placed files)) (turn : IsItsTurn kinds task action trees changes seen files) (reply : Reply)
+    (folder : IsFolder files) (good : IsTrue (are_placed files)) (turn : IsItsExecution kinds task action trees changes seen files) (reply : Reply)
     (answers : Answers (kinds.makes (kind_of action)) (kinds.prints (kind_of action)) (request_of task trees changes seen action.args) (Ok reply)) where
   made : (written : List Written) × (made_by kinds task action trees ≡ Ok written)
   made = ok_value (made_by kinds task action trees) (answers.succeeds reply refl)
@@ -134,12 +134,12 @@ module _ (kinds : Kinds) (task : Task) (action : Action) (trees : Trees) (change
     module _ (may_leave : Tearing) (before : ℕ) (fault : Fault) (after : ℕ) where
       -- all is done, and memory ran out
       pub stops_printing : (new : Files) → new ≡ after_steps files (in_turn (steps_of task.outputs reply.removes reply.writes)) → fault ≡ faults.OutOfMemory → Stops kinds task action trees files may_leave before fault after new
-      stops_printing new is told = record {
+      stops_printing new is reported = record {
         front = in_turn (steps_of task.outputs reply.removes reply.writes);
         behind = [];
         at_hand = inr (subst (λ (ss : List Step). LeadTo files (put_over (rest_of task files) (put_over [] (free_files task.outputs [] (made_by kinds task action trees)))) ss)
             (sym (with_none (in_turn (steps_of task.outputs reply.removes reply.writes)))) lead_now);
-        why = inr (inl (told, is));
+        why = inr (inl (reported, is));
       }
 
       -- its steps were cut short
@@ -163,7 +163,7 @@ module _ (kinds : Kinds) (task : Task) (action : Action) (trees : Trees) (change
                 ∙ step_shut_out task files folder made.0 (steps_of task.outputs reply.removes reply.writes) steps_sorted (steps_at_outputs task.outputs reply.removes reply.writes) none_made lead
                 cut.front cut.step cut.behind cut.all (subst (λ (fs : Files). HasRoom fs cut.front) stood cut.room) shut.comes
                 (ap (λ (fs : Files). is_blocked fs cut.step.0) (sym then) ∙ shut.blocked)
-                ∙ ap Err (sym shut.told),
+                ∙ ap Err (sym shut.reported),
             ap (λ (c : Contents). c.files) shut.same ∙ then,
           )
           at_stop (inr hindered) = inr (by_machine may_leave before after old (after_steps files cut.front) cut.front cut.step cut.behind fault new then risen hindered)

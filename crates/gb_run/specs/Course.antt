@@ -11,7 +11,7 @@ use Rattle.gb_plan.specs.declared.task.TaskDeclaration.{TaskDeclaration as Task}
 use Rattle.gb_meaning.specs.Kinds.{Kinds}
 use Rattle.gb_meaning.specs.Made.{placed, put_over, step_faults}
 use Rattle.gb_meaning.specs.Run.{Ended, ends}
-use Rattle.gb_meaning.specs.Turn.{lines_of}
+use Rattle.gb_meaning.specs.Execution.{lines_of}
 use Rattle.gb_run.specs.Asking.{made_by}
 
 -- What a run depends on: what kinds mean, the task with its trees and its change lists, and the rest of the

@@ -10,7 +10,7 @@ use Rattle.gb_folder.specs.declared.folder.FolderFault.{FolderFault}
 use Rattle.gb_folder.specs.declared.folder.FolderFault.TheVariants as folders
 use Rattle.gb_report.specs.declared.fault.Fault.{Fault}
 use Rattle.gb_report.specs.declared.fault.Fault.TheVariants as faults
-use Rattle.gb_store.specs.Faults.{told_at}
+use Rattle.gb_store.specs.Faults.{reported_at}
 use Rattle.gb_run.specs.Steps.{Step}
 
 -- it went well, or ended with this fault
@@ -33,7 +33,7 @@ unless_absent place folders.BadFileName = Err (faults.BadFileName place)
 
 abbrev pub write_ending : Place → Answer → Ending
 write_ending place (Ok done) = Ok tt
-write_ending place (Err fault) = Err (told_at place fault)
+write_ending place (Err fault) = Err (reported_at place fault)
 
 abbrev pub removal_ending : Place → Answer → Ending
 removal_ending place (Ok done) = Ok tt

@@ -10,7 +10,7 @@ use Rattle.gb_plan.specs.declared.task.Output.{Output}
 use Rattle.gb_plan.specs.declared.task.TaskDeclaration.{TaskDeclaration as Task}
 use Rattle.gb_store.specs.Changes.{IsCutShort}
 use Rattle.gb_store.specs.Faults.{IsOfMachine}
-use Rattle.gb_meaning.specs.Tree.{listing_faults, told_of_tree}
+use Rattle.gb_meaning.specs.Tree.{listing_faults, reported_of_tree}
 
 -- the place is at or under one of these outputs
 abbrev pub is_at_output : List Output → Place → Bool
@@ -22,7 +22,7 @@ places_at outputs files = flat_map (λ output. places_under files output.place) 
 
 -- the faults of listing them: entries there that no place can name
 abbrev pub odd_faults : List Output → Contents → List Fault
-odd_faults outputs folder = map told_of_tree (odd_roots folder (map (λ output. output.place) outputs))
+odd_faults outputs folder = map reported_of_tree (odd_roots folder (map (λ output. output.place) outputs))
 
 -- The outputs of a task are not emptied. Either an unsupported entry is there and nothing has changed; or the
 -- machine failed, before the first removal or at one, and some first files are gone.

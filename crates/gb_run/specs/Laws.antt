@@ -14,7 +14,7 @@ use Rattle.gb_meaning.specs.Kinds.{Kinds}
 use Rattle.gb_meaning.specs.Tree.{has_no_source, trees_of}
 use Rattle.gb_meaning.specs.Made.{made_of, rest_of, with_outputs}
 use Rattle.gb_meaning.specs.Label.{has_one_writer, run_of}
-use Rattle.gb_meaning.specs.Turn.{IsWritten, lines_of}
+use Rattle.gb_meaning.specs.Execution.{IsWritten, lines_of}
 use Rattle.gb_meaning.specs.Events.{IsTornInRun, Setting, StandsInRun}
 use Rattle.gb_run.specs.AskingChanges.{IsFitting}
 use Rattle.gb_run.specs.Course.{Course, EndsWell, course_of}

@@ -17,6 +17,6 @@ pub mod Stepping
 pub mod AskingChanges
 pub mod Failing
 pub mod ChangeLaws
-pub mod Turn
+pub mod Execution
 pub mod Requests
 pub mod ChangeDigests

@@ -27,7 +27,7 @@ HasRoom files (step ∷ steps) = IsFree files step × HasRoom (with_left files s
 pub record IsShutOut (step : Step) (old : Contents) (fault : Fault) (new : Contents) : Type 0 where
   pub comes : is_some step.1 ≡ true
   pub blocked : is_blocked old.files step.0 ≡ true
-  pub told : fault ≡ faults.Blocked step.0
+  pub reported : fault ≡ faults.Blocked step.0
   pub same : new ≡ old
 
 -- The steps were cut short: some first ones are done, and the next was shut out, or stopped by the machine.

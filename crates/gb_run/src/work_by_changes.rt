@@ -18,7 +18,7 @@ ghost use Rattle.gb_meaning.specs.Memory.{output_files};
 ghost use Rattle.gb_run.specs.Asking.{IsFullLike, made_by, printed_by};
 ghost use Rattle.gb_run.specs.AskingChanges.{AnswersChanges, CanGoOn, GoesOn, IsFitting, request_of};
 ghost use Rattle.gb_run.specs.Digests.{prints_at};
-ghost use Rattle.gb_run.specs.Turn.{IsItsTurn, Makes};
+ghost use Rattle.gb_run.specs.Execution.{IsItsExecution, Makes};
 ghost use Rattle.gb_run.specs.WorkByChanges.{FailsWith, IsPart, IsWorkByChanges, increment_of};
 ghost use Rattle.gb_run.specs.Worked.{AreStepsAt, part_held, work_held};
 
@@ -149,7 +149,7 @@ fn part_of_writer<A: Actions>(
         (part_held part)) }
     ensures makes { OnOk result ((kinds : Kinds) → Agrees A.meanings table.now kinds
         → (standing : Files) → IsTrue (is_sorted byte_order standing) → IsTrue (are_placed standing)
-        → IsItsTurn kinds task.now action.now working.old.request.files working.old.request.changes.lists
+        → IsItsExecution kinds task.now action.now working.old.request.files working.old.request.changes.lists
         working.old.seen standing → working.old.digests ≡ digests_of (output_files task.now standing)
         → Makes kinds task.now action.now working.old.request.files working.new.digests) }
     ensures places { IfOk result (AreStepsAt (is_output_of task.now)) }
@@ -198,7 +198,7 @@ fn part_of<A: Actions>(
         × (working.new.digests ≡ working.old.digests)) }
     ensures makes { OnOk result ((kinds : Kinds) → Agrees A.meanings table.now kinds
         → (standing : Files) → IsTrue (is_sorted byte_order standing) → IsTrue (are_placed standing)
-        → IsItsTurn kinds task.now action.now working.old.request.files working.old.request.changes.lists
+        → IsItsExecution kinds task.now action.now working.old.request.files working.old.request.changes.lists
         working.old.seen standing → working.old.digests ≡ digests_of (output_files task.now standing)
         → Makes kinds task.now action.now working.old.request.files working.new.digests) }
     ensures places { IfOk result (AreStepsAt (is_output_of task.now)) }

@@ -14,14 +14,14 @@ use Rattle.gb_script.specs.Scanning.{scan}
 use Rattle.gb_script.specs.Grammar.{Leveled, clause_spelled, statement_spelled, script_spelled}
 use Rattle.gb_script.specs.Fits.{IsScript}
 use Rattle.gb_script.specs.Notation.{tokens_in, line_of, IsSaid}
-use Rattle.gb_script.specs.Telling.{line_left, fault_told}
+use Rattle.gb_script.specs.Telling.{line_left, fault_reported}
 use Rattle.gb_script.specs.Reading.{Fails, all_at}
 use Rattle.gb_script.specs.Readers.{script_at}
 use Rattle.gb_script.specs.Lines.{each_from, clauses_in, before_clauses, statement_lines, script_lines, AreLinesOf}
 use Rattle.gb_script.specs.LineReaders.{script_lines_at}
 use Rattle.gb_script.proofs.Readers.{bind_ok, bind_err, ok_is}
 use Rattle.gb_script.proofs.StatementLaws.{Reads-script, script_ends_text}
-use Rattle.gb_script.proofs.Sources.{line_is, spells_text, told_stop}
+use Rattle.gb_script.proofs.Sources.{line_is, spells_text, reported_stop}
 use Rattle.gb_script.proofs.Pieces.{tokens_again}
 use Rattle.gb_script.proofs.LineLaws.{firsts, clause_first, clause_firsts, statement_first, whole_same}
 
@@ -100,5 +100,5 @@ module _ (bytes text : List ℕ) (same : text ≡ bytes) (short : length bytes �
         | inr x ↦ absurd (let no = x.2 in cc)
       ]
 
-  pub lines_fault : (stop : Stop) (fault : ScriptFault) → Fails stop (all_at (script_lines_at (line_left text lines)) tokens) → fault ≡ fault_told text lines stop → (fault ≡ OutOfMemory) ⊎ IsSaid IsScript script_spelled bytes (Err fault)
-  lines_fault stop fault fails f = told_stop Reads-script script_ends_text bytes text same short utf8 tokens lines stop fault tokens_are lines_are (fails_as_script stop fails) f
+  pub lines_fault : (stop : Stop) (fault : ScriptFault) → Fails stop (all_at (script_lines_at (line_left text lines)) tokens) → fault ≡ fault_reported text lines stop → (fault ≡ OutOfMemory) ⊎ IsSaid IsScript script_spelled bytes (Err fault)
+  lines_fault stop fault fails f = reported_stop Reads-script script_ends_text bytes text same short utf8 tokens lines stop fault tokens_are lines_are (fails_as_script stop fails) f

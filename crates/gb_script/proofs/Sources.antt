@@ -17,7 +17,7 @@ use Rattle.gb_script.specs.Scanning.{scan}
 use Rattle.gb_script.specs.Grammar.{Leveled}
 use Rattle.gb_script.specs.Verdict.{IsFirstStray, IsFirstDeep}
 use Rattle.gb_script.specs.Reading.{Reader, Fails, all_at}
-use Rattle.gb_script.specs.Telling.{line_left, fault_told}
+use Rattle.gb_script.specs.Telling.{line_left, fault_reported}
 use Rattle.gb_script.specs.Notation.{tokens_in, IsSource, IsSpelled, line_of, IsSyntaxFault, IsDepthFault, IsSaid}
 use Rattle.gb_script.proofs.Whole.{all_found, all_again, all_stray, all_deep}
 use Rattle.gb_script.proofs.Runs.{cases_bool}
@@ -118,17 +118,17 @@ module _ {A : Type 0} {P : A → Type 0} {m : A → List Leveled} {e : A → Opt
   abbrev lines_of : List ℕ → List ℕ
   lines_of bytes = map (λ p. p.1) (scan 1 bytes)
 
-  abbrev told : List ℕ → Result A Fault → Result A ScriptFault
-  told bytes (Ok script) = Ok script
-  told bytes (Err f) = Err (fault_told bytes (lines_of bytes) (stops.Fault f))
+  abbrev reported : List ℕ → Result A Fault → Result A ScriptFault
+  reported bytes (Ok script) = Ok script
+  reported bytes (Err f) = Err (fault_reported bytes (lines_of bytes) (stops.Fault f))
 
-  abbrev told_text : List ℕ → Bool → Result A ScriptFault
-  told_text bytes utf8 = cond utf8 (told bytes (all_at r (tokens_in (scan 1 bytes)))) (Err NotUtf8)
+  abbrev reported_text : List ℕ → Bool → Result A ScriptFault
+  reported_text bytes utf8 = cond utf8 (reported bytes (all_at r (tokens_in (scan 1 bytes)))) (Err NotUtf8)
 
   abbrev answer : List ℕ → Result A ScriptFault
-  answer bytes = cond (nat_lt 1048576 (length bytes)) (Err TooLong) (told_text bytes (is_utf8 bytes))
+  answer bytes = cond (nat_lt 1048576 (length bytes)) (Err TooLong) (reported_text bytes (is_utf8 bytes))
 
-  text_answer : (bytes : List ℕ) → length bytes ≤ 1048576 → IsUtf8 bytes → answer bytes ≡ told bytes (all_at r (tokens_in (scan 1 bytes)))
+  text_answer : (bytes : List ℕ) → length bytes ≤ 1048576 → IsUtf8 bytes → answer bytes ≡ reported bytes (all_at r (tokens_in (scan 1 bytes)))
   text_answer bytes short utf8 =
       let s : nat_lt 1048576 (length bytes) ≡ false = le-ltb 1048576 (length bytes) short in
       rw (s, is_utf8-from_IsUtf8 bytes utf8) refl
@@ -141,7 +141,7 @@ module _ {A : Type 0} {P : A → Type 0} {m : A → List Leveled} {e : A → Opt
       line_is bytes s.short s.utf8 (length (tokens_in bad)) (map (λ p. p.1) (scan 1 bytes)) before bad refl (sym (tokens_again bytes (before ++ bad) s.has)) refl
 
   pub said_is : (bytes : List ℕ) (said : Result A ScriptFault) → IsSaid P m bytes said → said ≡ answer bytes
-  said_is bytes (Ok script) s = sym (text_answer bytes s.source.short s.source.utf8 ∙ ap (told bytes) (spells_again bytes (tokens_in (scan 1 bytes)) script refl s))
+  said_is bytes (Ok script) s = sym (text_answer bytes s.source.short s.source.utf8 ∙ ap (reported bytes) (spells_again bytes (tokens_in (scan 1 bytes)) script refl s))
   said_is bytes (Err OutOfMemory) s = absurd s
   said_is bytes (Err TooLong) s = let long : nat_lt 1048576 (length bytes) ≡ true = lt-ltb 1048576 (length bytes) s in rw long refl
   said_is bytes (Err NotUtf8) s =
@@ -152,10 +152,10 @@ module _ {A : Type 0} {P : A → Type 0} {m : A → List Leveled} {e : A → Opt
       ]
   said_is bytes (Err (Syntax line)) s =
       let at = ap (all_at r) (tokens_are bytes s.before s.bad s.source.has) ∙ stray_again R ends_text (tokens_in s.before) (tokens_in s.bad) s.first in
-      sym (text_answer bytes s.source.short s.source.utf8 ∙ ap (told bytes) at ∙ ap (λ l. Err (Syntax l)) (left_line bytes s.before s.bad s.source ∙ sym s.line_is))
+      sym (text_answer bytes s.source.short s.source.utf8 ∙ ap (reported bytes) at ∙ ap (λ l. Err (Syntax l)) (left_line bytes s.before s.bad s.source ∙ sym s.line_is))
   said_is bytes (Err (TooDeep line)) s =
       let at = ap (all_at r) (tokens_are bytes s.before s.bad s.source.has) ∙ deep_again R ends_text (tokens_in s.before) (tokens_in s.bad) s.first in
-      sym (text_answer bytes s.source.short s.source.utf8 ∙ ap (told bytes) at ∙ ap (λ l. Err (TooDeep l)) (left_line bytes s.before s.bad s.source ∙ sym s.line_is))
+      sym (text_answer bytes s.source.short s.source.utf8 ∙ ap (reported bytes) at ∙ ap (λ l. Err (TooDeep l)) (left_line bytes s.before s.bad s.source ∙ sym s.line_is))
 
   pub one_said : (bytes : List ℕ) (a b : Result A ScriptFault) → IsSaid P m bytes a → IsSaid P m bytes b → a ≡ b
   one_said bytes a b s t = said_is bytes a s ∙ sym (said_is bytes b t)
@@ -166,12 +166,12 @@ module _ {A : Type 0} {P : A → Type 0} {m : A → List Leveled} {e : A → Opt
     pub spells_text : (tokens : List Token) (script : A) → tokens ≡ tokens_in (scan 1 text) → all_at r tokens ≡ Ok script → IsSpelled P m bytes script
     spells_text tokens script t h = spells_found bytes short utf8 tokens script (t ∙ ap (λ b. tokens_in (scan 1 b)) same) h
 
-    pub told_stop : (tokens : List Token) (lines : List ℕ) (stop : Stop) (fault : ScriptFault) → tokens ≡ tokens_in (scan 1 text) → lines ≡ lines_of text → Fails stop (all_at r tokens) → fault ≡ fault_told text lines stop → (fault ≡ OutOfMemory) ⊎ IsSaid P m bytes (Err fault)
-    told_stop tokens lines stops.Memory fault t l h f = inl f
-    told_stop tokens lines (stops.Fault (Stray n)) fault t l h f =
+    pub reported_stop : (tokens : List Token) (lines : List ℕ) (stop : Stop) (fault : ScriptFault) → tokens ≡ tokens_in (scan 1 text) → lines ≡ lines_of text → Fails stop (all_at r tokens) → fault ≡ fault_reported text lines stop → (fault ≡ OutOfMemory) ⊎ IsSaid P m bytes (Err fault)
+    reported_stop tokens lines stops.Memory fault t l h f = inl f
+    reported_stop tokens lines (stops.Fault (Stray n)) fault t l h f =
         let at : fault ≡ Syntax (line_left bytes lines n) = f ∙ ap (λ b. Syntax (line_left b lines n)) same in
         inr (subst (λ f. IsSaid P m bytes (Err f)) (sym at) (syntax_found bytes short utf8 tokens lines n _ (t ∙ ap (λ b. tokens_in (scan 1 b)) same) (l ∙ ap lines_of same) refl h))
-    told_stop tokens lines (stops.Fault (Deep n)) fault t l h f =
+    reported_stop tokens lines (stops.Fault (Deep n)) fault t l h f =
         let at : fault ≡ TooDeep (line_left bytes lines n) = f ∙ ap (λ b. TooDeep (line_left b lines n)) same in
         inr (subst (λ f. IsSaid P m bytes (Err f)) (sym at) (depth_found bytes short utf8 tokens lines n _ (t ∙ ap (λ b. tokens_in (scan 1 b)) same) (l ∙ ap lines_of same) refl h))
 
@@ -179,14 +179,14 @@ module _ {A : Type 0} {P : A → Type 0} {m : A → List Leveled} {e : A → Opt
   fault_of f = Err f
 
   module _ (bytes : List ℕ) (fault : ScriptFault) where
-    pub told_back : (fault ≡ OutOfMemory) ⊎ IsSaid P m bytes (Err fault) → (said : Result A ScriptFault) → IsSaid P m bytes said → (fault_of fault ≡ said) ⊎ (fault_of fault ≡ Err OutOfMemory)
-    told_back (inl e) said s = inr (ap Err e)
-    told_back (inr w) said s = inl (one_said bytes (Err fault) said w s)
+    pub reported_back : (fault ≡ OutOfMemory) ⊎ IsSaid P m bytes (Err fault) → (said : Result A ScriptFault) → IsSaid P m bytes said → (fault_of fault ≡ said) ⊎ (fault_of fault ≡ Err OutOfMemory)
+    reported_back (inl e) said s = inr (ap Err e)
+    reported_back (inr w) said s = inl (one_said bytes (Err fault) said w s)
 
-    pub told_syntax : (fault ≡ OutOfMemory) ⊎ IsSaid P m bytes (Err fault) → (line : ℕ) → fault_of fault ≡ Err (Syntax line) → IsSyntaxFault P m bytes line
-    told_syntax (inl e) line h = absurd (let no : fault_of OutOfMemory ≡ fault_of (Syntax line) = sym (ap fault_of e) ∙ h in cc)
-    told_syntax (inr w) line h = subst (IsSaid P m bytes) h w
+    pub reported_syntax : (fault ≡ OutOfMemory) ⊎ IsSaid P m bytes (Err fault) → (line : ℕ) → fault_of fault ≡ Err (Syntax line) → IsSyntaxFault P m bytes line
+    reported_syntax (inl e) line h = absurd (let no : fault_of OutOfMemory ≡ fault_of (Syntax line) = sym (ap fault_of e) ∙ h in cc)
+    reported_syntax (inr w) line h = subst (IsSaid P m bytes) h w
 
-    pub told_depth : (fault ≡ OutOfMemory) ⊎ IsSaid P m bytes (Err fault) → (line : ℕ) → fault_of fault ≡ Err (TooDeep line) → IsDepthFault P m bytes line
-    told_depth (inl e) line h = absurd (let no : fault_of OutOfMemory ≡ fault_of (TooDeep line) = sym (ap fault_of e) ∙ h in cc)
-    told_depth (inr w) line h = subst (IsSaid P m bytes) h w
+    pub reported_depth : (fault ≡ OutOfMemory) ⊎ IsSaid P m bytes (Err fault) → (line : ℕ) → fault_of fault ≡ Err (TooDeep line) → IsDepthFault P m bytes line
+    reported_depth (inl e) line h = absurd (let no : fault_of OutOfMemory ≡ fault_of (TooDeep line) = sym (ap fault_of e) ∙ h in cc)
+    reported_depth (inr w) line h = subst (IsSaid P m bytes) h w

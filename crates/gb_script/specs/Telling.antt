@@ -22,7 +22,7 @@ abbrev pub line_left : List ℕ → List ℕ → ℕ → ℕ
 line_left text lines left = slice_index_or lines (length lines - left) (1 + newlines text)
 
 -- the fault of a text, by the lines of its tokens, if reading them stopped so
-abbrev pub fault_told : List ℕ → List ℕ → Stop → ScriptFault
-fault_told text lines stops.Memory = OutOfMemory
-fault_told text lines (stops.Fault (Stray left)) = Syntax (line_left text lines left)
-fault_told text lines (stops.Fault (Deep left)) = TooDeep (line_left text lines left)
+abbrev pub fault_reported : List ℕ → List ℕ → Stop → ScriptFault
+fault_reported text lines stops.Memory = OutOfMemory
+fault_reported text lines (stops.Fault (Stray left)) = Syntax (line_left text lines left)
+fault_reported text lines (stops.Fault (Deep left)) = TooDeep (line_left text lines left)

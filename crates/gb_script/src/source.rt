@@ -4,7 +4,7 @@ ghost use Rattle.std.specs.Prelude.{IfErr, IsErrOf, IsUtf8};
 ghost use Rattle.gb_script.specs.Grammar.{script_spelled, settings_spelled};
 ghost use Rattle.gb_script.specs.Fits.{IsScript, IsSettings};
 ghost use Rattle.gb_script.specs.Notation.{IsSyntaxFault, IsDepthFault};
-ghost use Rattle.gb_script.specs.Telling.{IsTextFault, fault_told};
+ghost use Rattle.gb_script.specs.Telling.{IsTextFault, fault_reported};
 ghost use Rattle.gb_script.specs.Script.{Spells, Says, SpellsSettings, SaysAsSettings};
 ghost use Rattle.gb_script.specs.declared.fault.ScriptFault.{ScriptFault};
 ghost use Rattle.gb_script.specs.declared.script.Statement.{Statement};
@@ -35,7 +35,7 @@ pub fn text_of(bytes: &[u8]) -> Result<&str, ScriptFault>
 /// The fault of a text whose tokens could be read only up to this stop.
 pub fn fault_of(text: &str, lexed: &Lexed, stop: Stop) -> ScriptFault
     requires { length text.now ≤ 1048576 }
-    ensures { result ≡ fault_told text.now lexed.now.lines.items stop }
+    ensures { result ≡ fault_reported text.now lexed.now.lines.items stop }
 {
     match stop {
         Stop::Memory => ScriptFault::OutOfMemory,

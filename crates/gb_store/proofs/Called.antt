@@ -13,7 +13,7 @@ use Rattle.gb_folder.proofs.EachOf.{OneLed}
 use Rattle.gb_folder.proofs.Leading.{leads_once}
 use Rattle.gb_report.specs.declared.fault.Fault.{Fault}
 use Rattle.gb_report.specs.declared.fault.Fault.TheVariants as faults
-use Rattle.gb_store.specs.Faults.{told_at}
+use Rattle.gb_store.specs.Faults.{reported_at}
 use Rattle.gb_store.specs.Removals.{IsListed, Removal, WasRemoved, unless_absent}
 
 -- ---- a listing
@@ -24,9 +24,9 @@ listed_well root (Ok found) places is =
     ap (λ (v : Vec Place Global). v.items) same
 listed_well root (Err fault) places is = absurd (let e = is in (cc))
 
-pub listed_badly : (root : Place) (row : Result (Vec Place Global) FolderFault) (fault : FolderFault) (told : Fault) → row ≡ Err fault → (told ≡ faults.OutOfMemory) ⊎ (told ≡ told_at root fault) → IsListed root (answered row) (Err told)
-listed_badly root (Ok found) fault told is why = absurd (let e = is in (cc))
-listed_badly root (Err other) fault told is why = subst (λ (f : FolderFault). (told ≡ faults.OutOfMemory) ⊎ (told ≡ told_at root f)) (let e = sym is in (cc)) why
+pub listed_badly : (root : Place) (row : Result (Vec Place Global) FolderFault) (fault : FolderFault) (reported : Fault) → row ≡ Err fault → (reported ≡ faults.OutOfMemory) ⊎ (reported ≡ reported_at root fault) → IsListed root (answered row) (Err reported)
+listed_badly root (Ok found) fault reported is why = absurd (let e = is in (cc))
+listed_badly root (Err other) fault reported is why = subst (λ (f : FolderFault). (reported ≡ faults.OutOfMemory) ⊎ (reported ≡ reported_at root f)) (let e = sym is in (cc)) why
 
 -- ---- a removal
 
@@ -40,7 +40,7 @@ absent_ok place folders.TooLarge = tt
 absent_ok place folders.BadFileName = tt
 
 -- the fault of any other is reported at its place
-absent_err : (place : Place) (fault : FolderFault) → IfErr (unless_absent place fault) (λ told. (fault ≢ folders.Missing) × (fault ≢ folders.Blocked) × (told ≡ told_at place fault))
+absent_err : (place : Place) (fault : FolderFault) → IfErr (unless_absent place fault) (λ reported. (fault ≢ folders.Missing) × (fault ≢ folders.Blocked) × (reported ≡ reported_at place fault))
 absent_err place folders.OutOfMemory = (λ e. cc, λ e. cc, refl)
 absent_err place folders.Device = (λ e. cc, λ e. cc, refl)
 absent_err place folders.Missing = tt
@@ -53,9 +53,9 @@ pub at_ok : (place : Place) (fault : FolderFault) (result : Ended Fault) → res
 at_ok place fault result is = subst (λ (r : Ended Fault). OnOk r ((fault ≡ folders.Missing) ⊎ (fault ≡ folders.Blocked))) (sym is) (absent_ok place fault)
 
 pub at_place : (place : Place) (fault : FolderFault) (result : Ended Fault) → result ≡ unless_absent place fault
-    → IfErr result (λ told. (fault ≢ folders.Missing) × (fault ≢ folders.Blocked) × (told ≡ told_at place fault))
+    → IfErr result (λ reported. (fault ≢ folders.Missing) × (fault ≢ folders.Blocked) × (reported ≡ reported_at place fault))
 at_place place fault result is =
-    subst (λ (r : Ended Fault). IfErr r (λ told. (fault ≢ folders.Missing) × (fault ≢ folders.Blocked) × (told ≡ told_at place fault))) (sym is) (absent_err place fault)
+    subst (λ (r : Ended Fault). IfErr r (λ reported. (fault ≢ folders.Missing) × (fault ≢ folders.Blocked) × (reported ≡ reported_at place fault))) (sym is) (absent_err place fault)
 
 -- one removal that was tried is one by its calls
 pub removal_led : {F : Type 0} (device : Device F) (place : Place) (old new : F) (result : Ended Fault) → WasRemoved device place old result new → OneLed Removal device place old [] result new

@@ -10,7 +10,7 @@ use Rattle.gb_folder.specs.declared.folder.FolderFault.{FolderFault}
 use Rattle.gb_folder.specs.declared.folder.FolderFault.TheVariants as folders
 use Rattle.gb_report.specs.declared.fault.Fault.{Fault}
 use Rattle.gb_report.specs.declared.fault.Fault.TheVariants as faults
-use Rattle.gb_store.specs.Faults.{told_at}
+use Rattle.gb_store.specs.Faults.{reported_at}
 use Rattle.gb_store.specs.Changes.{ChangesOnly, is_at}
 use Rattle.gb_store.specs.Faults.{IsOfMachine}
 
@@ -25,28 +25,28 @@ machine_before first second third fault le more (inl is) = inl is
 machine_before first second third fault le more (inr device) = inr (device.0, device.1, HasRisen-before first second third le more device.2)
 
 -- a device fault is reported only if the fault of the folder was one
-pub blames_device : (place : Place) (fault : FolderFault) (told : Fault) → (told ≡ faults.OutOfMemory) ⊎ (told ≡ told_at place fault) → (at : Place) → told ≡ faults.Device at → fault ≡ folders.Device
-blames_device place fault told (inl is) at device = absurd (no_device (sym is ∙ device))
+pub blames_device : (place : Place) (fault : FolderFault) (reported : Fault) → (reported ≡ faults.OutOfMemory) ⊎ (reported ≡ reported_at place fault) → (at : Place) → reported ≡ faults.Device at → fault ≡ folders.Device
+blames_device place fault reported (inl is) at device = absurd (no_device (sym is ∙ device))
   where
     no_device : faults.OutOfMemory ≡ faults.Device at → ⊥
     no_device e = cc
-blames_device place folders.OutOfMemory told (inr is) at device = absurd (let e = sym is ∙ device in (cc))
-blames_device place folders.Device told (inr is) at device = refl
-blames_device place folders.Missing told (inr is) at device = absurd (let e = sym is ∙ device in (cc))
-blames_device place folders.Blocked told (inr is) at device = absurd (let e = sym is ∙ device in (cc))
-blames_device place folders.TooLarge told (inr is) at device = absurd (let e = sym is ∙ device in (cc))
-blames_device place folders.BadFileName told (inr is) at device = absurd (let e = sym is ∙ device in (cc))
+blames_device place folders.OutOfMemory reported (inr is) at device = absurd (let e = sym is ∙ device in (cc))
+blames_device place folders.Device reported (inr is) at device = refl
+blames_device place folders.Missing reported (inr is) at device = absurd (let e = sym is ∙ device in (cc))
+blames_device place folders.Blocked reported (inr is) at device = absurd (let e = sym is ∙ device in (cc))
+blames_device place folders.TooLarge reported (inr is) at device = absurd (let e = sym is ∙ device in (cc))
+blames_device place folders.BadFileName reported (inr is) at device = absurd (let e = sym is ∙ device in (cc))
 
 -- out-of-memory faults and device faults are faults of the machine
-pub of_machine : (before after : ℕ) (place : Place) (fault : FolderFault) (told : Fault) → (told ≡ faults.OutOfMemory) ⊎ (told ≡ told_at place fault)
-    → (fault ≡ folders.Device → HasRisen before after) → (fault ≢ folders.OutOfMemory → fault ≢ folders.Device → ⊥) → IsOfMachine before after told
-of_machine before after place fault told (inl is) rose other = inl is
-of_machine before after place folders.OutOfMemory told (inr is) rose other = inl is
-of_machine before after place folders.Device told (inr is) rose other = inr (place, is, rose refl)
-of_machine before after place folders.Missing told (inr is) rose other = absurd (other (λ e. cc) (λ e. cc))
-of_machine before after place folders.Blocked told (inr is) rose other = absurd (other (λ e. cc) (λ e. cc))
-of_machine before after place folders.TooLarge told (inr is) rose other = absurd (other (λ e. cc) (λ e. cc))
-of_machine before after place folders.BadFileName told (inr is) rose other = absurd (other (λ e. cc) (λ e. cc))
+pub of_machine : (before after : ℕ) (place : Place) (fault : FolderFault) (reported : Fault) → (reported ≡ faults.OutOfMemory) ⊎ (reported ≡ reported_at place fault)
+    → (fault ≡ folders.Device → HasRisen before after) → (fault ≢ folders.OutOfMemory → fault ≢ folders.Device → ⊥) → IsOfMachine before after reported
+of_machine before after place fault reported (inl is) rose other = inl is
+of_machine before after place folders.OutOfMemory reported (inr is) rose other = inl is
+of_machine before after place folders.Device reported (inr is) rose other = inr (place, is, rose refl)
+of_machine before after place folders.Missing reported (inr is) rose other = absurd (other (λ e. cc) (λ e. cc))
+of_machine before after place folders.Blocked reported (inr is) rose other = absurd (other (λ e. cc) (λ e. cc))
+of_machine before after place folders.TooLarge reported (inr is) rose other = absurd (other (λ e. cc) (λ e. cc))
+of_machine before after place folders.BadFileName reported (inr is) rose other = absurd (other (λ e. cc) (λ e. cc))
 
 -- one change after another
 pub changes_chain : (test : Place → Bool) (first second third : Contents) → ChangesOnly test first second → ChangesOnly test second third → ChangesOnly test first third
@@ -96,7 +96,7 @@ err_is r y w a b = cc
 
 -- if a fault that is passed on is a device fault at a place, so is the fault of the call
 pub handed_on : {T U : Type 0} (r : Result T Fault) (call : Result U Fault) (y z : Fault) (place : Place) → r ≡ Err y → y ≡ z → call ≡ Err z → r ≡ Err (faults.Device place) → call ≡ Err (faults.Device place)
-handed_on r call y z place told same is device = is ∙ ap Err (sym same ∙ err_is r y (faults.Device place) told device)
+handed_on r call y z place reported same is device = is ∙ ap Err (sym same ∙ err_is r y (faults.Device place) reported device)
 
 -- a test that holds for the places of all elements holds for each place among them
 pub among_passes : {X : Type 0} (at : X → Place) (test : Place → Bool) (xs : List X) (place : Place) → AllByRecursion (λ x. test (at x) ≡ true) xs

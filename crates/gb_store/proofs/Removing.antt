@@ -8,22 +8,22 @@ use Rattle.gb_folder.specs.declared.folder.FolderFault.TheVariants as folders
 use Rattle.gb_report.specs.declared.fault.Fault.{Fault}
 use Rattle.gb_report.specs.declared.fault.Fault.TheVariants as faults
 use Rattle.gb_store.specs.Changes.{ChangesOnly, IsCutShort, IsHindered, without_all}
-use Rattle.gb_store.specs.Faults.{told_at}
+use Rattle.gb_store.specs.Faults.{reported_at}
 use Rattle.gb_store.proofs.Loops.{step_here}
 use Rattle.gb_store.proofs.Machine.{changes_chain, changes_none, changes_without}
 
 -- the place of a device fault is the one at which it occurred
-pub told_place : (place at : Place) (fault : FolderFault) → told_at place fault ≡ faults.Device at → place ≡ at
-told_place place at folders.OutOfMemory e = absurd (cc)
-told_place place at folders.Device e = cc
-told_place place at folders.Missing e = absurd (cc)
-told_place place at folders.Blocked e = absurd (cc)
-told_place place at folders.TooLarge e = absurd (cc)
-told_place place at folders.BadFileName e = absurd (cc)
+pub reported_place : (place at : Place) (fault : FolderFault) → reported_at place fault ≡ faults.Device at → place ≡ at
+reported_place place at folders.OutOfMemory e = absurd (cc)
+reported_place place at folders.Device e = cc
+reported_place place at folders.Missing e = absurd (cc)
+reported_place place at folders.Blocked e = absurd (cc)
+reported_place place at folders.TooLarge e = absurd (cc)
+reported_place place at folders.BadFileName e = absurd (cc)
 
 -- a removal that is reported as a fault
 pub hindered_by : (may_leave : Tearing) (place : Place) (next : Option Bytes) (old new : Contents) (fault : FolderFault) → fault ≢ folders.Missing → fault ≢ folders.Blocked → fault ≢ folders.TooLarge → fault ≢ folders.BadFileName
-    → (fault ≢ folders.Device → new ≡ old) → (fault ≡ folders.Device → IsTorn may_leave place next old new) → IsHindered may_leave place next old (told_at place fault) new
+    → (fault ≢ folders.Device → new ≡ old) → (fault ≡ folders.Device → IsTorn may_leave place next old new) → IsHindered may_leave place next old (reported_at place fault) new
 hindered_by may_leave place next old new folders.OutOfMemory a b d e same torn = inl (refl, same (λ h. cc))
 hindered_by may_leave place next old new folders.Device a b d e same torn = inr (refl, torn refl)
 hindered_by may_leave place next old new folders.Missing a b d e same torn = absurd (a refl)

@@ -7,13 +7,13 @@ use Rattle.gb_report.specs.declared.fault.Fault.{Fault}
 use Rattle.gb_report.specs.declared.fault.Fault.TheVariants as faults
 
 -- the fault, with the place at which it occurred
-abbrev pub told_at : Place → FolderFault → Fault
-told_at place folders.OutOfMemory = faults.OutOfMemory
-told_at place folders.Device = faults.Device place
-told_at place folders.Missing = faults.Missing place
-told_at place folders.Blocked = faults.Blocked place
-told_at place folders.TooLarge = faults.TooLarge place
-told_at place folders.BadFileName = faults.BadFileName place
+abbrev pub reported_at : Place → FolderFault → Fault
+reported_at place folders.OutOfMemory = faults.OutOfMemory
+reported_at place folders.Device = faults.Device place
+reported_at place folders.Missing = faults.Missing place
+reported_at place folders.Blocked = faults.Blocked place
+reported_at place folders.TooLarge = faults.TooLarge place
+reported_at place folders.BadFileName = faults.BadFileName place
 
 -- memory ran out, or the device failed between these counts
 abbrev pub IsOfMachine : ℕ → ℕ → Fault → Type 0

@@ -11,7 +11,7 @@ use Rattle.gb_folder.specs.declared.folder.FolderFault.{FolderFault}
 use Rattle.gb_folder.specs.declared.folder.FolderFault.TheVariants as folders
 use Rattle.gb_report.specs.declared.fault.Fault.{Fault}
 use Rattle.gb_report.specs.declared.fault.Fault.TheVariants as faults
-use Rattle.gb_store.specs.Faults.{told_at}
+use Rattle.gb_store.specs.Faults.{reported_at}
 
 -- ---- A listing
 
@@ -19,8 +19,9 @@ use Rattle.gb_store.specs.Faults.{told_at}
 -- name of the root in the fault.
 abbrev pub IsListed : Place → Result (List Place) FolderFault → Result (Vec Place Global) Fault → Type 0
 IsListed root (Ok found) (Ok places) = places.items ≡ found
-IsListed root (Err fault) (Err told) = (told ≡ faults.OutOfMemory) ⊎ (told ≡ told_at root fault)
-IsListed root (Ok found) (Err told) = ⊥
+IsListed root (Err fault) (Err reported) = (reported ≡ faults.OutOfMemory)
+    ⊎ (reported ≡ reported_at root fault)
+IsListed root (Ok found) (Err reported) = ⊥
 IsListed root (Err fault) (Ok places) = ⊥
 
 -- one call listed the root, and had this result

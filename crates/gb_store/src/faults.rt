@@ -1,6 +1,6 @@
 //! The faults of a folder, as a build reports them.
 ghost use Rattle.std.specs.Prelude.{◌≡◌, ◌⊎◌};
-ghost use Rattle.gb_store.specs.Faults.{told_at};
+ghost use Rattle.gb_store.specs.Faults.{reported_at};
 
 use gb_core::place::Place;
 use gb_folder::folder::FolderFault;
@@ -8,7 +8,7 @@ use gb_report::fault::Fault;
 
 /// The fault at a place; an out-of-memory fault instead, if there is no memory to name the place.
 pub fn fault_at(fault: FolderFault, place: &Place) -> Fault
-    ensures { (result ≡ Fault.OutOfMemory) ⊎ (result ≡ told_at place.now fault) }
+    ensures { (result ≡ Fault.OutOfMemory) ⊎ (result ≡ reported_at place.now fault) }
 {
     match place.copy() {
         Ok(place) => fault_of(fault, place),
@@ -18,7 +18,7 @@ pub fn fault_at(fault: FolderFault, place: &Place) -> Fault
 
 /// The fault at this place.
 pub fn fault_of(fault: FolderFault, place: Place) -> Fault
-    ensures { result ≡ told_at place fault }
+    ensures { result ≡ reported_at place fault }
 {
     match fault {
         FolderFault::OutOfMemory => Fault::OutOfMemory,

@@ -23,21 +23,21 @@ device_place (faults.TooManyFiles name) other = other
 device_place (faults.DuplicateInput name path) other = other
 
 -- a fault that occurs at one place names that place
-pub blamed_here : (before after : ℕ) (place : Place) (fault : FolderFault) (told : TreeFault) → (told ≡ faults.OutOfMemory) ⊎ (told ≡ tree_fault_at place fault)
-    → (fault ≡ folders.Device → HasRisen before after) → (at : Place) → told ≡ faults.Device at → (at ≡ place) × HasRisen before after
-blamed_here before after place fault told (inl none) rose at is = absurd (let e : faults.OutOfMemory ≡ faults.Device at = sym none ∙ is in cc)
-blamed_here before after place folders.OutOfMemory told (inr by) rose at is = absurd (let e : faults.OutOfMemory ≡ faults.Device at = sym by ∙ is in cc)
-blamed_here before after place folders.Device told (inr by) rose at is = (ap (λ fault. device_place fault place) (sym is ∙ by), rose refl)
-blamed_here before after place folders.Missing told (inr by) rose at is = absurd (let e : faults.Missing place ≡ faults.Device at = sym by ∙ is in cc)
-blamed_here before after place folders.Blocked told (inr by) rose at is = absurd (let e : faults.Blocked place ≡ faults.Device at = sym by ∙ is in cc)
-blamed_here before after place folders.TooLarge told (inr by) rose at is = absurd (let e : faults.TooLarge place ≡ faults.Device at = sym by ∙ is in cc)
-blamed_here before after place folders.BadFileName told (inr by) rose at is = absurd (let e : faults.BadFileName place ≡ faults.Device at = sym by ∙ is in cc)
+pub blamed_here : (before after : ℕ) (place : Place) (fault : FolderFault) (reported : TreeFault) → (reported ≡ faults.OutOfMemory) ⊎ (reported ≡ tree_fault_at place fault)
+    → (fault ≡ folders.Device → HasRisen before after) → (at : Place) → reported ≡ faults.Device at → (at ≡ place) × HasRisen before after
+blamed_here before after place fault reported (inl none) rose at is = absurd (let e : faults.OutOfMemory ≡ faults.Device at = sym none ∙ is in cc)
+blamed_here before after place folders.OutOfMemory reported (inr by) rose at is = absurd (let e : faults.OutOfMemory ≡ faults.Device at = sym by ∙ is in cc)
+blamed_here before after place folders.Device reported (inr by) rose at is = (ap (λ fault. device_place fault place) (sym is ∙ by), rose refl)
+blamed_here before after place folders.Missing reported (inr by) rose at is = absurd (let e : faults.Missing place ≡ faults.Device at = sym by ∙ is in cc)
+blamed_here before after place folders.Blocked reported (inr by) rose at is = absurd (let e : faults.Blocked place ≡ faults.Device at = sym by ∙ is in cc)
+blamed_here before after place folders.TooLarge reported (inr by) rose at is = absurd (let e : faults.TooLarge place ≡ faults.Device at = sym by ∙ is in cc)
+blamed_here before after place folders.BadFileName reported (inr by) rose at is = absurd (let e : faults.BadFileName place ≡ faults.Device at = sym by ∙ is in cc)
 
 -- what a part of a call blames, the whole blames
 pub blamed_before : {A B : Type 0} (IsSuch IsMore : Place → Type 0) (first second third : ℕ) (whole : Result B TreeFault) (fault found : TreeFault)
     → first ≤ second → second ≤ third → whole ≡ Err found → found ≡ fault → ((at : Place) → IsSuch at → IsMore at) → Blames {A = A} IsSuch second third (Err fault) → Blames IsMore first third whole
-blamed_before {A} {B} IsSuch IsMore first second third whole fault found le more is same wider blames at told =
-    let device : fault ≡ faults.Device at = sym same ∙ ap (λ (r : Result B TreeFault). fault_in r found) (sym is ∙ told) in
+blamed_before {A} {B} IsSuch IsMore first second third whole fault found le more is same wider blames at reported =
+    let device : fault ≡ faults.Device at = sym same ∙ ap (λ (r : Result B TreeFault). fault_in r found) (sym is ∙ reported) in
     let parts = blames at (ap Err device) in
     (wider at parts.0, HasRisen-before first second third le more parts.1)
   where

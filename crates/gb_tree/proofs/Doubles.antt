@@ -100,13 +100,13 @@ pub chosen_there : (path : List ℕ) (entries rest : Entries) (n : ℕ) (entry :
     → rest ≡ drop n entries → slice_get rest 0 ≡ Some entry → first_of (filter (λ other. is_beneath other path) (paths_of entries)) ≡ cond (is_beneath entry.0 path) (Some entry.0) None
 chosen_there path entries rest n entry before from rising all is = chosen_of path entries n before from rising ∙ ap (chosen path) (sym all) ∙ by rest is
   where
-    told : Option Entry → Option (List ℕ)
-    told None = None
-    told (Some e) = cond (is_beneath e.0 path) (Some e.0) None
+    reported : Option Entry → Option (List ℕ)
+    reported None = None
+    reported (Some e) = cond (is_beneath e.0 path) (Some e.0) None
 
-    by : (es : Entries) → slice_get es 0 ≡ Some entry → chosen path es ≡ told (Some entry)
+    by : (es : Entries) → slice_get es 0 ≡ Some entry → chosen path es ≡ reported (Some entry)
     by [] is = absurd (cc)
-    by (other ∷ es) is = ap told is
+    by (other ∷ es) is = ap reported is
 
 pub none_there : (path : List ℕ) (entries rest : Entries) (n : ℕ) → AllByRecursion (λ entry. comes_before entry.0 (path ++ 47 ∷ []) ≡ true) (take n entries) → IsFrom (path ++ 47 ∷ []) (drop n entries) → IsRising entries
     → rest ≡ drop n entries → slice_get rest 0 ≡ None → first_of (filter (λ other. is_beneath other path) (paths_of entries)) ≡ None
@@ -201,12 +201,12 @@ not_again path (entry ∷ entries) rising from other =
 pub again : (path : List ℕ) (entries : Entries) (entry : Entry) → slice_get entries 0 ≡ Some entry → bytes_eq entry.0 path ≡ true → first_of (filter (λ other. is_under other path) (paths_of entries)) ≡ Some entry.0
 again path [] entry is same = absurd (cc)
 again path (other ∷ entries) entry is same =
-    ap (λ o. told o) is
+    ap (λ o. reported o) is
     ∙ ap (λ b. first_of (cond (b || is_beneath entry.0 path) (entry.0 ∷ filter (λ other. is_under other path) (paths_of entries)) (filter (λ other. is_under other path) (paths_of entries)))) same
   where
-    told : Option Entry → Option (List ℕ)
-    told None = None
-    told (Some e) = first_of (cond (is_under e.0 path) (e.0 ∷ filter (λ other. is_under other path) (paths_of entries)) (filter (λ other. is_under other path) (paths_of entries)))
+    reported : Option Entry → Option (List ℕ)
+    reported None = None
+    reported (Some e) = first_of (cond (is_under e.0 path) (e.0 ∷ filter (λ other. is_under other path) (paths_of entries)) (filter (λ other. is_under other path) (paths_of entries)))
 
 -- ---- All of them
 

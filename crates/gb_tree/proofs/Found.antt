@@ -19,7 +19,7 @@ use Rattle.gb_tree.proofs.InOrder.{all_filter, listed_stand}
 use Rattle.gb_tree.proofs.Loops.{with_none}
 use Rattle.gb_tree.proofs.Outermost.{under_under}
 use Rattle.gb_tree.proofs.Sorting.{all_in_order}
-use Rattle.gb_tree.proofs.Told.{Stand, with_paths}
+use Rattle.gb_tree.proofs.Reported.{Stand, with_paths}
 
 -- ---- Each place once
 

@@ -55,11 +55,11 @@ module _ {F : Type 0} {failures : F → ℕ} {may_leave : F → Tearing} {asked 
       let here = entries_in naming include exclude start.0 places in
       let listings = so_far.0 ++ places ∷ [] in
       let found : List (Place × Place) → Entries = λ starts. listed_in naming include exclude (zip starts listings) in
-      let told = listed_in naming include exclude (zip (take i starts) so_far.0) in (
+      let reported = listed_in naming include exclude (zip (take i starts) so_far.0) in (
         listings,
         subst (λ (starts : List (Place × Place)). AllZip listed starts listings) (sym front)
             (all_zip_push listed (take i starts) so_far.0 start places longer (on_longer_way before (asks_nothing new) way)),
-        taken ∙ ap (λ (entries : Entries). held (entries ++ here)) so_far.2 ∙ take_again (max_files + 1) told here
+        taken ∙ ap (λ (entries : Entries). held (entries ++ here)) so_far.2 ∙ take_again (max_files + 1) reported here
             ∙ sym (ap held (ap found front ∙ flat_push listed (λ (listing : (Place × Place) × List Place). entries_in naming include exclude listing.0.0 listing.1) (take i starts) so_far.0 start places longer)),
       )
 

@@ -184,18 +184,18 @@ pass_on any good en op states ps i p f stands en_next op_next within item is fit
 
 -- the same where a test returned whether the item matches any number of elements, and its fit was evaluated
 -- only where a match is
-pub pass_on_told : {P : Type 0} (any good : P → Bool) (en op : Bool) (states : List Bool) (ps : List P) (i : ℕ) (p : P) (a f stands en_next op_next : Bool) → i < length states → i < length ps → p ≡ get_or ps i p
+pub pass_on_reported : {P : Type 0} (any good : P → Bool) (en op : Bool) (states : List Bool) (ps : List P) (i : ℕ) (p : P) (a f stands en_next op_next : Bool) → i < length states → i < length ps → p ≡ get_or ps i p
     → a ≡ any p → f ≡ ((get_or states i false || op) && good p) → stands ≡ (en || (a && (get_or states i false || op)))
     → en_next ≡ cond a (en || (a && (get_or states i false || op))) ((get_or states i false || op) && f) → op_next ≡ (a && (get_or states i false || op))
     → (take (i + 1) (slice_set states i stands) ++ (pass any good en_next op_next (drop (i + 1) (slice_set states i stands)) (drop (i + 1) ps)).0 ≡ take i states ++ (pass any good en op (drop i states) (drop i ps)).0)
     × ((pass any good en_next op_next (drop (i + 1) (slice_set states i stands)) (drop (i + 1) ps)).1 ≡ (pass any good en op (drop i states) (drop i ps)).1)
-pass_on_told any good en op states ps i p a f stands en_next op_next within item is told fitting standing entering waiting =
+pass_on_reported any good en op states ps i p a f stands en_next op_next within item is reported fitting standing entering waiting =
     let here = get_or states i false || op in
     pass_on any good en op states ps i p f stands en_next op_next within item is
     (ap (λ b. here && b) fitting ∙ twice here (good p))
-    (standing ∙ ap (λ b. en || (b && here)) told)
-    (entering ∙ ap (λ b. cond b (en || (b && here)) (here && f)) told)
-    (waiting ∙ ap (λ b. b && here) told)
+    (standing ∙ ap (λ b. en || (b && here)) reported)
+    (entering ∙ ap (λ b. cond b (en || (b && here)) (here && f)) reported)
+    (waiting ∙ ap (λ b. b && here) reported)
   where
     twice : (x y : Bool) → (x && (x && y)) ≡ (x && y)
     twice true y = refl

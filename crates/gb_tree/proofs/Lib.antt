@@ -8,7 +8,7 @@ pub mod Under
 pub mod InOrder
 pub mod Sorting
 pub mod Pieces
-pub mod Told
+pub mod Reported
 pub mod Doubles
 pub mod Found
 pub mod Blame

@@ -43,8 +43,8 @@ module _ (name : List ℕ) (naming : Naming) (roots : List Place) (include exclu
   abbrev final : Entries
   final = entries_of naming roots include exclude contents.files
 
-  abbrev told : Entries → List TreeFault
-  told entries = map (faults.DuplicateInput name) (doubled (paths_of entries))
+  abbrev reported : Entries → List TreeFault
+  reported entries = map (faults.DuplicateInput name) (doubled (paths_of entries))
 
   -- in order, they are the entries of the property
   pub in_their_order : in_order (all starts) ≡ final
@@ -63,15 +63,15 @@ module _ (name : List ℕ) (naming : Naming) (roots : List Place) (include exclu
       let odd = odd_roots contents (places_of (starts_in include (distinct roots))) in
       let here : odd_roots contents (places_of starts) ++ too_many name (all starts) ≡ odd ++ too_many name final =
       ap (λ faults. faults ++ too_many name (all starts)) as_odd ∙ ap (λ faults. odd ++ faults) as_many in
-      inr (front_first (odd ++ too_many name final) (told final) fault (sym (ap first_of here) ∙ first))
+      inr (front_first (odd ++ too_many name final) (reported final) fault (sym (ap first_of here) ∙ first))
 
   -- where there was no such fault, the fault left is that paths are doubled
-  pub only_doubled : (entries sorted : Entries) → odd_roots contents (places_of starts) ≡ [] → entries ≡ all starts → too_many name entries ≡ [] → sorted ≡ in_order entries → entry_faults name naming roots include exclude contents ≡ told sorted
+  pub only_doubled : (entries sorted : Entries) → odd_roots contents (places_of starts) ≡ [] → entries ≡ all starts → too_many name entries ≡ [] → sorted ≡ in_order entries → entry_faults name naming roots include exclude contents ≡ reported sorted
   only_doubled entries sorted none is few order =
-      ap (λ faults. faults ++ too_many name final ++ told final) (sym as_odd ∙ none)
-      ∙ ap (λ faults. faults ++ told final) (sym as_many ∙ sym (ap (too_many name) is) ∙ few)
-      ∙ ap told (sym in_their_order ∙ sym (order ∙ ap in_order is))
+      ap (λ faults. faults ++ too_many name final ++ reported final) (sym as_odd ∙ none)
+      ∙ ap (λ faults. faults ++ reported final) (sym as_many ∙ sym (ap (too_many name) is) ∙ few)
+      ∙ ap reported (sym in_their_order ∙ sym (order ∙ ap in_order is))
 
-  pub doubled_first : (sorted : Entries) (path : List ℕ) (fault : TreeFault) → entry_faults name naming roots include exclude contents ≡ told sorted → first_of (doubled (paths_of sorted)) ≡ Some path → fault ≡ faults.DuplicateInput name path
+  pub doubled_first : (sorted : Entries) (path : List ℕ) (fault : TreeFault) → entry_faults name naming roots include exclude contents ≡ reported sorted → first_of (doubled (paths_of sorted)) ≡ Some path → fault ≡ faults.DuplicateInput name path
       → first_of (entry_faults name naming roots include exclude contents) ≡ Some fault
   doubled_first sorted path fault is first here = ap first_of is ∙ first_map (faults.DuplicateInput name) (doubled (paths_of sorted)) path first ∙ ap Some (sym here)

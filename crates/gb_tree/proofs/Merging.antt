@@ -13,7 +13,7 @@ use Rattle.gb_action.specs.Files.{Tree, file_at}
 use Rattle.gb_action.specs.declared.change.Change.{Change}
 use Rattle.gb_action.specs.declared.change.Change.TheVariants.{Added, Removed}
 use Rattle.gb_core.proofs.Found.{find-same, find-other, same_tied, tied_same}
-use Rattle.gb_tree.specs.Merge.{told, past}
+use Rattle.gb_tree.specs.Merge.{reported, past}
 use Rattle.gb_tree.proofs.Loops.{step_here, with_none}
 
 -- the path comes before each of the tree
@@ -125,12 +125,12 @@ sorted_parts : (e : List ℕ × List ℕ) (es : Tree) → IsTrue (is_sorted byte
 sorted_parts e es h = let parts = and_parts (below_all byte_order e.0 es) (is_sorted byte_order es) h in (all_before e.0 es parts.0, parts.1)
 
 -- the two compared entries show what changed at the least path, and the rest is compared later
-pub told_met : (a b : List ℕ × List ℕ) (old new : Tree) → IsTrue (is_sorted byte_order (a ∷ old)) → IsTrue (is_sorted byte_order (b ∷ new))
-    → told (byte_order a.0 b.0) a b ++ changes_between (drop (past (byte_order a.0 b.0)).0 (a ∷ old)) (drop (past (byte_order a.0 b.0)).1 (b ∷ new)) ≡ changes_between (a ∷ old) (b ∷ new)
-told_met a b old new sorted_old sorted_new =
+pub reported_met : (a b : List ℕ × List ℕ) (old new : Tree) → IsTrue (is_sorted byte_order (a ∷ old)) → IsTrue (is_sorted byte_order (b ∷ new))
+    → reported (byte_order a.0 b.0) a b ++ changes_between (drop (past (byte_order a.0 b.0)).0 (a ∷ old)) (drop (past (byte_order a.0 b.0)).1 (b ∷ new)) ≡ changes_between (a ∷ old) (b ∷ new)
+reported_met a b old new sorted_old sorted_new =
     let olds = sorted_parts a old sorted_old in
     let news = sorted_parts b new sorted_new in
-    elim (byte_order a.0 b.0) as (λ o. byte_order a.0 b.0 ≡ o → told o a b ++ changes_between (drop (past o).0 (a ∷ old)) (drop (past o).1 (b ∷ new)) ≡ changes_between (a ∷ old) (b ∷ new)) [
+    elim (byte_order a.0 b.0) as (λ o. byte_order a.0 b.0 ≡ o → reported o a b ++ changes_between (drop (past o).0 (a ∷ old)) (drop (past o).1 (b ∷ new)) ≡ changes_between (a ∷ old) (b ∷ new)) [
       | Less ↦ λ is. sym (removed_first a.0 a.1 old (b ∷ new) olds.0 (is, before_further a.0 b.0 new is news.0))
       | Equal ↦ λ is.
           let same = tied_same a.0 b.0 is in
@@ -169,7 +169,7 @@ pub record Turned (before after : Tree) (i j : ℕ) (a b : List ℕ × List ℕ)
   pub to : j + n.1 ≤ length after
   pub before_sorted : IsTrue (is_sorted byte_order (drop (i + n.0) before))
   pub after_sorted : IsTrue (is_sorted byte_order (drop (j + n.1) after))
-  pub tells : told (byte_order a.0 b.0) a b ++ changes_between (drop (i + n.0) before) (drop (j + n.1) after) ≡ changes_between (drop i before) (drop j after)
+  pub tells : reported (byte_order a.0 b.0) a b ++ changes_between (drop (i + n.0) before) (drop (j + n.1) after) ≡ changes_between (drop i before) (drop j after)
 
 past_few : (o : Ordering) → ((past o).0 ≤ 1) × ((past o).1 ≤ 1)
 past_few Less = (omega arith, omega arith)
@@ -197,9 +197,9 @@ turned before after i j a b n within within_after is is_after counted sorted sor
       before_sorted = subst (λ (xs : Tree). IsTrue (is_sorted byte_order xs)) (sym further) both.0;
       after_sorted = subst (λ (xs : Tree). IsTrue (is_sorted byte_order xs)) (sym further_after) both.1;
       tells =
-          ap (λ xs. told (byte_order a.0 b.0) a b ++ changes_between xs (drop (j + m.1) after)) further
-          ∙ ap (λ ys. told (byte_order a.0 b.0) a b ++ changes_between (drop m.0 (a ∷ old)) ys) further_after
-          ∙ told_met a b old new sorted_here sorted_here_after
+          ap (λ xs. reported (byte_order a.0 b.0) a b ++ changes_between xs (drop (j + m.1) after)) further
+          ∙ ap (λ ys. reported (byte_order a.0 b.0) a b ++ changes_between (drop m.0 (a ∷ old)) ys) further_after
+          ∙ reported_met a b old new sorted_here sorted_here_after
           ∙ sym (ap (λ xs. changes_between xs (drop j after)) here ∙ ap (λ ys. changes_between (a ∷ old) ys) here_after);
     })
 
@@ -211,9 +211,9 @@ none_added : (old : Tree) → IsTrue (is_sorted byte_order old) → map (λ e. R
 none_added old sorted = with_none (map (λ e. Removed e.0) old) ∙ all_removed old sorted
 
 -- once one list is used up, the rest of the other is added
-pub rest_told : (before after : Tree) (i j : ℕ) → (length before ≤ i) ⊎ (length after ≤ j) → IsTrue (is_sorted byte_order (drop i before)) → IsTrue (is_sorted byte_order (drop j after))
+pub rest_reported : (before after : Tree) (i j : ℕ) → (length before ≤ i) ⊎ (length after ≤ j) → IsTrue (is_sorted byte_order (drop i before)) → IsTrue (is_sorted byte_order (drop j after))
     → map (λ e. Removed e.0) (take (length before - i) (drop i before)) ++ map (λ e. Added e.0) (take (length after - j) (drop j after)) ≡ changes_between (drop i before) (drop j after)
-rest_told before after i j over sorted sorted_after =
+rest_reported before after i j over sorted sorted_after =
     ap (λ xs. map (λ e. Removed e.0) xs ++ map (λ e. Added e.0) (take (length after - j) (drop j after))) (whole_range before i)
     ∙ ap (λ ys. map (λ e. Removed e.0) (drop i before) ++ map (λ e. Added e.0) ys) (whole_range after j)
     ∙ elim over [

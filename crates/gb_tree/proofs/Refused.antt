@@ -29,16 +29,16 @@ large_from files place h = by (file_at files place) h
     by None h = absurd h
     by (Some bytes) h = grind (arith, nat_tests)
 
-pub read_refused : (before after : ℕ) (place : Place) (fault : FolderFault) (told : TreeFault) (large : Bool) → (told ≡ faults.OutOfMemory) ⊎ (told ≡ tree_fault_at place fault)
+pub read_refused : (before after : ℕ) (place : Place) (fault : FolderFault) (reported : TreeFault) (large : Bool) → (reported ≡ faults.OutOfMemory) ⊎ (reported ≡ tree_fault_at place fault)
     → (fault ≡ folders.Device → HasRisen before after) → (fault ≡ folders.Missing → ⊥) → (fault ≡ folders.Blocked → ⊥) → (fault ≡ folders.BadFileName → ⊥) → (fault ≡ folders.TooLarge → large ≡ true)
-    → IsTreeFaultOfMachine before after told ⊎ ((large ≡ true) × (told ≡ faults.TooLarge place))
-read_refused before after place fault told large (inl is) rose missing blocked odd over = inl (inl is)
-read_refused before after place folders.OutOfMemory told large (inr is) rose missing blocked odd over = inl (inl is)
-read_refused before after place folders.Device told large (inr is) rose missing blocked odd over = inl (inr (place, is, rose refl))
-read_refused before after place folders.Missing told large (inr is) rose missing blocked odd over = absurd (missing refl)
-read_refused before after place folders.Blocked told large (inr is) rose missing blocked odd over = absurd (blocked refl)
-read_refused before after place folders.TooLarge told large (inr is) rose missing blocked odd over = inr (over refl, is)
-read_refused before after place folders.BadFileName told large (inr is) rose missing blocked odd over = absurd (odd refl)
+    → IsTreeFaultOfMachine before after reported ⊎ ((large ≡ true) × (reported ≡ faults.TooLarge place))
+read_refused before after place fault reported large (inl is) rose missing blocked odd over = inl (inl is)
+read_refused before after place folders.OutOfMemory reported large (inr is) rose missing blocked odd over = inl (inl is)
+read_refused before after place folders.Device reported large (inr is) rose missing blocked odd over = inl (inr (place, is, rose refl))
+read_refused before after place folders.Missing reported large (inr is) rose missing blocked odd over = absurd (missing refl)
+read_refused before after place folders.Blocked reported large (inr is) rose missing blocked odd over = absurd (blocked refl)
+read_refused before after place folders.TooLarge reported large (inr is) rose missing blocked odd over = inr (over refl, is)
+read_refused before after place folders.BadFileName reported large (inr is) rose missing blocked odd over = absurd (odd refl)
 
 -- it began to rise before the call
 pub machine_before : (first second third : ℕ) (fault : TreeFault) → first ≤ second → second ≤ third → IsTreeFaultOfMachine second third fault → IsTreeFaultOfMachine first third fault

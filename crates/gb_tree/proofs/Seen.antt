@@ -106,14 +106,14 @@ contents_more old files i x within is = rw add-one (contents_next old files i x 
 
 -- ---- What they show about the files
 
-pub digests_told : (old : Files) (seen : List SeenFile) → AllByRecursion (IsSeenIn old) seen → digests_seen seen ≡ digests_of (contents_at old (entries_seen seen))
-digests_told old [] all = refl
-digests_told old (file ∷ seen) all =
-    ap (λ digest. (file.path, digest) ∷ digests_seen seen) all.0.digested ∙ ap (λ more. (file.path, sha256 (bytes_at old file.place)) ∷ more) (digests_told old seen all.1)
+pub digests_reported : (old : Files) (seen : List SeenFile) → AllByRecursion (IsSeenIn old) seen → digests_seen seen ≡ digests_of (contents_at old (entries_seen seen))
+digests_reported old [] all = refl
+digests_reported old (file ∷ seen) all =
+    ap (λ digest. (file.path, digest) ∷ digests_seen seen) all.0.digested ∙ ap (λ more. (file.path, sha256 (bytes_at old file.place)) ∷ more) (digests_reported old seen all.1)
 
 -- the digests of the files at the entries
 pub seen_digests : (old : Files) (entries : Entries) (seen : List SeenFile) → AreSeen old entries seen → digests_seen seen ≡ digests_of (contents_at old entries)
-seen_digests old entries seen are = digests_told old seen are.each ∙ ap (λ es. digests_of (contents_at old es)) are.placed
+seen_digests old entries seen are = digests_reported old seen are.each ∙ ap (λ es. digests_of (contents_at old es)) are.placed
 
 -- what holds of the places of the entries holds of the files'
 pub seen_places : (P : Place → Type 0) (seen : List SeenFile) → AllByRecursion (λ entry. P entry.1) (entries_seen seen) → AllByRecursion (λ file. P file.place) seen

@@ -7,8 +7,8 @@ use Rattle.gb_action.specs.declared.change.Change.{Change}
 use Rattle.gb_action.specs.declared.change.Change.TheVariants.{Added, Removed}
 
 -- the changes that two compared entries show, by the order of their paths
-abbrev pub told : Ordering → List ℕ × List ℕ → List ℕ × List ℕ → List Change
-told order old new =
+abbrev pub reported : Ordering → List ℕ × List ℕ → List ℕ × List ℕ → List Change
+reported order old new =
     by_order order (Removed old.0 ∷ []) (change_at old.0 (Some old.1) (Some new.1)) (Added new.0 ∷ [])
 
 -- how many entries of either list are done then

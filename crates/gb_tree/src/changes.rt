@@ -4,7 +4,7 @@ ghost use Rattle.gb_action.specs.declared.change.Change.TheVariants.{Added, Remo
 ghost use Rattle.gb_action.specs.Changes.{changes_between};
 ghost use Rattle.gb_core.specs.Lists.{byte_order};
 ghost use Rattle.gb_action.specs.Files.{Tree};
-ghost use Rattle.gb_tree.specs.Merge.{past, told};
+ghost use Rattle.gb_tree.specs.Merge.{past, reported};
 ghost use Rattle.gb_tree.specs.Prints.{AreApart, digests_of};
 
 use crate::prints::Prints;
@@ -41,8 +41,8 @@ fn tell(
     new: &(RelPath, [u8; 32]),
 ) -> Result<Ordering, AllocError>
     ensures order { IfOk result (λ order. order ≡ byte_order old.now.0 new.now.0) }
-    ensures told { OnOk result
-        (changes.new ≡ changes.old ++ told (byte_order old.now.0 new.now.0) old.now new.now) }
+    ensures reported { OnOk result
+        (changes.new ≡ changes.old ++ reported (byte_order old.now.0 new.now.0) old.now new.now) }
 {
     let order = old.0.cmp(&new.0);
     match order {

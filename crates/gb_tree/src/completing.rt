@@ -53,8 +53,8 @@ fn complete<F: Folder>(
         return Ok((path, bytes, digest));
     }
     let bytes = read_file(alloc, folder, &place)?;
-    let anew = Sha256::digest(bytes.as_slice());
-    Ok((path, bytes, anew))
+    let recheck = Sha256::digest(bytes.as_slice());
+    Ok((path, bytes, recheck))
 }
 
 /// Adds one file, with its digest after those of the others.

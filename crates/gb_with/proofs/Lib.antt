@@ -1,4 +1,4 @@
-pub mod AnewAnswers
+pub mod RecheckAnswers
 pub mod ByPath
 pub mod Differing
 pub mod Meant

@@ -133,9 +133,9 @@ same_fault : {X Y : Type 0} (one other : Y) → ◌≡◌ {A = Result X Y} (Err 
 same_fault one other e = cc
 
 -- a fault that is passed on is the one that was returned
-pub handed : {X Y Z : Type 0} (r : Result X Z) (s : Result Y Z) (fault told what : Z) → r ≡ Err fault
-    → fault ≡ told → s ≡ Err told → r ≡ Err what → s ≡ Err what
-handed {X = X} r s fault told what a b c d = c ∙ ap Err (sym b ∙ same_fault {X = X} fault what (sym a ∙ d))
+pub handed : {X Y Z : Type 0} (r : Result X Z) (s : Result Y Z) (fault reported what : Z) → r ≡ Err fault
+    → fault ≡ reported → s ≡ Err reported → r ≡ Err what → s ≡ Err what
+handed {X = X} r s fault reported what a b c d = c ∙ ap Err (sym b ∙ same_fault {X = X} fault what (sym a ∙ d))
 
 module _ {A B : Type 0} (first : List (List ℕ × A)) (second : List (List ℕ × B))
     (empty table : List (List ℕ × Either A B)) (nothing : empty ≡ []) where

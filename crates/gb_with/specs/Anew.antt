@@ -39,6 +39,6 @@ pub record IsDifference (files : Tree) (lines : List (List ℕ)) (outputs : List
 
 -- The reply of a kind that makes these files and prints these lines: all of them, or the difference to the
 -- existing files.
-pub record IsAnew (files : Tree) (lines : List (List ℕ)) (request : Request) (reply : Reply) : Type 0 where
+pub record IsRecheck (files : Tree) (lines : List (List ℕ)) (request : Request) (reply : Reply) : Type 0 where
   pub in_full : request.changes.incremental ≡ false → reply ≡ all_of files lines
   pub by_changes : request.changes.incremental ≡ true → IsDifference files lines request.outputs reply

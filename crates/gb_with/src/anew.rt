@@ -6,7 +6,7 @@ ghost use Rattle.gb_action.specs.Files.{file_at};
 ghost use Rattle.gb_action.specs.Outputs.{files_of, written_at};
 ghost use Rattle.gb_action.specs.Shapes.{target};
 ghost use Rattle.gb_kinds.specs.Remade.{as_made, renewed};
-ghost use Rattle.gb_with.specs.Anew.{all_of, made_no_more, IsAnew, IsDifference};
+ghost use Rattle.gb_with.specs.Anew.{all_of, made_no_more, IsRecheck, IsDifference};
 
 use gb_action::reply::{Lines, OutputPath, Removals, Reply, Writes, Written};
 use gb_action::request::Request;
@@ -23,13 +23,13 @@ type Made = BTreeMap<RelPath, Bytes>;
 
 /// The reply of a kind that makes these files, the later of two with the same path, and prints
 /// these lines. Given changes it examines none of them: it compares with the existing files.
-pub fn reply_anew(
+pub fn reply_recheck(
     alloc: Global,
     request: &Request,
     files: Vec<(RelPath, Bytes)>,
     lines: Lines,
 ) -> Result<Reply, AllocError>
-    ensures { IfOk result (λ reply. IsAnew files.items lines request.now reply) }
+    ensures { IfOk result (λ reply. IsRecheck files.items lines request.now reply) }
 {
     if request.changes.is_incremental() {
         difference(alloc, request, files, lines)

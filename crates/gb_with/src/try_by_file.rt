@@ -10,7 +10,7 @@ ghost use Rattle.gb_kinds.specs.ByFile.{change_line};
 ghost use Rattle.gb_with.specs.TreeKinds.{IsFailure, makes_of_trees, of_trees-own};
 ghost use Rattle.gb_with.specs.TryKinds.{at_path, all_tried, tried_tree};
 
-use crate::anew::reply_anew;
+use crate::anew::reply_recheck;
 use crate::stored::{Call, OwnAction};
 use crate::tree_kind::files_of;
 use crate::try_file_kind::TryFileKind;
@@ -73,7 +73,7 @@ impl<K: TryFileKind> Actions for TryByFile<K> {
         match all_tried(alloc, &maker, files_of(&request.files, &name)) {
             Ok(files) => {
                 let lines = change_lines(alloc, changes_of(request, &name))?;
-                Ok(reply_anew(alloc, request, files, lines)?)
+                Ok(reply_recheck(alloc, request, files, lines)?)
             }
             Err(fault) => Err(fault),
         }

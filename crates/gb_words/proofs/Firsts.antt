@@ -17,8 +17,8 @@ first_among [] more whole fault same (inr first) = absurd (cc)
 first_among (one ∷ faults) more whole fault same (inr first) = inr (ap first_of same ∙ first)
 
 -- the error that the exit of a `?` returns
-pub told_on : {T : Type 0} (faults : List Fault) (answer : Result T Fault) (fault : Fault) → IsErrAnd answer (λ handed. handed ≡ fault) → IsFirstFault faults fault → TellsFirst faults answer
-told_on faults answer fault handed first = let p = err_from_is_err_and answer handed in rw (p.1, p.2) first
+pub reported_on : {T : Type 0} (faults : List Fault) (answer : Result T Fault) (fault : Fault) → IsErrAnd answer (λ handed. handed ≡ fault) → IsFirstFault faults fault → TellsFirst faults answer
+reported_on faults answer fault handed first = let p = err_from_is_err_and answer handed in rw (p.1, p.2) first
 
 -- where `clap` reports some kind of error, the arguments are refused
 pub usage_first : (kinds : Kinds) (kind : ErrorKind) → IsAmong kind kinds → IsFirstFault (if not (is_empty kinds) then Usage ∷ [] else []) Usage

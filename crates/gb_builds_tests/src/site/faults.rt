@@ -79,7 +79,7 @@ const TWO_OF_ONE_NAME: [Step<'static>; 2] = [
 ];
 
 /// Fails if these steps after those of the site have other results.
-fn are_told<A: Actions, T: Transforms>(
+fn are_reported<A: Actions, T: Transforms>(
     alloc: Global,
     tables: &Tables<A, T>,
     steps: &[Step<'_>],
@@ -88,32 +88,32 @@ fn are_told<A: Actions, T: Transforms>(
     go_on(alloc, &mut folder, tables, steps)
 }
 
-fn both_are_told<A: Actions, T: Transforms>(
+fn both_are_reported<A: Actions, T: Transforms>(
     alloc: Global,
     tables: &Tables<A, T>,
     first: &[Step<'_>],
     second: &[Step<'_>],
 ) -> Result<(), Fail> {
-    are_told(alloc, tables, first)?;
-    are_told(alloc, tables, second)
+    are_reported(alloc, tables, first)?;
+    are_reported(alloc, tables, second)
 }
 
 #[test]
-fn a_bad_page_is_told_with_its_line(rt: HostRuntime) -> Result<(), Fail> {
+fn a_bad_page_is_reported_with_its_line(rt: HostRuntime) -> Result<(), Fail> {
     let (actions, transforms) = offered(rt.alloc())?;
     let tables = Tables::<Kinds, Builtin> {
         actions,
         transforms,
     };
-    both_are_told::<Kinds, Builtin>(rt.alloc(), &tables, &BAD_PAGES, &GONE_BAD)
+    both_are_reported::<Kinds, Builtin>(rt.alloc(), &tables, &BAD_PAGES, &GONE_BAD)
 }
 
 #[test]
-fn a_bad_layout_and_a_name_that_is_taken_are_told(rt: HostRuntime) -> Result<(), Fail> {
+fn a_bad_layout_and_a_name_that_is_taken_are_reported(rt: HostRuntime) -> Result<(), Fail> {
     let (actions, transforms) = offered(rt.alloc())?;
     let tables = Tables::<Kinds, Builtin> {
         actions,
         transforms,
     };
-    both_are_told::<Kinds, Builtin>(rt.alloc(), &tables, &LAYOUTS, &TWO_OF_ONE_NAME)
+    both_are_reported::<Kinds, Builtin>(rt.alloc(), &tables, &LAYOUTS, &TWO_OF_ONE_NAME)
 }

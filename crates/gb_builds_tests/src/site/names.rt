@@ -1,5 +1,5 @@
 //! Two tables with a kind of the same name.
-use crate::building::is_told;
+use crate::building::is_reported;
 use crate::site::offering::builtin;
 use gb_action::table::TableFault;
 use gb_here::refused::print_refused;
@@ -29,5 +29,5 @@ fn a_name_of_a_built_in_kind_is_refused(rt: HostRuntime) -> Result<(), Fail> {
     let alloc = rt.alloc();
     assert_eq!(rt; refusal(alloc)?, Some(TableFault::DuplicateAction));
     let text = printed(alloc, TableFault::DuplicateAction)?;
-    is_told("REFUSED 41 duplicate action\nBUILD FAILED\n", text.as_str())
+    is_reported("REFUSED 41 duplicate action\nBUILD FAILED\n", text.as_str())
 }

@@ -83,7 +83,7 @@ fn are_renamed_in<A: Actions, T: Transforms>(
 }
 
 #[test]
-fn two_pages_of_one_name_are_told(rt: HostRuntime) -> Result<(), Fail> {
+fn two_pages_of_one_name_are_reported(rt: HostRuntime) -> Result<(), Fail> {
     let (actions, transforms) = offered(rt.alloc())?;
     let tables = Tables::<Kinds, Builtin> {
         actions,

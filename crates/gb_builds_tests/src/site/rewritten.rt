@@ -1,5 +1,5 @@
 //! The files that builds of an edited site write, read from a folder that notes its calls.
-use crate::building::is_told;
+use crate::building::is_reported;
 use crate::site::offering::{Kinds, offered};
 use crate::site::sites::written;
 use crate::site::steps::{Step, go_on};
@@ -97,7 +97,7 @@ fn are_noted<A: Actions, T: Transforms>(
 ) -> Result<(), Fail> {
     go_on(alloc, noted, tables, build)?;
     let text = shown(alloc, noted.notes())?;
-    is_told(expected, text.as_str())
+    is_reported(expected, text.as_str())
 }
 
 /// A site with three pages.

@@ -1,5 +1,5 @@
 //! Edits of a site in memory and builds of it, and their results.
-use crate::building::{is_told, put_bytes, words_of};
+use crate::building::{is_reported, put_bytes, words_of};
 use crate::site::counting::Counting;
 use gb_action::actions::Actions;
 use gb_answer::answer::answer_text;
@@ -65,13 +65,13 @@ fn build<A: Actions, T: Transforms, F: Folder>(
     text: &str,
 ) -> Result<(), Fail> {
     let mut listeners = vec![in alloc; Counting::new(alloc)]?;
-    let told = told_beside(alloc, folder, tables, words, &mut listeners)?;
-    is_told(text, told.as_str())?;
+    let reported = reported_beside(alloc, folder, tables, words, &mut listeners)?;
+    is_reported(text, reported.as_str())?;
     have_counted(executed, listeners.as_slice())
 }
 
 /// The result of the arguments, with these listeners.
-fn told_beside<A: Actions, T: Transforms, F: Folder>(
+fn reported_beside<A: Actions, T: Transforms, F: Folder>(
     alloc: Global,
     folder: &mut F,
     tables: &Tables<A, T>,
@@ -81,11 +81,11 @@ fn told_beside<A: Actions, T: Transforms, F: Folder>(
     let invocation = read(alloc, words_of(alloc, words)?)?;
     let answer = invoke(alloc, folder, tables, &invocation, listeners, &mut Silent);
     drop(invocation);
-    told(alloc, answer)
+    reported(alloc, answer)
 }
 
 /// The text of an answer.
-fn told(alloc: Global, answer: Result<Report, Fault>) -> Result<String, Fail> {
+fn reported(alloc: Global, answer: Result<Report, Fault>) -> Result<String, Fail> {
     let text = answer_text(alloc, &answer);
     drop(answer);
     Ok(String::from_utf8(text?)?)
@@ -108,7 +108,7 @@ pub fn stands(
 ) -> Result<(), Fail> {
     let place = Place::read(alloc, place)?;
     let text = String::from_utf8(folder.read(alloc, &place, 10_000)?)?;
-    is_told(expected, text.as_str())
+    is_reported(expected, text.as_str())
 }
 
 /// Fails if the files under a place differ; each name is followed by a line feed.
@@ -124,5 +124,5 @@ pub fn stand(
         out.push_str(place.as_str())?;
         out.push_str("\n")?;
     }
-    is_told(expected, out.as_str())
+    is_reported(expected, out.as_str())
 }

@@ -13,7 +13,7 @@ use Rattle.gb_plan.specs.Ready.{Rows}
 use Rattle.gb_plan.specs.Task.{has_path}
 use Rattle.gb_meaning.specs.Kinds.{Kinds}
 use Rattle.gb_meaning.specs.Headline.{Agrees}
-use Rattle.gb_meaning.specs.Granted.{SomeKindsAgree}
+use Rattle.gb_meaning.specs.Assumed.{SomeKindsAgree}
 use Rattle.gb_meaning.proofs.Lemmas.Files.{same_place}
 
 module _ {S : Type 0} (meanings : Meanings S) where

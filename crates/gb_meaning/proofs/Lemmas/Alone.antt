@@ -17,14 +17,14 @@ use Rattle.gb_meaning.specs.Tree.{input_faults, listing_faults, has_no_source}
 use Rattle.gb_meaning.specs.Memory.{World}
 use Rattle.gb_plan.specs.Graph.{Plan}
 use Rattle.gb_meaning.specs.Label.{Moment, Early, Skips, HasNoActions, CannotRead, HasNoSource}
-use Rattle.gb_meaning.specs.Turn.{Standing, TouchesRecord, TouchesRecordIn, Builds}
+use Rattle.gb_meaning.specs.Execution.{Standing, TouchesRecord, TouchesRecordIn, Builds}
 use Rattle.gb_report.specs.declared.report.Report.{Report}
 use Rattle.gb_meaning.specs.declared.events.Invocation.{Invocation}
 use Rattle.gb_meaning.specs.Events.{State, own_files, world_in, Setting, may_come, IsBuild}
 use Rattle.gb_meaning.specs.Headline.{AreRegistries}
 use Rattle.gb_meaning.specs.Every.{always}
 use Rattle.gb_meaning.specs.Outline.{Outlines, IsOutlined}
-use Rattle.gb_meaning.proofs.Common.{all_granted}
+use Rattle.gb_meaning.proofs.Common.{all_assumed}
 use Rattle.gb_plan.proofs.Tests.{not_false}
 use Rattle.gb_meaning.proofs.Lemmas.Outlined.{builds_outline}
 
@@ -91,7 +91,7 @@ module _ (setting : Setting) (own : Files) (options : Options) (task : Task) (mo
   may_alone faults.Usage comes idle = absurd comes
 
 pub may_builds_outline : (setting : Setting) (own : Files) (options : Options) (plan : Plan) (before after : ℕ) (old new : World) (reports : List TaskReport)
-    → Builds (rules_of setting.kinds options (may_come setting own options) plan) all_granted [] (standing old before) reports (standing new after) → Outlines options plan reports
+    → Builds (rules_of setting.kinds options (may_come setting own options) plan) all_assumed [] (standing old before) reports (standing new after) → Outlines options plan reports
 may_builds_outline setting own options plan before after old new reports builds =
     builds_outline setting.kinds options (may_come setting own options) plan (λ task moment new fault comes idle. may_alone setting own options task moment new fault comes idle)
     [] before after old new reports builds

@@ -1,6 +1,6 @@
 -- Where the contents before and after a build satisfy the guard, all its executions hold: no other contents
 -- exist between them.
-use Rattle.gb_meaning.proofs.Standing.{rules_of, standing, with_turn}
+use Rattle.gb_meaning.proofs.Standing.{rules_of, standing, with_execution}
 use Rattle.gb_meaning.specs.TrueRecord.{AreApart}
 use Rattle.std.specs.Cmp.Lexicographic.{bytes_decides}
 use Rattle.std.proofs.lemmas.Map.Views.{Contains-from_any}
@@ -18,9 +18,9 @@ use Rattle.gb_meaning.specs.Memory.{World, folder_contents}
 use Rattle.gb_plan.specs.Graph.{Plan, some_overlap}
 use Rattle.gb_plan.specs.declared.plan.Planned.{Planned}
 use Rattle.gb_meaning.specs.Label.{Moment}
-use Rattle.gb_meaning.specs.Turn.{May, Guard, Turns, moment_after, Builds}
+use Rattle.gb_meaning.specs.Execution.{May, Guard, Executions, moment_after, Builds}
 use Rattle.gb_plan.proofs.Tests.{not_false, any_append, any_map, none_left, none_right}
-use Rattle.gb_meaning.proofs.Common.{all_granted}
+use Rattle.gb_meaning.proofs.Common.{all_assumed}
 use Rattle.gb_plan.proofs.Places.{apart_places, overlap_tail, out_of}
 
 abbrev pub places_of : List Planned → List Place
@@ -120,47 +120,47 @@ later_apart task (later ∷ rest) h = (
   later_apart task rest (λ q e. none_right (list_any (is_under q) (output_places later.task)) (list_any (is_under q) (places_of rest)) (sym (any_append (is_under q) (output_places later.task) (places_of rest)) ∙ h q e)),
 )
 
-module _ (kinds : Kinds) (options : Options) (may_come : May) (plan : Plan) (granted : Guard) where
+module _ (kinds : Kinds) (options : Options) (may_come : May) (plan : Plan) (assumed : Guard) where
   -- executions leave the places that are no outputs of theirs
   pub rest_leave : (test : Place → Bool) (seen : List Bytes) (rest : List Planned) (moment : Moment) (reports : List TaskReport) (new : World) (failures : ℕ)
       → AllByRecursion (λ (later : Planned). (q : Place) → test q ≡ true → is_output_of later.task q ≡ false) rest
-      → Turns (rules_of kinds options may_come plan) granted seen rest moment reports (standing new failures) → files_where test new.folder.files ≡ files_where test moment.world.folder.files
-  rest_leave test seen [] moment [] new failures apart turns = ap (λ (w : World). files_where test w.folder.files) turns.0
-  rest_leave test seen [] moment (report ∷ reports) new failures apart turns = absurd turns
-  rest_leave test seen (planned ∷ rest) moment [] new failures apart turns = absurd turns
-  rest_leave test seen (planned ∷ rest) moment (report ∷ reports) new failures apart turns =
-      rest_leave test (seen ++ folder_contents moment.world) rest (moment_after moment report turns.0) reports new failures apart.1 turns.2
-      ∙ same_narrow test (λ place. not (is_output_of planned.task place)) (λ q e. ap not (apart.0 q e)) moment.world.folder.files turns.0.world.folder.files turns.1.files
+      → Executions (rules_of kinds options may_come plan) assumed seen rest moment reports (standing new failures) → files_where test new.folder.files ≡ files_where test moment.world.folder.files
+  rest_leave test seen [] moment [] new failures apart executions = ap (λ (w : World). files_where test w.folder.files) executions.0
+  rest_leave test seen [] moment (report ∷ reports) new failures apart executions = absurd executions
+  rest_leave test seen (planned ∷ rest) moment [] new failures apart executions = absurd executions
+  rest_leave test seen (planned ∷ rest) moment (report ∷ reports) new failures apart executions =
+      rest_leave test (seen ++ folder_contents moment.world) rest (moment_after moment report executions.0) reports new failures apart.1 executions.2
+      ∙ same_narrow test (λ place. not (is_output_of planned.task place)) (λ q e. ap not (apart.0 q e)) moment.world.folder.files executions.0.world.folder.files executions.1.files
 
-  pub all_hold : ((all some : List Bytes) → Among some all → granted all → granted some)
+  pub all_hold : ((all some : List Bytes) → Among some all → assumed all → assumed some)
       → (seen : List Bytes) (rest : List Planned) (moment : Moment) (reports : List TaskReport) (new : World) (failures : ℕ)
-      → some_overlap (places_of rest) ≡ false → granted (seen ++ folder_contents moment.world ++ folder_contents new)
-      → Turns (rules_of kinds options may_come plan) granted seen rest moment reports (standing new failures)
-      → Turns (rules_of kinds options may_come plan) all_granted seen rest moment reports (standing new failures)
-  all_hold fewer seen [] moment [] new failures apart given turns = turns
-  all_hold fewer seen [] moment (report ∷ reports) new failures apart given turns = absurd turns
-  all_hold fewer seen (planned ∷ rest) moment [] new failures apart given turns = absurd turns
-  all_hold fewer seen (planned ∷ rest) moment (report ∷ reports) new failures apart given turns = (
-    turns.0,
-    with_turn turns.1 (λ _. turns.1.turn (fewer (before ++ folder_contents new) before (λ c e. in_left c before (folder_contents new) e) given)),
-    all_hold fewer before rest (moment_after moment report turns.0) reports new failures
+      → some_overlap (places_of rest) ≡ false → assumed (seen ++ folder_contents moment.world ++ folder_contents new)
+      → Executions (rules_of kinds options may_come plan) assumed seen rest moment reports (standing new failures)
+      → Executions (rules_of kinds options may_come plan) all_assumed seen rest moment reports (standing new failures)
+  all_hold fewer seen [] moment [] new failures apart given executions = executions
+  all_hold fewer seen [] moment (report ∷ reports) new failures apart given executions = absurd executions
+  all_hold fewer seen (planned ∷ rest) moment [] new failures apart given executions = absurd executions
+  all_hold fewer seen (planned ∷ rest) moment (report ∷ reports) new failures apart given executions = (
+    executions.0,
+    with_execution executions.1 (λ _. executions.1.execution (fewer (before ++ folder_contents new) before (λ c e. in_left c before (folder_contents new) e) given)),
+    all_hold fewer before rest (moment_after moment report executions.0) reports new failures
         (overlap_tail (output_places planned.task) (places_of rest) apart)
-        (fewer (before ++ folder_contents new) (before ++ folder_contents turns.0.world ++ folder_contents new) between given) turns.2,
+        (fewer (before ++ folder_contents new) (before ++ folder_contents executions.0.world ++ folder_contents new) between given) executions.2,
   )
     where
       before : List Bytes
       before = seen ++ folder_contents moment.world
 
-      later_leave : files_where (is_output_of planned.task) new.folder.files ≡ files_where (is_output_of planned.task) turns.0.world.folder.files
-      later_leave = rest_leave (is_output_of planned.task) before rest (moment_after moment report turns.0) reports new failures
-          (later_apart planned.task rest (λ q e. apart_places q (output_places planned.task) (places_of rest) apart (sym (out_of planned.task q) ∙ e))) turns.2
+      later_leave : files_where (is_output_of planned.task) new.folder.files ≡ files_where (is_output_of planned.task) executions.0.world.folder.files
+      later_leave = rest_leave (is_output_of planned.task) before rest (moment_after moment report executions.0) reports new failures
+          (later_apart planned.task rest (λ q e. apart_places q (output_places planned.task) (places_of rest) apart (sym (out_of planned.task q) ∙ e))) executions.2
 
-      between : Among (before ++ folder_contents turns.0.world ++ folder_contents new) (before ++ folder_contents new)
-      between c h = elim (in_one c (before ++ folder_contents turns.0.world) (folder_contents new) h) [
+      between : Among (before ++ folder_contents executions.0.world ++ folder_contents new) (before ++ folder_contents new)
+      between c h = elim (in_one c (before ++ folder_contents executions.0.world) (folder_contents new) h) [
         | inr after ↦ in_right c before (folder_contents new) after
-        | inl earlier ↦ elim (in_one c before (folder_contents turns.0.world) earlier) [
+        | inl earlier ↦ elim (in_one c before (folder_contents executions.0.world) earlier) [
           | inl seen_before ↦ in_left c before (folder_contents new) seen_before
-          | inr mid ↦ elim (stood (is_output_of planned.task) moment.world.folder.files turns.0.world.folder.files new.folder.files turns.1.files later_leave c mid) [
+          | inr mid ↦ elim (stood (is_output_of planned.task) moment.world.folder.files executions.0.world.folder.files new.folder.files executions.1.files later_leave c mid) [
             | inl old ↦ in_left c before (folder_contents new) (in_right c seen (folder_contents moment.world) old)
             | inr last ↦ in_right c before (folder_contents new) last
           ]
@@ -171,7 +171,7 @@ module _ (kinds : Kinds) (options : Options) (may_come : May) (plan : Plan) (gra
 pub clear_build : (kinds : Kinds) (options : Options) (may_come : May) (digest : Bytes → List ℕ) (plan : Plan) (seen : List Bytes) (before after : ℕ) (old new : World) (reports : List TaskReport)
     → some_overlap (places_of plan) ≡ false → AreApart digest (seen ++ folder_contents old ++ folder_contents new)
     → Builds (rules_of kinds options may_come plan) (AreApart digest) seen (standing old before) reports (standing new after)
-    → Builds (rules_of kinds options may_come plan) all_granted seen (standing old before) reports (standing new after)
+    → Builds (rules_of kinds options may_come plan) all_assumed seen (standing old before) reports (standing new after)
 clear_build kinds options may_come digest plan seen before after old new reports apart clear builds = elim builds [
   | inl dry ↦ inl dry
   | inr run ↦ inr (run.0, all_hold kinds options may_come plan (AreApart digest) (apart_of_fewer digest) seen plan (record { world = old; outcomes = []; failures = before }) reports new after apart clear run.1)

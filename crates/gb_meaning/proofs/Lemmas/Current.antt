@@ -14,7 +14,7 @@ use Rattle.gb_meaning.specs.Made.{made_of}
 use Rattle.gb_meaning.specs.Memory.{World, entry_of, output_files}
 use Rattle.gb_meaning.specs.Promise.{UpToDateIsMade}
 use Rattle.gb_meaning.specs.Tree.{has_no_source, input_faults, listing_faults, trees_of}
-use Rattle.gb_meaning.specs.Turn.{Leaves}
+use Rattle.gb_meaning.specs.Execution.{Leaves}
 use Rattle.gb_meaning.proofs.Lemmas.Truth.{recalled_made}
 
 module _ (kinds : Kinds) (options : Options) (plan : Plan) (task : Task) (moment : Moment) where
@@ -39,12 +39,12 @@ module _ (kinds : Kinds) (options : Options) (plan : Plan) (task : Task) (moment
       (has_no_source task moment.world.folder.files) acts label
 
 pub up_to_date : UpToDateIsMade
-up_to_date kinds options plan moment task report new made acts is turn =
-    let current : IsCurrent options task moment.world = elim turn.label [
+up_to_date kinds options plan moment task report new made acts is execution =
+    let current : IsCurrent options task moment.world = elim execution.label [
       | inl label ↦ is_current kinds options plan task moment acts (subst (IsLabel kinds options plan task moment) is label)
       | inr machine ↦ absurd (cc (is, machine.2))
     ] in
-    let same : new.world ≡ moment.world = subst (λ outcome. Leaves kinds options task moment.world outcome new.world) is turn.leaves in (
+    let same : new.world ≡ moment.world = subst (λ outcome. Leaves kinds options task moment.world outcome new.world) is execution.leaves in (
       same,
       subst (λ (world : World). made_of kinds task.actions task.values (trees_of task moment.world.folder.files) task.outputs ≡ Ok (output_files task world.folder.files))
           (sym same) (recalled_made kinds moment.world.memory task.path (entry_of task moment.world.folder.files) made current.same),

@@ -6,7 +6,7 @@ use Rattle.gb_meaning.specs.declared.events.Event.TheVariants as events
 use Rattle.gb_meaning.specs.declared.events.Answer.{Answer}
 use Rattle.gb_meaning.specs.declared.events.Answer.TheVariants as answers
 use Rattle.gb_folder.specs.Files.{Bytes}
-use Rattle.gb_meaning.specs.Turn.{Guard}
+use Rattle.gb_meaning.specs.Execution.{Guard}
 use Rattle.gb_meaning.specs.Events.{Setting, State, Step}
 use Rattle.gb_meaning.specs.Headline.{seen_with}
 use Rattle.gb_meaning.specs.Every.{Succeeds}
@@ -33,13 +33,13 @@ joined seen here rest c h = elim (in_one c (seen ++ here) rest h) [
 ]
 
 module _ (setting : Setting) where
-  pub step_succeeds : (granted : Guard) (seen : List Bytes) (old new : State) (event : Event) (answer : Answer)
-      → granted (seen_with seen old new) → Step setting granted seen old event answer new → Succeeds setting old.contents event answer new.contents
-  step_succeeds granted seen old new (events.Put place bytes) answer given s = tt
-  step_succeeds granted seen old new (events.Remove place) answer given s = tt
-  step_succeeds granted seen old new events.Lost answer given s = tt
-  step_succeeds granted seen old new (events.Invoke invocation) (answers.Built report) given s =
+  pub step_succeeds : (assumed : Guard) (seen : List Bytes) (old new : State) (event : Event) (answer : Answer)
+      → assumed (seen_with seen old new) → Step setting assumed seen old event answer new → Succeeds setting old.contents event answer new.contents
+  step_succeeds assumed seen old new (events.Put place bytes) answer given s = tt
+  step_succeeds assumed seen old new (events.Remove place) answer given s = tt
+  step_succeeds assumed seen old new events.Lost answer given s = tt
+  step_succeeds assumed seen old new (events.Invoke invocation) (answers.Built report) given s =
       λ none. let success = s.success given none in record { plan = s.plan; planned = s.planned; started = success.0; files = success.1 }
-  step_succeeds granted seen old new (events.Invoke invocation) answers.Edited given s = tt
-  step_succeeds granted seen old new (events.Invoke invocation) (answers.Refused fault) given s = tt
-  step_succeeds granted seen old new (events.Invoke invocation) (answers.NotBuilt fault) given s = tt
+  step_succeeds assumed seen old new (events.Invoke invocation) answers.Edited given s = tt
+  step_succeeds assumed seen old new (events.Invoke invocation) (answers.Refused fault) given s = tt
+  step_succeeds assumed seen old new (events.Invoke invocation) (answers.NotBuilt fault) given s = tt

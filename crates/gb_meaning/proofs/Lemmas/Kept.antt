@@ -1,6 +1,6 @@
 -- Whatever the outcome of an execution, also a failure, memory that was true is true after it.
 use Rattle.gb_meaning.proofs.Standing.{rules_of, standing}
-use Rattle.gb_meaning.proofs.Common.{all_granted}
+use Rattle.gb_meaning.proofs.Common.{all_assumed}
 use Rattle.std.specs.Prelude.{ℕ, ◌++◌, ◌≡◌, true, false, not, cond, List, [], ◌∷◌, Option, Some, None}
 use Rattle.std.specs.List.{AllByRecursion}
 use Rattle.std.proofs.Common.{sym, ap, subst, ◌∙◌, inl, inr}
@@ -19,7 +19,7 @@ use Rattle.gb_meaning.specs.Memory.{Memory, World, folder_contents, forget, reme
 use Rattle.gb_plan.specs.Graph.{Plan, reads_output_of}
 use Rattle.gb_plan.specs.declared.plan.Planned.{Planned}
 use Rattle.gb_meaning.specs.Label.{Moment, Early, Skips, HasNoActions, CannotRead, HasNoSource, early_case}
-use Rattle.gb_meaning.specs.Turn.{May, Turns, Leaves, FailureLeaves, HasEnded, IsGivenUp, memory_after, moment_after, Cause, ByItself, ByMachine, cause_of, FailedRunLeaves}
+use Rattle.gb_meaning.specs.Execution.{May, Executions, Leaves, FailureLeaves, HasEnded, IsGivenUp, memory_after, moment_after, Cause, ByItself, ByMachine, cause_of, FailedRunLeaves}
 use Rattle.gb_meaning.proofs.Lemmas.Reading.{AllUnseen}
 use Rattle.gb_meaning.proofs.Lemmas.Making.{made_of_is_right}
 use Rattle.gb_meaning.proofs.Lemmas.Sound.{unseen_of}
@@ -70,15 +70,15 @@ own_unseen : (task : Task) → reads_output_of task task ≡ false → AllUnseen
 own_unseen task e = unseen_of task (λ q. not (is_output_of task q)) (output_places task) (λ q none. ap not (out_of task q ∙ none)) e
 
 -- The same over all executions, also stopped and failed ones.
-pub turns_keep : (kinds : Kinds) (options : Options) (may_come : May) (plan : Plan) (seen : List Bytes) (rest : List Planned) (moment : Moment) (reports : List TaskReport) (new : World) (failures : ℕ)
+pub executions_keep : (kinds : Kinds) (options : Options) (may_come : May) (plan : Plan) (seen : List Bytes) (rest : List Planned) (moment : Moment) (reports : List TaskReport) (new : World) (failures : ℕ)
     → AllMade kinds moment.world.memory → IsFolder moment.world.folder.files → AllByRecursion (λ (planned : Planned). reads_output_of planned.task planned.task ≡ false) rest
-    → Turns (rules_of kinds options may_come plan) all_granted seen rest moment reports (standing new failures) → AllMade kinds new.memory
-turns_keep kinds options may_come plan seen [] moment [] new failures all folder unread turns = subst (λ (w : World). AllMade kinds w.memory) (sym turns.0) all
-turns_keep kinds options may_come plan seen [] moment (report ∷ reports) new failures all folder unread turns = absurd turns
-turns_keep kinds options may_come plan seen (planned ∷ rest) moment [] new failures all folder unread turns = absurd turns
-turns_keep kinds options may_come plan seen (planned ∷ rest) moment (report ∷ reports) new failures all folder unread turns =
-    turns_keep kinds options may_come plan (seen ++ folder_contents moment.world) rest (moment_after moment report turns.0) reports new failures
-    (elim (turns.1.turn tt).2 [
-      | inl started ↦ leaves_keep kinds options planned.task moment.world turns.0.world all folder (own_unseen planned.task unread.0) report.outcome started.1.leaves
+    → Executions (rules_of kinds options may_come plan) all_assumed seen rest moment reports (standing new failures) → AllMade kinds new.memory
+executions_keep kinds options may_come plan seen [] moment [] new failures all folder unread executions = subst (λ (w : World). AllMade kinds w.memory) (sym executions.0) all
+executions_keep kinds options may_come plan seen [] moment (report ∷ reports) new failures all folder unread executions = absurd executions
+executions_keep kinds options may_come plan seen (planned ∷ rest) moment [] new failures all folder unread executions = absurd executions
+executions_keep kinds options may_come plan seen (planned ∷ rest) moment (report ∷ reports) new failures all folder unread executions =
+    executions_keep kinds options may_come plan (seen ++ folder_contents moment.world) rest (moment_after moment report executions.0) reports new failures
+    (elim (executions.1.execution tt).2 [
+      | inl started ↦ leaves_keep kinds options planned.task moment.world executions.0.world all folder (own_unseen planned.task unread.0) report.outcome started.1.leaves
       | inr passed ↦ subst (λ (w : World). AllMade kinds w.memory) (sym passed.1.unchanged) all
-    ]) turns.1.folder unread.1 turns.2
+    ]) executions.1.folder unread.1 executions.2

@@ -18,9 +18,9 @@ use Rattle.gb_plan.specs.Graph.{Plan, needs_in}
 use Rattle.gb_plan.specs.declared.plan.Planned.{Planned}
 use Rattle.gb_meaning.specs.Label.{Moment, Skips, HasNoActions, CannotRead, HasNoSource, IsLabelAt, EndsWith, run_of, some_outcome}
 use Rattle.gb_report.specs.Outcome.{is_executed}
-use Rattle.gb_meaning.specs.Turn.{May, Standing, Turn, Turns, Builds, Prints, moment_after}
+use Rattle.gb_meaning.specs.Execution.{May, Standing, Execution, Executions, Builds, Prints, moment_after}
 use Rattle.gb_meaning.specs.Outline.{IsOutline, AreOutlines, Outlines, MayAnswer, AnswersAlone, PrintsNothing, moment_by, idle_outcome}
-use Rattle.gb_meaning.proofs.Common.{all_granted}
+use Rattle.gb_meaning.proofs.Common.{all_assumed}
 use Rattle.gb_meaning.proofs.Lemmas.Files.{left_of}
 
 module _ (kinds : Kinds) (options : Options) (may : May) (plan : Plan)
@@ -69,15 +69,15 @@ module _ (kinds : Kinds) (options : Options) (may : May) (plan : Plan)
     by_fault new fault comes e true true r n = inr (e ∙ ap (λ f. outcomes.Failed f) (alone task moment new fault comes (inr n)))
     by_fault new fault comes e true false r n = subst (MayAnswer options task) (sym e) tt
 
-  turn_outline : (moment : Moment) (planned : Planned) (report : TaskReport) (new : World) (failures : ℕ) → Turn (rules_of kinds options may plan) moment planned report (standing new failures) → IsOutline options plan (moment_by moment.outcomes) planned report
-  turn_outline moment planned report new failures turn = record {
-    path = turn.0;
-    has_actions = turn.1;
-    lines = elim turn.2 [
+  execution_outline : (moment : Moment) (planned : Planned) (report : TaskReport) (new : World) (failures : ℕ) → Execution (rules_of kinds options may plan) moment planned report (standing new failures) → IsOutline options plan (moment_by moment.outcomes) planned report
+  execution_outline moment planned report new failures execution = record {
+    path = execution.0;
+    has_actions = execution.1;
+    lines = elim execution.2 [
       | inl started ↦ no_lines planned.task moment.world report.outcome report started.1.prints
       | inr passed ↦ subst (λ o. PrintsNothing o report) (sym passed.1.outcome) passed.1.no_lines
     ];
-    answer = elim turn.2 [
+    answer = elim execution.2 [
       | inl started ↦ inl (
         record { needs_ended_well = started.0.needs_ended_well; is_called = started.0.is_called; goes_on = started.0.goes_on },
         elim started.1.label [
@@ -89,19 +89,19 @@ module _ (kinds : Kinds) (options : Options) (may : May) (plan : Plan)
     ];
   }
 
-  turns_outline : (seen : List Bytes) (rest : List Planned) (moment : Moment) (reports : List TaskReport) (new : World) (failures : ℕ)
-      → Turns (rules_of kinds options may plan) all_granted seen rest moment reports (standing new failures) → AreOutlines options plan moment.outcomes rest reports
-  turns_outline seen [] moment [] new failures turns = tt
-  turns_outline seen [] moment (report ∷ reports) new failures turns = absurd turns
-  turns_outline seen (planned ∷ rest) moment [] new failures turns = absurd turns
-  turns_outline seen (planned ∷ rest) moment (report ∷ reports) new failures turns = (
-    turn_outline moment planned report turns.0.world turns.0.failures (turns.1.turn tt),
-    turns_outline (seen ++ folder_contents moment.world) rest (moment_after moment report turns.0) reports new failures turns.2,
+  executions_outline : (seen : List Bytes) (rest : List Planned) (moment : Moment) (reports : List TaskReport) (new : World) (failures : ℕ)
+      → Executions (rules_of kinds options may plan) all_assumed seen rest moment reports (standing new failures) → AreOutlines options plan moment.outcomes rest reports
+  executions_outline seen [] moment [] new failures executions = tt
+  executions_outline seen [] moment (report ∷ reports) new failures executions = absurd executions
+  executions_outline seen (planned ∷ rest) moment [] new failures executions = absurd executions
+  executions_outline seen (planned ∷ rest) moment (report ∷ reports) new failures executions = (
+    execution_outline moment planned report executions.0.world executions.0.failures (executions.1.execution tt),
+    executions_outline (seen ++ folder_contents moment.world) rest (moment_after moment report executions.0) reports new failures executions.2,
   )
 
   pub builds_outline : (seen : List Bytes) (before after : ℕ) (old new : World) (reports : List TaskReport)
-      → Builds (rules_of kinds options may plan) all_granted seen (standing old before) reports (standing new after) → Outlines options plan reports
+      → Builds (rules_of kinds options may plan) all_assumed seen (standing old before) reports (standing new after) → Outlines options plan reports
   builds_outline seen before after old new reports builds = elim builds [
     | inl dry ↦ inl (dry.0, dry.1)
-    | inr run ↦ inr (run.0, turns_outline seen plan (record { world = old; outcomes = []; failures = before }) reports new after run.1)
+    | inr run ↦ inr (run.0, executions_outline seen plan (record { world = old; outcomes = []; failures = before }) reports new after run.1)
   ]

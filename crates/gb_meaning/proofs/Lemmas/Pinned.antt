@@ -27,7 +27,7 @@ use Rattle.gb_meaning.specs.Label.{Moment}
 use Rattle.gb_meaning.specs.Made.{with_outputs}
 use Rattle.gb_meaning.specs.Memory.{Memory, World, folder_contents}
 use Rattle.gb_meaning.specs.TrueRecord.{AreApart, outside}
-use Rattle.gb_meaning.specs.Turn.{Builds, Guard, HasEnded, Leaves, May, Rules, Standing, Turn, Turns, memory_after, moment_after, world_with}
+use Rattle.gb_meaning.specs.Execution.{Builds, Guard, HasEnded, Leaves, May, Rules, Standing, Execution, Executions, memory_after, moment_after, world_with}
 use Rattle.gb_meaning.specs.Edits.{IsStopped, PutStep, RemoveStep, Shown}
 use Rattle.gb_meaning.specs.Events.{HasPlan, IsBuild, Setting, State, Step, has_failure, may_come, own_files, shown_in, world_in}
 use Rattle.gb_meaning.specs.Headline.{GoesThrough, IsClear, StillClear, contents_outside, is_of_device, seen_with}
@@ -65,43 +65,43 @@ leaves_one kinds options task old outcomes.NoSource one other well a b = a ∙ s
 leaves_one kinds options task old outcomes.NotRun one other well a b = a ∙ sym b
 leaves_one kinds options task old (outcomes.Failed fault) one other well a b = not_false well
 
-turn_leaves : (rules : Rules) (moment : Moment) (planned : Planned) (report : TaskReport) (new : Standing) → Turn rules moment planned report new
+execution_leaves : (rules : Rules) (moment : Moment) (planned : Planned) (report : TaskReport) (new : Standing) → Execution rules moment planned report new
     → Leaves rules.kinds rules.options planned.task moment.world report.outcome new.world
-turn_leaves rules moment planned report new turn = elim turn.2 [
+execution_leaves rules moment planned report new execution = elim execution.2 [
   | inl starts ↦ starts.1.leaves
   | inr passed ↦ subst (λ (o : Outcome). Leaves rules.kinds rules.options planned.task moment.world o new.world) (sym passed.1.outcome) passed.1.unchanged
 ]
 
 -- ---- Executions
 
-module _ (kinds : Kinds) (options : Options) (plan : Plan) (may other_may : May) (granted : Guard) (spreads : Spreads granted) where
-  turns_one : (seen other_seen : List Bytes) (rest : List Planned) (moment real : Moment) (reports : List TaskReport) (new left : World) (after later : ℕ)
+module _ (kinds : Kinds) (options : Options) (plan : Plan) (may other_may : May) (assumed : Guard) (spreads : Spreads assumed) where
+  executions_one : (seen other_seen : List Bytes) (rest : List Planned) (moment real : Moment) (reports : List TaskReport) (new left : World) (after later : ℕ)
       → moment.world ≡ real.world → some_overlap (places_of rest) ≡ false → list_any (λ task. is_failed task.outcome) reports ≡ false
-      → granted (seen ++ folder_contents real.world ++ folder_contents left)
-      → Turns (rules_of kinds options may plan) granted seen rest moment reports (standing new after)
-      → Turns (rules_of kinds options other_may plan) always other_seen rest real reports (standing left later) → new ≡ left
-  turns_one seen other_seen [] moment real [] new left after later same apart well given turns reals = turns.0 ∙ same ∙ sym reals.0
-  turns_one seen other_seen [] moment real (report ∷ reports) new left after later same apart well given turns reals = absurd turns
-  turns_one seen other_seen (planned ∷ rest) moment real [] new left after later same apart well given turns reals = absurd turns
-  turns_one seen other_seen (planned ∷ rest) moment real (report ∷ reports) new left after later same apart well given turns reals =
-      turns_one (seen ++ folder_contents moment.world) (other_seen ++ folder_contents real.world) rest (moment_after moment report turns.0) (moment_after real report reals.0) reports new left after later
+      → assumed (seen ++ folder_contents real.world ++ folder_contents left)
+      → Executions (rules_of kinds options may plan) assumed seen rest moment reports (standing new after)
+      → Executions (rules_of kinds options other_may plan) always other_seen rest real reports (standing left later) → new ≡ left
+  executions_one seen other_seen [] moment real [] new left after later same apart well given executions reals = executions.0 ∙ same ∙ sym reals.0
+  executions_one seen other_seen [] moment real (report ∷ reports) new left after later same apart well given executions reals = absurd executions
+  executions_one seen other_seen (planned ∷ rest) moment real [] new left after later same apart well given executions reals = absurd executions
+  executions_one seen other_seen (planned ∷ rest) moment real (report ∷ reports) new left after later same apart well given executions reals =
+      executions_one (seen ++ folder_contents moment.world) (other_seen ++ folder_contents real.world) rest (moment_after moment report executions.0) (moment_after real report reals.0) reports new left after later
       next (overlap_tail (output_places planned.task) (places_of rest) apart)
       (none_right (is_failed report.outcome) (list_any (λ task. is_failed task.outcome) reports) well)
-      (subst (λ (world : World). granted ((seen ++ folder_contents world) ++ folder_contents reals.0.world ++ folder_contents left)) (sym same)
+      (subst (λ (world : World). assumed ((seen ++ folder_contents world) ++ folder_contents reals.0.world ++ folder_contents left)) (sym same)
       (spreads (before ++ folder_contents left) (before ++ folder_contents reals.0.world ++ folder_contents left) between given))
-      turns.2 reals.2
+      executions.2 reals.2
     where
       before : List Bytes
       before = seen ++ folder_contents real.world
 
-      next : turns.0.world ≡ reals.0.world
-      next = leaves_one kinds options planned.task real.world report.outcome turns.0.world reals.0.world
+      next : executions.0.world ≡ reals.0.world
+      next = leaves_one kinds options planned.task real.world report.outcome executions.0.world reals.0.world
           (none_left (is_failed report.outcome) (list_any (λ task. is_failed task.outcome) reports) well)
-          (subst (λ (world : World). Leaves kinds options planned.task world report.outcome turns.0.world) same
-          (turn_leaves (rules_of kinds options may plan) moment planned report turns.0 (turns.1.turn
-          (subst (λ (world : World). granted (seen ++ folder_contents world)) (sym same)
+          (subst (λ (world : World). Leaves kinds options planned.task world report.outcome executions.0.world) same
+          (execution_leaves (rules_of kinds options may plan) moment planned report executions.0 (executions.1.execution
+          (subst (λ (world : World). assumed (seen ++ folder_contents world)) (sym same)
           (spreads (before ++ folder_contents left) before (λ c e. in_left c before (folder_contents left) e) given)))))
-          (turn_leaves (rules_of kinds options other_may plan) real planned report reals.0 (reals.1.turn tt))
+          (execution_leaves (rules_of kinds options other_may plan) real planned report reals.0 (reals.1.execution tt))
 
       later_leave : files_where (is_output_of planned.task) left.folder.files ≡ files_where (is_output_of planned.task) reals.0.world.folder.files
       later_leave = rest_leave kinds options other_may plan always (is_output_of planned.task) (other_seen ++ folder_contents real.world) rest (moment_after real report reals.0) reports left later
@@ -199,7 +199,7 @@ device_not place fault not_device is = not_false (sym (ap is_of_device is) ∙ n
 module _ (may_leave : Tearing) (place : Place) (next : Option Bytes) (old : Shown) (fault : Fault) (new : Shown) (not_device : is_of_device fault ≡ false) where
   stopped_kept : IsStopped may_leave place next old fault new → new.contents ≡ old.contents
   stopped_kept (inl memory) = memory.0
-  stopped_kept (inr torn) = absurd (device_not place fault not_device torn.told)
+  stopped_kept (inr torn) = absurd (device_not place fault not_device torn.reported)
 
   put_kept : (bytes : Bytes) → PutStep may_leave place bytes old (answers.Refused fault) new → next ≡ Some bytes → new.contents ≡ old.contents
   put_kept bytes (inl stopped) is = stopped_kept (subst (λ (n : Option Bytes). IsStopped may_leave place n old fault new) (sym is) stopped)
@@ -211,23 +211,23 @@ module _ (may_leave : Tearing) (place : Place) (next : Option Bytes) (old : Show
   remove_kept (inr (inl no_place)) is = no_place.0
   remove_kept (inr (inr missing)) is = missing.0
 
-module _ (setting : Setting) (one_plan : HaveOnePlan setting) (granted : Guard) (spreads : Spreads granted) where
+module _ (setting : Setting) (one_plan : HaveOnePlan setting) (assumed : Guard) (spreads : Spreads assumed) where
   runs_one : (options : Options) (plan : Plan) (may other_may : May) (seen other_seen : List Bytes) (old real new left : World) (first real_first after later : ℕ) (reports : List TaskReport)
       → old ≡ real → some_overlap (places_of plan) ≡ false → list_any (λ task. is_failed task.outcome) reports ≡ false
-      → granted (seen ++ folder_contents real ++ folder_contents left)
-      → Builds (rules_of setting.kinds options may plan) granted seen (standing old first) reports (standing new after)
+      → assumed (seen ++ folder_contents real ++ folder_contents left)
+      → Builds (rules_of setting.kinds options may plan) assumed seen (standing old first) reports (standing new after)
       → Builds (rules_of setting.kinds options other_may plan) always other_seen (standing real real_first) reports (standing left later) → new ≡ left
   runs_one options plan may other_may seen other_seen old real new left first real_first after later reports same apart well given (inl dry) (inl real_dry) = dry.2 ∙ same ∙ sym real_dry.2
   runs_one options plan may other_may seen other_seen old real new left first real_first after later reports same apart well given (inl dry) (inr run) = not_false (sym dry.0 ∙ run.0)
   runs_one options plan may other_may seen other_seen old real new left first real_first after later reports same apart well given (inr run) (inl dry) = not_false (sym dry.0 ∙ run.0)
   runs_one options plan may other_may seen other_seen old real new left first real_first after later reports same apart well given (inr run) (inr real_run) =
-      turns_one setting.kinds options plan may other_may granted spreads seen other_seen plan
+      executions_one setting.kinds options plan may other_may assumed spreads seen other_seen plan
       (record { world = old; outcomes = []; failures = first }) (record { world = real; outcomes = []; failures = real_first }) reports new left after later
       same apart well given run.1 real_run.1
 
   built_one : (seen other_seen : List Bytes) (old real new left : State) (invocation : Invocation) (report : Report) → world_in old ≡ world_in real → has_failure report ≡ false
-      → granted (seen ++ folder_contents (world_in real) ++ folder_contents (world_in left))
-      → IsBuild setting granted seen old invocation report new → IsBuild setting always other_seen real invocation report left → world_in new ≡ world_in left
+      → assumed (seen ++ folder_contents (world_in real) ++ folder_contents (world_in left))
+      → IsBuild setting assumed seen old invocation report new → IsBuild setting always other_seen real invocation report left → world_in new ≡ world_in left
   built_one seen other_seen old real new left invocation report same well given built real_built =
       let plans : built.plan ≡ real_built.plan =
       one_plan (outside real.contents) invocation built.plan real_built.plan
@@ -235,14 +235,14 @@ module _ (setting : Setting) (one_plan : HaveOnePlan setting) (granted : Guard) 
       runs_one invocation.options real_built.plan (may_come setting (own_files old.contents) invocation.options) (may_come setting (own_files real.contents) invocation.options) seen other_seen
       (world_in old) (world_in real) (world_in new) (world_in left) old.failures real.failures new.failures left.failures report.tasks same
       real_built.planned.planned.sound.outputs_apart well given
-      (subst (λ (plan : Plan). Builds (rules_of setting.kinds invocation.options (may_come setting (own_files old.contents) invocation.options) plan) granted seen
+      (subst (λ (plan : Plan). Builds (rules_of setting.kinds invocation.options (may_come setting (own_files old.contents) invocation.options) plan) assumed seen
       (standing (world_in old) old.failures) report.tasks (standing (world_in new) new.failures)) plans built.builds)
       real_built.builds
 
   step_one : (seen other_seen : List Bytes) (old real new left : State) (event : Event) (answer : Answer) → world_in old ≡ world_in real
       → IsFolder old.contents.files → IsFolder real.contents.files → IsSettled event answer
-      → granted (seen ++ folder_contents (world_in real) ++ folder_contents (world_in left))
-      → Step setting granted seen old event answer new → Step setting always other_seen real event answer left → world_in new ≡ world_in left
+      → assumed (seen ++ folder_contents (world_in real) ++ folder_contents (world_in left))
+      → Step setting assumed seen old event answer new → Step setting always other_seen real event answer left → world_in new ≡ world_in left
   step_one seen other_seen old real new left (events.Put place bytes) answers.Edited same folder real_folder settled given s r =
       done_one old real same folder real_folder (λ files. with_file files place bytes) (λ files sorted. sorted-with files place bytes sorted) (put_alike place bytes) new left s.0.3 r.0.3
       (s.1 ∙ memory_same old real same folder real_folder ∙ sym r.1)
@@ -277,9 +277,9 @@ module _ (setting : Setting) (one_plan : HaveOnePlan setting) (granted : Guard) 
 -- ---- A run
 
 module _ (setting : Setting) (one_plan : HaveOnePlan setting) where
-  states_one : (clear : Type 0) (seen : List Bytes) (old real : State) (states reals : List State) (all : List Event) (told : List Answer) (end left : Shown) → world_in old ≡ world_in real
-      → IsFolder old.contents.files → IsFolder real.contents.files → AllZip IsSettled all told → clear
-      → GoesThrough setting clear seen old states all told end → PlainRun setting real reals all told left
+  states_one : (clear : Type 0) (seen : List Bytes) (old real : State) (states reals : List State) (all : List Event) (reported : List Answer) (end left : Shown) → world_in old ≡ world_in real
+      → IsFolder old.contents.files → IsFolder real.contents.files → AllZip IsSettled all reported → clear
+      → GoesThrough setting clear seen old states all reported end → PlainRun setting real reals all reported left
       → AreApart setting.digest (seen ++ contents_of_all (real ∷ reals)) → map world_in states ≡ map world_in reals
   states_one clear seen old real [] [] [] [] end left same folder real_folder settled is_clear run reals apart = refl
   states_one clear seen old real (next ∷ states) (then ∷ others) (event ∷ rest) (answer ∷ more) end left same folder real_folder settled is_clear run reals apart =
@@ -323,6 +323,6 @@ module _ (setting : Setting) (one_plan : HaveOnePlan setting) where
   states_one clear seen old real (next ∷ states) (then ∷ others) (event ∷ rest) [] end left same folder real_folder settled is_clear run reals apart = absurd run
 
 pub one : (setting : Setting) → StatesAreOne setting
-one setting one_plan start stands states others all told end left settled went other_went apart =
-    states_one setting one_plan ⊤ _ start start states others all told end left refl stands.is_folder stands.is_folder settled tt went
-    (plain setting start others all told left other_went apart) apart
+one setting one_plan start stands states others all reported end left settled went other_went apart =
+    states_one setting one_plan ⊤ _ start start states others all reported end left refl stands.is_folder stands.is_folder settled tt went
+    (plain setting start others all reported left other_went apart) apart

@@ -4,7 +4,7 @@ use Rattle.std.specs.Prelude.{ℕ, List, [], ◌∷◌, ◌++◌, ⊤}
 use Rattle.std.proofs.Common.{inl, inr}
 use Rattle.gb_report.specs.declared.report.Options.{Options}
 use Rattle.gb_report.specs.declared.report.TaskReport.{TaskReport}
-use Rattle.gb_meaning.proofs.Standing.{rules_of, standing, with_turn}
+use Rattle.gb_meaning.proofs.Standing.{rules_of, standing, with_execution}
 use Rattle.gb_meaning.specs.declared.events.Event.{Event}
 use Rattle.gb_meaning.specs.declared.events.Event.TheVariants as events
 use Rattle.gb_meaning.specs.declared.events.Answer.{Answer}
@@ -16,7 +16,7 @@ use Rattle.gb_meaning.specs.TrueRecord.{AreApart}
 use Rattle.gb_plan.specs.Graph.{Plan, Request, IsPlan}
 use Rattle.gb_plan.specs.declared.plan.Planned.{Planned}
 use Rattle.gb_meaning.specs.Label.{Moment}
-use Rattle.gb_meaning.specs.Turn.{May, Guard, Turns, Builds, moment_after}
+use Rattle.gb_meaning.specs.Execution.{May, Guard, Executions, Builds, moment_after}
 use Rattle.gb_meaning.specs.Edits.{Shown}
 use Rattle.gb_meaning.specs.Events.{Setting, State, Step, may_come, own_files, world_in}
 use Rattle.gb_meaning.specs.Headline.{GoesThrough, IsClear, StillClear, contents_outside, seen_with, state_of}
@@ -29,35 +29,35 @@ use Rattle.gb_meaning.proofs.Lemmas.Every.{up_to_here, joined, step_succeeds}
 
 -- a guard that holds for fewer contents where it holds for more
 abbrev pub Spreads : Guard → Type 0
-Spreads granted = (all some : List Bytes) → Among some all → granted all → granted some
+Spreads assumed = (all some : List Bytes) → Among some all → assumed all → assumed some
 
 -- where nothing has a premise, the contents so far do not matter
 any_seen : (kinds : Kinds) (options : Options) (may : May) (plan : Plan) (seen other : List Bytes) (rest : List Planned) (moment : Moment) (reports : List TaskReport) (new : World) (failures : ℕ)
-    → Turns (rules_of kinds options may plan) always seen rest moment reports (standing new failures) → Turns (rules_of kinds options may plan) always other rest moment reports (standing new failures)
-any_seen kinds options may plan seen other [] moment [] new failures turns = turns
-any_seen kinds options may plan seen other [] moment (report ∷ reports) new failures turns = turns
-any_seen kinds options may plan seen other (planned ∷ rest) moment [] new failures turns = turns
-any_seen kinds options may plan seen other (planned ∷ rest) moment (report ∷ reports) new failures turns = (
-  turns.0,
-  with_turn turns.1 turns.1.turn,
-  any_seen kinds options may plan (seen ++ folder_contents moment.world) (other ++ folder_contents moment.world) rest (moment_after moment report turns.0) reports new failures turns.2,
+    → Executions (rules_of kinds options may plan) always seen rest moment reports (standing new failures) → Executions (rules_of kinds options may plan) always other rest moment reports (standing new failures)
+any_seen kinds options may plan seen other [] moment [] new failures executions = executions
+any_seen kinds options may plan seen other [] moment (report ∷ reports) new failures executions = executions
+any_seen kinds options may plan seen other (planned ∷ rest) moment [] new failures executions = executions
+any_seen kinds options may plan seen other (planned ∷ rest) moment (report ∷ reports) new failures executions = (
+  executions.0,
+  with_execution executions.1 executions.1.execution,
+  any_seen kinds options may plan (seen ++ folder_contents moment.world) (other ++ folder_contents moment.world) rest (moment_after moment report executions.0) reports new failures executions.2,
 )
 
-module _ (setting : Setting) (granted : Guard) (spreads : Spreads granted) where
+module _ (setting : Setting) (assumed : Guard) (spreads : Spreads assumed) where
   pub plain_builds : (may : May) (options : Options) (request : Request) (plan : Plan) (seen other : List Bytes) (before after : ℕ) (old new : World) (reports : List TaskReport) → IsPlan request plan
-      → granted (seen ++ folder_contents old ++ folder_contents new)
-      → Builds (rules_of setting.kinds options may plan) granted seen (standing old before) reports (standing new after) → Builds (rules_of setting.kinds options may plan) always other (standing old before) reports (standing new after)
+      → assumed (seen ++ folder_contents old ++ folder_contents new)
+      → Builds (rules_of setting.kinds options may plan) assumed seen (standing old before) reports (standing new after) → Builds (rules_of setting.kinds options may plan) always other (standing old before) reports (standing new after)
   plain_builds may options request plan seen other before after old new reports is_plan given builds = elim builds [
     | inl dry ↦ inl dry
     | inr run ↦ inr (
       run.0,
       any_seen setting.kinds options may plan seen other plan (record { world = old; outcomes = []; failures = before }) reports new after
-          (all_hold setting.kinds options may plan granted spreads seen plan (record { world = old; outcomes = []; failures = before }) reports new after is_plan.sound.outputs_apart given run.1),
+          (all_hold setting.kinds options may plan assumed spreads seen plan (record { world = old; outcomes = []; failures = before }) reports new after is_plan.sound.outputs_apart given run.1),
     )
   ]
 
   step_plain : (seen : List Bytes) (old new : State) (event : Event) (answer : Answer)
-      → granted (seen_with seen old new) → Step setting granted seen old event answer new → (other : List Bytes) → Step setting always other old event answer new
+      → assumed (seen_with seen old new) → Step setting assumed seen old event answer new → (other : List Bytes) → Step setting always other old event answer new
   step_plain seen old new (events.Put place bytes) answer given s other = s
   step_plain seen old new (events.Remove place) answer given s other = s
   step_plain seen old new events.Lost answer given s other = s
@@ -78,9 +78,9 @@ module _ (setting : Setting) where
   pub clear_spreads : (clear : Type 0) (old : State) → Spreads (StillClear setting clear old)
   clear_spreads clear old all some among given = (given.0, elim given.1 [ inl none ↦ inl none | inr apart ↦ inr (apart_of_fewer setting.digest all some among apart) ])
 
-  run_plain : (clear : Type 0) (seen : List Bytes) (old : State) (states : List State) (all : List Event) (told : List Answer) (end : Shown)
-      → GoesThrough setting clear seen old states all told end
-      → clear → AreApart setting.digest (seen ++ contents_of_all (old ∷ states)) → PlainRun setting old states all told end
+  run_plain : (clear : Type 0) (seen : List Bytes) (old : State) (states : List State) (all : List Event) (reported : List Answer) (end : Shown)
+      → GoesThrough setting clear seen old states all reported end
+      → clear → AreApart setting.digest (seen ++ contents_of_all (old ∷ states)) → PlainRun setting old states all reported end
   run_plain clear seen old [] [] [] end run is_clear apart = run
   run_plain clear seen old (next ∷ states) (event ∷ rest) (answer ∷ others) end run is_clear apart =
       let here_seen : List Bytes = contents_outside old.contents in
@@ -102,11 +102,11 @@ module _ (setting : Setting) where
   run_plain clear seen old (next ∷ states) (event ∷ rest) [] end run is_clear apart = absurd run
 
 pub plain : (setting : Setting) → ClearRunIsPlain setting
-plain setting start states all told end run apart = run_plain setting ⊤ _ start states all told end run tt apart
+plain setting start states all reported end run apart = run_plain setting ⊤ _ start states all reported end run tt apart
 
 -- in a plain run each success is from scratch
-plain_succeeds : (setting : Setting) (old : State) (states : List State) (all : List Event) (told : List Answer) (end : Shown)
-    → PlainRun setting old states all told end → AllSucceed setting old states all told end
+plain_succeeds : (setting : Setting) (old : State) (states : List State) (all : List Event) (reported : List Answer) (end : Shown)
+    → PlainRun setting old states all reported end → AllSucceed setting old states all reported end
 plain_succeeds setting old [] [] [] end run = run.1
 plain_succeeds setting old (next ∷ states) (event ∷ rest) (answer ∷ others) end run =
     (step_succeeds setting always [] old next event answer tt (run.1 []), plain_succeeds setting next states rest others end run.3)
@@ -118,15 +118,15 @@ plain_succeeds setting old (next ∷ states) [] (answer ∷ others) end run = ab
 plain_succeeds setting old (next ∷ states) (event ∷ rest) [] end run = absurd run
 
 pub every : (setting : Setting) → EverySuccessIsFromScratch setting
-every setting start states all told end run apart =
-    plain_succeeds setting start states all told end (plain setting start states all told end run apart)
+every setting start states all reported end run apart =
+    plain_succeeds setting start states all reported end (plain setting start states all reported end run apart)
 
 pub headline : (setting : Setting) → Headline setting
-headline setting old end all told holds remembered stands =
+headline setting old end all reported holds remembered stands =
     let run = holds remembered stands in (
       run.0,
       run.1,
       λ apart.
-          let is_plain = plain setting (state_of old remembered) run.0 all told end run.1 apart in
-          (is_plain, plain_succeeds setting (state_of old remembered) run.0 all told end is_plain),
+          let is_plain = plain setting (state_of old remembered) run.0 all reported end run.1 apart in
+          (is_plain, plain_succeeds setting (state_of old remembered) run.0 all reported end is_plain),
     )

@@ -13,7 +13,7 @@ use Rattle.gb_tree.specs.declared.property.Naming.{Naming}
 use Rattle.gb_plan.specs.declared.task.FileProperty.{FileProperty}
 use Rattle.gb_plan.specs.declared.task.TaskDeclaration.{TaskDeclaration as Task}
 use Rattle.gb_meaning.specs.Kinds.{Kinds}
-use Rattle.gb_meaning.specs.Tree.{tree_of, trees_of, tree_faults, input_faults, has_no_source, told_of_tree}
+use Rattle.gb_meaning.specs.Tree.{tree_of, trees_of, tree_faults, input_faults, has_no_source, reported_of_tree}
 use Rattle.gb_meaning.specs.Made.{made, made_of}
 use Rattle.gb_plan.proofs.Tests.{not_false}
 use Rattle.gb_meaning.proofs.Lemmas.Files.{at-where}
@@ -146,7 +146,7 @@ module _ (test : Place → Bool) where
 
     tree_faults_same : (odd : List (List ℕ)) → tree_faults property (record { files = files_where test files; odd = odd }) ≡ tree_faults property (record { files = files; odd = odd })
     tree_faults_same odd =
-        ap (map told_of_tree)
+        ap (map reported_of_tree)
         ((λ i. (odd_roots (record { files = files; odd = odd }) (places_of (starts_in property.include (distinct property.roots))) ++ too_many property.name (entries_same i)
         ++ map (trees.DuplicateInput property.name) (doubled (paths_of (entries_same i)))) ++ too_large (files_where test files) (entries_same i))
         ∙ ap (λ large. entry_faults property.name property.naming property.roots property.include property.exclude (record { files = files; odd = odd }) ++ large) large_same)

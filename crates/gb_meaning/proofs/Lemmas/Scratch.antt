@@ -21,10 +21,10 @@ use Rattle.gb_plan.specs.Graph.{Plan}
 use Rattle.gb_plan.specs.declared.plan.Planned.{Planned}
 use Rattle.gb_meaning.specs.Label.{Moment}
 use Rattle.gb_report.specs.Outcome.{is_failed, is_started}
-use Rattle.gb_meaning.specs.Turn.{May, Turns, moment_after}
+use Rattle.gb_meaning.specs.Execution.{May, Executions, moment_after}
 use Rattle.gb_meaning.specs.Scratch.{cleared, put_in, add_task}
 use Rattle.gb_plan.proofs.Tests.{not_true}
-use Rattle.gb_meaning.proofs.Common.{all_granted}
+use Rattle.gb_meaning.proofs.Common.{all_assumed}
 use Rattle.gb_meaning.proofs.Lemmas.Files.{at-where, at-put_over, sorted-where, sorted-put_over, same_files, tied_same, total, or_else, left_of, right_of}
 use Rattle.gb_meaning.proofs.Lemmas.Worked.{Did, skipped, idle, worked, Worked, IsTrusted, what_it_did}
 use Rattle.gb_meaning.proofs.Lemmas.Reading.{AllUnseen, input_faults_same, made_same}
@@ -205,17 +205,17 @@ Again kinds folder rest mid new =
     → Built kinds folder (actives rest) mid.folder.files new.folder.files
 
 module _ (kinds : Kinds) (folder : Contents) where
-  after_turn : (planned : Planned) (rest : List Planned) (old mid new : World) → Again kinds folder rest mid new
+  after_execution : (planned : Planned) (rest : List Planned) (old mid new : World) → Again kinds folder rest mid new
       → folder.odd ≡ old.folder.odd → is_sorted byte_order old.folder.files ≡ true
       → AllFit (actives (planned ∷ rest)) → AllTrusted kinds old.memory (planned ∷ rest) → PathsApart (planned ∷ rest)
       → Did kinds planned.task old mid → Built kinds folder (actives (planned ∷ rest)) old.folder.files new.folder.files
-  after_turn planned rest old mid new again odd sorted fit trusted apart (skipped runs same) =
+  after_execution planned rest old mid new again odd sorted fit trusted apart (skipped runs same) =
       subst (λ b. Built kinds folder (cond b (planned.task ∷ actives rest) (actives rest)) old.folder.files new.folder.files) (sym runs)
       (subst (λ (w : World). Built kinds folder (actives rest) w.folder.files new.folder.files) same
       (again (odd ∙ ap (λ (w : World). w.folder.odd) (sym same))
       (subst (λ b. AllFit (cond b (planned.task ∷ actives rest) (actives rest))) runs fit)
       (subst (λ (w : World). AllTrusted kinds w.memory rest) (sym same) trusted.1)))
-  after_turn planned rest old mid new again odd sorted fit trusted apart (idle runs acts same) =
+  after_execution planned rest old mid new again odd sorted fit trusted apart (idle runs acts same) =
       subst (λ b. Built kinds folder (cond b (planned.task ∷ actives rest) (actives rest)) old.folder.files new.folder.files) (sym runs)
       (ap (λ o. fold (add_task kinds folder) o (actives rest))
       (ap (λ b. cond b (Some S) (cond (is_empty (input_faults planned.task (record folder { files = S }))) (put_in planned.task S (made kinds planned.task S)) None)) acts
@@ -229,7 +229,7 @@ module _ (kinds : Kinds) (folder : Contents) where
 
       here : AllFit (planned.task ∷ actives rest)
       here = subst (λ b. AllFit (cond b (planned.task ∷ actives rest) (actives rest))) runs fit
-  after_turn planned rest old mid new again odd sorted fit trusted apart (worked did) =
+  after_execution planned rest old mid new again odd sorted fit trusted apart (worked did) =
       subst (λ b. Built kinds folder (cond b (planned.task ∷ actives rest) (actives rest)) old.folder.files new.folder.files) (sym did.runs)
       (ap (λ o. fold (add_task kinds folder) o (actives rest)) (add_worked kinds folder planned.task (actives rest) old mid odd sorted here.0 did)
       ∙ again (odd ∙ sym did.odd)
@@ -243,18 +243,18 @@ module _ (kinds : Kinds) (options : Options) (may_come : May) (plan : Plan) (fol
       → folder.odd ≡ moment.world.folder.odd → IsFolder moment.world.folder.files
       → AllFit (actives rest) → AllTrusted kinds moment.world.memory rest → PathsApart rest
       → list_all ended_well reports ≡ true
-      → Turns (rules_of kinds options may_come plan) all_granted seen rest moment reports (standing new failures)
+      → Executions (rules_of kinds options may_come plan) all_assumed seen rest moment reports (standing new failures)
       → Built kinds folder (actives rest) moment.world.folder.files new.folder.files
-  follows seen [] moment [] new failures odd sorted fit trusted apart well turns =
-      ap Some (where_all (no_out []) (λ q. refl) moment.world.folder.files ∙ sym (ap (λ (w : World). w.folder.files) turns.0))
-  follows seen [] moment (report ∷ reports) new failures odd sorted fit trusted apart well turns = absurd turns
-  follows seen (planned ∷ rest) moment [] new failures odd sorted fit trusted apart well turns = absurd turns
-  follows seen (planned ∷ rest) moment (report ∷ reports) new failures odd sorted fit trusted apart well turns =
-      elim (turns.1.turn tt).2 [
-        | inl started ↦ after_turn kinds folder planned rest moment.world turns.0.world new
-            (λ odd' fit' trusted'. follows (seen ++ folder_contents moment.world) rest (moment_after moment report turns.0) reports new failures odd' turns.1.folder fit' trusted' apart.1 (right_of (ended_well report) (list_all ended_well reports) well) turns.2)
+  follows seen [] moment [] new failures odd sorted fit trusted apart well executions =
+      ap Some (where_all (no_out []) (λ q. refl) moment.world.folder.files ∙ sym (ap (λ (w : World). w.folder.files) executions.0))
+  follows seen [] moment (report ∷ reports) new failures odd sorted fit trusted apart well executions = absurd executions
+  follows seen (planned ∷ rest) moment [] new failures odd sorted fit trusted apart well executions = absurd executions
+  follows seen (planned ∷ rest) moment (report ∷ reports) new failures odd sorted fit trusted apart well executions =
+      elim (executions.1.execution tt).2 [
+        | inl started ↦ after_execution kinds folder planned rest moment.world executions.0.world new
+            (λ odd' fit' trusted'. follows (seen ++ folder_contents moment.world) rest (moment_after moment report executions.0) reports new failures odd' executions.1.folder fit' trusted' apart.1 (right_of (ended_well report) (list_all ended_well reports) well) executions.2)
             odd sorted.in_order fit trusted apart
-            (what_it_did kinds options plan planned.task moment turns.0.world may_come turns.0.failures report
+            (what_it_did kinds options plan planned.task moment executions.0.world may_come executions.0.failures report
             (not_of_true (is_failed report.outcome) (right_of (is_started report.outcome) (not (is_failed report.outcome)) (left_of (ended_well report) (list_all ended_well reports) well))) sorted trusted.0 started.1)
         | inr passed ↦ not_true (sym (ap is_started passed.1.outcome) ∙ left_of (is_started report.outcome) (not (is_failed report.outcome)) (left_of (ended_well report) (list_all ended_well reports) well))
       ]

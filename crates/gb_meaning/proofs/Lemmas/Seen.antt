@@ -30,8 +30,8 @@ use Rattle.gb_meaning.specs.TrueRecord.{contents_of, contents_in, memory_content
 use Rattle.gb_plan.specs.Graph.{Plan, some_overlap}
 use Rattle.gb_plan.specs.declared.plan.Planned.{Planned}
 use Rattle.gb_meaning.specs.Label.{Early, Skips, HasNoActions, CannotRead, HasNoSource, early_case, Moment}
-use Rattle.gb_meaning.specs.Turn.{May, Turns, Builds, Leaves, FailureLeaves, HasEnded, IsGivenUp, moment_after, Cause, ByItself, ByMachine, cause_of, FailedRunLeaves}
-use Rattle.gb_meaning.proofs.Common.{all_granted}
+use Rattle.gb_meaning.specs.Execution.{May, Executions, Builds, Leaves, FailureLeaves, HasEnded, IsGivenUp, moment_after, Cause, ByItself, ByMachine, cause_of, FailedRunLeaves}
+use Rattle.gb_meaning.proofs.Common.{all_assumed}
 use Rattle.gb_plan.proofs.Tests.{not_true, itself, any_map}
 use Rattle.gb_meaning.proofs.Lemmas.Clear.{Among, either, right, in_left, in_right, in_one, part_of, stood, later_apart, rest_leave, places_of}
 use Rattle.gb_plan.proofs.Places.{apart_places, overlap_tail, out_of}
@@ -102,32 +102,32 @@ entry_seen task files c h = any_map (bytes_eq c) (λ (file : Place × Bytes). fi
 
 -- ---- Contents of memory
 
-abbrev told_by : Memory → List Bytes
-told_by memory = flat_map (λ (entry : Path × Entry). contents_of entry.1) memory
+abbrev reported_by : Memory → List Bytes
+reported_by memory = flat_map (λ (entry : Path × Entry). contents_of entry.1) memory
 
-forget_seen : (path : Path) (memory : Memory) → Among (told_by (forget memory path)) (told_by memory)
+forget_seen : (path : Path) (memory : Memory) → Among (reported_by (forget memory path)) (reported_by memory)
 forget_seen path [] c h = h
 forget_seen path (m ∷ memory) c h =
-    elim (not (bytes_eq m.0 path)) as (λ b. has_path (told_by (cond b (m ∷ forget memory path) (forget memory path))) c ≡ true → has_path (contents_of m.1 ++ told_by memory) c ≡ true) [
-      | true ↦ λ e. elim (in_one c (contents_of m.1) (told_by (forget memory path)) e) [ inl here ↦ in_left c (contents_of m.1) (told_by memory) here | inr there ↦ in_right c (contents_of m.1) (told_by memory) (forget_seen path memory c there) ]
-      | false ↦ λ e. in_right c (contents_of m.1) (told_by memory) (forget_seen path memory c e)
+    elim (not (bytes_eq m.0 path)) as (λ b. has_path (reported_by (cond b (m ∷ forget memory path) (forget memory path))) c ≡ true → has_path (contents_of m.1 ++ reported_by memory) c ≡ true) [
+      | true ↦ λ e. elim (in_one c (contents_of m.1) (reported_by (forget memory path)) e) [ inl here ↦ in_left c (contents_of m.1) (reported_by memory) here | inr there ↦ in_right c (contents_of m.1) (reported_by memory) (forget_seen path memory c there) ]
+      | false ↦ λ e. in_right c (contents_of m.1) (reported_by memory) (forget_seen path memory c e)
     ] h
 
-remember_seen : (path : Path) (entry : Entry) (memory : Memory) → Among (told_by (remember memory path entry)) (contents_of entry ++ told_by memory)
+remember_seen : (path : Path) (entry : Entry) (memory : Memory) → Among (reported_by (remember memory path entry)) (contents_of entry ++ reported_by memory)
 remember_seen path entry [] c h = h
 remember_seen path entry (m ∷ memory) c h =
-    elim (byte_order path m.0) as (λ o. has_path (told_by (by_order o ((path, entry) ∷ m ∷ memory) ((m.0, entry) ∷ memory) (m ∷ remember memory path entry))) c ≡ true
-    → has_path (contents_of entry ++ (contents_of m.1 ++ told_by memory)) c ≡ true) [
+    elim (byte_order path m.0) as (λ o. has_path (reported_by (by_order o ((path, entry) ∷ m ∷ memory) ((m.0, entry) ∷ memory) (m ∷ remember memory path entry))) c ≡ true
+    → has_path (contents_of entry ++ (contents_of m.1 ++ reported_by memory)) c ≡ true) [
       | Less ↦ λ e. e
-      | Equal ↦ λ e. elim (in_one c (contents_of entry) (told_by memory) e) [
-        | inl here ↦ in_left c (contents_of entry) (contents_of m.1 ++ told_by memory) here
-        | inr there ↦ in_right c (contents_of entry) (contents_of m.1 ++ told_by memory) (in_right c (contents_of m.1) (told_by memory) there)
+      | Equal ↦ λ e. elim (in_one c (contents_of entry) (reported_by memory) e) [
+        | inl here ↦ in_left c (contents_of entry) (contents_of m.1 ++ reported_by memory) here
+        | inr there ↦ in_right c (contents_of entry) (contents_of m.1 ++ reported_by memory) (in_right c (contents_of m.1) (reported_by memory) there)
       ]
-      | Greater ↦ λ e. elim (in_one c (contents_of m.1) (told_by (remember memory path entry)) e) [
-        | inl here ↦ in_right c (contents_of entry) (contents_of m.1 ++ told_by memory) (in_left c (contents_of m.1) (told_by memory) here)
-        | inr there ↦ elim (in_one c (contents_of entry) (told_by memory) (remember_seen path entry memory c there)) [
-          | inl new ↦ in_left c (contents_of entry) (contents_of m.1 ++ told_by memory) new
-          | inr old ↦ in_right c (contents_of entry) (contents_of m.1 ++ told_by memory) (in_right c (contents_of m.1) (told_by memory) old)
+      | Greater ↦ λ e. elim (in_one c (contents_of m.1) (reported_by (remember memory path entry)) e) [
+        | inl here ↦ in_right c (contents_of entry) (contents_of m.1 ++ reported_by memory) (in_left c (contents_of m.1) (reported_by memory) here)
+        | inr there ↦ elim (in_one c (contents_of entry) (reported_by memory) (remember_seen path entry memory c there)) [
+          | inl new ↦ in_left c (contents_of entry) (contents_of m.1 ++ reported_by memory) new
+          | inr old ↦ in_right c (contents_of entry) (contents_of m.1 ++ reported_by memory) (in_right c (contents_of m.1) (reported_by memory) old)
         ]
       ]
     ] h
@@ -137,10 +137,10 @@ remember_seen path entry (m ∷ memory) c h =
 module _ (kinds : Kinds) (options : Options) (task : Task) (old new : World) where
   -- what the new memory contains was remembered, or exists now
   abbrev IsSeen : World → Type 0
-  IsSeen w = Among (told_by w.memory) (told_by old.memory ++ folder_contents w)
+  IsSeen w = Among (reported_by w.memory) (reported_by old.memory ++ folder_contents w)
 
-  kept_seen : (memory : Memory) → Among (told_by memory) (told_by old.memory) → new.memory ≡ memory → IsSeen new
-  kept_seen memory among e c h = in_left c (told_by old.memory) (folder_contents new) (among c (subst (λ m. has_path (told_by m) c ≡ true) e h))
+  kept_seen : (memory : Memory) → Among (reported_by memory) (reported_by old.memory) → new.memory ≡ memory → IsSeen new
+  kept_seen memory among e c h = in_left c (reported_by old.memory) (folder_contents new) (among c (subst (λ m. has_path (reported_by m) c ≡ true) e h))
 
   same_seen : new ≡ old → IsSeen new
   same_seen e = kept_seen old.memory (λ c h. h) (ap (λ (w : World). w.memory) e)
@@ -151,11 +151,11 @@ module _ (kinds : Kinds) (options : Options) (task : Task) (old new : World) whe
       files : Files
       files = with_outputs task old.folder.files end.0
 
-      by_outputs : (b : Bool) → Among (told_by (cond b (forget old.memory task.path) (remember old.memory task.path (entry_of task files)))) (told_by old.memory ++ map (λ (file : Place × Bytes). file.1) files)
-      by_outputs true c h = in_left c (told_by old.memory) (map (λ (file : Place × Bytes). file.1) files) (forget_seen task.path old.memory c h)
-      by_outputs false c h = elim (in_one c (contents_of (entry_of task files)) (told_by old.memory) (remember_seen task.path (entry_of task files) old.memory c h)) [
-        | inl entry ↦ in_right c (told_by old.memory) (map (λ (file : Place × Bytes). file.1) files) (entry_seen task files c entry)
-        | inr before ↦ in_left c (told_by old.memory) (map (λ (file : Place × Bytes). file.1) files) before
+      by_outputs : (b : Bool) → Among (reported_by (cond b (forget old.memory task.path) (remember old.memory task.path (entry_of task files)))) (reported_by old.memory ++ map (λ (file : Place × Bytes). file.1) files)
+      by_outputs true c h = in_left c (reported_by old.memory) (map (λ (file : Place × Bytes). file.1) files) (forget_seen task.path old.memory c h)
+      by_outputs false c h = elim (in_one c (contents_of (entry_of task files)) (reported_by old.memory) (remember_seen task.path (entry_of task files) old.memory c h)) [
+        | inl entry ↦ in_right c (reported_by old.memory) (map (λ (file : Place × Bytes). file.1) files) (entry_seen task files c entry)
+        | inr before ↦ in_left c (reported_by old.memory) (map (λ (file : Place × Bytes). file.1) files) before
       ]
 
   given_up_seen : (fault : Fault) → IsGivenUp kinds task fault old new → IsSeen new
@@ -183,42 +183,42 @@ module _ (kinds : Kinds) (options : Options) (task : Task) (old new : World) whe
 -- ---- All executions
 
 module _ (kinds : Kinds) (options : Options) (may_come : May) (plan : Plan) where
-  pub turns_seen : (seen : List Bytes) (rest : List Planned) (moment : Moment) (reports : List TaskReport) (new : World) (failures : ℕ) → some_overlap (places_of rest) ≡ false
+  pub executions_seen : (seen : List Bytes) (rest : List Planned) (moment : Moment) (reports : List TaskReport) (new : World) (failures : ℕ) → some_overlap (places_of rest) ≡ false
       → Among (memory_contents moment.world) (seen ++ folder_contents moment.world)
-      → Turns (rules_of kinds options may_come plan) all_granted seen rest moment reports (standing new failures)
+      → Executions (rules_of kinds options may_come plan) all_assumed seen rest moment reports (standing new failures)
       → Among (memory_contents new) (seen ++ folder_contents moment.world ++ folder_contents new)
-  turns_seen seen [] moment [] new failures apart was turns =
-      λ c h. in_left c (seen ++ folder_contents moment.world) (folder_contents new) (was c (subst (λ (w : World). has_path (memory_contents w) c ≡ true) turns.0 h))
-  turns_seen seen [] moment (report ∷ reports) new failures apart was turns = absurd turns
-  turns_seen seen (planned ∷ rest) moment [] new failures apart was turns = absurd turns
-  turns_seen seen (planned ∷ rest) moment (report ∷ reports) new failures apart was turns =
-      λ c h. between c (turns_seen before rest (moment_after moment report turns.0) reports new failures (overlap_tail (output_places planned.task) (places_of rest) apart) is turns.2 c h)
+  executions_seen seen [] moment [] new failures apart was executions =
+      λ c h. in_left c (seen ++ folder_contents moment.world) (folder_contents new) (was c (subst (λ (w : World). has_path (memory_contents w) c ≡ true) executions.0 h))
+  executions_seen seen [] moment (report ∷ reports) new failures apart was executions = absurd executions
+  executions_seen seen (planned ∷ rest) moment [] new failures apart was executions = absurd executions
+  executions_seen seen (planned ∷ rest) moment (report ∷ reports) new failures apart was executions =
+      λ c h. between c (executions_seen before rest (moment_after moment report executions.0) reports new failures (overlap_tail (output_places planned.task) (places_of rest) apart) is executions.2 c h)
     where
       before : List Bytes
       before = seen ++ folder_contents moment.world
 
-      of_turn : Among (told_by turns.0.world.memory) (told_by moment.world.memory ++ folder_contents turns.0.world)
-      of_turn = elim (turns.1.turn tt).2 [
-        | inl started ↦ leaves_seen kinds options planned.task moment.world turns.0.world report.outcome started.1.leaves
-        | inr passed ↦ same_seen kinds options planned.task moment.world turns.0.world passed.1.unchanged
+      of_execution : Among (reported_by executions.0.world.memory) (reported_by moment.world.memory ++ folder_contents executions.0.world)
+      of_execution = elim (executions.1.execution tt).2 [
+        | inl started ↦ leaves_seen kinds options planned.task moment.world executions.0.world report.outcome started.1.leaves
+        | inr passed ↦ same_seen kinds options planned.task moment.world executions.0.world passed.1.unchanged
       ]
 
-      is : Among (memory_contents turns.0.world) (before ++ folder_contents turns.0.world)
-      is d e = elim (in_one d (told_by moment.world.memory) (folder_contents turns.0.world) (of_turn d e)) [
-        | inl remembered ↦ in_left d before (folder_contents turns.0.world) (was d remembered)
-        | inr now ↦ in_right d before (folder_contents turns.0.world) now
+      is : Among (memory_contents executions.0.world) (before ++ folder_contents executions.0.world)
+      is d e = elim (in_one d (reported_by moment.world.memory) (folder_contents executions.0.world) (of_execution d e)) [
+        | inl remembered ↦ in_left d before (folder_contents executions.0.world) (was d remembered)
+        | inr now ↦ in_right d before (folder_contents executions.0.world) now
       ]
 
-      later_leave : files_where (is_output_of planned.task) new.folder.files ≡ files_where (is_output_of planned.task) turns.0.world.folder.files
-      later_leave = rest_leave kinds options may_come plan all_granted (is_output_of planned.task) before rest (moment_after moment report turns.0) reports new failures
-          (later_apart planned.task rest (λ q e. apart_places q (output_places planned.task) (places_of rest) apart (sym (out_of planned.task q) ∙ e))) turns.2
+      later_leave : files_where (is_output_of planned.task) new.folder.files ≡ files_where (is_output_of planned.task) executions.0.world.folder.files
+      later_leave = rest_leave kinds options may_come plan all_assumed (is_output_of planned.task) before rest (moment_after moment report executions.0) reports new failures
+          (later_apart planned.task rest (λ q e. apart_places q (output_places planned.task) (places_of rest) apart (sym (out_of planned.task q) ∙ e))) executions.2
 
-      between : Among (before ++ folder_contents turns.0.world ++ folder_contents new) (before ++ folder_contents new)
-      between d e = elim (in_one d (before ++ folder_contents turns.0.world) (folder_contents new) e) [
+      between : Among (before ++ folder_contents executions.0.world ++ folder_contents new) (before ++ folder_contents new)
+      between d e = elim (in_one d (before ++ folder_contents executions.0.world) (folder_contents new) e) [
         | inr after ↦ in_right d before (folder_contents new) after
-        | inl earlier ↦ elim (in_one d before (folder_contents turns.0.world) earlier) [
+        | inl earlier ↦ elim (in_one d before (folder_contents executions.0.world) earlier) [
           | inl seen_before ↦ in_left d before (folder_contents new) seen_before
-          | inr mid ↦ elim (stood (is_output_of planned.task) moment.world.folder.files turns.0.world.folder.files new.folder.files turns.1.files later_leave d mid) [
+          | inr mid ↦ elim (stood (is_output_of planned.task) moment.world.folder.files executions.0.world.folder.files new.folder.files executions.1.files later_leave d mid) [
             | inl old ↦ in_left d before (folder_contents new) (in_right d seen (folder_contents moment.world) old)
             | inr last ↦ in_right d before (folder_contents new) last
           ]
@@ -229,9 +229,9 @@ module _ (kinds : Kinds) (options : Options) (may_come : May) (plan : Plan) wher
 -- after it, if that held before.
 pub remembered_was_seen : (kinds : Kinds) (options : Options) (may_come : May) (plan : Plan) (seen : List Bytes) (before after : ℕ) (old new : World) (reports : List TaskReport)
     → some_overlap (places_of plan) ≡ false → Among (memory_contents old) seen
-    → Builds (rules_of kinds options may_come plan) all_granted seen (standing old before) reports (standing new after)
+    → Builds (rules_of kinds options may_come plan) all_assumed seen (standing old before) reports (standing new after)
     → Among (memory_contents new) (seen ++ folder_contents old ++ folder_contents new)
 remembered_was_seen kinds options may_come plan seen before after old new reports apart was builds = elim builds [
   | inl dry ↦ λ c h. in_left c (seen ++ folder_contents old) (folder_contents new) (in_left c seen (folder_contents old) (was c (subst (λ (w : World). has_path (memory_contents w) c ≡ true) dry.2 h)))
-  | inr run ↦ turns_seen kinds options may_come plan seen plan (record { world = old; outcomes = []; failures = before }) reports new after apart (λ c h. in_left c seen (folder_contents old) (was c h)) run.1
+  | inr run ↦ executions_seen kinds options may_come plan seen plan (record { world = old; outcomes = []; failures = before }) reports new after apart (λ c h. in_left c seen (folder_contents old) (was c h)) run.1
 ]

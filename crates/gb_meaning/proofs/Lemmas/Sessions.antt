@@ -62,8 +62,8 @@ module _ (setting : Setting) where
       found path = find-where_key byte_order there path (λ x e. ap there (sym (tied_same path x e))) remembered
 
   -- what a plain run leaves is what is remembered after its last state
-  plain_end : (old : State) (states : List State) (all : List Event) (told : List Answer) (end : Shown) → Stands setting old.contents old.remembered
-      → PlainRun setting old states all told end → Stands setting end.contents (remembered_after old.remembered states)
+  plain_end : (old : State) (states : List State) (all : List Event) (reported : List Answer) (end : Shown) → Stands setting old.contents old.remembered
+      → PlainRun setting old states all reported end → Stands setting end.contents (remembered_after old.remembered states)
   plain_end old [] [] [] end stands run = subst (λ folder. Stands setting folder old.remembered) run.1 stands
   plain_end old (next ∷ states) (event ∷ rest) (answer ∷ others) end stands run = plain_end next states rest others end run.2 run.3
   plain_end old [] [] (answer ∷ others) end stands run = absurd run

@@ -19,9 +19,9 @@ use Rattle.gb_plan.specs.declared.plan.Planned.{Planned}
 use Rattle.gb_report.specs.declared.report.Outcome.TheVariants as outcomes
 use Rattle.gb_meaning.specs.Label.{Moment, Early, Skips, HasNoActions, CannotRead, HasNoSource, early_case, some_outcome, IsLabelAt, EndsWith, run_of}
 use Rattle.gb_report.specs.Outcome.{is_failed, is_executed, is_started}
-use Rattle.gb_meaning.specs.Turn.{May, Turns, StartedTurn, DoesStart, has_not_ended_well, is_uncalled, finalizes_started, moment_after}
+use Rattle.gb_meaning.specs.Execution.{May, Executions, StartedExecution, DoesStart, has_not_ended_well, is_uncalled, finalizes_started, moment_after}
 use Rattle.gb_plan.proofs.Tests.{at_member, not_true, any_append, any_map, all_at, itself, none_left, none_right, no_longer}
-use Rattle.gb_meaning.proofs.Common.{all_granted}
+use Rattle.gb_meaning.proofs.Common.{all_assumed}
 use Rattle.gb_meaning.proofs.Lemmas.Files.{left_of, right_of}
 use Rattle.gb_meaning.proofs.Lemmas.Scratch.{ended_well}
 use Rattle.gb_plan.proofs.Chains.{grouped, ready_here, stuck_rest}
@@ -244,28 +244,28 @@ module _ (options : Options) (request : Request) (plan : Plan) (schedule : IsSch
   pub all_started : (kinds : Kinds) (may_come : May) (seen : List Bytes) (placed rest : List Planned) (moment : Moment) (reports : List TaskReport) (new : World) (failures : ℕ)
       → plan ≡ placed ++ rest → all_well moment.outcomes ≡ true → stuck plan (paths_done moment.outcomes) rest ≡ []
       → list_any (λ (report : TaskReport). is_failed report.outcome) reports ≡ false
-      → Turns (rules_of kinds options may_come plan) all_granted seen rest moment reports (standing new failures) → list_all ended_well reports ≡ true
-  all_started kinds may_come seen placed [] moment [] new failures whole well ready none turns = refl
-  all_started kinds may_come seen placed [] moment (report ∷ reports) new failures whole well ready none turns = absurd turns
-  all_started kinds may_come seen placed (planned ∷ rest) moment [] new failures whole well ready none turns = absurd turns
-  all_started kinds may_come seen placed (planned ∷ rest) moment (report ∷ reports) new failures whole well ready none turns =
+      → Executions (rules_of kinds options may_come plan) all_assumed seen rest moment reports (standing new failures) → list_all ended_well reports ≡ true
+  all_started kinds may_come seen placed [] moment [] new failures whole well ready none executions = refl
+  all_started kinds may_come seen placed [] moment (report ∷ reports) new failures whole well ready none executions = absurd executions
+  all_started kinds may_come seen placed (planned ∷ rest) moment [] new failures whole well ready none executions = absurd executions
+  all_started kinds may_come seen placed (planned ∷ rest) moment (report ∷ reports) new failures whole well ready none executions =
       let is_next = ready_here plan (paths_done moment.outcomes) planned rest ready in
       let not_failed = none_left (is_failed report.outcome) (list_any (λ (r : TaskReport). is_failed r.outcome) reports) none in
-      elim (turns.1.turn tt).2 [
+      elim (executions.1.execution tt).2 [
         | inl started ↦
-            let here = ended report turns.0.world turns.0.failures started.1 not_failed in
+            let here = ended report executions.0.world executions.0.failures started.1 not_failed in
             both_true (ended_well report) (list_all ended_well reports) here
-            (all_started kinds may_come (seen ++ folder_contents moment.world) (placed ++ planned ∷ []) rest (moment_after moment report turns.0) reports new failures
+            (all_started kinds may_come (seen ++ folder_contents moment.world) (placed ++ planned ∷ []) rest (moment_after moment report executions.0) reports new failures
             (whole ∙ grouped placed planned rest)
             (all_push moment.outcomes (report.path, report.outcome) well here)
-            (ap (λ s. stuck plan s rest) (paths_push moment.outcomes report.path report.outcome ∙ ap (λ p. paths_done moment.outcomes ++ p ∷ []) (turns.1.turn tt).0) ∙ stuck_rest plan (paths_done moment.outcomes) planned rest ready)
-            (none_right (is_failed report.outcome) (list_any (λ (r : TaskReport). is_failed r.outcome) reports) none) turns.2)
+            (ap (λ s. stuck plan s rest) (paths_push moment.outcomes report.path report.outcome ∙ ap (λ p. paths_done moment.outcomes ++ p ∷ []) (executions.1.execution tt).0) ∙ stuck_rest plan (paths_done moment.outcomes) planned rest ready)
+            (none_right (is_failed report.outcome) (list_any (λ (r : TaskReport). is_failed r.outcome) reports) none) executions.2)
         | inr passed ↦ absurd (passed.0 (does_start moment placed planned rest whole well is_next))
       ]
     where
-      ended : (r : TaskReport) (w : World) (count : ℕ) → StartedTurn (rules_of kinds options may_come plan) moment planned.task r (standing w count) → is_failed r.outcome ≡ false → ended_well r ≡ true
-      ended r w count turn e = both_true (is_started r.outcome) (not (is_failed r.outcome))
-          (elim turn.label [
+      ended : (r : TaskReport) (w : World) (count : ℕ) → StartedExecution (rules_of kinds options may_come plan) moment planned.task r (standing w count) → is_failed r.outcome ≡ false → ended_well r ≡ true
+      ended r w count execution e = both_true (is_started r.outcome) (not (is_failed r.outcome))
+          (elim execution.label [
             | inl label ↦ label_started kinds options plan planned.task moment (early_case planned.task moment.world.folder) r.outcome label
             | inr fault ↦ ap is_started fault.2
           ]) (ap not e)

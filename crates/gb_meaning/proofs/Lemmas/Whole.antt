@@ -5,7 +5,7 @@ use Rattle.std.specs.Prelude.{ℕ, ◌≡◌, true, false, not, cond, ◌&&◌, 
 use Rattle.std.specs.List.{list_any, list_all, fold, AllByRecursion}
 use Rattle.gb_report.specs.Outcome.{is_failed, is_started}
 use Rattle.gb_plan.proofs.Tests.{not_false}
-use Rattle.gb_meaning.proofs.Common.{all_granted}
+use Rattle.gb_meaning.proofs.Common.{all_assumed}
 use Rattle.gb_meaning.proofs.Lemmas.Started.{all_started}
 use Rattle.std.proofs.Common.{subst, refl, sym, ap, ◌∙◌, inl, inr}
 use Rattle.gb_report.specs.declared.report.Options.{Options}
@@ -17,19 +17,19 @@ use Rattle.gb_meaning.specs.Memory.{World}
 use Rattle.gb_plan.specs.Graph.{Plan, Request, IsPlan}
 use Rattle.gb_plan.specs.declared.plan.Planned.{Planned}
 use Rattle.gb_plan.specs.Task.{IsShaped}
-use Rattle.gb_meaning.specs.Turn.{first_moment, May, Builds}
+use Rattle.gb_meaning.specs.Execution.{first_moment, May, Builds}
 use Rattle.gb_meaning.specs.Scratch.{from_scratch, cleared, add_task}
 use Rattle.gb_meaning.proofs.Lemmas.Worked.{IsTrusted}
 use Rattle.gb_meaning.proofs.Lemmas.Scratch.{actives, ended_well, follows, where_all, no_out}
 use Rattle.gb_meaning.proofs.Lemmas.Sound.{sound_fits, paths_apart}
 use Rattle.gb_meaning.specs.Promise.{SuccessIsFromScratch, TruthIsKept, any_fault_comes}
-use Rattle.gb_meaning.proofs.Lemmas.Kept.{turns_keep}
+use Rattle.gb_meaning.proofs.Lemmas.Kept.{executions_keep}
 use Rattle.gb_meaning.proofs.Lemmas.Files.{left_of, right_of}
 
 -- Where no task failed, each was started and ended well.
 pub all_end_well : (kinds : Kinds) (options : Options) (may_come : May) (request : Request) (plan : Plan) (seen : List Bytes) (before after : ℕ) (old new : World) (reports : List TaskReport)
     → IsPlan request plan → list_any (λ (report : TaskReport). is_failed report.outcome) reports ≡ false → options.dry_run ≡ false
-    → Builds (rules_of kinds options may_come plan) all_granted seen (standing old before) reports (standing new after) → list_all ended_well reports ≡ true
+    → Builds (rules_of kinds options may_come plan) all_assumed seen (standing old before) reports (standing new after) → list_all ended_well reports ≡ true
 all_end_well kinds options may_come request plan seen before after old new reports is_plan none wet builds = elim builds [
   | inl dry ↦ not_false (sym dry.0 ∙ wet)
   | inr run ↦ all_started options request plan is_plan.schedule kinds may_come seen [] plan (record { world = old; outcomes = []; failures = before }) reports new after refl refl is_plan.all_ready none run.1
@@ -40,7 +40,7 @@ pub from_scratch_follows : (kinds : Kinds) (options : Options) (may_come : May) 
     → IsPlan request plan → AllByRecursion (λ (planned : Planned). IsShaped planned.task) plan
     → IsFolder old.folder.files → AllMade kinds old.memory
     → list_any (λ (report : TaskReport). is_failed report.outcome) reports ≡ false
-    → Builds (rules_of kinds options may_come plan) all_granted seen (standing old before) reports (standing new after)
+    → Builds (rules_of kinds options may_come plan) all_assumed seen (standing old before) reports (standing new after)
     → from_scratch kinds options plan old.folder ≡ Some new.folder.files
 from_scratch_follows kinds options may_come request plan seen before after old new reports is_plan shaped folder made none builds = elim builds [
   | inl dry ↦
@@ -74,5 +74,5 @@ pub truth : TruthIsKept
 truth kinds options digest plan seen old new reports sound folder made apart builds =
     elim (clear_build kinds options any_fault_comes digest plan seen old.failures new.failures old.world new.world reports sound.outputs_apart apart builds) [
       | inl dry ↦ subst (λ (w : World). AllMade kinds w.memory) (sym dry.2) made
-      | inr run ↦ turns_keep kinds options any_fault_comes plan seen plan (first_moment old) reports new.world new.failures made folder sound.inputs_apart run.1
+      | inr run ↦ executions_keep kinds options any_fault_comes plan seen plan (first_moment old) reports new.world new.failures made folder sound.inputs_apart run.1
     ]

@@ -20,7 +20,7 @@ use Rattle.gb_meaning.specs.Memory.{Memory, World, recalled, remember, forget, e
 use Rattle.gb_plan.specs.Graph.{Plan, needs_in}
 use Rattle.gb_meaning.specs.Label.{Moment, Early, Skips, HasNoActions, CannotRead, HasNoSource, some_outcome, IsLabelAt, EndsWith, run_of}
 use Rattle.gb_report.specs.Outcome.{is_failed, is_executed}
-use Rattle.gb_meaning.specs.Turn.{May, Leaves, HasEnded, memory_after, StartedTurn}
+use Rattle.gb_meaning.specs.Execution.{May, Leaves, HasEnded, memory_after, StartedExecution}
 use Rattle.gb_plan.proofs.Tests.{not_true, not_false}
 
 -- the outputs in the folder are what the actions make of the inputs there
@@ -65,7 +65,7 @@ module _ (kinds : Kinds) (options : Options) (plan : Plan) (task : Task) (moment
   abbrev old : World
   old = moment.world
 
-  memory_kept : (files : Files) → new ≡ Rattle.gb_meaning.specs.Turn.world_with task old files (memory_after task old.memory (with_outputs task old.folder.files files))
+  memory_kept : (files : Files) → new ≡ Rattle.gb_meaning.specs.Execution.world_with task old files (memory_after task old.memory (with_outputs task old.folder.files files))
       → (new.memory ≡ old.memory) ⊎ (new.memory ≡ forget old.memory task.path) ⊎ (new.memory ≡ remember old.memory task.path (entry_of task new.folder.files))
   memory_kept files e =
       elim (is_empty task.outputs) as (λ b. new.memory ≡ cond b (forget old.memory task.path) (remember old.memory task.path (entry_of task (with_outputs task old.folder.files files)))
@@ -161,8 +161,8 @@ module _ (kinds : Kinds) (options : Options) (plan : Plan) (task : Task) (moment
       ]
 
   pub what_it_did : (may_come : May) (failures : ℕ) (report : TaskReport) → is_failed report.outcome ≡ false → IsFolder old.folder.files → IsTrusted kinds old.memory task
-      → StartedTurn (rules_of kinds options may_come plan) moment task report (standing new failures) → Did kinds task old new
-  what_it_did may_come failures report well folder trusted turn = elim turn.label [
-    | inl label ↦ by_case report.outcome well folder trusted task.runs (is_empty task.actions) (has_no_source task old.folder.files) refl refl refl label turn.leaves
+      → StartedExecution (rules_of kinds options may_come plan) moment task report (standing new failures) → Did kinds task old new
+  what_it_did may_come failures report well folder trusted execution = elim execution.label [
+    | inl label ↦ by_case report.outcome well folder trusted task.runs (is_empty task.actions) (has_no_source task old.folder.files) refl refl refl label execution.leaves
     | inr fault ↦ not_failed report.outcome fault.0 well fault.2
   ]

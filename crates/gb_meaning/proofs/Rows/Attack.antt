@@ -22,7 +22,7 @@ use Rattle.gb_core.specs.Lists.{byte_order}
 use Rattle.gb_report.specs.declared.fault.Fault.{Fault}
 use Rattle.gb_meaning.proofs.Lemmas.Files.{same_place}
 use Rattle.gb_meaning.proofs.Rows.Copies.{before, only, folder, gen, at_first}
-use Rattle.gb_meaning.specs.Turn.{Leaves, InventsNothing, IsWritten}
+use Rattle.gb_meaning.specs.Execution.{Leaves, InventsNothing, IsWritten}
 use Rattle.gb_meaning.specs.Outline.{Outlines}
 use Rattle.gb_meaning.specs.Events.{Setting, State, shown_in, may_come, StandsInRun, is_read_first, IsNotBuilt}
 use Rattle.gb_meaning.specs.declared.events.Invocation.{Invocation}
@@ -37,7 +37,7 @@ use Rattle.std.specs.List.{count_by, items_where_true, list_any}
 use Rattle.gb_meaning.proofs.RowKinds.{row_kinds}
 use Rattle.gb_plan.proofs.Tests.{not_true, not_false}
 use Rattle.gb_meaning.proofs.Common.{none_some, some_same}
-use Rattle.gb_meaning.proofs.Rows.Graphs.{action, told}
+use Rattle.gb_meaning.proofs.Rows.Graphs.{action, reported}
 use Rattle.gb_meaning.proofs.Rows.Finalized.{plain_run}
 
 -- ---- A loss that is refused changes nothing outside `.gb`
@@ -67,7 +67,7 @@ loss_keeps_sources step = elim step [
 
 -- ---- Where the folder's contents are not known, a started task is neither passed over nor skipped
 
-pub not_passed_over : ¬ Outlines plain_run (only gen) (told gen outcomes.NotRun [] ∷ [])
+pub not_passed_over : ¬ Outlines plain_run (only gen) (reported gen outcomes.NotRun [] ∷ [])
 not_passed_over outlines = elim outlines [
   | inl dry ↦ not_true dry.0
   | inr run ↦ elim run.1.0.answer [
@@ -76,7 +76,7 @@ not_passed_over outlines = elim outlines [
   ]
 ]
 
-pub not_skipped : ¬ Outlines plain_run (only gen) (told gen outcomes.Skipped [] ∷ [])
+pub not_skipped : ¬ Outlines plain_run (only gen) (reported gen outcomes.Skipped [] ∷ [])
 not_skipped outlines = elim outlines [
   | inl dry ↦ not_true dry.0
   | inr run ↦ elim run.1.0.answer [ inl started ↦ started.1 | inr passed ↦ passed.0 (record { needs_ended_well = refl; is_called = refl; goes_on = inl refl }) ]
@@ -143,7 +143,7 @@ none_without_source leaves = elim leaves [
 -- ---- A device that may leave any prefix of a text
 
 abbrev says_r : RecordTexts
-says_r path told bytes = bytes ≡ codes "R"
+says_r path reported bytes = bytes ≡ codes "R"
 
 abbrev fronts : Tearing
 fronts place old new left = (bytes : Bytes) × (count : ℕ) × (new ≡ Some bytes) × (left ≡ Some (take count bytes))
@@ -159,7 +159,7 @@ fronts_are_seen path old (Some text) left is of_tool torn = by_count torn.1 (tor
     none_left (suc n) = refl
 
     by_count : (count : ℕ) → left ≡ Some (take count (codes "R")) → (left ≡ old) ⊎ (left ≡ Some text) ⊎ SaysNoRecord says_r path left
-    by_count zero e = inr (inr (subst (SaysNoRecord says_r path) (sym e) (λ told same. not_true (sym (ap is_empty same)))))
+    by_count zero e = inr (inr (subst (SaysNoRecord says_r path) (sym e) (λ reported same. not_true (sym (ap is_empty same)))))
     by_count (suc n) e = inr (inl (e ∙ ap (λ (more : Bytes). Some (82 ∷ more)) (none_left n) ∙ ap Some (sym of_tool.1)))
 
 -- ---- Where one listener refuses a call, the others are notified all the same
@@ -168,7 +168,7 @@ abbrev is_silent : List Heard → Bool
 is_silent hears = is_empty hears
 
 abbrev executed : Report
-executed = record { tasks = told gen outcomes.Executed [] ∷ []; dry_run = false; listener_refused = true }
+executed = record { tasks = reported gen outcomes.Executed [] ∷ []; dry_run = false; listener_refused = true }
 
 abbrev one_task : List Heard
 one_task = heard.Start (codes ":gen") ∷ heard.End (codes ":gen") outcomes.Executed ∷ []
@@ -182,8 +182,8 @@ both_kept [] long none = absurd (omega (arith, long))
 both_kept (a ∷ []) long none = absurd (omega (arith, long))
 both_kept (a ∷ b ∷ c ∷ more) long none = absurd (omega (arith, long))
 
-pub second_is_told : ¬ HaveHeard executed (([], 0) ∷ ([], 0) ∷ []) ((heard.Start (codes ":gen") ∷ [], 1) ∷ ([], 0) ∷ [])
-second_is_told have =
+pub second_is_reported : ¬ HaveHeard executed (([], 0) ∷ ([], 0) ∷ []) ((heard.Start (codes ":gen") ∷ [], 1) ∷ ([], 0) ∷ [])
+second_is_reported have =
     let some = have.each.1.0 in
     not_false (ap (λ (ear : Ear). is_empty ear.0) some.2 ∙ ap (λ (hears : List Heard). is_empty hears) (both_kept some.0 some.1 (ap (λ (ear : Ear). ear.1) some.2)))
 
@@ -314,5 +314,5 @@ dry_run_reads_no_record count = not_read true (codes ".gb/x") count refl
 
 -- ---- A record whose place is invalid cannot be written
 
-pub no_place_is_told : may_come (record (with_device whole) { record_place = λ path. [] }) [] plain_run gen (at_first before) (standing before 0) faults.HistoryNotWritten
-no_place_is_told = ((λ current. none_some current.same, inl refl), inr (inl refl))
+pub no_place_is_reported : may_come (record (with_device whole) { record_place = λ path. [] }) [] plain_run gen (at_first before) (standing before 0) faults.HistoryNotWritten
+no_place_is_reported = ((λ current. none_some current.same, inl refl), inr (inl refl))

@@ -20,12 +20,12 @@ use Rattle.gb_meaning.specs.Tree.{tree_faults}
 use Rattle.gb_meaning.specs.Made.{made}
 use Rattle.gb_meaning.specs.Scratch.{from_scratch}
 use Rattle.gb_meaning.specs.Label.{Moment, IsIncremental, IsLabel}
-use Rattle.gb_meaning.specs.Turn.{StartedTurn}
+use Rattle.gb_meaning.specs.Execution.{StartedExecution}
 use Rattle.gb_report.specs.Report.{report_text}
 use Rattle.gb_meaning.proofs.RowKinds.{row_kinds}
 use Rattle.gb_plan.proofs.Tests.{not_true, not_false}
 use Rattle.gb_meaning.proofs.Common.{none_some}
-use Rattle.gb_meaning.proofs.Rows.Graphs.{action, asks, told}
+use Rattle.gb_meaning.proofs.Rows.Graphs.{action, asks, reported}
 use Rattle.gb_meaning.proofs.Rows.Finalized.{plain_run, no_fault_comes}
 
 abbrev pub only : Task → Plan
@@ -74,7 +74,7 @@ after_gen = folder with_text ((codes ":gen", gen_entry) ∷ [])
 pub scratch_gen : from_scratch row_kinds plain_run (only gen) before.folder ≡ Some with_text
 scratch_gen = refl
 
-pub gen_runs : StartedTurn (rules_of row_kinds plain_run no_fault_comes (only gen)) (at_first before) gen (told gen outcomes.Executed []) (standing after_gen 0)
+pub gen_runs : StartedExecution (rules_of row_kinds plain_run no_fault_comes (only gen)) (at_first before) gen (reported gen outcomes.Executed []) (standing after_gen 0)
 gen_runs = record {
   label = inl (inr (λ current. none_some current.same, refl));
   leaves = inr (refl, ((codes "build/a.txt", codes "abc") ∷ [], refl, refl));
@@ -83,7 +83,7 @@ gen_runs = record {
   begun = λ fault is printed. absurd (cc);
 }
 
-pub gen_is_current : StartedTurn (rules_of row_kinds plain_run no_fault_comes (only gen)) (at_first after_gen) gen (told gen outcomes.UpToDate []) (standing after_gen 0)
+pub gen_is_current : StartedExecution (rules_of row_kinds plain_run no_fault_comes (only gen)) (at_first after_gen) gen (reported gen outcomes.UpToDate []) (standing after_gen 0)
 gen_is_current = record {
   label = inl (inl (record { has_outputs = refl; not_stale = refl; no_rerun = refl; same = refl }, refl));
   leaves = refl;
@@ -99,10 +99,10 @@ rerun = record { keep_going = false; rerun = true; dry_run = false }
 pub gen_reruns : IsLabel row_kinds rerun (only gen) gen (at_first after_gen) outcomes.Executed
 gen_reruns = inr (λ current. not_false current.no_rerun, refl)
 
-pub told_current : report_text (record { tasks = told gen outcomes.UpToDate [] ∷ []; dry_run = false; listener_refused = false })
+pub reported_current : report_text (record { tasks = reported gen outcomes.UpToDate [] ∷ []; dry_run = false; listener_refused = false })
     ≡ codes "> Task :gen UP-TO-DATE\nBUILD SUCCESSFUL\n1 actionable task: 1 up-to-date\n"
 unfolding digits
-told_current = refl
+reported_current = refl
 
 -- ---- Copies
 
@@ -129,7 +129,7 @@ copied = (codes "build/o/a", codes "A") ∷ (codes "build/o/b", codes "B") ∷ (
 abbrev pub after_copy : World
 after_copy = folder copied ((codes ":cp", entry_of cp copied) ∷ [])
 
-pub cp_runs : StartedTurn (rules_of row_kinds plain_run no_fault_comes (only cp)) (at_first three) cp (told cp outcomes.Executed (codes "ADDED a" ∷ codes "ADDED b" ∷ codes "ADDED c" ∷ [])) (standing after_copy 0)
+pub cp_runs : StartedExecution (rules_of row_kinds plain_run no_fault_comes (only cp)) (at_first three) cp (reported cp outcomes.Executed (codes "ADDED a" ∷ codes "ADDED b" ∷ codes "ADDED c" ∷ [])) (standing after_copy 0)
 cp_runs = record {
   label = inl (inr (λ current. none_some current.same, refl));
   leaves = inr (refl, ((codes "build/o/a", codes "A") ∷ (codes "build/o/b", codes "B") ∷ (codes "build/o/c", codes "C") ∷ [], refl, refl));
@@ -166,7 +166,7 @@ cp_is_incremental = record {
 abbrev has_b : Option Entry → Bool
 has_b entry = list_any (λ tree. list_any (λ file. bytes_eq file.0 (codes "b")) tree.1) (unwrap_or entry (entry_of gen [])).inputs
 
-pub cp_follows : StartedTurn (rules_of row_kinds plain_run no_fault_comes (only cp)) (at_first edited) cp (told cp outcomes.Executed (codes "MODIFIED a" ∷ codes "REMOVED b" ∷ codes "ADDED d" ∷ [])) (standing (folder copied_again ((codes ":cp", entry_of cp copied_again) ∷ [])) 0)
+pub cp_follows : StartedExecution (rules_of row_kinds plain_run no_fault_comes (only cp)) (at_first edited) cp (reported cp outcomes.Executed (codes "MODIFIED a" ∷ codes "REMOVED b" ∷ codes "ADDED d" ∷ [])) (standing (folder copied_again ((codes ":cp", entry_of cp copied_again) ∷ [])) 0)
 unfolding cp_is_incremental
 cp_follows = record {
   label = inl (inr (λ current. not_false (ap has_b current.same), refl));
@@ -183,7 +183,7 @@ scratch_cp = refl
 abbrev pub emptied : World
 emptied = folder ((codes "build/o/a", codes "X") ∷ (codes "build/o/c", codes "C") ∷ (codes "build/o/d", codes "D") ∷ []) ((codes ":cp", entry_of cp copied_again) ∷ [])
 
-pub cp_has_no_source : StartedTurn (rules_of row_kinds plain_run no_fault_comes (only cp)) (at_first emptied) cp (told cp outcomes.NoSource []) (standing (folder [] []) 0)
+pub cp_has_no_source : StartedExecution (rules_of row_kinds plain_run no_fault_comes (only cp)) (at_first emptied) cp (reported cp outcomes.NoSource []) (standing (folder [] []) 0)
 cp_has_no_source = record { label = inl refl; leaves = refl; prints = refl; reading = λ place is out. absurd (cc); begun = λ fault is printed. absurd (cc) }
 
 pub scratch_no_source : from_scratch row_kinds plain_run (only cp) emptied.folder ≡ Some []
@@ -204,7 +204,7 @@ foreign_not_incremental : ¬ IsIncremental row_kinds plain_run cp foreign
 foreign_not_incremental incremental =
     not_true (ap has_zz (ap files_of incremental.remembered ∙ incremental.same_files))
 
-pub cp_clears : StartedTurn (rules_of row_kinds plain_run no_fault_comes (only cp)) (at_first foreign) cp (told cp outcomes.Executed (codes "ADDED a" ∷ codes "ADDED c" ∷ codes "ADDED d" ∷ [])) (standing (folder copied_again ((codes ":cp", entry_of cp copied_again) ∷ [])) 0)
+pub cp_clears : StartedExecution (rules_of row_kinds plain_run no_fault_comes (only cp)) (at_first foreign) cp (reported cp outcomes.Executed (codes "ADDED a" ∷ codes "ADDED c" ∷ codes "ADDED d" ∷ [])) (standing (folder copied_again ((codes ":cp", entry_of cp copied_again) ∷ [])) 0)
 cp_clears = record {
   label = inl (inr (λ current. not_true (ap (λ o. has_zz (files_of o)) current.same), refl));
   leaves = inr (refl, ((codes "build/o/a", codes "X") ∷ (codes "build/o/c", codes "C") ∷ (codes "build/o/d", codes "D") ∷ [], refl, refl));

@@ -9,11 +9,11 @@ use Rattle.gb_report.specs.declared.report.Options.{Options}
 use Rattle.gb_meaning.proofs.Standing.{rules_of, standing}
 use Rattle.gb_meaning.specs.Memory.{World}
 use Rattle.gb_meaning.specs.Label.{Moment}
-use Rattle.gb_meaning.specs.Turn.{May, GuardedTurn, Builds, Turn, DoesStart, ServesFinalizer}
+use Rattle.gb_meaning.specs.Execution.{May, GuardedExecution, Builds, Execution, DoesStart, ServesFinalizer}
 use Rattle.gb_meaning.proofs.RowKinds.{row_kinds}
 use Rattle.gb_plan.proofs.Tests.{reached_in, not_true, not_false}
-use Rattle.gb_meaning.proofs.Common.{none_some, all_granted}
-use Rattle.gb_meaning.proofs.Rows.Graphs.{bad, fin, q, p, plan, report, told}
+use Rattle.gb_meaning.proofs.Common.{none_some, all_assumed}
+use Rattle.gb_meaning.proofs.Rows.Graphs.{bad, fin, q, p, plan, report, reported}
 use Rattle.gb_plan.specs.Graph.{start}
 use Rattle.gb_plan.specs.declared.plan.Planned.{Planned}
 use Rattle.gb_folder.specs.Files.{IsFolder, files_where}
@@ -39,8 +39,8 @@ third = record { world = world; outcomes = second.outcomes ++ (codes ":fin", out
 abbrev pub fourth : Moment
 fourth = record { world = world; outcomes = third.outcomes ++ (codes ":q", outcomes.NotRun) ∷ []; failures = 0 }
 
-bad_turn : Turn (rules_of row_kinds plain_run no_fault_comes plan) first (record { task = bad; word = 0; is_selected = false }) (told bad (outcomes.Failed (faults.ActionFailed (codes "boom"))) []) (standing world 0)
-bad_turn = (
+bad_execution : Execution (rules_of row_kinds plain_run no_fault_comes plan) first (record { task = bad; word = 0; is_selected = false }) (reported bad (outcomes.Failed (faults.ActionFailed (codes "boom"))) []) (standing world 0)
+bad_execution = (
   refl,
   refl,
   inl (
@@ -55,8 +55,8 @@ bad_turn = (
   ),
 )
 
-fin_turn : Turn (rules_of row_kinds plain_run no_fault_comes plan) second (record { task = fin; word = 0; is_selected = false }) (told fin outcomes.Executed (codes "fin" ∷ [])) (standing world 0)
-fin_turn = (
+fin_execution : Execution (rules_of row_kinds plain_run no_fault_comes plan) second (record { task = fin; word = 0; is_selected = false }) (reported fin outcomes.Executed (codes "fin" ∷ [])) (standing world 0)
+fin_execution = (
   refl,
   refl,
   inl (
@@ -71,8 +71,8 @@ fin_turn = (
   ),
 )
 
-q_turn : Turn (rules_of row_kinds plain_run no_fault_comes plan) third (record { task = q; word = 0; is_selected = true }) (told q outcomes.NotRun []) (standing world 0)
-q_turn = (refl, refl, inr (λ starts. not_false starts.needs_ended_well, record { outcome = refl; no_lines = refl; unchanged = refl }))
+q_execution : Execution (rules_of row_kinds plain_run no_fault_comes plan) third (record { task = q; word = 0; is_selected = true }) (reported q outcomes.NotRun []) (standing world 0)
+q_execution = (refl, refl, inr (λ starts. not_false starts.needs_ended_well, record { outcome = refl; no_lines = refl; unchanged = refl }))
 
 p_serves_none : ¬ ServesFinalizer plan fourth (codes ":p")
 p_serves_none r = not_true (reached_in _ _ _ (codes ":fin" ∷ []) refl refl r)
@@ -80,21 +80,21 @@ p_serves_none r = not_true (reached_in _ _ _ (codes ":fin" ∷ []) refl refl r)
 p_does_not_start : ¬ DoesStart plain_run plan fourth (record { task = p; word = 1; is_selected = true })
 p_does_not_start starts = elim starts.goes_on [ inl e ↦ not_false e | inr r ↦ p_serves_none r ]
 
-p_turn : Turn (rules_of row_kinds plain_run no_fault_comes plan) fourth (record { task = p; word = 1; is_selected = true }) (told p outcomes.NotRun []) (standing world 0)
-p_turn = (refl, refl, inr (p_does_not_start, record { outcome = refl; no_lines = refl; unchanged = refl }))
+p_execution : Execution (rules_of row_kinds plain_run no_fault_comes plan) fourth (record { task = p; word = 1; is_selected = true }) (reported p outcomes.NotRun []) (standing world 0)
+p_execution = (refl, refl, inr (p_does_not_start, record { outcome = refl; no_lines = refl; unchanged = refl }))
 
 is_folder : IsFolder world.folder.files
 is_folder = record { in_order = refl; none_blocked = refl }
 
-kept : (moment : Moment) (planned : Planned) (told : TaskReport) → moment.world ≡ world → moment.failures ≤ 0 → Turn (rules_of row_kinds plain_run no_fault_comes plan) moment planned told (standing world 0)
-    → GuardedTurn (rules_of row_kinds plain_run no_fault_comes plan) ⊤ moment planned told (standing world 0)
-kept moment planned told same count turn = record {
+kept : (moment : Moment) (planned : Planned) (reported : TaskReport) → moment.world ≡ world → moment.failures ≤ 0 → Execution (rules_of row_kinds plain_run no_fault_comes plan) moment planned reported (standing world 0)
+    → GuardedExecution (rules_of row_kinds plain_run no_fault_comes plan) ⊤ moment planned reported (standing world 0)
+kept moment planned reported same count execution = record {
   folder = is_folder;
   files = ap (λ (w : World). files_where (λ place. not (is_output_of planned.task place)) w.folder.files) (sym same);
   odd = ap (λ (w : World). w.folder.odd) (sym same);
   count = count;
-  turn = λ granted. turn;
+  execution = λ assumed. execution;
 }
 
-pub built : Builds (rules_of row_kinds plain_run no_fault_comes plan) all_granted [] (standing world 0) report.tasks (standing world 0)
-built = inr (refl, (standing world 0, kept first _ _ refl (lit≤ tt) bad_turn, (standing world 0, kept second _ _ refl (lit≤ tt) fin_turn, (standing world 0, kept third _ _ refl (lit≤ tt) q_turn, (standing world 0, kept fourth _ _ refl (lit≤ tt) p_turn, (refl, lit≤ tt))))))
+pub built : Builds (rules_of row_kinds plain_run no_fault_comes plan) all_assumed [] (standing world 0) report.tasks (standing world 0)
+built = inr (refl, (standing world 0, kept first _ _ refl (lit≤ tt) bad_execution, (standing world 0, kept second _ _ refl (lit≤ tt) fin_execution, (standing world 0, kept third _ _ refl (lit≤ tt) q_execution, (standing world 0, kept fourth _ _ refl (lit≤ tt) p_execution, (refl, lit≤ tt))))))

@@ -13,7 +13,7 @@ use Rattle.gb_plan.specs.declared.task.Action.{Action}
 use Rattle.gb_plan.specs.declared.task.TaskDeclaration.{TaskDeclaration as Task}
 use Rattle.gb_plan.specs.Graph.{Plan}
 pub use Rattle.gb_plan.proofs.RowTasks.{action, asks, bad, fin, p, q, registry}
-use Rattle.gb_meaning.specs.Turn.{heard_of, dry_reports}
+use Rattle.gb_meaning.specs.Execution.{heard_of, dry_reports}
 use Rattle.std.specs.Fmt.{digits}
 use Rattle.gb_report.specs.Report.{report_text}
 
@@ -24,13 +24,13 @@ plan =
     ∷ record { task = q; word = 0; is_selected = true }
     ∷ record { task = p; word = 1; is_selected = true } ∷ []
 
-abbrev pub told : Task → Outcome → List Text → TaskReport
-told task outcome lines = record { path = task.path; outcome = outcome; has_actions = true; lines = lines }
+abbrev pub reported : Task → Outcome → List Text → TaskReport
+reported task outcome lines = record { path = task.path; outcome = outcome; has_actions = true; lines = lines }
 
 abbrev pub report : Report
 report = record {
-  tasks = told bad (outcomes.Failed (faults.ActionFailed (codes "boom"))) [] ∷ told fin outcomes.Executed (codes "fin" ∷ [])
-      ∷ told q outcomes.NotRun [] ∷ told p outcomes.NotRun [] ∷ [];
+  tasks = reported bad (outcomes.Failed (faults.ActionFailed (codes "boom"))) [] ∷ reported fin outcomes.Executed (codes "fin" ∷ [])
+      ∷ reported q outcomes.NotRun [] ∷ reported p outcomes.NotRun [] ∷ [];
   dry_run = false;
   listener_refused = false;
 }

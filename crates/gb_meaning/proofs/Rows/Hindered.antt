@@ -24,11 +24,11 @@ use Rattle.gb_meaning.specs.Memory.{World, Entry}
 use Rattle.gb_meaning.specs.Label.{IsLabel}
 use Rattle.gb_report.specs.Outcome.{is_executed, is_started}
 use Rattle.gb_meaning.specs.TrueRecord.{AreApart}
-use Rattle.gb_meaning.specs.Turn.{Guard, StartedTurn, Prints, Turns, TouchesRecord}
+use Rattle.gb_meaning.specs.Execution.{Guard, StartedExecution, Prints, Executions, TouchesRecord}
 use Rattle.gb_meaning.proofs.RowKinds.{row_kinds}
 use Rattle.gb_plan.proofs.Tests.{not_true, not_false}
 use Rattle.gb_meaning.proofs.Common.{none_some}
-use Rattle.gb_meaning.proofs.Rows.Graphs.{action, told, p, registry}
+use Rattle.gb_meaning.proofs.Rows.Graphs.{action, reported, p, registry}
 use Rattle.gb_meaning.proofs.Rows.Finalized.{plain_run, no_fault_comes}
 use Rattle.gb_meaning.proofs.Rows.Copies.{only, at_first, folder, gen, before, after_gen, gen_entry, two_roots}
 
@@ -40,7 +40,7 @@ gen_fail = record gen { actions = action (codes "writeText") (codes "abc") ∷ a
 abbrev pub blocked : World
 blocked = folder ((codes "build", codes "x") ∷ []) []
 
-pub no_room : StartedTurn (rules_of row_kinds plain_run no_fault_comes (only gen_fail)) (at_first blocked) gen_fail (told gen_fail (outcomes.Failed (faults.Blocked (codes "build/a.txt"))) []) (standing blocked 0)
+pub no_room : StartedExecution (rules_of row_kinds plain_run no_fault_comes (only gen_fail)) (at_first blocked) gen_fail (reported gen_fail (outcomes.Failed (faults.Blocked (codes "build/a.txt"))) []) (standing blocked 0)
 no_room = record {
   label = inl (inr (λ current. none_some current.same, refl));
   leaves = (record { files = refl; invents_nothing = λ place bytes out stands. inl stands; odd = refl; memory = refl }, λ incremental files made place bytes new old. old);
@@ -91,8 +91,8 @@ prints_none prints = elim prints [
 abbrev pub all_collide : Guard
 all_collide contents = IsTrue (is_empty before.memory) ⊎ AreApart (λ bytes. []) contents
 
-pub no_lie : (new : World) → ¬ Turns (rules_of row_kinds plain_run no_fault_comes (only gen)) all_collide [] (only gen) (at_first before) (told gen outcomes.UpToDate [] ∷ []) (standing new 0)
-no_lie new turns = elim (turns.1.turn (inl refl)).2 [
+pub no_lie : (new : World) → ¬ Executions (rules_of row_kinds plain_run no_fault_comes (only gen)) all_collide [] (only gen) (at_first before) (reported gen outcomes.UpToDate [] ∷ []) (standing new 0)
+no_lie new executions = elim (executions.1.execution (inl refl)).2 [
   | inl started ↦ elim started.1.label [
     | inl label ↦ elim label [
       | inl current ↦ none_some current.0.same

@@ -13,11 +13,11 @@ use Rattle.gb_tree.specs.declared.property.Naming.TheVariants.{Relative}
 use Rattle.gb_meaning.proofs.Standing.{rules_of, standing}
 use Rattle.gb_meaning.specs.Memory.{World, entry_of}
 use Rattle.gb_meaning.specs.Scratch.{from_scratch}
-use Rattle.gb_meaning.specs.Turn.{Builds}
+use Rattle.gb_meaning.specs.Execution.{Builds}
 use Rattle.gb_meaning.proofs.RowKinds.{row_kinds}
-use Rattle.gb_meaning.proofs.Common.{all_granted}
+use Rattle.gb_meaning.proofs.Common.{all_assumed}
 use Rattle.gb_plan.proofs.RowTasks.{a, reads_x}
-use Rattle.gb_meaning.proofs.Rows.Graphs.{action, asks, told}
+use Rattle.gb_meaning.proofs.Rows.Graphs.{action, asks, reported}
 use Rattle.gb_meaning.proofs.Rows.Finalized.{plain_run, no_fault_comes}
 use Rattle.gb_meaning.proofs.Rows.Copies.{folder}
 
@@ -41,7 +41,7 @@ scratch_behind_skipped = refl
 abbrev ran_folder : IsFolder both_ran.folder.files
 ran_folder = record { in_order = refl; none_blocked = refl }
 
-pub second_run : Builds (rules_of row_kinds plain_run no_fault_comes behind_skipped) all_granted [] (standing both_ran 0) (told skipped outcomes.Skipped [] ∷ told (reads_x (codes ":a" ∷ []) []) outcomes.UpToDate [] ∷ []) (standing both_ran 0)
+pub second_run : Builds (rules_of row_kinds plain_run no_fault_comes behind_skipped) all_assumed [] (standing both_ran 0) (reported skipped outcomes.Skipped [] ∷ reported (reads_x (codes ":a" ∷ []) []) outcomes.UpToDate [] ∷ []) (standing both_ran 0)
 second_run = inr (
   refl,
   (
@@ -51,7 +51,7 @@ second_run = inr (
       files = refl;
       odd = refl;
       count = lit≤ tt;
-      turn = λ granted. (
+      execution = λ assumed. (
         refl,
         refl,
         inl (
@@ -67,7 +67,7 @@ second_run = inr (
         files = refl;
         odd = refl;
         count = lit≤ tt;
-        turn = λ granted. (
+        execution = λ assumed. (
           refl,
           refl,
           inl (

@@ -15,10 +15,10 @@ use Rattle.gb_meaning.proofs.Standing.{rules_of, standing}
 use Rattle.gb_meaning.specs.Memory.{World, Entry, entry_of}
 use Rattle.gb_meaning.specs.Label.{IsLabel}
 use Rattle.gb_report.specs.Outcome.{is_executed, is_started}
-use Rattle.gb_meaning.specs.Turn.{May, Turn, StartedTurn, Leaves, HasEnded}
+use Rattle.gb_meaning.specs.Execution.{May, Execution, StartedExecution, Leaves, HasEnded}
 use Rattle.gb_meaning.proofs.RowKinds.{row_kinds}
 use Rattle.gb_plan.proofs.Tests.{not_true, not_false}
-use Rattle.gb_meaning.proofs.Rows.Graphs.{action, fin, plan, told}
+use Rattle.gb_meaning.proofs.Rows.Graphs.{action, fin, plan, reported}
 use Rattle.gb_meaning.proofs.Rows.Finalized.{plain_run, no_fault_comes, second, world}
 use Rattle.gb_meaning.proofs.Rows.Copies.{before, gen, gen_entry, after_gen, folder, only, at_first, cp, edited}
 
@@ -64,7 +64,7 @@ made_files files = list_any (λ file. bytes_eq file.0 (codes "build/o/b")) files
 pub removed_is_not_left : ¬ Leaves row_kinds plain_run cp edited outcomes.Executed (folder b_left ((codes ":cp", entry_of cp b_left) ∷ []))
 removed_is_not_left leaves = elim leaves [
   | inl none ↦ not_true none.0
-  | inr ended ↦ not_false (ap holds_b ended.1.2 ∙ ap (λ files. holds_b (Rattle.gb_meaning.specs.Turn.world_with cp edited files [])) (sym (ap (λ r. result_unwrap_or r []) ended.1.1)))
+  | inr ended ↦ not_false (ap holds_b ended.1.2 ∙ ap (λ files. holds_b (Rattle.gb_meaning.specs.Execution.world_with cp edited files [])) (sym (ap (λ r. result_unwrap_or r []) ended.1.1)))
 ]
 
 -- lines of a run that never began, reported as out of memory
@@ -75,8 +75,8 @@ abbrev is_unwritten : Fault → Bool
 is_unwritten faults.HistoryNotWritten = true
 is_unwritten other = false
 
-pub unbegun_prints_nothing : ¬ StartedTurn (rules_of row_kinds plain_run wants_memory (only cp)) (at_first edited) cp (told cp (outcomes.Failed faults.OutOfMemory) (codes "MODIFIED a" ∷ [])) (standing edited 0)
-unbegun_prints_nothing turn = elim (turn.begun faults.OutOfMemory refl refl) [
+pub unbegun_prints_nothing : ¬ StartedExecution (rules_of row_kinds plain_run wants_memory (only cp)) (at_first edited) cp (reported cp (outcomes.Failed faults.OutOfMemory) (codes "MODIFIED a" ∷ [])) (standing edited 0)
+unbegun_prints_nothing execution = elim (execution.begun faults.OutOfMemory refl refl) [
   | inl given ↦ not_true (ap is_empty given.0.memory)
   | inr ended ↦ not_true (ap is_unwritten ended.0)
 ]
@@ -89,8 +89,8 @@ pub begun_is_forgotten : ¬ Leaves row_kinds plain_run failing_gen after_gen (ou
 begun_is_forgotten leaves = not_true (ap is_empty leaves.0.memory)
 
 -- a finalizer of a started task that is left out
-pub finalizer_is_not_passed_over : ¬ Turn (rules_of row_kinds plain_run no_fault_comes plan) second (record { task = fin; word = 0; is_selected = false }) (told fin outcomes.NotRun []) (standing world 0)
-finalizer_is_not_passed_over turn = elim turn.2 [
+pub finalizer_is_not_passed_over : ¬ Execution (rules_of row_kinds plain_run no_fault_comes plan) second (record { task = fin; word = 0; is_selected = false }) (reported fin outcomes.NotRun []) (standing world 0)
+finalizer_is_not_passed_over execution = elim execution.2 [
   | inl started ↦ elim started.1.label [
     | inl label ↦ elim label [
       | inl current ↦ not_false current.0.has_outputs

@@ -7,7 +7,7 @@ use Rattle.gb_report.specs.declared.fault.Fault.{Fault}
 use Rattle.gb_report.specs.declared.fault.Fault.TheVariants as faults
 use Rattle.gb_ask_command.specs.Replies.{IsReplyAbout}
 use Rattle.gb_ask_command.proofs.Replying.{of_no_place}
-use Rattle.gb_ask_command.proofs.Told.{shows}
+use Rattle.gb_ask_command.proofs.Reported.{shows}
 use Rattle.gb_ask_command.proofs.places.answer.Goals as goal
 
 pub returns-in-Ok-clause-reply : goal.returns-in-Ok-clause-reply

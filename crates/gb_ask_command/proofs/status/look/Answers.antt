@@ -8,7 +8,7 @@ use Rattle.gb_query.specs.Notation.{IsStatusOf}
 use Rattle.gb_registry.specs.Tables.{tables_of}
 use Rattle.gb_registry.specs.declared.tables.Tables as handed
 use Rattle.gb_ask_command.proofs.Replying.{of_status}
-use Rattle.gb_ask_command.proofs.Told.{shows}
+use Rattle.gb_ask_command.proofs.Reported.{shows}
 use Rattle.gb_ask_command.proofs.status.look.Goals as goal
 
 pub returns-in-Ok-clause-reply : goal.returns-in-Ok-clause-reply

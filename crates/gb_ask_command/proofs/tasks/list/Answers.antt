@@ -6,7 +6,7 @@ use Rattle.gb_query.specs.Notation.{IsTasksText}
 use Rattle.gb_registry.specs.Tables.{tables_of}
 use Rattle.gb_registry.specs.declared.tables.Tables as handed
 use Rattle.gb_ask_command.proofs.Replying.{of_text}
-use Rattle.gb_ask_command.proofs.Told.{shows}
+use Rattle.gb_ask_command.proofs.Reported.{shows}
 use Rattle.gb_ask_command.proofs.tasks.list.Goals as goal
 
 pub returns-in-Ok-clause-reply : goal.returns-in-Ok-clause-reply

@@ -7,8 +7,8 @@ use Rattle.gb_plan.specs.Graph.{IsRegistry, Registry}
 use Rattle.gb_declare.specs.Registered.{registry_said}
 use Rattle.gb_registry.specs.Tables.{tables_of}
 use Rattle.gb_registry.specs.declared.tables.Tables as handed
-use Rattle.gb_ask_command.specs.Told.{Answer, AreToldOf, IsAnswerTo, IsNotTold, in_earnest}
-use Rattle.gb_ask_command.proofs.Told.{answers_it, shows}
+use Rattle.gb_ask_command.specs.Reported.{Answer, AreReportedOf, IsAnswerTo, IsNotReported, in_earnest}
+use Rattle.gb_ask_command.proofs.Reported.{answers_it, shows}
 use Rattle.gb_ask_command.proofs.telling.tell.Goals as goal
 
 pub returns-in_err-copied-clause-answer : goal.returns-in_err-copied-clause-answer
@@ -50,7 +50,7 @@ returns-clause-answer g c =
     c.read_registry.ensures.same c.read_registry.ensures.asks.count c.tell_registered.ensures.asks.count (registry_said tables source)
     (λ tells. registered tables old c.into_vec-given.result.items asked.properties (c.into_vec-given.ensures ∙ c.in_ok-copied.ensures) source (c.in_ok-configured.ensures.said tells))
     result
-    (subst (λ given. IfOk result (λ told. IsRegistry (registry_by given))) same c.tell_registered.ensures.sound)
-    (subst (λ (given : handed.Tables _ _ _ _ _ _ _). IfOk result (λ told. AreToldOf F.tells M given.actions (registry_by given) asked.requested asked.excluded asked.options (shows mid later) after told.items))
-    same c.tell_registered.ensures.told)
-    (subst (λ given. IfErr result (IsNotTold (registry_by given) asked.requested asked.excluded later after)) same c.tell_registered.ensures.not_told)
+    (subst (λ given. IfOk result (λ reported. IsRegistry (registry_by given))) same c.tell_registered.ensures.sound)
+    (subst (λ (given : handed.Tables _ _ _ _ _ _ _). IfOk result (λ reported. AreReportedOf F.tells M given.actions (registry_by given) asked.requested asked.excluded asked.options (shows mid later) after reported.items))
+    same c.tell_registered.ensures.reported)
+    (subst (λ given. IfErr result (IsNotReported (registry_by given) asked.requested asked.excluded later after)) same c.tell_registered.ensures.not_reported)

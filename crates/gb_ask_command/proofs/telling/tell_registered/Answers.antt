@@ -9,16 +9,16 @@ use Rattle.gb_declare.specs.Registered.{registry_said}
 use Rattle.gb_registry.specs.Seen.{scripts_in}
 use Rattle.gb_registry.specs.Tables.{tables_of}
 use Rattle.gb_project.specs.Scripts.{registry_in}
-use Rattle.gb_ask_command.specs.Told.{Answer, AreToldOf, IsNotTold}
-use Rattle.gb_ask_command.proofs.Told.{ok_always, shows}
+use Rattle.gb_ask_command.specs.Reported.{Answer, AreReportedOf, IsNotReported}
+use Rattle.gb_ask_command.proofs.Reported.{ok_always, shows}
 use Rattle.gb_ask_command.proofs.telling.tell_registered.Goals as goal
 
-pub returns-in_err-tasks-clause-not_told : goal.returns-in_err-tasks-clause-not_told
-returns-in_err-tasks-clause-not_told g c =
+pub returns-in_err-tasks-clause-not_reported : goal.returns-in_err-tasks-clause-not_reported
+returns-in_err-tasks-clause-not_reported g c =
     let failures = g.F.Folder.failures c.args.folder.now in
     let tables = tables_of g.T.Transforms.meanings g.A.Actions.meanings c.args.configured.now.tables.now in
     let p = err_from_is_err_and c.from_residual.result c.from_residual.ensures.1 in
-    subst (λ (r : Answer). IfErr r (IsNotTold (registry_said tables c.args.configured.now.registry) c.args.asked.now.requested c.args.asked.now.excluded failures failures)) (sym p.1)
+    subst (λ (r : Answer). IfErr r (IsNotReported (registry_said tables c.args.configured.now.registry) c.args.asked.now.requested c.args.asked.now.excluded failures failures)) (sym p.1)
     (inl (inl p.2))
 
 pub tell_requested-requires : goal.tell_requested-requires
@@ -34,8 +34,8 @@ returns-clause-sound g c =
     let same : registry_in g.T.Transforms.meanings g.A.Actions.meanings c.in_ok-tasks.tasks.workspace ≡ registry_said tables c.args.configured.now.registry = c.in_ok-tasks.ensures.registry in
     ok_always (IsRegistry (registry_said tables c.args.configured.now.registry)) c.tell_requested.result (subst IsRegistry same c.in_ok-tasks.tasks.ordered)
 
-pub returns-clause-told : goal.returns-clause-told
-returns-clause-told g c =
+pub returns-clause-reported : goal.returns-clause-reported
+returns-clause-reported g c =
     let F = g.F.Folder in
     let meanings = g.A.Actions.meanings in
     let rows = c.args.configured.now.tables.now.actions in
@@ -46,13 +46,13 @@ returns-clause-told g c =
     let old : Shown = shows (F.contents c.args.folder.now) (F.failures c.args.folder.now) in
     let after = F.failures c.tell_requested.new.folder in
     let result : Answer = c.tell_requested.result in
-    subst (λ (registry : Registry). IfOk result (λ told. AreToldOf F.tells meanings rows registry asked.requested asked.excluded asked.options old after told.items)) same
-    (subst (λ (words : List Text). IfOk result (λ told. AreToldOf F.tells meanings rows declared asked.requested words asked.options old after told.items)) c.as_slice-excluded.ensures
-    (subst (λ (words : List Text). IfOk result (λ told. AreToldOf F.tells meanings rows declared words c.as_slice-excluded.result.now asked.options old after told.items)) c.as_slice-requested.ensures
-    c.tell_requested.ensures.told))
+    subst (λ (registry : Registry). IfOk result (λ reported. AreReportedOf F.tells meanings rows registry asked.requested asked.excluded asked.options old after reported.items)) same
+    (subst (λ (words : List Text). IfOk result (λ reported. AreReportedOf F.tells meanings rows declared asked.requested words asked.options old after reported.items)) c.as_slice-excluded.ensures
+    (subst (λ (words : List Text). IfOk result (λ reported. AreReportedOf F.tells meanings rows declared words c.as_slice-excluded.result.now asked.options old after reported.items)) c.as_slice-requested.ensures
+    c.tell_requested.ensures.reported))
 
-pub returns-clause-not_told : goal.returns-clause-not_told
-returns-clause-not_told g c =
+pub returns-clause-not_reported : goal.returns-clause-not_reported
+returns-clause-not_reported g c =
     let F = g.F.Folder in
     let asked = c.args.asked.now in
     let tables = tables_of g.T.Transforms.meanings g.A.Actions.meanings c.args.configured.now.tables.now in
@@ -61,7 +61,7 @@ returns-clause-not_told g c =
     let before = F.failures c.args.folder.now in
     let after = F.failures c.tell_requested.new.folder in
     let result : Answer = c.tell_requested.result in
-    subst (λ (registry : Registry). IfErr result (IsNotTold registry asked.requested asked.excluded before after)) same
-    (subst (λ (words : List Text). IfErr result (IsNotTold declared asked.requested words before after)) c.as_slice-excluded.ensures
-    (subst (λ (words : List Text). IfErr result (IsNotTold declared words c.as_slice-excluded.result.now before after)) c.as_slice-requested.ensures
-    c.tell_requested.ensures.not_told))
+    subst (λ (registry : Registry). IfErr result (IsNotReported registry asked.requested asked.excluded before after)) same
+    (subst (λ (words : List Text). IfErr result (IsNotReported declared asked.requested words before after)) c.as_slice-excluded.ensures
+    (subst (λ (words : List Text). IfErr result (IsNotReported declared words c.as_slice-excluded.result.now before after)) c.as_slice-requested.ensures
+    c.tell_requested.ensures.not_reported))

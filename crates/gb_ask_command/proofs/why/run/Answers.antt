@@ -1,7 +1,7 @@
 use Rattle.gb_ask_command.proofs.why.run.Goals as goal
 
-pub returns-clause-told : goal.returns-clause-told
-returns-clause-told g c = (
+pub returns-clause-reported : goal.returns-clause-reported
+returns-clause-reported g c = (
   c.answered-answer.result,
   c.answered-answer.ensures.answers,
   c.write_answer-reply.result,

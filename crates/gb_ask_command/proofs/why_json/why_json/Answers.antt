@@ -10,6 +10,6 @@ use Rattle.gb_ask_command.proofs.why_json.why_json.Goals as goal
 
 pub json_line-requires : goal.json_line-requires
 json_line-requires c =
-    let told = c.args.told.now in
-    let is : view (values.Array c.in_ok-values.values) ≡ why_data told = search (rules, the_lemmas) in
-    subst (λ (d : Data). depth d ≤ max_depth) (sym is) (why_shallow told)
+    let reported = c.args.reported.now in
+    let is : view (values.Array c.in_ok-values.values) ≡ why_data reported = search (rules, the_lemmas) in
+    subst (λ (d : Data). depth d ≤ max_depth) (sym is) (why_shallow reported)

@@ -1,5 +1,5 @@
 use Rattle.std.proofs.Common.{Err, ap, sym, ◌∙◌, inl, inr, refl}
-use Rattle.gb_store.specs.Faults.{told_at}
+use Rattle.gb_store.specs.Faults.{reported_at}
 use Rattle.gb_build.proofs.Editing.{remove_failed}
 use Rattle.gb_build.proofs.edits.remove.Goals as goal
 
@@ -7,7 +7,7 @@ pub returns-in-Err-clause-step : goal.returns-in-Err-clause-step
 returns-in-Err-clause-step g c = λ tells.
     let fault = c.in-Err.fault in
     let w = c.remove.ensures in
-    remove_failed (g.F.Folder.may_leave c.args.folder.now) c.args.place.now _ _ _ _ fault c.fault_of.result (sym c.is_own.ensures ∙ c.if-is_own.false) (c.fault_of.ensures ∙ ap (λ p. told_at p fault) c.in_ok-at.ensures)
+    remove_failed (g.F.Folder.may_leave c.args.folder.now) c.args.place.now _ _ _ _ fault c.fault_of.result (sym c.is_own.ensures ∙ c.if-is_own.false) (c.fault_of.ensures ∙ ap (λ p. reported_at p fault) c.in_ok-at.ensures)
     (λ e. w.device (c.in-Err.is ∙ ap Err e)) (λ other. c.in-Err.ensures.same tells other) (λ e. w.blocked tells (c.in-Err.is ∙ ap Err e))
     (λ e. w.missing tells (c.in-Err.is ∙ ap Err e)) (λ e. w.missing_free tells (c.in-Err.is ∙ ap Err e))
     (λ e. w.not_large (c.in-Err.is ∙ ap Err e)) (λ e. w.not_named (c.in-Err.is ∙ ap Err e)) (λ e. w.torn tells (c.in-Err.is ∙ ap Err e))

@@ -3,7 +3,7 @@ use Rattle.std.proofs.lemmas.List.{take_more}
 use Rattle.std.specs.List.{AllZip}
 use Rattle.gb_folder.proofs.Changes.{SameTearing-chain}
 use Rattle.gb_build.specs.Registering.{registers_in}
-use Rattle.gb_turn.proofs.Recorded.{granted_later}
+use Rattle.gb_task.proofs.Recorded.{assumed_later}
 use Rattle.gb_meaning.proofs.Lemmas.Plain.{headline}
 use Rattle.gb_meaning.specs.declared.events.Answer.{Answer}
 use Rattle.gb_meaning.specs.declared.events.Event.{Event}
@@ -40,36 +40,36 @@ loop-event-preserved g c =
       each = grind arith;
       count = omega (arith, so_far.count, c.take.ensures.count);
       tearing = SameTearing-chain first second (F.may_leave c.take.new.folder) so_far.tearing c.take.ensures.tearing;
-      device = subst (λ (told : List Answer). HasFailed (times_blamed_in_all told) start.failures next.failures) (sym items)
+      device = subst (λ (reported : List Answer). HasFailed (times_blamed_in_all reported) start.failures next.failures) (sym items)
           (blamed_more c.loop-event.answers.items c.take.result start.failures here.failures next.failures so_far.device c.take.ensures.device c.take.ensures.count);
-      heard = subst (λ (told : List Answer). HaveHeardAll told (map ear c.args.listeners.now.items) (map ear c.take.new.listeners.items)) (sym items)
+      heard = subst (λ (reported : List Answer). HaveHeardAll reported (map ear c.args.listeners.now.items) (map ear c.take.new.listeners.items)) (sym items)
           (heard_more c.loop-event.answers.items c.take.result _ _ _ so_far.heard c.take.ensures.heard);
-      outlined = subst (λ (told : List Answer). AllZip AnswerIsOutlined (take (index + 1) c.args.events.now) told) (sym items)
+      outlined = subst (λ (reported : List Answer). AllZip AnswerIsOutlined (take (index + 1) c.args.events.now) reported) (sym items)
           (subst (λ (events : List Event). AllZip AnswerIsOutlined events (c.loop-event.answers.items ++ c.take.result ∷ [])) taken_here
           (outlined_more (take index c.args.events.now) c.loop-event.answers.items c.event-item.result c.take.result so_far.outlined c.take.ensures.outlined));
       asks =
-          subst (λ (told : List Answer). EventsAsk F.failures F.may_leave F.asked g.A.Actions.meanings c.args.tables.now.actions (take (index + 1) c.args.events.now) told c.args.folder.now c.take.new.folder) (sym items)
+          subst (λ (reported : List Answer). EventsAsk F.failures F.may_leave F.asked g.A.Actions.meanings c.args.tables.now.actions (take (index + 1) c.args.events.now) reported c.args.folder.now c.take.new.folder) (sym items)
           (subst (λ (events : List Event). EventsAsk F.failures F.may_leave F.asked g.A.Actions.meanings c.args.tables.now.actions events (c.loop-event.answers.items ++ c.take.result ∷ []) c.args.folder.now c.take.new.folder) taken_here
           (asks_more_events g.F.Folder.failures g.F.Folder.may_leave g.F.Folder.asked g.A.Actions.meanings c.args.tables.now.actions (take index c.args.events.now) c.loop-event.answers.items c.event-item.result c.take.result c.args.folder.now c.loop-event.folder c.take.new.folder
           (taken_all index c.args.events.now c.loop-event.answers.items so_far.each c.loop-event-test.true) so_far.asks c.take.ensures.asks));
       elsewhere = λ tells.
-          subst (λ (told : List Answer). AllKeepElsewhere registers (take (index + 1) c.args.events.now) told start.contents next.contents) (sym items)
+          subst (λ (reported : List Answer). AllKeepElsewhere registers (take (index + 1) c.args.events.now) reported start.contents next.contents) (sym items)
           (subst (λ (events : List Event). AllKeepElsewhere registers events (c.loop-event.answers.items ++ c.take.result ∷ []) start.contents next.contents) taken_here
           (keeps_more registers (take index c.args.events.now) c.loop-event.answers.items c.event-item.result c.take.result start.contents here.contents next.contents
           (taken_all index c.args.events.now c.loop-event.answers.items so_far.each c.loop-event-test.true) (so_far.elsewhere tells) (c.take.ensures.keeps tells)));
-      holds = λ tells kinds granted rest others end runs.
+      holds = λ tells kinds assumed rest others end runs.
           let setting = setting_by kinds registers first in
-          subst (λ (told : List Answer). RunsFrom setting start (take (index + 1) c.args.events.now ++ rest) (told ++ others) end) (sym items)
+          subst (λ (reported : List Answer). RunsFrom setting start (take (index + 1) c.args.events.now ++ rest) (reported ++ others) end) (sym items)
           (subst (λ (events : List Event). RunsFrom setting start (events ++ rest) (c.loop-event.answers.items ++ c.take.result ∷ [] ++ others) end) taken_here
           (more_ahead setting start end (take index c.args.events.now) c.event-item.result rest c.loop-event.answers.items c.take.result others
-          (so_far.holds tells kinds granted (c.event-item.result ∷ rest) (c.take.result ∷ others) end
+          (so_far.holds tells kinds assumed (c.event-item.result ∷ rest) (c.take.result ∷ others) end
           (runs_on setting here next end c.event-item.result c.take.result rest others c.take.ensures.count
           (leads_alike first second so_far.tearing kinds registers here c.event-item.result c.take.result next
-          (c.take.ensures.leads tells kinds (granted_later first second so_far.tearing granted))) runs))));
+          (c.take.ensures.leads tells kinds (assumed_later first second so_far.tearing assumed))) runs))));
     }
 
 pub returns-clause-holds : goal.returns-clause-holds
-returns-clause-holds g c = λ tells kinds granted.
+returns-clause-holds g c = λ tells kinds assumed.
     let F = g.F.Folder in
     let registers = registers_in (tables_of g.T.Transforms.meanings g.A.Actions.meanings c.args.tables.now) in
     let setting = setting_by kinds registers (F.may_leave c.args.folder.now) in
@@ -78,7 +78,7 @@ returns-clause-holds g c = λ tells kinds granted.
     let end : Shown = shows (F.contents c.loop-event.folder) (F.failures c.loop-event.folder) in
     runs_hold setting start end c.args.events.now c.loop-event.answers.items
     (to_the_end setting start end c.loop-event.event-index c.args.events.now c.loop-event.answers.items c.loop-event-test.false
-    (so_far.holds tells kinds granted [] [] end (runs_nowhere setting end)))
+    (so_far.holds tells kinds assumed [] [] end (runs_nowhere setting end)))
 
 pub returns-clause-outlined : goal.returns-clause-outlined
 returns-clause-outlined g c =
@@ -86,12 +86,12 @@ returns-clause-outlined g c =
     c.loop-event.invariant.outlined
 
 pub returns-clause-promise : goal.returns-clause-promise
-returns-clause-promise g c = λ tells kinds granted.
+returns-clause-promise g c = λ tells kinds assumed.
     let F = g.F.Folder in
     let registers = registers_in (tables_of g.T.Transforms.meanings g.A.Actions.meanings c.args.tables.now) in
     headline (setting_by kinds registers (F.may_leave c.args.folder.now)) (shows (F.contents c.args.folder.now) (F.failures c.args.folder.now))
     (shows (F.contents c.loop-event.folder) (F.failures c.loop-event.folder)) c.args.events.now c.loop-event.answers.items
-    (returns-clause-holds g c tells kinds granted)
+    (returns-clause-holds g c tells kinds assumed)
 
 pub returns-clause-asks : goal.returns-clause-asks
 returns-clause-asks g c =

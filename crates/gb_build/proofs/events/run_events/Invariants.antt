@@ -8,7 +8,7 @@ use Rattle.gb_meaning.specs.declared.events.Event.{Event}
 use Rattle.gb_meaning.specs.Edits.{Shown}
 use Rattle.gb_meaning.specs.Headline.{AllKeepElsewhere, HasFailed, HaveHeardAll, times_blamed_in_all}
 use Rattle.gb_meaning.specs.Kinds.{Kinds}
-use Rattle.gb_records.specs.Granted.{IsGranted}
+use Rattle.gb_records.specs.Assumed.{IsAssumed}
 use Rattle.gb_registry.specs.Tables.{tables_of}
 use Rattle.gb_build.specs.EventAsked.{EventsAsk}
 use Rattle.gb_build.specs.Answers.{AnswerIsOutlined}
@@ -33,7 +33,7 @@ invariant-loop-event g l =
       outlined : AllZip AnswerIsOutlined (take l.event-index l.events) l.answers.items;
       elsewhere : IsTrue F.tells → AllKeepElsewhere (registers_in tables) (take l.event-index l.events) l.answers.items (F.contents l.fn.folder) (F.contents l.folder);
       -- with any run that continues from here, these events are one run
-      holds : IsTrue F.tells → (kinds : Kinds) → IsGranted g.A.Actions.meanings l.tables.actions kinds (F.may_leave l.fn.folder)
+      holds : IsTrue F.tells → (kinds : Kinds) → IsAssumed g.A.Actions.meanings l.tables.actions kinds (F.may_leave l.fn.folder)
           → (rest : List Event) (others : List Answer) (end : Shown)
           → RunsFrom (setting_by kinds (registers_in tables) (F.may_leave l.fn.folder)) (shows (F.contents l.folder) (F.failures l.folder)) rest others end
           → RunsFrom (setting_by kinds (registers_in tables) (F.may_leave l.fn.folder)) (shows (F.contents l.fn.folder) (F.failures l.fn.folder))

@@ -30,7 +30,7 @@ returns-in-Put-clause-keeps g c = λ tells.
     (put_keeps registers (F.may_leave c.args.folder.now) c.in-Put.place c.in-Put.bytes old new (edit_answer c.put.result) (c.put.ensures.step tells)))
 
 pub returns-in-Put-clause-leads : goal.returns-in-Put-clause-leads
-returns-in-Put-clause-leads g c = λ tells kinds granted.
+returns-in-Put-clause-leads g c = λ tells kinds assumed.
     let F = g.F.Folder in
     let registers = registers_in (tables_of g.T.Transforms.meanings g.A.Actions.meanings c.args.tables.now) in
     let may_leave = F.may_leave c.args.folder.now in
@@ -51,7 +51,7 @@ returns-in-Remove-clause-keeps g c = λ tells.
     (remove_keeps registers (F.may_leave c.args.folder.now) c.in-Remove.place old new (edit_answer c.remove.result) (c.remove.ensures.step tells)))
 
 pub returns-in-Remove-clause-leads : goal.returns-in-Remove-clause-leads
-returns-in-Remove-clause-leads g c = λ tells kinds granted.
+returns-in-Remove-clause-leads g c = λ tells kinds assumed.
     let F = g.F.Folder in
     let registers = registers_in (tables_of g.T.Transforms.meanings g.A.Actions.meanings c.args.tables.now) in
     let may_leave = F.may_leave c.args.folder.now in
@@ -62,7 +62,7 @@ returns-in-Remove-clause-leads g c = λ tells kinds granted.
     (remove_leads kinds registers may_leave old new (g.met.F.Folder.sound c.remove.new.folder) c.in-Remove.place (edit_answer c.remove.result) (c.remove.ensures.step tells)))
 
 pub returns-in-Lost-clause-leads : goal.returns-in-Lost-clause-leads
-returns-in-Lost-clause-leads g c = λ tells kinds granted.
+returns-in-Lost-clause-leads g c = λ tells kinds assumed.
     let F = g.F.Folder in
     let registers = registers_in (tables_of g.T.Transforms.meanings g.A.Actions.meanings c.args.tables.now) in
     let may_leave = F.may_leave c.args.folder.now in
@@ -70,7 +70,7 @@ returns-in-Lost-clause-leads g c = λ tells kinds granted.
     let new : Shown = shows (F.contents c.lose.new.folder) (F.failures c.lose.new.folder) in
     subst (λ (event : Event). Leads (setting_by kinds registers may_leave) old event c.edited-in-Lost.result new) (sym c.in-Lost.is)
     (subst (λ (answer : Answer). Leads (setting_by kinds registers may_leave) old events.Lost answer new) (sym c.edited-in-Lost.ensures)
-    (loss_leads kinds registers may_leave granted.tears old new (g.met.F.Folder.sound c.lose.new.folder) (edit_answer c.lose.result) (c.lose.ensures.step tells)))
+    (loss_leads kinds registers may_leave assumed.tears old new (g.met.F.Folder.sound c.lose.new.folder) (edit_answer c.lose.result) (c.lose.ensures.step tells)))
 
 pub returns-in-Put-clause-device : goal.returns-in-Put-clause-device
 returns-in-Put-clause-device g c =

@@ -15,7 +15,7 @@ use Rattle.gb_meaning.specs.Headline.{KeepsElsewhere, answer_of}
 use Rattle.gb_plan.specs.Graph.{IsRegistry, Registry}
 use Rattle.gb_registry.specs.Seen.{scripts_in}
 use Rattle.gb_registry.specs.Tables.{tables_of}
-use Rattle.gb_turn.specs.Turned.{setting_with}
+use Rattle.gb_task.specs.Executing.{setting_with}
 use Rattle.gb_declare.specs.Registered.{registry_said}
 use Rattle.gb_project.specs.Scripts.{registry_in}
 use Rattle.gb_build.proofs.Blamed.{memory_blames_none}
@@ -27,7 +27,7 @@ use Rattle.gb_build.proofs.InvocationAsked.{refusal_asks, registered_asks}
 use Rattle.gb_build.proofs.invoking.build_registered.Goals as goal
 
 pub returns-in_err-tasks-clause-leads : goal.returns-in_err-tasks-clause-leads
-returns-in_err-tasks-clause-leads g c = λ tells kinds granted.
+returns-in_err-tasks-clause-leads g c = λ tells kinds assumed.
     let F = g.F.Folder in
     let tables = tables_of g.T.Transforms.meanings g.A.Actions.meanings c.args.configured.now.tables.now in
     let old : Shown = record { contents = F.contents c.args.folder.now; failures = F.failures c.args.folder.now } in
@@ -43,7 +43,7 @@ build_requested-answered-requires g c =
     (are_buildable tables c.args.configured.now.registry (scripts_in c.scripts-scripts.result.now) c.scripts-scripts.ensures.read (subst IsRegistry same c.in_ok-tasks.tasks.ordered))
 
 pub returns-clause-leads : goal.returns-clause-leads
-returns-clause-leads g c = λ tells kinds granted.
+returns-clause-leads g c = λ tells kinds assumed.
     let F = g.F.Folder in
     let tables = tables_of g.T.Transforms.meanings g.A.Actions.meanings c.args.configured.now.tables.now in
     let declared = registry_in g.T.Transforms.meanings g.A.Actions.meanings c.in_ok-tasks.tasks.workspace in
@@ -51,7 +51,7 @@ returns-clause-leads g c = λ tells kinds granted.
     let old : Shown = record { contents = F.contents c.args.folder.now; failures = F.failures c.args.folder.now } in
     let new : Shown = record { contents = F.contents c.build_requested-answered.new.folder; failures = F.failures c.build_requested-answered.new.folder } in
     subst (λ (registry : Registry). Leads (setting_with kinds (λ files given. Ok registry) (F.may_leave c.args.folder.now)) old (events.Invoke c.args.invocation.now) (answer_of c.build_requested-answered.result) new) same
-    (c.build_requested-answered.ensures.leads tells kinds (λ files given. Ok declared) granted refl)
+    (c.build_requested-answered.ensures.leads tells kinds (λ files given. Ok declared) assumed refl)
 
 pub returns-clause-keeps : goal.returns-clause-keeps
 returns-clause-keeps g c = λ tells.

@@ -4,8 +4,8 @@ use Rattle.gb_folder.specs.Files.{Contents, is_own}
 use Rattle.gb_build.specs.Leading.{Leads}
 use Rattle.gb_build.specs.Refusing.{IsNotBegun}
 use Rattle.gb_build.proofs.Leading.{led_holds}
-use Rattle.gb_records.specs.Granted.{IsGranted}
-use Rattle.gb_turn.proofs.Recorded.{granted_later}
+use Rattle.gb_records.specs.Assumed.{IsAssumed}
+use Rattle.gb_task.proofs.Recorded.{assumed_later}
 use Rattle.gb_build.proofs.Refusing.{not_built}
 use Rattle.gb_meaning.proofs.Lemmas.Plain.{headline}
 use Rattle.gb_meaning.specs.Edits.{Shown}
@@ -29,7 +29,7 @@ use Rattle.gb_build.proofs.InvocationAsked.{refusal_asks, scripts_before}
 use Rattle.gb_build.proofs.invoking.invoke.Goals as goal
 
 pub returns-in_err-copied-clause-leads : goal.returns-in_err-copied-clause-leads
-returns-in_err-copied-clause-leads g c = λ tells kinds granted.
+returns-in_err-copied-clause-leads g c = λ tells kinds assumed.
     let F = g.F.Folder in
     let tables = tables_of g.T.Transforms.meanings g.A.Actions.meanings c.args.tables.now in
     let old : Shown = shows (F.contents c.args.folder.now) (F.failures c.args.folder.now) in
@@ -37,7 +37,7 @@ returns-in_err-copied-clause-leads g c = λ tells kinds granted.
     out_of_memory (setting_of tables kinds (F.may_leave c.args.folder.now)) old old c.args.invocation.now p.0 p.2 refl c.from_residual.result p.1
 
 pub returns-in_err-configured-clause-leads : goal.returns-in_err-configured-clause-leads
-returns-in_err-configured-clause-leads g c = λ tells kinds granted.
+returns-in_err-configured-clause-leads g c = λ tells kinds assumed.
     let F = g.F.Folder in
     let tables = tables_of g.T.Transforms.meanings g.A.Actions.meanings c.args.tables.now in
     let may_leave = F.may_leave c.args.folder.now in
@@ -51,7 +51,7 @@ returns-in_err-configured-clause-leads g c = λ tells kinds granted.
     (c.read_registry.ensures.same tells) c.from_residual-in_err-configured.result p.1
 
 pub returns-clause-leads : goal.returns-clause-leads
-returns-clause-leads g c = λ tells kinds granted.
+returns-clause-leads g c = λ tells kinds assumed.
     let F = g.F.Folder in
     let same = c.in_ok-configured.ensures.tables in
     let tables = tables_of g.T.Transforms.meanings g.A.Actions.meanings c.args.tables.now in
@@ -71,32 +71,32 @@ returns-clause-leads g c = λ tells kinds granted.
     (shows (F.contents c.read_registry.new.folder) later) (events.Invoke c.args.invocation.now) (answer_of c.build_registered-answered.result) new)
     same
     (c.build_registered-answered.ensures.leads tells kinds
-    (subst (λ (given : handed.Tables _ _ _ _ _ _ _). IsGranted g.A.Actions.meanings given.actions kinds second) (sym same)
-    (granted_later first second c.read_registry.ensures.asks.tearing granted)))))
+    (subst (λ (given : handed.Tables _ _ _ _ _ _ _). IsAssumed g.A.Actions.meanings given.actions kinds second) (sym same)
+    (assumed_later first second c.read_registry.ensures.asks.tearing assumed)))))
 
 pub returns-in_err-copied-clause-holds : goal.returns-in_err-copied-clause-holds
-returns-in_err-copied-clause-holds g c = λ tells kinds granted.
+returns-in_err-copied-clause-holds g c = λ tells kinds assumed.
     let F = g.F.Folder in
     let tables = tables_of g.T.Transforms.meanings g.A.Actions.meanings c.args.tables.now in
     led_holds (setting_of tables kinds (F.may_leave c.args.folder.now)) (shows (F.contents c.args.folder.now) (F.failures c.args.folder.now))
     (shows (F.contents c.args.folder.now) (F.failures c.args.folder.now)) c.args.invocation.now c.from_residual.result (omega arith)
-    (returns-in_err-copied-clause-leads g c tells kinds granted)
+    (returns-in_err-copied-clause-leads g c tells kinds assumed)
 
 pub returns-in_err-configured-clause-holds : goal.returns-in_err-configured-clause-holds
-returns-in_err-configured-clause-holds g c = λ tells kinds granted.
+returns-in_err-configured-clause-holds g c = λ tells kinds assumed.
     let F = g.F.Folder in
     let tables = tables_of g.T.Transforms.meanings g.A.Actions.meanings c.args.tables.now in
     led_holds (setting_of tables kinds (F.may_leave c.args.folder.now)) (shows (F.contents c.args.folder.now) (F.failures c.args.folder.now))
     (shows (F.contents c.read_registry.new.folder) (F.failures c.read_registry.new.folder)) c.args.invocation.now c.from_residual-in_err-configured.result c.read_registry.ensures.asks.count
-    (returns-in_err-configured-clause-leads g c tells kinds granted)
+    (returns-in_err-configured-clause-leads g c tells kinds assumed)
 
 pub returns-clause-holds : goal.returns-clause-holds
-returns-clause-holds g c = λ tells kinds granted.
+returns-clause-holds g c = λ tells kinds assumed.
     let F = g.F.Folder in
     let tables = tables_of g.T.Transforms.meanings g.A.Actions.meanings c.args.tables.now in
     led_holds (setting_of tables kinds (F.may_leave c.args.folder.now)) (shows (F.contents c.args.folder.now) (F.failures c.args.folder.now))
     (shows (F.contents c.build_registered-answered.new.folder) (F.failures c.build_registered-answered.new.folder)) c.args.invocation.now c.build_registered-answered.result (omega (arith, c.read_registry.ensures.asks.count, c.build_registered-answered.ensures.count))
-    (returns-clause-leads g c tells kinds granted)
+    (returns-clause-leads g c tells kinds assumed)
 
 pub returns-clause-keeps : goal.returns-clause-keeps
 returns-clause-keeps g c = λ tells.
@@ -215,28 +215,28 @@ returns-clause-dry g c = λ tells dry.
 -- ---- The promise
 
 pub returns-in_err-copied-clause-promise : goal.returns-in_err-copied-clause-promise
-returns-in_err-copied-clause-promise g c = λ tells kinds granted.
+returns-in_err-copied-clause-promise g c = λ tells kinds assumed.
     let F = g.F.Folder in
     let tables = tables_of g.T.Transforms.meanings g.A.Actions.meanings c.args.tables.now in
     headline (setting_of tables kinds (F.may_leave c.args.folder.now)) (shows (F.contents c.args.folder.now) (F.failures c.args.folder.now))
     (shows (F.contents c.args.folder.now) (F.failures c.args.folder.now)) (events.Invoke c.args.invocation.now ∷ []) (answer_of c.from_residual.result ∷ [])
-    (returns-in_err-copied-clause-holds g c tells kinds granted)
+    (returns-in_err-copied-clause-holds g c tells kinds assumed)
 
 pub returns-in_err-configured-clause-promise : goal.returns-in_err-configured-clause-promise
-returns-in_err-configured-clause-promise g c = λ tells kinds granted.
+returns-in_err-configured-clause-promise g c = λ tells kinds assumed.
     let F = g.F.Folder in
     let tables = tables_of g.T.Transforms.meanings g.A.Actions.meanings c.args.tables.now in
     headline (setting_of tables kinds (F.may_leave c.args.folder.now)) (shows (F.contents c.args.folder.now) (F.failures c.args.folder.now))
     (shows (F.contents c.read_registry.new.folder) (F.failures c.read_registry.new.folder)) (events.Invoke c.args.invocation.now ∷ []) (answer_of c.from_residual-in_err-configured.result ∷ [])
-    (returns-in_err-configured-clause-holds g c tells kinds granted)
+    (returns-in_err-configured-clause-holds g c tells kinds assumed)
 
 pub returns-clause-promise : goal.returns-clause-promise
-returns-clause-promise g c = λ tells kinds granted.
+returns-clause-promise g c = λ tells kinds assumed.
     let F = g.F.Folder in
     let tables = tables_of g.T.Transforms.meanings g.A.Actions.meanings c.args.tables.now in
     headline (setting_of tables kinds (F.may_leave c.args.folder.now)) (shows (F.contents c.args.folder.now) (F.failures c.args.folder.now))
     (shows (F.contents c.build_registered-answered.new.folder) (F.failures c.build_registered-answered.new.folder)) (events.Invoke c.args.invocation.now ∷ []) (answer_of c.build_registered-answered.result ∷ [])
-    (returns-clause-holds g c tells kinds granted)
+    (returns-clause-holds g c tells kinds assumed)
 
 -- ---- The calls that it makes
 

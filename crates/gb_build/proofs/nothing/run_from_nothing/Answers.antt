@@ -4,7 +4,7 @@ use Rattle.gb_history.specs.Places.{record_place}
 use Rattle.gb_build.specs.Registering.{setting_of}
 use Rattle.gb_meaning.specs.Every.{PromiseHolds}
 use Rattle.gb_meaning.specs.Events.{Setting}
-use Rattle.gb_meaning.specs.Granted.{leaves_nothing}
+use Rattle.gb_meaning.specs.Assumed.{leaves_nothing}
 use Rattle.gb_meaning.specs.Headline.{Stands, TearsAreSeen}
 use Rattle.gb_records.specs.Said.{IsText}
 use Rattle.gb_registry.specs.Tables.{tables_of}

@@ -1,11 +1,11 @@
 use Rattle.std.proofs.Common.{Err, Some, ap, sym, ◌∙◌}
 use Rattle.gb_script.specs.Script.{Says}
-use Rattle.gb_build.proofs.FileLemmas.{told_there, unread_there}
+use Rattle.gb_build.proofs.FileLemmas.{reported_there, unread_there}
 use Rattle.gb_build.proofs.one_script.script_at.Goals as goal
 
 pub returns-in-Ok-clause-said : goal.returns-in-Ok-clause-said
 returns-in-Ok-clause-said g c = λ tells.
-    told_there Says (g.F.Folder.contents c.args.folder.now).files c.args.place _ _ c.as_slice.result.now c.script_in.result (g.met.F.Folder.sound c.args.folder.now)
+    reported_there Says (g.F.Folder.contents c.args.folder.now).files c.args.place _ _ c.as_slice.result.now c.script_in.result (g.met.F.Folder.sound c.args.folder.now)
     (c.in-Ok.ensures.found tells ∙ ap Some (sym c.as_slice.ensures.value)) c.script_in.ensures
 
 pub returns-in_default-clause-said : goal.returns-in_default-clause-said

@@ -8,15 +8,15 @@ use Rattle.gb_plan.specs.declared.plan.Planned.{Planned}
 use Rattle.gb_plan.specs.Graph.{order}
 use Rattle.gb_records.specs.Said.{IsReadAt}
 use Rattle.gb_store.specs.Changes.{ChangesOnly}
-use Rattle.gb_turn.specs.Turned.{setting_with}
-use Rattle.gb_turn.proofs.Recorded.{seen_later}
-use Rattle.gb_exec.specs.Building.{is_of_turns}
+use Rattle.gb_task.specs.Executing.{setting_with}
+use Rattle.gb_task.proofs.Recorded.{seen_later}
+use Rattle.gb_exec.specs.Building.{is_of_executions}
 use Rattle.gb_build.proofs.Changed.{elsewhere}
 use Rattle.gb_build.proofs.Holding.{built_leads}
 use Rattle.gb_build.proofs.Leading.{led_holds}
 use Rattle.gb_build.proofs.Planning.{all_declared, can_build, own_places, plan_of}
-use Rattle.gb_turn.proofs.Recorded.{granted_later}
-use Rattle.gb_build.proofs.Refusing.{by_reading, by_refusal, if_told, refused_leads, told_fails}
+use Rattle.gb_task.proofs.Recorded.{assumed_later}
+use Rattle.gb_build.proofs.Refusing.{by_reading, by_refusal, if_reported, refused_leads, reported_fails}
 use Rattle.gb_folder.specs.Calls.{Asks, no_change}
 use Rattle.gb_folder.proofs.Asked.{asks_nothing}
 use Rattle.gb_records.specs.Answered.{WasAnswered}
@@ -29,7 +29,7 @@ pub returns-in_err-plan-clause-not_begun : goal.returns-in_err-plan-clause-not_b
 returns-in_err-plan-clause-not_begun g c =
     let failures = g.F.Folder.failures c.args.folder.now in
     let p = err_from_is_err_and c.from_residual.result c.from_residual.ensures.1 in
-    if_told (g.Ts.Tasks.registry c.args.tasks.now) c.args.invocation.now c.from_residual.result p.0 failures failures p.1
+    if_reported (g.Ts.Tasks.registry c.args.tasks.now) c.args.invocation.now c.from_residual.result p.0 failures failures p.1
     (by_refusal (g.Ts.Tasks.registry c.args.tasks.now) c.args.invocation.now c.as_slice-requested.result.now c.as_slice-excluded.result.now c.in_err-plan.field-0.0 p.0 failures failures
     c.as_slice-requested.ensures c.as_slice-excluded.ensures p.2 c.in_err-plan.ensures.fault)
 
@@ -37,13 +37,13 @@ pub returns-in_err-plan-clause-device : goal.returns-in_err-plan-clause-device
 returns-in_err-plan-clause-device g c = λ none.
     let failures = g.F.Folder.failures c.args.folder.now in
     let p = err_from_is_err_and c.from_residual.result c.from_residual.ensures.1 in
-    told_fails (g.Ts.Tasks.registry c.args.tasks.now) c.args.invocation.now p.0 failures failures none (omega arith)
+    reported_fails (g.Ts.Tasks.registry c.args.tasks.now) c.args.invocation.now p.0 failures failures none (omega arith)
     (by_refusal (g.Ts.Tasks.registry c.args.tasks.now) c.args.invocation.now c.as_slice-requested.result.now c.as_slice-excluded.result.now c.in_err-plan.field-0.0 p.0 failures failures
     c.as_slice-requested.ensures c.as_slice-excluded.ensures p.2 c.in_err-plan.ensures.fault)
     c.from_residual.result p.1
 
 pub returns-in_err-plan-clause-leads : goal.returns-in_err-plan-clause-leads
-returns-in_err-plan-clause-leads g c = λ tells kinds registry_of granted scripts.
+returns-in_err-plan-clause-leads g c = λ tells kinds registry_of assumed scripts.
     let F = g.F.Folder in
     let failures = F.failures c.args.folder.now in
     let old : Shown = record { contents = F.contents c.args.folder.now; failures = failures } in
@@ -59,11 +59,11 @@ pub returns-in_err-records-clause-not_begun : goal.returns-in_err-records-clause
 returns-in_err-records-clause-not_begun g c =
     let failures = g.F.Folder.failures in
     let p = err_from_is_err_and c.from_residual-in_err-records.result c.from_residual-in_err-records.ensures.1 in
-    if_told (g.Ts.Tasks.registry c.args.tasks.now) c.args.invocation.now c.from_residual-in_err-records.result p.0 (failures c.args.folder.now) (failures c.records_for.new.folder) p.1
+    if_reported (g.Ts.Tasks.registry c.args.tasks.now) c.args.invocation.now c.from_residual-in_err-records.result p.0 (failures c.args.folder.now) (failures c.records_for.new.folder) p.1
     (by_reading (g.Ts.Tasks.registry c.args.tasks.now) c.args.invocation.now c.in_err-records.field-0.0 p.0 (failures c.args.folder.now) (failures c.records_for.new.folder) p.2 c.in_err-records.ensures.unread)
 
 pub returns-in_err-records-clause-leads : goal.returns-in_err-records-clause-leads
-returns-in_err-records-clause-leads g c = λ tells kinds registry_of granted scripts.
+returns-in_err-records-clause-leads g c = λ tells kinds registry_of assumed scripts.
     let F = g.F.Folder in
     let old : Shown = record { contents = F.contents c.args.folder.now; failures = F.failures c.args.folder.now } in
     let new : Shown = record { contents = F.contents c.records_for.new.folder; failures = F.failures c.records_for.new.folder } in
@@ -80,7 +80,7 @@ execute-requires-clause-can g c =
     g.A.Actions.meanings c.args.table.now c.requires
 
 pub returns-in_err-report-clause-leads : goal.returns-in_err-report-clause-leads
-returns-in_err-report-clause-leads g c = λ tells kinds registry_of granted scripts.
+returns-in_err-report-clause-leads g c = λ tells kinds registry_of assumed scripts.
     let F = g.F.Folder in
     let old : Shown = record { contents = F.contents c.args.folder.now; failures = F.failures c.args.folder.now } in
     let new : Shown = record { contents = F.contents c.execute.new.folder; failures = F.failures c.execute.new.folder } in
@@ -108,10 +108,10 @@ returns-clause-elsewhere g c = λ tells.
     elsewhere (g.Ts.Tasks.registry c.args.tasks.now) c.in_ok-plan.plan
     (all_declared (g.Ts.Tasks.registry c.args.tasks.now) c.as_slice-requested.result.now c.as_slice-excluded.result.now c.in_ok-plan.plan c.in_ok-plan.ensures.plan (g.Ts.Tasks.sound c.args.tasks.now))
     (F.contents c.args.folder.now) (F.contents c.execute.new.folder)
-    (subst (λ (contents : Contents). ChangesOnly (is_of_turns c.in_ok-plan.plan) contents (F.contents c.execute.new.folder)) (c.records_for.ensures.same tells) (c.execute.ensures.changes tells))
+    (subst (λ (contents : Contents). ChangesOnly (is_of_executions c.in_ok-plan.plan) contents (F.contents c.execute.new.folder)) (c.records_for.ensures.same tells) (c.execute.ensures.changes tells))
 
 pub returns-clause-leads : goal.returns-clause-leads
-returns-clause-leads g c = λ tells kinds registry_of granted scripts remembered_now is_clear seen_now stands.
+returns-clause-leads g c = λ tells kinds registry_of assumed scripts remembered_now is_clear seen_now stands.
     let F = g.F.Folder in
     let registry = g.Ts.Tasks.registry c.args.tasks.now in
     let plan = c.in_ok-plan.plan in
@@ -123,7 +123,7 @@ returns-clause-leads g c = λ tells kinds registry_of granted scripts remembered
     let can = can_build registry c.args.invocation.now.requested c.args.invocation.now.excluded plan is_plan g.A.Actions.meanings c.args.table.now c.requires in
     built_leads kinds registry_of (F.may_leave c.args.folder.now) registry (g.Ts.Tasks.sound c.args.tasks.now) c.args.invocation.now plan is_plan
     (own_places g.A.Actions.meanings c.args.table.now plan can) old new c.in_ok-report.report c.in_ok-report.ensures.dry_run (g.met.F.Folder.sound c.execute.new.folder)
-    (subst (λ (contents : Contents). ChangesOnly (is_of_turns plan) contents new.contents) (c.records_for.ensures.same tells) (c.execute.ensures.changes tells))
+    (subst (λ (contents : Contents). ChangesOnly (is_of_executions plan) contents new.contents) (c.records_for.ensures.same tells) (c.execute.ensures.changes tells))
     (λ dry. ap F.contents (c.execute.ensures.dry dry) ∙ c.records_for.ensures.same tells)
     (omega (arith, c.records_for.ensures.asks.count, c.execute.ensures.count)) scripts
     mid (c.records_for.ensures.same tells) c.records_for.ensures.asks.count (F.may_leave c.records_for.new.folder) c.records_for.ensures.asks.tearing
@@ -131,40 +131,40 @@ returns-clause-leads g c = λ tells kinds registry_of granted scripts remembered
     (λ wet. subst (λ (records : List (Option Record)). AllZip (IsReadAt old.contents.files) (order plan) records) (sym c.as_slice-2.ensures.value)
     (subst (λ (tasks : List Planned). AllZip (IsReadAt old.contents.files) (order tasks) c.in_ok-records.records.items) c.as_slice.ensures (c.in_ok-records.ensures.read tells wet)))
     (λ remembered clear seen worth. c.in_ok-report.ensures.build tells kinds registry_of remembered clear seen
-    (granted_later (F.may_leave c.args.folder.now) (F.may_leave c.records_for.new.folder) c.records_for.ensures.asks.tearing granted) worth)
+    (assumed_later (F.may_leave c.args.folder.now) (F.may_leave c.records_for.new.folder) c.records_for.ensures.asks.tearing assumed) worth)
     remembered_now is_clear seen_now stands
 
 pub returns-in_err-plan-clause-holds : goal.returns-in_err-plan-clause-holds
-returns-in_err-plan-clause-holds g c = λ tells kinds registry_of granted scripts.
+returns-in_err-plan-clause-holds g c = λ tells kinds registry_of assumed scripts.
     let F = g.F.Folder in
     let old : Shown = record { contents = F.contents c.args.folder.now; failures = F.failures c.args.folder.now } in
     let new : Shown = record { contents = F.contents c.args.folder.now; failures = F.failures c.args.folder.now } in
     led_holds (setting_with kinds registry_of (F.may_leave c.args.folder.now)) old new c.args.invocation.now c.from_residual.result (omega arith)
-    (returns-in_err-plan-clause-leads g c tells kinds registry_of granted scripts)
+    (returns-in_err-plan-clause-leads g c tells kinds registry_of assumed scripts)
 
 pub returns-in_err-records-clause-holds : goal.returns-in_err-records-clause-holds
-returns-in_err-records-clause-holds g c = λ tells kinds registry_of granted scripts.
+returns-in_err-records-clause-holds g c = λ tells kinds registry_of assumed scripts.
     let F = g.F.Folder in
     let old : Shown = record { contents = F.contents c.args.folder.now; failures = F.failures c.args.folder.now } in
     let new : Shown = record { contents = F.contents c.records_for.new.folder; failures = F.failures c.records_for.new.folder } in
     led_holds (setting_with kinds registry_of (F.may_leave c.args.folder.now)) old new c.args.invocation.now c.from_residual-in_err-records.result c.records_for.ensures.asks.count
-    (returns-in_err-records-clause-leads g c tells kinds registry_of granted scripts)
+    (returns-in_err-records-clause-leads g c tells kinds registry_of assumed scripts)
 
 pub returns-in_err-report-clause-holds : goal.returns-in_err-report-clause-holds
-returns-in_err-report-clause-holds g c = λ tells kinds registry_of granted scripts.
+returns-in_err-report-clause-holds g c = λ tells kinds registry_of assumed scripts.
     let F = g.F.Folder in
     let old : Shown = record { contents = F.contents c.args.folder.now; failures = F.failures c.args.folder.now } in
     let new : Shown = record { contents = F.contents c.execute.new.folder; failures = F.failures c.execute.new.folder } in
     led_holds (setting_with kinds registry_of (F.may_leave c.args.folder.now)) old new c.args.invocation.now c.from_residual-in_err-report.result (omega (arith, c.records_for.ensures.asks.count, c.execute.ensures.count))
-    (returns-in_err-report-clause-leads g c tells kinds registry_of granted scripts)
+    (returns-in_err-report-clause-leads g c tells kinds registry_of assumed scripts)
 
 pub returns-clause-holds : goal.returns-clause-holds
-returns-clause-holds g c = λ tells kinds registry_of granted scripts.
+returns-clause-holds g c = λ tells kinds registry_of assumed scripts.
     let F = g.F.Folder in
     let old : Shown = record { contents = F.contents c.args.folder.now; failures = F.failures c.args.folder.now } in
     let new : Shown = record { contents = F.contents c.execute.new.folder; failures = F.failures c.execute.new.folder } in
     led_holds (setting_with kinds registry_of (F.may_leave c.args.folder.now)) old new c.args.invocation.now (Ok c.in_ok-report.report) (omega (arith, c.records_for.ensures.asks.count, c.execute.ensures.count))
-    (returns-clause-leads g c tells kinds registry_of granted scripts)
+    (returns-clause-leads g c tells kinds registry_of assumed scripts)
 
 -- ---- The calls that it makes
 
@@ -201,6 +201,6 @@ returns-clause-asks g c =
         first = c.records_for.ensures.asks;
         answered = λ wet. subst (λ (records : List (Option Record)). AllZip (WasAnswered F.failures F.may_leave F.asked start mid) (order plan) records) (sym c.as_slice-2.ensures.value)
             (subst (λ (tasks : List Planned). AllZip (WasAnswered F.failures F.may_leave F.asked start mid) (order tasks) c.in_ok-records.records.items) c.as_slice.ensures (c.in_ok-records.ensures.answered wet));
-        turns = c.in_ok-report.ensures.asks;
+        executions = c.in_ok-report.ensures.asks;
       },
     )

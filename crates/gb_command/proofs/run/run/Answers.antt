@@ -5,8 +5,8 @@ use Rattle.gb_printer.specs.Printing.{Prints}
 use Rattle.gb_printer.proofs.Printed.{all_printed, prints_more}
 use Rattle.gb_command.proofs.run.run.Goals as goal
 
-pub returns-then-is_whole-clause-told : goal.returns-then-is_whole-clause-told
-returns-then-is_whole-clause-told g c =
+pub returns-then-is_whole-clause-reported : goal.returns-then-is_whole-clause-reported
+returns-then-is_whole-clause-reported g c =
     let W = g.W.Printer in
     let answer = c.answered-answer.result in
     let old = c.args.writer.now in
@@ -20,8 +20,8 @@ returns-then-is_whole-clause-told g c =
       (all_printed W.contents W.whole (answer_text answer) old new printed (sym c.is_whole.ensures ∙ c.if-is_whole.true), c.status_of-status.ensures),
     )
 
-pub returns-else-is_whole-clause-told : goal.returns-else-is_whole-clause-told
-returns-else-is_whole-clause-told g c =
+pub returns-else-is_whole-clause-reported : goal.returns-else-is_whole-clause-reported
+returns-else-is_whole-clause-reported g c =
     let W = g.W.Printer in
     let answer = c.answered-answer.result in
     let old = c.args.writer.now in

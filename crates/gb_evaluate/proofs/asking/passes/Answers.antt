@@ -7,8 +7,8 @@ use Rattle.gb_evaluate.specs.Given.{given_at, truth_at}
 use Rattle.gb_evaluate.proofs.TellLemmas.{first_fails, passed_on, sorted_tells, then_gives}
 use Rattle.gb_evaluate.proofs.asking.passes.Goals as goal
 
-pub returns-in_err-value-clause-told : goal.returns-in_err-value-clause-told
-returns-in_err-value-clause-told g c = λ at source number over.
+pub returns-in_err-value-clause-reported : goal.returns-in_err-value-clause-reported
+returns-in_err-value-clause-reported g c = λ at source number over.
     let tables = tables_of g.T.Transforms.meanings g.A.Actions.meanings c.args.context.now.tables.now in
     let entry = number c.args.node.number in
     let test = c.args.test.now in
@@ -16,13 +16,13 @@ returns-in_err-value-clause-told g c = λ at source number over.
     let p = err_from_is_err_and c.from_residual.result c.from_residual.ensures.1 in
     passed_on tables source (truth_at tables source at test entry) c.from_residual.result p.0 fault p.1 p.2
     (first_fails tables source (given_at tables source entry) (truth_of tables source at (spots tables source) (whole tables source) test (test_named tables.functions test.name)) fault
-    (c.in_err-value.ensures.told source number over))
+    (c.in_err-value.ensures.reported source number over))
 
-pub returns-clause-told : goal.returns-clause-told
-returns-clause-told g c = λ at source number over.
+pub returns-clause-reported : goal.returns-clause-reported
+returns-clause-reported g c = λ at source number over.
     let tables = tables_of g.T.Transforms.meanings g.A.Actions.meanings c.args.context.now.tables.now in
     let entry = number c.args.node.number in
     let test = c.args.test.now in
     let says = truth_of tables source at (spots tables source) (whole tables source) test (test_named tables.functions test.name) in
-    then_gives tables source (given_at tables source entry) says c.in_ok-value.value c.truth_of-truth.result (c.in_ok-value.ensures.told source number over)
+    then_gives tables source (given_at tables source entry) says c.in_ok-value.value c.truth_of-truth.result (c.in_ok-value.ensures.reported source number over)
     (sorted_tells tables source (says c.in_ok-value.value) c.truth_of-truth.result (c.truth_of-truth.ensures source at))

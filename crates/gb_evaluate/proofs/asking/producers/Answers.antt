@@ -3,8 +3,8 @@ use Rattle.gb_evaluate.specs.Over.{known_names}
 use Rattle.gb_evaluate.proofs.AskLemmas.{only_memory, tasks_there}
 use Rattle.gb_evaluate.proofs.asking.producers.Goals as goal
 
-pub returns-in-Ok-clause-told : goal.returns-in-Ok-clause-told
-returns-in-Ok-clause-told g c = λ source number over.
+pub returns-in-Ok-clause-reported : goal.returns-in-Ok-clause-reported
+returns-in-Ok-clause-reported g c = λ source number over.
     let context = c.args.context.now in
     let tables = tables_of g.T.Transforms.meanings g.A.Actions.meanings context.tables.now in
     tasks_there tables source (known_names context.projects.now context.tasks.now) context.faults.now c.args.providers.now.nodes number over c.args.node.number c.requires.value c.in-Ok.tasks c.in-Ok.ensures.producers

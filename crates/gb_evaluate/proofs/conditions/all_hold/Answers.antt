@@ -16,13 +16,13 @@ use Rattle.gb_evaluate.proofs.WalkLemmas.{item_left, none_left, one_less, one_mo
 use Rattle.gb_evaluate.proofs.conditions.all_hold.Goals as goal
 use Rattle.gb_evaluate.proofs.conditions.all_hold.Goals.{then-all, else-all}
 
-pub returns-in_err-holds-clause-told : goal.returns-in_err-holds-clause-told
-returns-in_err-holds-clause-told g c = λ source number over at is are.
+pub returns-in_err-holds-clause-reported : goal.returns-in_err-holds-clause-reported
+returns-in_err-holds-clause-reported g c = λ source number over at is are.
     let context = c.args.context.now in
     let tables = tables_of g.T.Transforms.meanings g.A.Actions.meanings context.tables.now in
     let f = passes tables source at (spots tables source) (whole tables source) in
     let next = item_left (λ (b : Bor Condition). b.now) c.args.conditions.now c.loop-condition.condition-index c.condition-item.result (omega (arith, c.loop-condition-test.true)) c.condition-item.is in
-    let left = c.loop-condition.invariant.told source number over at is are in
+    let left = c.loop-condition.invariant.reported source number over at is are in
     let there = subst (λ p. IsOver tables source (known_names context.projects.now context.tasks.now) context.faults.now p.nodes number) (sym c.loop-condition.invariant.kept) over in
     let same = stands_for tables source number at.project (λ (condition : Condition). condition.value) f (now_of c.args.conditions.now) left.1.0 c.loop-condition.rest.now c.in-Some.others.now c.in-Some.node.now (now_of (drop c.loop-condition.condition-index c.args.conditions.now)) (now_of (drop (c.loop-condition.condition-index + 1) c.args.conditions.now)) c.condition-item.result.now c.in-Some.ensures.cases.0 next (left.0, left.1.2) in
     let fault = c.in_err-holds.field-0.0 in
@@ -30,7 +30,7 @@ returns-in_err-holds-clause-told g c = λ source number over at is are.
     passed_on tables source (all_hold tables source at (now_of c.args.conditions.now)) c.from_residual.result p.0 fault p.1 p.2
     (first_fails tables source (each_of f (now_of c.args.conditions.now)) (λ truths. Ok (list_all (λ truth. truth) truths)) fault
     (fails_here tables source number at.project (λ (condition : Condition). condition.value) f (now_of c.args.conditions.now) left.1.0 c.loop-condition.rest.now c.in-Some.others.now c.in-Some.node.now (now_of (drop c.loop-condition.condition-index c.args.conditions.now)) (now_of (drop (c.loop-condition.condition-index + 1) c.args.conditions.now)) c.condition-item.result.now c.in-Some.ensures.cases.0 next (left.0, left.1.2) fault
-    (passes_there tables source at (number c.in-Some.node.now.number) c.condition-item.result.now same (Err fault) (c.in_err-holds.ensures.told at source number there))))
+    (passes_there tables source at (number c.in-Some.node.now.number) c.condition-item.result.now same (Err fault) (c.in_err-holds.ensures.reported at source number there))))
 
 pub loop-condition-preserved : goal.loop-condition-preserved
 loop-condition-preserved g c = record {
@@ -41,16 +41,16 @@ loop-condition-preserved g c = record {
       let less = one_less c.args.conditions.now c.loop-condition.condition-index c.condition-item.result (omega (arith, c.loop-condition-test.true)) in
       let long = sym (ap length c.in-Some.ensures.cases.0) ∙ c.loop-condition.invariant.count in
       omega (arith, less, long);
-  told = λ source number over at is are.
+  reported = λ source number over at is are.
       let context = c.args.context.now in
       let tables = tables_of g.T.Transforms.meanings g.A.Actions.meanings context.tables.now in
       let f = passes tables source at (spots tables source) (whole tables source) in
       let next = item_left (λ (b : Bor Condition). b.now) c.args.conditions.now c.loop-condition.condition-index c.condition-item.result (omega (arith, c.loop-condition-test.true)) c.condition-item.is in
-      let left = c.loop-condition.invariant.told source number over at is are in
+      let left = c.loop-condition.invariant.reported source number over at is are in
       let there = subst (λ p. IsOver tables source (known_names context.projects.now context.tasks.now) context.faults.now p.nodes number) (sym c.loop-condition.invariant.kept) over in
       let same = stands_for tables source number at.project (λ (condition : Condition). condition.value) f (now_of c.args.conditions.now) left.1.0 c.loop-condition.rest.now c.in-Some.others.now c.in-Some.node.now (now_of (drop c.loop-condition.condition-index c.args.conditions.now)) (now_of (drop (c.loop-condition.condition-index + 1) c.args.conditions.now)) c.condition-item.result.now c.in-Some.ensures.cases.0 next (left.0, left.1.2) in
       let on = goes_on tables source number at.project (λ (condition : Condition). condition.value) f (now_of c.args.conditions.now) left.1.0 c.loop-condition.rest.now c.in-Some.others.now c.in-Some.node.now (now_of (drop c.loop-condition.condition-index c.args.conditions.now)) (now_of (drop (c.loop-condition.condition-index + 1) c.args.conditions.now)) c.condition-item.result.now c.in-Some.ensures.cases.0 next (left.0, left.1.2) c.in_ok-holds.holds (left.1.0 ++ c.in_ok-holds.holds ∷ []) refl
-      (passes_there tables source at (number c.in-Some.node.now.number) c.condition-item.result.now same (Ok c.in_ok-holds.holds) (c.in_ok-holds.ensures.told at source number there)) in
+      (passes_there tables source at (number c.in-Some.node.now.number) c.condition-item.result.now same (Ok c.in_ok-holds.holds) (c.in_ok-holds.ensures.reported at source number there)) in
       let both : c.if-all.all ≡ (c.loop-condition.all && c.in_ok-holds.holds) = elim c.if-all.branch [
         | then-all w ↦ w.all-is ∙ ap (λ b. b && c.in_ok-holds.holds) (sym w.if-all.true)
         | else-all w ↦ w.all-is ∙ w.if-all.false ∙ ap (λ b. b && c.in_ok-holds.holds) (sym w.if-all.false)
@@ -58,12 +58,12 @@ loop-condition-preserved g c = record {
       (on.0, (left.1.0 ++ c.in_ok-holds.holds ∷ [], one_more_holds left.1.0 c.loop-condition.all c.in_ok-holds.holds left.1.1 ∙ sym both, on.1));
 }
 
-pub returns-clause-told : goal.returns-clause-told
-returns-clause-told g c = λ source number over at is are.
+pub returns-clause-reported : goal.returns-clause-reported
+returns-clause-reported g c = λ source number over at is are.
     let context = c.args.context.now in
     let tables = tables_of g.T.Transforms.meanings g.A.Actions.meanings context.tables.now in
     let f = passes tables source at (spots tables source) (whole tables source) in
-    let left = c.loop-condition.invariant.told source number over at is are in
+    let left = c.loop-condition.invariant.reported source number over at is are in
     ap (λ r. and_then r (λ truths. Ok (list_all (λ truth. truth) truths)))
     (walk_ends f (now_of c.args.conditions.now) left.1.0 (now_of (drop c.loop-condition.condition-index c.args.conditions.now)) (none_left (λ (b : Bor Condition). b.now) c.args.conditions.now c.loop-condition.condition-index (omega (arith, c.loop-condition-test.false))) left.1.2)
     ∙ ap Ok left.1.1

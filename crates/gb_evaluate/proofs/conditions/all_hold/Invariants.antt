@@ -17,7 +17,7 @@ invariant-loop-condition g l = record {
   kept : l.providers ≡ l.initial.providers;
   within : AreWithin l.initial.providers.nodes l.rest;
   count : length l.rest ≡ length (drop l.condition-index l.conditions);
-  told : (source : Source) (number : ℕ → ℕ)
+  reported : (source : Source) (number : ℕ → ℕ)
       → IsOver (tables_of g.T.Transforms.meanings g.A.Actions.meanings l.context.tables.now) source (known_names l.context.projects.now l.context.tasks.now) l.context.faults.now l.initial.providers.nodes number
       → (at : Registered) → Anywhere at
       → AreFor (tables_of g.T.Transforms.meanings g.A.Actions.meanings l.context.tables.now) source number at.project l.row (map (λ condition. condition.value) (now_of l.conditions))

@@ -34,8 +34,8 @@ needs-requires-clause-within g c =
 pub needs-requires-clause-values : goal.needs-requires-clause-values
 needs-requires-clause-values g c = subst (λ p. HaveAllValues g.T.Transforms.meanings p.nodes c.split-parts.result) (sym c.in_ok-contents.ensures.kept) c.in_ok-contents.ensures.given
 
-pub returns-in_err-flags-clause-told : goal.returns-in_err-flags-clause-told
-returns-in_err-flags-clause-told g c = λ source number over at is are.
+pub returns-in_err-flags-clause-reported : goal.returns-in_err-flags-clause-reported
+returns-in_err-flags-clause-reported g c = λ source number over at is are.
     let context = c.args.context.now in
     let tables = tables_of g.T.Transforms.meanings g.A.Actions.meanings context.tables.now in
     let names = known_names context.projects.now context.tasks.now in
@@ -46,10 +46,10 @@ returns-in_err-flags-clause-told g c = λ source number over at is are.
     let fault = c.in_err-flags.field-0.0 in
     let p = err_from_is_err_and c.from_residual.result c.from_residual.ensures.1 in
     passed_on tables source (evaluated tables source at (spots tables source) (whole tables source) task) c.from_residual.result p.0 fault p.1 p.2
-    (back (Err fault) (first_fails tables source (flags_of tables source at task) go_on fault (c.in_err-flags.ensures.told source number over at is.0 parts)))
+    (back (Err fault) (first_fails tables source (flags_of tables source at task) go_on fault (c.in_err-flags.ensures.reported source number over at is.0 parts)))
 
-pub returns-in_err-contents-clause-told : goal.returns-in_err-contents-clause-told
-returns-in_err-contents-clause-told g c = λ source number over at is are.
+pub returns-in_err-contents-clause-reported : goal.returns-in_err-contents-clause-reported
+returns-in_err-contents-clause-reported g c = λ source number over at is are.
     let context = c.args.context.now in
     let tables = tables_of g.T.Transforms.meanings g.A.Actions.meanings context.tables.now in
     let names = known_names context.projects.now context.tasks.now in
@@ -61,12 +61,12 @@ returns-in_err-contents-clause-told g c = λ source number over at is are.
     let p = err_from_is_err_and c.from_residual-in_err-contents.result c.from_residual-in_err-contents.ensures.1 in
     let second = subst (λ p. IsOver tables source names context.faults.now p.nodes number) (sym c.in_ok-flags.ensures.kept) over in
     passed_on tables source (evaluated tables source at (spots tables source) (whole tables source) task) c.from_residual-in_err-contents.result p.0 fault p.1 p.2
-    (back (Err fault) (then_gives tables source (flags_of tables source at task) go_on c.in_ok-flags.flags (Err fault) (c.in_ok-flags.ensures.told source number over at is.0 parts)
+    (back (Err fault) (then_gives tables source (flags_of tables source at task) go_on c.in_ok-flags.flags (Err fault) (c.in_ok-flags.ensures.reported source number over at is.0 parts)
     (first_fails tables source (contents_of tables source at task) (λ contents. Ok (declaration_of at.path task c.in_ok-flags.flags contents (needed tables source at task))) fault
-    (c.in_err-contents.ensures.told source number second at is parts))))
+    (c.in_err-contents.ensures.reported source number second at is parts))))
 
-pub returns-clause-told : goal.returns-clause-told
-returns-clause-told g c = λ source number over at is are.
+pub returns-clause-reported : goal.returns-clause-reported
+returns-clause-reported g c = λ source number over at is are.
     let context = c.args.context.now in
     let tables = tables_of g.T.Transforms.meanings g.A.Actions.meanings context.tables.now in
     let names = known_names context.projects.now context.tasks.now in
@@ -76,9 +76,9 @@ returns-clause-told g c = λ source number over at is are.
     let back = λ (r : Result TaskDeclaration Fault). subst (λ expected. Tells tables source expected r) (sym (in_parts tables source at task)) in
     let second = subst (λ p. IsOver tables source names context.faults.now p.nodes number) (sym c.in_ok-flags.ensures.kept) over in
     let third = subst (λ p. IsOver tables source names context.faults.now p.nodes number) (sym (c.in_ok-contents.ensures.kept ∙ c.in_ok-flags.ensures.kept)) over in
-    let needs = c.in-Ok.ensures.told source number third ∙ needs_there tables source number at task c.split-parts.result parts in
+    let needs = c.in-Ok.ensures.reported source number third ∙ needs_there tables source number at task c.split-parts.result parts in
     in_parts tables source at task
-    ∙ ap (λ r. and_then r go_on) (c.in_ok-flags.ensures.told source number over at is.0 parts)
-    ∙ ap (λ r. and_then r (λ (contents : Contents). Ok (declaration_of at.path task c.in_ok-flags.flags contents (needed tables source at task)))) (c.in_ok-contents.ensures.told source number second at is parts)
+    ∙ ap (λ r. and_then r go_on) (c.in_ok-flags.ensures.reported source number over at is.0 parts)
+    ∙ ap (λ r. and_then r (λ (contents : Contents). Ok (declaration_of at.path task c.in_ok-flags.flags contents (needed tables source at task)))) (c.in_ok-contents.ensures.reported source number second at is parts)
     ∙ ap Ok (ap (λ path. declaration_of path task c.in_ok-flags.flags c.in_ok-contents.contents (needed tables source at task)) is.0
     ∙ ap (declaration_of c.args.path.now task c.in_ok-flags.flags c.in_ok-contents.contents) (sym needs) ∙ sym c.in_ok-declaration.ensures)

@@ -21,7 +21,7 @@ invariant-loop-name g l = record {
   count : length l.rest ≡ length (flat_map (λ (property : Named InputFiles). property.1.from) (map (λ e. (e.0, e.1.now)) l.name-iterator));
   patterns : HavePatterns (map (λ e. (e.0, e.1.now)) l.name-iterator);
   given : HaveValues g.T.Transforms.meanings l.initial.providers.nodes l.rest → HaveValues g.T.Transforms.meanings l.initial.providers.nodes l.row;
-  told : (source : Source) (number : ℕ → ℕ)
+  reported : (source : Source) (number : ℕ → ℕ)
       → IsOver (tables_of g.T.Transforms.meanings g.A.Actions.meanings l.context.tables.now) source (known_names l.context.projects.now l.context.tasks.now) l.context.faults.now l.initial.providers.nodes number
       → (at : Registered) → IsAt l.path at
       → AreFor (tables_of g.T.Transforms.meanings g.A.Actions.meanings l.context.tables.now) source number at.project l.row (flat_map (λ property. property.1.from) (named_in l.files))

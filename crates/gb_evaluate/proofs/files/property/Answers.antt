@@ -8,8 +8,8 @@ use Rattle.gb_evaluate.proofs.FileLemmas.{over_roots}
 use Rattle.gb_evaluate.proofs.RowLemmas.{places_there}
 use Rattle.gb_evaluate.proofs.files.property.Goals as goal
 
-pub returns-in_err-roots-clause-told : goal.returns-in_err-roots-clause-told
-returns-in_err-roots-clause-told g c = λ source number over at is are.
+pub returns-in_err-roots-clause-reported : goal.returns-in_err-roots-clause-reported
+returns-in_err-roots-clause-reported g c = λ source number over at is are.
     let context = c.args.context.now in
     let tables = tables_of g.T.Transforms.meanings g.A.Actions.meanings context.tables.now in
     let name = c.args.name.now in
@@ -19,15 +19,15 @@ returns-in_err-roots-clause-told g c = λ source number over at is are.
     let p = err_from_is_err_and c.from_residual.result c.from_residual.ensures.1 in
     passed_on tables source (files_under tables source at (spots tables source) (whole tables source) (name, files)) c.from_residual.result p.0 fault p.1 p.2
     (first_fails tables source places (λ roots. Ok (over_roots name files roots)) fault
-    (places_there tables source number at c.args.path.now is c.args.row.now files.from are name (Err fault) (c.in_err-roots.ensures.told source number over)))
+    (places_there tables source number at c.args.path.now is c.args.row.now files.from are name (Err fault) (c.in_err-roots.ensures.reported source number over)))
 
-pub returns-clause-told : goal.returns-clause-told
-returns-clause-told g c = λ source number over at is are.
+pub returns-clause-reported : goal.returns-clause-reported
+returns-clause-reported g c = λ source number over at is are.
     let context = c.args.context.now in
     let tables = tables_of g.T.Transforms.meanings g.A.Actions.meanings context.tables.now in
     let name = c.args.name.now in
     let files = c.args.files.now in
     let places = each_of (place_of tables source at (spots tables source) (whole tables source) name) files.from in
     ap (λ r. and_then r (λ roots. Ok (over_roots name files roots)))
-    (places_there tables source number at c.args.path.now is c.args.row.now files.from are name (Ok c.in_ok-roots.roots) (c.in_ok-roots.ensures.told source number over))
+    (places_there tables source number at c.args.path.now is c.args.row.now files.from are name (Ok c.in_ok-roots.roots) (c.in_ok-roots.ensures.reported source number over))
     ∙ ap Ok (sym c.in_ok-with_roots.ensures)

@@ -14,11 +14,11 @@ producers-requires-clause-value g c =
 pub loop-node-preserved : goal.loop-node-preserved
 loop-node-preserved g c = record {
   kept = c.in_ok-found.ensures.kept ∙ c.loop-node.invariant.kept;
-  told = λ source number over.
+  reported = λ source number over.
       let context = c.args.context.now in
       let tables = tables_of g.T.Transforms.meanings g.A.Actions.meanings context.tables.now in
       let there = subst (λ p. IsOver tables source (known_names context.projects.now context.tasks.now) context.faults.now p.nodes number) (sym c.loop-node.invariant.kept) over in
       more_needs (producers_at tables source) (λ (node : Node). number node.number) c.args.row.now c.loop-node.node-index (record { number = 0 }) (omega (arith, c.loop-node-test.true))
-      c.loop-node.tasks c.extend.new.self c.in_ok-found.found c.in_ok-extend.ensures.ok (c.in_ok-found.ensures.told source number there)
-      ∙ c.loop-node.invariant.told source number over;
+      c.loop-node.tasks c.extend.new.self c.in_ok-found.found c.in_ok-extend.ensures.ok (c.in_ok-found.ensures.reported source number there)
+      ∙ c.loop-node.invariant.reported source number over;
 }

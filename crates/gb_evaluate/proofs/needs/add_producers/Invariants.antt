@@ -11,7 +11,7 @@ use Rattle.gb_evaluate.proofs.needs.add_producers.Given as goal
 abbrev pub invariant-loop-node : goal.invariant-loop-node
 invariant-loop-node g l = record {
   kept : l.providers ≡ l.initial.providers;
-  told : (source : Source) (number : ℕ → ℕ)
+  reported : (source : Source) (number : ℕ → ℕ)
       → IsOver (tables_of g.T.Transforms.meanings g.A.Actions.meanings l.context.tables.now) source (known_names l.context.projects.now l.context.tasks.now) l.context.faults.now l.initial.providers.nodes number
       → with_tasks l.tasks (flat_map (producers_at (tables_of g.T.Transforms.meanings g.A.Actions.meanings l.context.tables.now) source) (numbers_in number (drop l.node-index l.row)))
       ≡ with_tasks l.initial.tasks (flat_map (producers_at (tables_of g.T.Transforms.meanings g.A.Actions.meanings l.context.tables.now) source) (numbers_in number l.row));

@@ -13,8 +13,8 @@ use Rattle.gb_evaluate.proofs.RowLemmas.{fails_here, goes_on, others_of_all, sta
 use Rattle.gb_evaluate.proofs.WalkLemmas.{walk_ends}
 use Rattle.gb_evaluate.proofs.outputs.outputs.Goals as goal
 
-pub returns-in_err-output-clause-told : goal.returns-in_err-output-clause-told
-returns-in_err-output-clause-told g c = λ source number over at is are.
+pub returns-in_err-output-clause-reported : goal.returns-in_err-output-clause-reported
+returns-in_err-output-clause-reported g c = λ source number over at is are.
     let context = c.args.context.now in
     let tables = tables_of g.T.Transforms.meanings g.A.Actions.meanings context.tables.now in
     let f = output_under tables source at (spots tables source) (whole tables source) in
@@ -22,13 +22,13 @@ returns-in_err-output-clause-told g c = λ source number over at is are.
     let tree = c.in-Some.made.now.1.now in
     let x : Named Made = (name, (c.in-Some.made.now.0, tree)) in
     let next = ap (map (λ e. (e.0, (e.1.0, e.1.1.now)))) c.in-Some.ensures.steps in
-    let left = c.loop-name.invariant.told source number over at is are in
+    let left = c.loop-name.invariant.reported source number over at is are in
     let there = subst (λ p. IsOver tables source (known_names context.projects.now context.tasks.now) context.faults.now p.nodes number) (sym c.loop-name.invariant.kept) over in
     let same = stands_for tables source number at.project (λ (output : Named Made). output.1.1) f (outputs_in c.args.outputs.now) c.loop-name.found.items c.loop-name.rest.now c.in-Some-split_first.others.now c.in-Some-split_first.node.now (map (λ e. (e.0, (e.1.0, e.1.1.now))) c.loop-name.name-iterator) (map (λ e. (e.0, (e.1.0, e.1.1.now))) c.next.new.self) x c.in-Some-split_first.ensures.cases.0 next left in
     let fault = c.in_err-output.field-0.0 in
     let p = err_from_is_err_and c.from_residual.result c.from_residual.ensures.1 in
     passed_on tables source (each_of f (outputs_in c.args.outputs.now)) c.from_residual.result p.0 fault p.1 p.2
-    (fails_here tables source number at.project (λ (output : Named Made). output.1.1) f (outputs_in c.args.outputs.now) c.loop-name.found.items c.loop-name.rest.now c.in-Some-split_first.others.now c.in-Some-split_first.node.now (map (λ e. (e.0, (e.1.0, e.1.1.now))) c.loop-name.name-iterator) (map (λ e. (e.0, (e.1.0, e.1.1.now))) c.next.new.self) x c.in-Some-split_first.ensures.cases.0 next left fault (c.in_err-output.ensures.told tree source number there at is (ap (λ e. e ∷ []) same)))
+    (fails_here tables source number at.project (λ (output : Named Made). output.1.1) f (outputs_in c.args.outputs.now) c.loop-name.found.items c.loop-name.rest.now c.in-Some-split_first.others.now c.in-Some-split_first.node.now (map (λ e. (e.0, (e.1.0, e.1.1.now))) c.loop-name.name-iterator) (map (λ e. (e.0, (e.1.0, e.1.1.now))) c.next.new.self) x c.in-Some-split_first.ensures.cases.0 next left fault (c.in_err-output.ensures.reported tree source number there at is (ap (λ e. e ∷ []) same)))
 
 pub loop-name-preserved : goal.loop-name-preserved
 loop-name-preserved g c = record {
@@ -38,7 +38,7 @@ loop-name-preserved g c = record {
   count =
       let long = sym (ap length c.in-Some-split_first.ensures.cases.0) ∙ c.loop-name.invariant.count ∙ ap length c.in-Some.ensures.steps in
       omega (arith, long);
-  told = λ source number over at is are.
+  reported = λ source number over at is are.
       let context = c.args.context.now in
       let tables = tables_of g.T.Transforms.meanings g.A.Actions.meanings context.tables.now in
       let f = output_under tables source at (spots tables source) (whole tables source) in
@@ -46,17 +46,17 @@ loop-name-preserved g c = record {
       let tree = c.in-Some.made.now.1.now in
       let x : Named Made = (name, (c.in-Some.made.now.0, tree)) in
       let next = ap (map (λ e. (e.0, (e.1.0, e.1.1.now)))) c.in-Some.ensures.steps in
-      let left = c.loop-name.invariant.told source number over at is are in
+      let left = c.loop-name.invariant.reported source number over at is are in
       let there = subst (λ p. IsOver tables source (known_names context.projects.now context.tasks.now) context.faults.now p.nodes number) (sym c.loop-name.invariant.kept) over in
       let same = stands_for tables source number at.project (λ (output : Named Made). output.1.1) f (outputs_in c.args.outputs.now) c.loop-name.found.items c.loop-name.rest.now c.in-Some-split_first.others.now c.in-Some-split_first.node.now (map (λ e. (e.0, (e.1.0, e.1.1.now))) c.loop-name.name-iterator) (map (λ e. (e.0, (e.1.0, e.1.1.now))) c.next.new.self) x c.in-Some-split_first.ensures.cases.0 next left in
-      goes_on tables source number at.project (λ (output : Named Made). output.1.1) f (outputs_in c.args.outputs.now) c.loop-name.found.items c.loop-name.rest.now c.in-Some-split_first.others.now c.in-Some-split_first.node.now (map (λ e. (e.0, (e.1.0, e.1.1.now))) c.loop-name.name-iterator) (map (λ e. (e.0, (e.1.0, e.1.1.now))) c.next.new.self) x c.in-Some-split_first.ensures.cases.0 next left c.in_ok-output.output c.push.new.self.items c.in_ok-push.ensures.items (c.in_ok-output.ensures.told tree source number there at is (ap (λ e. e ∷ []) same));
+      goes_on tables source number at.project (λ (output : Named Made). output.1.1) f (outputs_in c.args.outputs.now) c.loop-name.found.items c.loop-name.rest.now c.in-Some-split_first.others.now c.in-Some-split_first.node.now (map (λ e. (e.0, (e.1.0, e.1.1.now))) c.loop-name.name-iterator) (map (λ e. (e.0, (e.1.0, e.1.1.now))) c.next.new.self) x c.in-Some-split_first.ensures.cases.0 next left c.in_ok-output.output c.push.new.self.items c.in_ok-push.ensures.items (c.in_ok-output.ensures.reported tree source number there at is (ap (λ e. e ∷ []) same));
 }
 
-pub returns-clause-told : goal.returns-clause-told
-returns-clause-told g c = λ source number over at is are.
+pub returns-clause-reported : goal.returns-clause-reported
+returns-clause-reported g c = λ source number over at is are.
     let context = c.args.context.now in
     let tables = tables_of g.T.Transforms.meanings g.A.Actions.meanings context.tables.now in
     let f = output_under tables source at (spots tables source) (whole tables source) in
     walk_ends f (outputs_in c.args.outputs.now) c.loop-name.found.items (map (λ e. (e.0, (e.1.0, e.1.1.now))) c.loop-name.name-iterator) (ap (map (λ e. (e.0, (e.1.0, e.1.1.now)))) c.in-None.ensures.steps.0)
-    (c.loop-name.invariant.told source number over at is are).1
+    (c.loop-name.invariant.reported source number over at is are).1
     ∙ ap Ok (sym c.from_vec.ensures)

@@ -17,7 +17,7 @@ invariant-loop-name g l = record {
   kept : l.providers ≡ l.initial.providers;
   within : AreWithin l.initial.providers.nodes l.rest;
   count : length l.rest ≡ length l.name-iterator;
-  told : (source : Source) (number : ℕ → ℕ)
+  reported : (source : Source) (number : ℕ → ℕ)
       → IsOver (tables_of g.T.Transforms.meanings g.A.Actions.meanings l.context.tables.now) source (known_names l.context.projects.now l.context.tasks.now) l.context.faults.now l.initial.providers.nodes number
       → (at : Registered) → IsBuiltIn l.path l.build at
       → AreFor (tables_of g.T.Transforms.meanings g.A.Actions.meanings l.context.tables.now) source number at.project l.row (map (λ output. output.1.1) (outputs_in l.outputs))

@@ -12,8 +12,8 @@ use Rattle.gb_evaluate.specs.Rows.{numbers_in}
 use Rattle.gb_evaluate.proofs.WalkLemmas.{row_fails, row_goes_on}
 use Rattle.gb_evaluate.proofs.rows.arguments.Goals as goal
 
-pub returns-in_err-value-clause-told : goal.returns-in_err-value-clause-told
-returns-in_err-value-clause-told g c = λ source number over.
+pub returns-in_err-value-clause-reported : goal.returns-in_err-value-clause-reported
+returns-in_err-value-clause-reported g c = λ source number over.
     let context = c.args.context.now in
     let tables = tables_of g.T.Transforms.meanings g.A.Actions.meanings context.tables.now in
     let f = required_at tables source c.args.path.now c.args.name.now in
@@ -22,7 +22,7 @@ returns-in_err-value-clause-told g c = λ source number over.
     let p = err_from_is_err_and c.from_residual.result c.from_residual.ensures.1 in
     passed_on tables source (each_of f (numbers_in number c.args.row.now)) c.from_residual.result p.0 fault p.1 p.2
     (row_fails f (λ (node : Node). number node.number) c.args.row.now c.loop-node.node-index (record { number = 0 }) (omega (arith, c.loop-node-test.true)) tables source c.loop-node.found fault
-    (c.loop-node.invariant.told source number over) (c.in_err-value.ensures.told source number there))
+    (c.loop-node.invariant.reported source number over) (c.in_err-value.ensures.reported source number there))
 
 pub loop-node-preserved : goal.loop-node-preserved
 loop-node-preserved g c = record {
@@ -30,12 +30,12 @@ loop-node-preserved g c = record {
   given = All-more (λ (node : Node). HasValue g.T.Transforms.meanings c.args.providers.now.nodes node.number) c.args.row.now c.loop-node.node-index (record { number = 0 }) (omega (arith, c.loop-node-test.true))
       c.loop-node.invariant.given
       (subst (λ p. HasValue g.T.Transforms.meanings p.nodes (get_or c.args.row.now c.loop-node.node-index (record { number = 0 })).number) c.loop-node.invariant.kept c.in_ok-value.ensures.given);
-  told = λ source number over.
+  reported = λ source number over.
       let context = c.args.context.now in
       let tables = tables_of g.T.Transforms.meanings g.A.Actions.meanings context.tables.now in
       let there = subst (λ p. IsOver tables source (known_names context.projects.now context.tasks.now) context.faults.now p.nodes number) (sym c.loop-node.invariant.kept) over in
       row_goes_on (required_at tables source c.args.path.now c.args.name.now) (λ (node : Node). number node.number) c.args.row.now c.loop-node.node-index (record { number = 0 }) (omega (arith, c.loop-node-test.true))
-      c.loop-node.found c.in_ok-value.value c.push.new.self c.in_ok-push.ensures.ok (c.loop-node.invariant.told source number over) (c.in_ok-value.ensures.told source number there);
+      c.loop-node.found c.in_ok-value.value c.push.new.self c.in_ok-push.ensures.ok (c.loop-node.invariant.reported source number over) (c.in_ok-value.ensures.reported source number there);
 }
 
 pub returns-clause-given : goal.returns-clause-given

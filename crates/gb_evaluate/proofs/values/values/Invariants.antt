@@ -18,7 +18,7 @@ invariant-loop-name g l = record {
   within : AreWithin l.initial.providers.nodes l.rest;
   count : length l.rest ≡ length l.name-iterator;
   given : HaveValues g.T.Transforms.meanings l.initial.providers.nodes l.rest → HaveValues g.T.Transforms.meanings l.initial.providers.nodes l.row;
-  told : (source : Source) (number : ℕ → ℕ)
+  reported : (source : Source) (number : ℕ → ℕ)
       → IsOver (tables_of g.T.Transforms.meanings g.A.Actions.meanings l.context.tables.now) source (known_names l.context.projects.now l.context.tasks.now) l.context.faults.now l.initial.providers.nodes number
       → (at : Registered) → IsAt l.path at
       → AreFor (tables_of g.T.Transforms.meanings g.A.Actions.meanings l.context.tables.now) source number at.project l.row (map (λ value. value.1) (named_in l.inputs))

@@ -1,5 +1,5 @@
 use Rattle.std.proofs.Common.{◌≡◌, take, drop, map, vec_len, ◌∷◌, []}
-use Rattle.gb_exec.specs.Telling.{AllTold, told_of}
+use Rattle.gb_exec.specs.Telling.{AllReported, reported_of}
 use Rattle.gb_exec.proofs.telling.tell.Given as goal
 
 abbrev pub invariant-loop-at : goal.invariant-loop-at
@@ -7,6 +7,6 @@ invariant-loop-at g l =
     let ear = g.L.TaskListener.ear in
     record {
       len : vec_len l.listeners ≡ vec_len l.fn.listeners;
-      done : AllTold (told_of l.task l.ended ∷ []) l.all_heard (take l.at (map ear l.fn.listeners.items)) (take l.at (map ear l.listeners.items));
+      done : AllReported (reported_of l.task l.ended ∷ []) l.all_heard (take l.at (map ear l.fn.listeners.items)) (take l.at (map ear l.listeners.items));
       rest : drop l.at (map ear l.listeners.items) ≡ drop l.at (map ear l.fn.listeners.items);
     }

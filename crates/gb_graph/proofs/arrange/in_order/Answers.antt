@@ -12,7 +12,7 @@ pub tasks_at-requires-clause-known : goal.tasks_at-requires-clause-known
 tasks_at-requires-clause-known c = λ number h.
     let ranks = c.requires.ranks in
     let lt = order_known ranks.is_order.in_order number (subst (λ ks. Contains ks number) c.as_slice.ensures.value h) in
-    omega (arith, lt, ranks.told.each)
+    omega (arith, lt, ranks.reported.each)
 
 pub tasks_at-requires-clause-apart : goal.tasks_at-requires-clause-apart
 tasks_at-requires-clause-apart c =

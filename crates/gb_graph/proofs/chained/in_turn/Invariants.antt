@@ -5,5 +5,5 @@ use Rattle.gb_graph.proofs.chained.in_turn.Given as goal
 abbrev pub invariant-loop-number : goal.invariant-loop-number
 invariant-loop-number l = record {
   order : InOrder (rows l.after) l.numbers.items;
-  told : (k : ℕ) → Contains l.numbers.items k ↔ (k < l.number);
+  reported : (k : ℕ) → Contains l.numbers.items k ↔ (k < l.number);
 }

@@ -27,10 +27,10 @@ loop-number-preserved c =
     let SoFar : Option ℕ → Type 0 = λ found. MatchOption found ((k : ℕ) → Contains (take (i + 1) numbers) k → stands_in marks k ≡ false) (λ k. IsLeastNumber tasks (take (i + 1) numbers) marks k) in
     elim c.if-marks-number.branch [
       | then-marks-number w ↦
-          let next = so_far_marked tasks marks numbers i t lt is known c.loop-number.least w.lesser.result old.told old.known w.if-marks-number.true w.lesser.ensures in
-          record { told = subst SoFar (sym w.least-is) next.0; known = subst (IsWithin tasks) (sym w.least-is) next.1 }
+          let next = so_far_marked tasks marks numbers i t lt is known c.loop-number.least w.lesser.result old.reported old.known w.if-marks-number.true w.lesser.ensures in
+          record { reported = subst SoFar (sym w.least-is) next.0; known = subst (IsWithin tasks) (sym w.least-is) next.1 }
       | else-marks-number w ↦ record {
-        told = subst SoFar (sym w.least-is) (so_far_shut tasks marks numbers i t lt is known c.loop-number.least old.told w.if-marks-number.false);
+        reported = subst SoFar (sym w.least-is) (so_far_shut tasks marks numbers i t lt is known c.loop-number.least old.reported w.if-marks-number.false);
         known = subst (IsWithin tasks) (sym w.least-is) old.known;
       }
     ]
@@ -40,4 +40,4 @@ returns c =
     let numbers = c.args.numbers.now in
     let e : length numbers ≡ c.loop-number.number-index = omega (arith, c.loop-number-test.false, c.loop-number.auto.number-index-end) in
     subst (λ ks. MatchOption c.loop-number.least ((k : ℕ) → Contains ks k → stands_in c.args.marks.now k ≡ false) (λ k. IsLeastNumber c.args.tasks.now ks c.args.marks.now k))
-    (ap (λ n. take n numbers) (sym e) ∙ take-length numbers) c.loop-number.invariant.told
+    (ap (λ n. take n numbers) (sym e) ∙ take-length numbers) c.loop-number.invariant.reported

@@ -5,7 +5,7 @@ use Rattle.gb_graph.proofs.circle.least_of.Given as goal
 
 abbrev pub invariant-loop-number : goal.invariant-loop-number
 invariant-loop-number l = record {
-  told : MatchOption l.least
+  reported : MatchOption l.least
       ((number : ℕ) → Contains (take l.number-index l.numbers) number → stands_in l.marks number ≡ false)
       (λ number. IsLeastNumber l.tasks (take l.number-index l.numbers) l.marks number);
   known : MatchOption l.least (Unit {0}) (λ number. number < length l.tasks);

@@ -16,7 +16,7 @@ use Rattle.gb_graph.proofs.circle.trail_of.Goals as goal
 pub loop-met-init : goal.loop-met-init
 loop-met-init c = record {
   each = c.in_ok-met.ensures.len;
-  told = λ k. (
+  reported = λ k. (
     λ h. not_both h (ap (λ s. stands_in s k) (c.in_ok-met.ensures.items_if_clones_equal (λ y e. e)) ∙ none_stand (length c.args.tasks.now) k),
     λ d. let lt = (subst (λ ks. Contains ks k) c.new-trail.ensures.items d).1 in absurd (omega (arith, lt)),
   );
@@ -69,9 +69,9 @@ loop-met-preserved c =
     let pushed = c.in_ok-push.ensures.items in
     record {
       each = old.each;
-      told = λ k. subst (λ ks. (stands_in (set met at true) k ≡ true → Contains ks k) × (Contains ks k → stands_in (set met at true) k ≡ true)) (sym pushed) (met_grows met trail at in_met old.told k);
+      reported = λ k. subst (λ ks. (stands_in (set met at true) k ≡ true → Contains ks k) × (Contains ks k → stands_in (set met at true) k ≡ true)) (sym pushed) (met_grows met trail at in_met old.reported k);
       leads = subst (λ ks. LeadsTo (IsNextNumber tasks after marks) c.args.start ks c.in-Some.next) (sym pushed) (leads_push (IsNextNumber tasks after marks) c.args.start at c.in-Some.next trail old.leads next);
-      apart = subst AreApart (sym pushed) (apart_push trail at old.apart (λ d. not_both ((old.told at).1 d) lacks));
+      apart = subst AreApart (sym pushed) (apart_push trail at old.apart (λ d. not_both ((old.reported at).1 d) lacks));
       marked = λ k d. elim (Contains-push_cases trail at k (subst (λ ks. Contains ks k) pushed d)) [ inl was ↦ old.marked k was | inr e ↦ ap (stands_in marks) (sym e) ∙ old.here ];
       here = next.marked;
     }
@@ -95,6 +95,6 @@ returns c =
     record {
       leads = old.leads;
       apart = old.apart;
-      comes_back = (old.told at).0 (get_or_default met at false c.index.result.now in_met ∙ (sym c.index.ensures ∙ c.loop-met-test.false));
+      comes_back = (old.reported at).0 (get_or_default met at false c.index.result.now in_met ∙ (sym c.index.ensures ∙ c.loop-met-test.false));
       marked = old.marked;
     }

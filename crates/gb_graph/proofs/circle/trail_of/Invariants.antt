@@ -8,7 +8,7 @@ use Rattle.gb_graph.proofs.circle.trail_of.Given as goal
 abbrev pub invariant-loop-met : goal.invariant-loop-met
 invariant-loop-met l = record {
   each : vec_len l.met ≡ length l.tasks;
-  told : (number : ℕ) → (stands_in l.met.items number ≡ true) ↔ Contains l.trail.items number;
+  reported : (number : ℕ) → (stands_in l.met.items number ≡ true) ↔ Contains l.trail.items number;
   leads : LeadsTo (IsNextNumber l.tasks (rows l.after) l.marks) l.start l.trail.items l.at;
   apart : AreApart l.trail.items;
   marked : (number : ℕ) → Contains l.trail.items number → stands_in l.marks number ≡ true;

@@ -9,7 +9,7 @@ use Rattle.gb_graph.specs.Circle.{path_at}
 use Rattle.gb_graph.specs.declared.least.Found.{Found}
 use Rattle.gb_graph.specs.declared.least.Met.{Met}
 use Rattle.gb_graph.specs.declared.places.TaskPlace.{TaskPlace}
-use Rattle.gb_graph.specs.Meetings.{IsLeast, IsMet, IsMetAt, IsMetTask, IsWithin, found_by, lesser}
+use Rattle.gb_graph.specs.Conflicts.{IsLeast, IsMet, IsMetAt, IsMetTask, IsWithin, found_by, lesser}
 use Rattle.gb_graph.proofs.Lesser.{IsNear, least_same, least_either, least_near, passed_near, task_within, within_near}
 use Rattle.gb_graph.proofs.Meets.{meets_more}
 use Rattle.gb_graph.proofs.RefusalRows.{place_found}
@@ -69,8 +69,8 @@ loop-place-preserved c =
           let others = w.in_ok-others.others.items in
           let other = w.index-places-place-then-not-is_later.result in
           let met = w.least_at-met.result in
-          let told = subst (λ (p : TaskPlace). (task : ℕ) → Contains others task ↔ IsMetTask search chains outputs p task) (w.index-places-place-then-not-is_later.is ∙ get_or_default places i other d lt) w.in_ok-others.ensures in
-          let more = meets_more search chains tasks outputs places i at lt is others told in
+          let reported = subst (λ (p : TaskPlace). (task : ℕ) → Contains others task ↔ IsMetTask search chains outputs p task) (w.index-places-place-then-not-is_later.is ∙ get_or_default places i other d lt) w.in_ok-others.ensures in
+          let more = meets_more search chains tasks outputs places i at lt is others reported in
           record {
             least = subst Least (sym w.least-is)
                 (subst (IsLeast (IsMet search chains tasks outputs (take (i + 1) places))) (sym w.lesser-least.ensures.lesser)

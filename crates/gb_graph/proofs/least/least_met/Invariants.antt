@@ -1,6 +1,6 @@
 use Rattle.std.proofs.Common.{take, MatchOption}
 use Rattle.gb_graph.specs.Order.{rows}
-use Rattle.gb_graph.specs.Meetings.{IsLeast, IsMet, IsWithin, found_by}
+use Rattle.gb_graph.specs.Conflicts.{IsLeast, IsMet, IsWithin, found_by}
 use Rattle.gb_graph.proofs.least.least_met.Given as goal
 
 abbrev pub invariant-loop-place : goal.invariant-loop-place

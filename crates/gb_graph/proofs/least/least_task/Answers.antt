@@ -4,7 +4,7 @@ use Rattle.std.proofs.lemmas.List.{get_or_default}
 use Rattle.std.proofs.lemmas.List.Elements.{Contains-get_or}
 use Rattle.gb_core.specs.Lists.{byte_order}
 use Rattle.gb_graph.specs.Circle.{path_at}
-use Rattle.gb_graph.specs.Meetings.{IsLeastTask}
+use Rattle.gb_graph.specs.Conflicts.{IsLeastTask}
 use Rattle.gb_graph.proofs.Lesser.{task_lesser, task_passed}
 use Rattle.gb_graph.proofs.least.least_task.Goals as goal
 use Rattle.gb_graph.proofs.least.least_task.Goals.{then-is_lesser, else-is_lesser}
@@ -22,16 +22,16 @@ loop-number-preserved c =
     let is = get_or_default numbers i 0 k lt in
     let least = c.loop-number.least in
     let old = c.loop-number.invariant in
-    let Told : Option ℕ → Type 0 = λ o. MatchOption o (take (i + 1) numbers ≡ []) (IsLeastTask tasks (take (i + 1) numbers)) in
+    let Reported : Option ℕ → Type 0 = λ o. MatchOption o (take (i + 1) numbers ≡ []) (IsLeastTask tasks (take (i + 1) numbers)) in
     let Known : Option ℕ → Type 0 = λ o. MatchOption o (Unit {0}) (λ n. n < length tasks) in
     elim c.if-is_lesser.branch [
       | then-is_lesser w ↦ record {
-        told = subst Told (sym w.least-is) (task_lesser tasks numbers i k lt is least old.told
+        reported = subst Reported (sym w.least-is) (task_lesser tasks numbers i k lt is least old.reported
             (subst (λ b. MatchOption least (b ≡ true) (λ l. b ≡ is_lt (byte_order (path_at tasks k) (path_at tasks l)))) w.if-is_lesser.true c.is_lesser.ensures));
         known = subst Known (sym w.least-is) (c.requires k (Contains-get_or numbers i 0 lt));
       }
       | else-is_lesser w ↦ record {
-        told = subst Told (sym w.least-is) (task_passed tasks numbers i k lt is least old.told
+        reported = subst Reported (sym w.least-is) (task_passed tasks numbers i k lt is least old.reported
             (subst (λ b. MatchOption least (b ≡ true) (λ l. b ≡ is_lt (byte_order (path_at tasks k) (path_at tasks l)))) w.if-is_lesser.false c.is_lesser.ensures));
         known = subst Known (sym w.least-is) old.known;
       }

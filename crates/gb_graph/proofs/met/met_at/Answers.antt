@@ -34,13 +34,13 @@ loop-index-preserved c =
     let low : k < length outputs = ((c.in_ok-found.ensures k).0 (subst (λ ks. Contains ks k) c.deref-index-items.ensures.value (Contains-get_or indices i 0 lt))).0 in
     let output : TaskPlace = c.index-outputs-index.result in
     let tasks = c.loop-index.tasks.items in
-    let Told : List ℕ → Type 0 = λ ts. (task : ℕ) → Contains ts task ↔ IsMetBy search chains outputs at (take (i + 1) indices) task in
+    let Reported : List ℕ → Type 0 = λ ts. (task : ℕ) → Contains ts task ↔ IsMetBy search chains outputs at (take (i + 1) indices) task in
     elim c.if-counts.branch [
       | then-counts+in_ok-push w ↦
-          subst Told (sym (ap (λ (v : _). v.items) w.tasks-is ∙ w.in_ok-push.ensures.items))
+          subst Reported (sym (ap (λ (v : _). v.items) w.tasks-is ∙ w.in_ok-push.ensures.items))
           (met_more search chains outputs at indices i k output tasks lt (get_or_default indices i 0 k lt) low c.index-outputs-index.is (sym c.counts.ensures ∙ w.if-counts.true) c.loop-index.invariant)
       | else-counts w ↦
-          subst Told (sym (ap (λ (v : _). v.items) w.tasks-is))
+          subst Reported (sym (ap (λ (v : _). v.items) w.tasks-is))
           (met_passed search chains outputs at indices i k output tasks lt (get_or_default indices i 0 k lt) low c.index-outputs-index.is (sym c.counts.ensures ∙ w.if-counts.false) c.loop-index.invariant)
     ]
 

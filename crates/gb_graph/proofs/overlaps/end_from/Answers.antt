@@ -12,10 +12,10 @@ returns-then-not-is_before-clause-above c =
     let row = c.args.row.now in
     let text = c.args.text.now ++ c.args.sign ∷ [] in
     let end = c.loop-end.end in
-    let told : is_before (place_at row end) text ≡ false =
+    let reported : is_before (place_at row end) text ≡ false =
     ap (λ x. is_before x text) (place_found row end c.index-row-end.result c.loop-end-test.true ∙ ap (λ (d : TaskPlace). d.place) (sym c.index-row-end.is)) ∙ sym c.is_before.ensures ∙ c.if-not-is_before.true in
     λ i g l. elim (cases_Bool (is_before (place_at row i) text)) [
-      | inl t ↦ not_both (c.requires.rising text end i g l t) told
+      | inl t ↦ not_both (c.requires.rising text end i g l t) reported
       | inr f ↦ f
     ]
 
@@ -24,12 +24,12 @@ loop-end-preserved c =
     let row = c.args.row.now in
     let text = c.args.text.now ++ c.args.sign ∷ [] in
     let end = c.loop-end.end in
-    let told : is_before (place_at row end) text ≡ true =
+    let reported : is_before (place_at row end) text ≡ true =
     ap (λ x. is_before x text) (place_found row end c.index-row-end.result c.loop-end-test.true ∙ ap (λ (d : TaskPlace). d.place) (sym c.index-row-end.is)) ∙ sym c.is_before.ensures ∙ c.if-not-is_before.false in
     record {
       within = omega (arith, c.loop-end-test.true);
       below = λ i g l. elim (below_or_at i end l) [
         | inl under ↦ c.loop-end.invariant.below i g under
-        | inr is ↦ ap (λ n. is_before (place_at row n) text) is ∙ told
+        | inr is ↦ ap (λ n. is_before (place_at row n) text) is ∙ reported
       ];
     }

@@ -11,8 +11,8 @@ loop-index-preserved c =
     let first = c.first_from-first.result in
     record {
       bounded = inr (omega (arith, c.loop-index-test.true));
-      told = subst (λ (xs : List ℕ). (k : ℕ) → Contains xs k ↔ (Contains c.args.found.now.items k ⊎ ((first ≤ k) × (k < c.loop-index.index + 1)))) (sym c.in_ok-push.ensures.items)
-          (one_more c.args.found.now.items found first c.loop-index.index c.loop-index.auto.index old.told);
+      reported = subst (λ (xs : List ℕ). (k : ℕ) → Contains xs k ↔ (Contains c.args.found.now.items k ⊎ ((first ≤ k) × (k < c.loop-index.index + 1)))) (sym c.in_ok-push.ensures.items)
+          (one_more c.args.found.now.items found first c.loop-index.index c.loop-index.auto.index old.reported);
     }
 
 pub returns : goal.returns
@@ -26,8 +26,8 @@ returns c =
     λ k.
     let x = place_at row k in
     let range = in_range (is_before x from) (is_before x to) k first.result end.result (length row) end.ensures.within (first.ensures.below k) (first.ensures.above k) (end.ensures.below k) (end.ensures.above k) in
-    let told = c.loop-index.invariant.told k in
+    let reported = c.loop-index.invariant.reported k in
     let stop = ends k first.result end.result i c.loop-index.auto.index (omega (arith, c.loop-index-test.false)) c.loop-index.invariant.bounded in (
-      λ h. elim (told.0 h) [ inl o ↦ inl o | inr at ↦ inr (range.0 (at.0, stop.0 at.1 at.0)) ],
-      λ h. told.1 (elim h [ inl o ↦ inl o | inr at ↦ (let r = range.1 at in inr (r.0, stop.1 r.1)) ]),
+      λ h. elim (reported.0 h) [ inl o ↦ inl o | inr at ↦ inr (range.0 (at.0, stop.0 at.1 at.0)) ],
+      λ h. reported.1 (elim h [ inl o ↦ inl o | inr at ↦ (let r = range.1 at in inr (r.0, stop.1 r.1)) ]),
     )

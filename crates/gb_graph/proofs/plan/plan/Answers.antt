@@ -10,4 +10,4 @@ returns-in-Some-clause-fault g c =
     let items = c.in_ok-ordered.ordered.items in
     let judged = subst (λ (plan : Plan). IsJudged plan c.in_ok-refusal_of.field-0) c.as_slice.ensures.value c.in_ok-refusal_of.ensures in
     let first = subst (λ (refusal : Option Refusal). IsJudged items refusal) c.in-Some.is judged in
-    inr (inr (planned.0, planned.1, inr (items, planned.2, c.told.ensures items planned.3 first)))
+    inr (inr (planned.0, planned.1, inr (items, planned.2, c.reported.ensures items planned.3 first)))

@@ -23,16 +23,16 @@ round_of-requires c =
     let others = c.args.ranks.now.others.items in
     let ranks = c.requires.ranks in
     let marks = c.in_ok-marks.marks.items in
-    let told = c.in_ok-marks.ensures.told in
-    let shows : (k : ℕ) → stands_in marks k ≡ true → Contains others k = λ k h. subst (λ ks. Contains ks k) c.as_slice.ensures.value ((told k).0 h) in
-    let marked : (k : ℕ) → Contains others k → stands_in marks k ≡ true = λ k h. (told k).1 (subst (λ ks. Contains ks k) (sym c.as_slice.ensures.value) h) in
+    let reported = c.in_ok-marks.ensures.reported in
+    let shows : (k : ℕ) → stands_in marks k ≡ true → Contains others k = λ k h. subst (λ ks. Contains ks k) c.as_slice.ensures.value ((reported k).0 h) in
+    let marked : (k : ℕ) → Contains others k → stands_in marks k ≡ true = λ k h. (reported k).1 (subst (λ ks. Contains ks k) (sym c.as_slice.ensures.value) h) in
     let some = c.requires.some in
     let long = ap length c.as_slice-2.ensures.value in
     let wide : length table ≡ length c.args.ranks.now.after.items = length-map c.args.ranks.now.after.items (λ v. v.items) in
     let marks_long = ap length c.as_slice-3.ensures.value in
     record {
-      known = λ task before h. (ranks.told.known task before (subst (λ vs. Contains (row (rows vs) task) before) c.as_slice-2.ensures.value h)).1;
-      rows = omega (arith, long, wide, ranks.told.each);
+      known = λ task before h. (ranks.reported.known task before (subst (λ vs. Contains (row (rows vs) task) before) c.as_slice-2.ensures.value h)).1;
+      rows = omega (arith, long, wide, ranks.reported.each);
       each = omega (arith, marks_long, c.in_ok-marks.ensures.each);
       among = λ k h. (ranks.are_others.within k (subst (λ ks. Contains ks k) c.as_slice-4.ensures.value h)).0;
       some = (some.0, subst (λ ks. Contains ks some.0) (sym c.as_slice-4.ensures.value) some.1, subst (λ ms. stands_in ms some.0 ≡ true) (sym c.as_slice-3.ensures.value) (marked some.0 some.1));
@@ -49,9 +49,9 @@ paths_of-requires c = λ k h.
     let others = c.args.ranks.now.others.items in
     let ranks = c.requires.ranks in
     let marks = c.in_ok-marks.marks.items in
-    let told = c.in_ok-marks.ensures.told in
-    let shows : (k : ℕ) → stands_in marks k ≡ true → Contains others k = λ k h. subst (λ ks. Contains ks k) c.as_slice.ensures.value ((told k).0 h) in
-    let marked : (k : ℕ) → Contains others k → stands_in marks k ≡ true = λ k h. (told k).1 (subst (λ ks. Contains ks k) (sym c.as_slice.ensures.value) h) in
+    let reported = c.in_ok-marks.ensures.reported in
+    let shows : (k : ℕ) → stands_in marks k ≡ true → Contains others k = λ k h. subst (λ ks. Contains ks k) c.as_slice.ensures.value ((reported k).0 h) in
+    let marked : (k : ℕ) → Contains others k → stands_in marks k ≡ true = λ k h. (reported k).1 (subst (λ ks. Contains ks k) (sym c.as_slice.ensures.value) h) in
     let is : IsRound tasks table marks others c.in_ok-round.round.items =
     subst (λ t. IsRound tasks t marks others c.in_ok-round.round.items) (ap rows c.as_slice-2.ensures.value)
     (subst (λ m. IsRound tasks (rows c.as_slice-2.result.now) m others c.in_ok-round.round.items) c.as_slice-3.ensures.value
@@ -68,9 +68,9 @@ returns c =
     let others = c.args.ranks.now.others.items in
     let ranks = c.requires.ranks in
     let marks = c.in_ok-marks.marks.items in
-    let told = c.in_ok-marks.ensures.told in
-    let shows : (k : ℕ) → stands_in marks k ≡ true → Contains others k = λ k h. subst (λ ks. Contains ks k) c.as_slice.ensures.value ((told k).0 h) in
-    let marked : (k : ℕ) → Contains others k → stands_in marks k ≡ true = λ k h. (told k).1 (subst (λ ks. Contains ks k) (sym c.as_slice.ensures.value) h) in
+    let reported = c.in_ok-marks.ensures.reported in
+    let shows : (k : ℕ) → stands_in marks k ≡ true → Contains others k = λ k h. subst (λ ks. Contains ks k) c.as_slice.ensures.value ((reported k).0 h) in
+    let marked : (k : ℕ) → Contains others k → stands_in marks k ≡ true = λ k h. (reported k).1 (subst (λ ks. Contains ks k) (sym c.as_slice.ensures.value) h) in
     let is : IsRound tasks table marks others c.in_ok-round.round.items =
     subst (λ t. IsRound tasks t marks others c.in_ok-round.round.items) (ap rows c.as_slice-2.ensures.value)
     (subst (λ m. IsRound tasks (rows c.as_slice-2.result.now) m others c.in_ok-round.round.items) c.as_slice-3.ensures.value

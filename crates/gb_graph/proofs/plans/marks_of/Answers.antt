@@ -24,14 +24,14 @@ loop-number-preserved c =
     let lt : t < length stands = omega (arith, known, c.loop-number.invariant.each) in
     record {
       each = c.loop-number.invariant.each;
-      told = λ k.
+      reported = λ k.
           let grows = take_grows numbers i t k c.loop-number-test.true (get_or_default numbers i 0 t c.loop-number-test.true) in (
             λ h. elim (cases_eq k t) [
               | inl e ↦ grows.1 (inr (sym e))
-              | inr apart ↦ grows.1 (inl ((c.loop-number.invariant.told k).0 (sym (mark_other stands t k apart) ∙ h)))
+              | inr apart ↦ grows.1 (inl ((c.loop-number.invariant.reported k).0 (sym (mark_other stands t k apart) ∙ h)))
             ],
             λ h. elim (grows.0 h) [
-              | inl old ↦ mark_kept stands t k lt ((c.loop-number.invariant.told k).1 old)
+              | inl old ↦ mark_kept stands t k lt ((c.loop-number.invariant.reported k).1 old)
               | inr e ↦ ap (stands_in (set stands t true)) (sym e) ∙ get_or-set_same stands t true false lt
             ],
           );
@@ -44,5 +44,5 @@ returns c =
     let whole : take c.loop-number.number-index numbers ≡ numbers = ap (λ n. take n numbers) (sym e) ∙ take-length numbers in
     record {
       each = omega (arith, c.loop-number.invariant.each);
-      told = λ k. subst (λ ks. (stands_in c.loop-number.marks.items k ≡ true → Contains ks k) × (Contains ks k → stands_in c.loop-number.marks.items k ≡ true)) whole (c.loop-number.invariant.told k);
+      reported = λ k. subst (λ ks. (stands_in c.loop-number.marks.items k ≡ true → Contains ks k) × (Contains ks k → stands_in c.loop-number.marks.items k ≡ true)) whole (c.loop-number.invariant.reported k);
     }

@@ -5,5 +5,5 @@ use Rattle.gb_graph.proofs.plans.marks_of.Given as goal
 abbrev pub invariant-loop-number : goal.invariant-loop-number
 invariant-loop-number l = record {
   each : vec_len l.marks ≡ l.count;
-  told : (k : ℕ) → (stands_in l.marks.items k ≡ true) ↔ Contains (take l.number-index l.numbers) k;
+  reported : (k : ℕ) → (stands_in l.marks.items k ≡ true) ↔ Contains (take l.number-index l.numbers) k;
 }

@@ -27,14 +27,14 @@ loop-number-preserved c =
     let lt : t < length stands = omega (arith, known, c.loop-number.invariant.each) in
     record {
       each = c.loop-number.invariant.each;
-      told = λ k.
+      reported = λ k.
           let grows = take_grows numbers i t k c.loop-number-test.true (get_or_default numbers i 0 t c.loop-number-test.true) in (
             λ h. elim (cases_eq k t) [
               | inl e ↦ grows.1 (inr (sym e))
-              | inr apart ↦ grows.1 (inl ((c.loop-number.invariant.told k).0 (sym (mark_other stands t k apart) ∙ h)))
+              | inr apart ↦ grows.1 (inl ((c.loop-number.invariant.reported k).0 (sym (mark_other stands t k apart) ∙ h)))
             ],
             λ h. elim (grows.0 h) [
-              | inl old ↦ mark_kept stands t k lt ((c.loop-number.invariant.told k).1 old)
+              | inl old ↦ mark_kept stands t k lt ((c.loop-number.invariant.reported k).1 old)
               | inr e ↦ ap (stands_in (set stands t true)) (sym e) ∙ get_or-set_same stands t true false lt
             ],
           );
@@ -52,15 +52,15 @@ loop-number-2-preserved c =
           let is : c.if-not-index.others.items ≡ others ++ n ∷ [] = ap (λ (v : _). v.items) w.others-is ∙ w.in_ok-push.ensures.items in
           let opened : stands_in stands n ≡ false = get_or_default stands n false c.index.result.now fits ∙ (sym c.index.ensures ∙ w.if-not-index.true) in
           record {
-            apart = subst AreApart (sym is) (apart_push others n old.apart (λ h. let low = ((old.told n).0 h).0 in omega (arith, low)));
-            told = λ k. (
+            apart = subst AreApart (sym is) (apart_push others n old.apart (λ h. let low = ((old.reported n).0 h).0 in omega (arith, low)));
+            reported = λ k. (
               λ h. elim (Contains-push_cases others n k (subst (λ xs. Contains xs k) is h)) [
-                | inl g ↦ let at = (old.told k).0 g in (omega (arith, at.0), at.1)
+                | inl g ↦ let at = (old.reported k).0 g in (omega (arith, at.0), at.1)
                 | inr e ↦ (omega (arith, e), ap (stands_in stands) (sym e) ∙ opened)
               ],
               λ h. subst (λ xs. Contains xs k) (sym is) (elim (cases_eq k n) [
                 | inl e ↦ subst (λ v. Contains (others ++ n ∷ []) v) (sym e) (Contains-push others n)
-                | inr differs ↦ Contains-append_left others (n ∷ []) k ((old.told k).1 (omega (arith, h.0, differs), h.1))
+                | inr differs ↦ Contains-append_left others (n ∷ []) k ((old.reported k).1 (omega (arith, h.0, differs), h.1))
               ]),
             );
           }
@@ -69,11 +69,11 @@ loop-number-2-preserved c =
           let shut : stands_in stands n ≡ true = get_or_default stands n false c.index.result.now fits ∙ (sym c.index.ensures ∙ w.if-not-index.false) in
           record {
             apart = subst AreApart (sym is) old.apart;
-            told = λ k. (
-              λ h. let at = (old.told k).0 (subst (λ xs. Contains xs k) is h) in (omega (arith, at.0), at.1),
+            reported = λ k. (
+              λ h. let at = (old.reported k).0 (subst (λ xs. Contains xs k) is h) in (omega (arith, at.0), at.1),
               λ h. subst (λ xs. Contains xs k) (sym is) (elim (cases_eq k n) [
                 | inl e ↦ not_both shut (ap (stands_in stands) (sym e) ∙ h.1)
-                | inr differs ↦ (old.told k).1 (omega (arith, h.0, differs), h.1)
+                | inr differs ↦ (old.reported k).1 (omega (arith, h.0, differs), h.1)
               ]),
             );
           }
@@ -83,18 +83,18 @@ pub returns : goal.returns
 returns c =
     let numbers = c.args.numbers.now in
     let stands = c.loop-number.stands.items in
-    let told = c.loop-number-2.invariant.told in
+    let reported = c.loop-number-2.invariant.reported in
     let e : length numbers ≡ c.loop-number.number-index = omega (arith, c.loop-number-test.false) in
     let whole : take c.loop-number.number-index numbers ≡ numbers = ap (λ n. take n numbers) (sym e) ∙ take-length numbers in
     let all : c.args.count ≡ c.loop-number-2.number = omega (arith, c.loop-number-2-test.false, c.loop-number-2.auto.number-end) in
     record {
       apart = c.loop-number-2.invariant.apart;
-      within = λ k h. let at = (told k).0 h in
-          (omega (arith, at.0, all), λ g. not_both ((c.loop-number.invariant.told k).1 (subst (λ xs. Contains xs k) (sym whole) g)) at.1);
-      back = λ k lt lacks. (told k).1 (
+      within = λ k h. let at = (reported k).0 h in
+          (omega (arith, at.0, all), λ g. not_both ((c.loop-number.invariant.reported k).1 (subst (λ xs. Contains xs k) (sym whole) g)) at.1);
+      back = λ k lt lacks. (reported k).1 (
         omega (arith, lt, all),
         elim (cases_Bool (stands_in stands k)) [
-          | inl h ↦ absurd (lacks (subst (λ xs. Contains xs k) whole ((c.loop-number.invariant.told k).0 h)))
+          | inl h ↦ absurd (lacks (subst (λ xs. Contains xs k) whole ((c.loop-number.invariant.reported k).0 h)))
           | inr h ↦ h
         ],
       );

@@ -6,11 +6,11 @@ use Rattle.gb_graph.proofs.ranked.others_of.Given as goal
 abbrev pub invariant-loop-number : goal.invariant-loop-number
 invariant-loop-number l = record {
   each : vec_len l.stands ≡ l.count;
-  told : (k : ℕ) → (stands_in l.stands.items k ≡ true) ↔ Contains (take l.number-index l.numbers) k;
+  reported : (k : ℕ) → (stands_in l.stands.items k ≡ true) ↔ Contains (take l.number-index l.numbers) k;
 }
 
 abbrev pub invariant-loop-number-2 : goal.invariant-loop-number-2
 invariant-loop-number-2 l = record {
   apart : AreApart l.others.items;
-  told : (k : ℕ) → Contains l.others.items k ↔ ((k < l.number) × (stands_in l.stands.items k ≡ false));
+  reported : (k : ℕ) → Contains l.others.items k ↔ ((k < l.number) × (stands_in l.stands.items k ≡ false));
 }

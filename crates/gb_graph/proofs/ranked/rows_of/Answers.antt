@@ -25,7 +25,7 @@ loop-preserved c = record {
 pub loop-task-init : goal.loop-task-init
 loop-task-init c = record {
   each = omega (arith, c.loop.invariant.each, c.loop-test.false, c.loop.auto.counter-end);
-  told = λ task before. (
+  reported = λ task before. (
     λ h. let lt = (subst (λ xs. Contains xs before) (c.loop.invariant.empty task) h).1 in absurd (omega (arith, lt)),
     λ h. absurd (omega (arith, h.1)),
   );
@@ -53,15 +53,15 @@ loop-task-preserved c =
     rows_push after edge.0 c.index_mut.result.now c.push-in-loop-task.new.self edge.1 fits c.index_mut.ensures.value c.in_ok-push-2.ensures.items in
     record {
       each = c.loop-task.invariant.each;
-      told = λ task before.
+      reported = λ task before.
           let pair : ℕ × ℕ = (task, before) in
           let grows = take_grows edges i edge pair lt (get_or_default edges i (0, 0) edge lt) in (
             λ h. elim (row_only w edge.0 edge.1 task before within (subst (λ ws. Contains (row ws task) before) pushed h)) [
-              | inl old ↦ grows.1 (inl ((c.loop-task.invariant.told task before).0 old))
+              | inl old ↦ grows.1 (inl ((c.loop-task.invariant.reported task before).0 old))
               | inr new ↦ grows.1 (inr (λ j. (sym new.0 j, sym new.1 j)))
             ],
             λ h. subst (λ ws. Contains (row ws task) before) (sym pushed) (elim (grows.0 h) [
-              | inl old ↦ row_kept w edge.0 edge.1 task before within ((c.loop-task.invariant.told task before).1 old)
+              | inl old ↦ row_kept w edge.0 edge.1 task before within ((c.loop-task.invariant.reported task before).1 old)
               | inr e ↦ subst (λ (p : ℕ × ℕ). Contains (row (set w edge.0 (row w edge.0 ++ edge.1 ∷ [])) p.0) p.1) e (row_has w edge.0 edge.1 within)
             ]),
           );
@@ -75,8 +75,8 @@ returns c =
     let same : length (rows c.loop-task.after.items) ≡ length c.loop-task.after.items = length-map c.loop-task.after.items (λ v. v.items) in
     record {
       each = omega (arith, same, c.loop-task.invariant.each);
-      told = λ task before. (
-        λ h. subst (λ es. Contains es (task, before)) whole ((c.loop-task.invariant.told task before).0 h),
-        λ h. (c.loop-task.invariant.told task before).1 (subst (λ es. Contains es (task, before)) (sym whole) h),
+      reported = λ task before. (
+        λ h. subst (λ es. Contains es (task, before)) whole ((c.loop-task.invariant.reported task before).0 h),
+        λ h. (c.loop-task.invariant.reported task before).1 (subst (λ es. Contains es (task, before)) (sym whole) h),
       );
     }

@@ -11,5 +11,5 @@ invariant-loop l = record {
 abbrev pub invariant-loop-task : goal.invariant-loop-task
 invariant-loop-task l = record {
   each : vec_len l.after ≡ l.count;
-  told : (task before : ℕ) → Contains (row (rows l.after.items) task) before ↔ Contains (take l.task-index l.edges) (task, before);
+  reported : (task before : ℕ) → Contains (row (rows l.after.items) task) before ↔ Contains (take l.task-index l.edges) (task, before);
 }

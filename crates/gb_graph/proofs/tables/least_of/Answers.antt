@@ -5,7 +5,7 @@ use Rattle.gb_graph.specs.Order.{rows}
 use Rattle.gb_graph.specs.declared.least.Found.{Found}
 use Rattle.gb_graph.specs.declared.places.TaskPlace.{TaskPlace}
 use Rattle.gb_graph.specs.Places.{IsRising}
-use Rattle.gb_graph.specs.Meetings.{IsLeast, IsMet, Meets, places_for}
+use Rattle.gb_graph.specs.Conflicts.{IsLeast, IsMet, Meets, places_for}
 use Rattle.gb_graph.proofs.Judged.{low_outputs, low_places, least_meets}
 use Rattle.gb_graph.proofs.tables.least_of.Goals as goal
 

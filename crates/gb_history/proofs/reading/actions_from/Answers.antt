@@ -20,5 +20,5 @@ returns-in_err-action_from-clause-read c xs all e =
     let f = action_json c.args.edition in
     let n = next view f (IsActionIn c.args.edition) c.args.items.now xs c.loop-item.item-index c.item-item.result e all (omega arith) in
     let here : view c.item-item.result ≡ f n.value = ap view c.item-item.is ∙ n.is in
-    let told : c.in_err-action_from.field-0.0 ≡ OutOfMemory = c.in_err-action_from.ensures.read n.value n.holds.0 n.holds.1 here in
-    err_passes c.from_residual.result (λ got. got.items ≡ xs) (λ x. x ≡ OutOfMemory) (rw told at c.from_residual.ensures.1)
+    let reported : c.in_err-action_from.field-0.0 ≡ OutOfMemory = c.in_err-action_from.ensures.read n.value n.holds.0 n.holds.1 here in
+    err_passes c.from_residual.result (λ got. got.items ≡ xs) (λ x. x ≡ OutOfMemory) (rw reported at c.from_residual.ensures.1)

@@ -16,5 +16,5 @@ pub returns-in_err-print_from : goal.returns-in_err-print_from
 returns-in_err-print_from c xs all e =
     let n = next view print_json IsPrint c.args.items.now xs c.loop-item.item-index c.item-item.result e all (omega arith) in
     let here : view c.item-item.result ≡ print_json n.value = ap view c.item-item.is ∙ n.is in
-    let told : c.in_err-print_from.field-0.0 ≡ OutOfMemory = c.in_err-print_from.ensures n.value n.holds here in
-    err_passes c.from_residual.result (λ got. got.items ≡ xs) (λ x. x ≡ OutOfMemory) (rw told at c.from_residual.ensures.1)
+    let reported : c.in_err-print_from.field-0.0 ≡ OutOfMemory = c.in_err-print_from.ensures n.value n.holds here in
+    err_passes c.from_residual.result (λ got. got.items ≡ xs) (λ x. x ≡ OutOfMemory) (rw reported at c.from_residual.ensures.1)

@@ -17,5 +17,5 @@ pub returns-in_err-prints_from : goal.returns-in_err-prints_from
 returns-in_err-prints_from c xs all e =
     let n = next view prints_json ArePrints c.args.items.now xs c.loop-item.item-index c.item-item.result e all (omega arith) in
     let here : view c.item-item.result ≡ prints_json n.value = ap view c.item-item.is ∙ n.is in
-    let told : c.in_err-prints_from.field-0.0 ≡ OutOfMemory = c.in_err-prints_from.ensures n.value n.holds (ap (get (codes "name")) here) (ap (get (codes "prints")) here) in
-    err_passes c.from_residual.result (λ got. got.items ≡ xs) (λ x. x ≡ OutOfMemory) (rw told at c.from_residual.ensures.1)
+    let reported : c.in_err-prints_from.field-0.0 ≡ OutOfMemory = c.in_err-prints_from.ensures n.value n.holds (ap (get (codes "name")) here) (ap (get (codes "prints")) here) in
+    err_passes c.from_residual.result (λ got. got.items ≡ xs) (λ x. x ≡ OutOfMemory) (rw reported at c.from_residual.ensures.1)

@@ -35,5 +35,5 @@ returns-in_err-one-clause-read c xs all sorted e =
     let f = held_json c.args.edition in
     let n = next view f (IsHeldIn c.args.edition) c.args.items.now xs c.loop-item.item-index c.item-item.result e all (omega arith) in
     let here : view c.item-item.result ≡ f n.value = ap view c.item-item.is ∙ n.is in
-    let told : c.in_err-one.field-0.0 ≡ OutOfMemory = c.in_err-one.ensures.read n.value n.holds here in
-    err_passes c.from_residual.result (λ got. got ≡ xs) (λ x. x ≡ OutOfMemory) (rw told at c.from_residual.ensures.1)
+    let reported : c.in_err-one.field-0.0 ≡ OutOfMemory = c.in_err-one.ensures.read n.value n.holds here in
+    err_passes c.from_residual.result (λ got. got ≡ xs) (λ x. x ≡ OutOfMemory) (rw reported at c.from_residual.ensures.1)

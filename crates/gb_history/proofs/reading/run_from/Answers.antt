@@ -10,8 +10,8 @@ pub returns-in_err-actions-clause-read : goal.returns-in_err-actions-clause-read
 returns-in_err-actions-clause-read c path run h fits e =
     let edition = c.args.edition in
     let all : AllByRecursion (IsActionIn edition) run.actions = all_both IsAction (FitsEdition edition) run.actions h.actions fits in
-    let told : c.in_err-actions.field-0.0 ≡ OutOfMemory = c.in_err-actions.ensures.read run.actions all (c.in-Some.ensures edition path run e).0 in
-    err_passes c.from_residual.result (λ got. got ≡ run) (λ x. x ≡ OutOfMemory) (rw told at c.from_residual.ensures.1)
+    let reported : c.in_err-actions.field-0.0 ≡ OutOfMemory = c.in_err-actions.ensures.read run.actions all (c.in-Some.ensures edition path run e).0 in
+    err_passes c.from_residual.result (λ got. got ≡ run) (λ x. x ≡ OutOfMemory) (rw reported at c.from_residual.ensures.1)
 
 pub returns-clause-read : goal.returns-clause-read
 returns-clause-read c path run h fits e =

@@ -20,9 +20,9 @@ reads json edition records said e = ap read e ∙ read-history edition records s
 
 pub returns-in_err-json : goal.returns-in_err-json
 returns-in_err-json c edition records said e =
-    let told : c.in_err-json.field-0.0 ≡ OutOfMemory =
+    let reported : c.in_err-json.field-0.0 ≡ OutOfMemory =
     c.in_err-json.ensures (history_json edition records) (utf8 _ edition records said e) (reads _ edition records said e) in
-    err_passes c.from_residual.result _ (λ x. x ≡ OutOfMemory) (rw told at c.from_residual.ensures.1)
+    err_passes c.from_residual.result _ (λ x. x ≡ OutOfMemory) (rw reported at c.from_residual.ensures.1)
 
 pub returns-in_default : goal.returns-in_default
 returns-in_default c edition records said e =

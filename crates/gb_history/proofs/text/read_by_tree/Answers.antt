@@ -17,8 +17,8 @@ pub returns-in_err-edition-clause-back : goal.returns-in_err-edition-clause-back
 returns-in_err-edition-clause-back c run u h of =
     let path = c.args.path.now in
     let json : c.in-Some.json.now ≡ compact_text (record_json of.edition path run) = c.in-Some.ensures _ (as_sealed c.args.bytes.now path run of) in
-    let told : c.in_err-edition.field-0.0 ≡ OutOfMemory = c.in_err-edition.ensures.read of.edition path run u h of.fits json in
-    err_passes c.from_residual.result (λ got. got ≡ run) (λ x. x ≡ OutOfMemory) (rw told at c.from_residual.ensures.1)
+    let reported : c.in_err-edition.field-0.0 ≡ OutOfMemory = c.in_err-edition.ensures.read of.edition path run u h of.fits json in
+    err_passes c.from_residual.result (λ got. got ≡ run) (λ x. x ≡ OutOfMemory) (rw reported at c.from_residual.ensures.1)
 
 pub returns-then-not-is_same-clause-back : goal.returns-then-not-is_same-clause-back
 returns-then-not-is_same-clause-back c run u h of =

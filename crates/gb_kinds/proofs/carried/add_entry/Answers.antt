@@ -13,6 +13,6 @@ pub returns-in_ok-insert-clause-entries : goal.returns-in_ok-insert-clause-entri
 returns-in_ok-insert-clause-entries c = λ other.
     let before = index_files c.args.index.now in
     let some : c.args.lines.now.keys ≢ [] = λ none. true≢false (sym (c.is_empty.ensures.1 (ap length none)) ∙ c.if-not-is_empty.true) in
-    file_put c.args.word.now c.args.index.now c.insert.new.self c.in_ok-copy.field-0 c.in_ok-told.told c.in_ok-copy.ensures c.in_ok-insert.ensures.updates.0 other
+    file_put c.args.word.now c.args.index.now c.insert.new.self c.in_ok-copy.field-0 c.in_ok-reported.reported c.in_ok-copy.ensures c.in_ok-insert.ensures.updates.0 other
     ∙ ap (λ o. if bytes_eq c.args.word.now other then o else file_at before other)
-    (ap Some c.in_ok-told.ensures.bytes ∙ ap (λ o. option_or o (file_at before other)) (sym (filled c.args.lines.now.keys some)))
+    (ap Some c.in_ok-reported.ensures.bytes ∙ ap (λ o. option_or o (file_at before other)) (sym (filled c.args.lines.now.keys some)))

@@ -29,11 +29,11 @@ returns c =
     let stood : c.standing.result.now ≡ old = c.standing.ensures.files ∙ ap (λ name. unwrap_or (files_of request.outputs name) []) output_is in
     let changes_are : c.changes_of.result.now ≡ source_changes request.changes.lists = c.changes_of.ensures ∙ ap (λ name. unwrap_or (find byte_order name request.changes.lists) []) c.in_ok-name.ensures in
     let files_are : c.files_of.result.now ≡ tree_at request.files source = c.files_of.ensures.files ∙ ap (tree_at request.files) c.in_ok-name.ensures in
-    subst (λ (changes : List Change). IsCarried old changes (tree_at request.files source) (contains byte_order c.add_told.new.words) index) changes_are
-    (is_found old c.changes_of.result.now (tree_at request.files source) index new gone (contains byte_order c.add_told.new.words) (contains byte_order changed.words)
+    subst (λ (changes : List Change). IsCarried old changes (tree_at request.files source) (contains byte_order c.add_reported.new.words) index) changes_are
+    (is_found old c.changes_of.result.now (tree_at request.files source) index new gone (contains byte_order c.add_reported.new.words) (contains byte_order changed.words)
     (subst (λ name. IsTrue (is_sorted byte_order (unwrap_or (files_of request.outputs name) []))) output_is c.standing.ensures.ordered)
     c.in_ok-changed.ensures.lines c.in_ok-changed.ensures.words c.in_ok-changed.ensures.entries
-    (subst (λ (files : Tree). (word : List ℕ) → contains byte_order c.add_told.new.words word ≡ (contains byte_order changed.words word || list_any (λ (f : List ℕ × List ℕ). bytes_eq f.0 word && list_any gone (lines_of f.1)) files)) stood c.in_ok-add_told.ensures)
+    (subst (λ (files : Tree). (word : List ℕ) → contains byte_order c.add_reported.new.words word ≡ (contains byte_order changed.words word || list_any (λ (f : List ℕ × List ℕ). bytes_eq f.0 word && list_any gone (lines_of f.1)) files)) stood c.in_ok-add_reported.ensures)
     c.in_ok-changed.ensures.paths
     c.in_ok-made.ensures.ordered
     (λ word at. same_entry

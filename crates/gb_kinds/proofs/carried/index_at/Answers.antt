@@ -36,8 +36,8 @@ loop-word-preserved c =
       exactly = λ line.
           has_line lines line
           ∙ c.in_ok-lines.ensures line
-          ∙ ap (λ stood. is_line_of stood gone c.told_at.result.now line) (c.stood_at-stood.ensures ∙ ap (λ name. unwrap_or (stands_at request.outputs name word) []) c.in_ok-output.ensures)
-          ∙ ap (λ told. is_line_of (unwrap_or (stands_at request.outputs target word) []) gone told line) c.told_at.ensures;
+          ∙ ap (λ stood. is_line_of stood gone c.reported_at.result.now line) (c.stood_at-stood.ensures ∙ ap (λ name. unwrap_or (stands_at request.outputs name word) []) c.in_ok-output.ensures)
+          ∙ ap (λ reported. is_line_of (unwrap_or (stands_at request.outputs target word) []) gone reported line) c.reported_at.ensures;
       joined = refl;
     } in
     record {

@@ -68,10 +68,10 @@ returns-in_err-check_grown-in-Err-clause-err g c = λ tells.
     let old : Contents = g.F.Folder.contents c.args.folder.now in
     let residual = c.from_residual-in_err-check_grown-in-Err in
     let p = err_from_is_err_and residual.result residual.ensures.1 in
-    let told = c.in_err-check_grown-in-Err.ensures.err in
+    let reported = c.in_err-check_grown-in-Err.ensures.err in
     let Cannot : Fault → Type 0 = CannotRead (g.F.Folder.failures c.args.folder.now) (g.F.Folder.failures c.read_listed.new.folder) (listing_faults task old) in
     at_err (λ r. IfErr r Cannot) residual.result p.0 c.in_err-check_grown-in-Err.field-0.0 p.1 p.2
-    (subst Cannot (sym told.0) (cannot_read task old _ _ c.in-Err.fault told.1 (c.in-Err.ensures.err tells)))
+    (subst Cannot (sym reported.0) (cannot_read task old _ _ c.in-Err.fault reported.1 (c.in-Err.ensures.err tells)))
 
 pub returns-in_ok-check_grown-in-Err-clause-may_decide : goal.returns-in_ok-check_grown-in-Err-clause-may_decide
 returns-in_ok-check_grown-in-Err-clause-may_decide g c =

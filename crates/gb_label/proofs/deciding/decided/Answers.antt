@@ -3,7 +3,7 @@ use Rattle.gb_history.specs.declared.decide.Decision.{Decision}
 use Rattle.gb_history.specs.declared.record.Record.{Record}
 use Rattle.gb_label.specs.Deciding.{GoesBy, IsBasisIn, MayDecide}
 use Rattle.gb_label.specs.declared.deciding.Basis.{Basis}
-use Rattle.gb_label.specs.declared.deciding.Basis.TheVariants.{Anew}
+use Rattle.gb_label.specs.declared.deciding.Basis.TheVariants.{Recheck}
 use Rattle.gb_label.specs.declared.deciding.Cause.TheVariants as causes
 use Rattle.gb_label.proofs.Answering.{full_decided}
 use Rattle.gb_label.proofs.Growth.{ok_as}
@@ -14,7 +14,7 @@ pub returns-in_default-clause-goes_by : goal.returns-in_default-clause-goes_by
 returns-in_default-clause-goes_by g c =
     ok_as c.in_full.result c.in_full.ensures.full (λ found full.
     subst (λ (b : Basis). GoesBy c.args.options c.args.task.now (option_copied c.args.old) found.decision b) (sym full.1)
-    (subst (λ (old : Option (Bor Record)). GoesBy c.args.options c.args.task.now (option_copied old) found.decision (Anew causes.NoRecord))
+    (subst (λ (old : Option (Bor Record)). GoesBy c.args.options c.args.task.now (option_copied old) found.decision (Recheck causes.NoRecord))
     (sym c.in_default.is) (full.0, tt)))
 
 pub returns-in_default-clause-based : goal.returns-in_default-clause-based
@@ -43,7 +43,7 @@ pub returns-then-options-clause-goes_by : goal.returns-then-options-clause-goes_
 returns-then-options-clause-goes_by g c =
     ok_as c.in_full-then-options.result c.in_full-then-options.ensures.full (λ found full.
     subst (λ (b : Basis). GoesBy c.args.options c.args.task.now (option_copied c.args.old) found.decision b) (sym full.1)
-    (subst (λ (old : Option (Bor Record)). GoesBy c.args.options c.args.task.now (option_copied old) found.decision (Anew causes.Rerun))
+    (subst (λ (old : Option (Bor Record)). GoesBy c.args.options c.args.task.now (option_copied old) found.decision (Recheck causes.Rerun))
     (sym c.in-Some.is) (full.0, c.if-options.true)))
 
 pub returns-then-options-clause-based : goal.returns-then-options-clause-based
@@ -72,7 +72,7 @@ pub returns-then-task-clause-goes_by : goal.returns-then-task-clause-goes_by
 returns-then-task-clause-goes_by g c =
     ok_as c.in_full-then-task.result c.in_full-then-task.ensures.full (λ found full.
     subst (λ (b : Basis). GoesBy c.args.options c.args.task.now (option_copied c.args.old) found.decision b) (sym full.1)
-    (subst (λ (old : Option (Bor Record)). GoesBy c.args.options c.args.task.now (option_copied old) found.decision (Anew causes.Stale))
+    (subst (λ (old : Option (Bor Record)). GoesBy c.args.options c.args.task.now (option_copied old) found.decision (Recheck causes.Stale))
     (sym c.in-Some.is) (full.0, (c.if-options.false, c.if-task.true))))
 
 pub returns-then-task-clause-based : goal.returns-then-task-clause-based

@@ -3,13 +3,13 @@ use Rattle.std.specs.List.{list_any}
 use Rattle.std.proofs.lemmas.Result.{on_ok_weaker}
 use Rattle.gb_folder.specs.Files.{is_own}
 use Rattle.gb_plan.specs.declared.task.Output.{Output}
-use Rattle.gb_label.proofs.Growth.{cannot_print, err_as, none_told}
+use Rattle.gb_label.proofs.Growth.{cannot_print, err_as, none_reported}
 use Rattle.gb_label.proofs.deciding.read_listed.Goals as goal
 
 pub returns-clause-none_odd : goal.returns-clause-none_odd
 returns-clause-none_odd g c = λ tells.
     on_ok_weaker c.read_outputs.result
-    (none_told (g.F.Folder.contents c.args.folder.now) c.args.task.now.outputs
+    (none_reported (g.F.Folder.contents c.args.folder.now) c.args.task.now.outputs
     (ap (list_any (λ (output : Output). is_own output.place)) (sym c.as_slice.ensures) ∙ sym c.has_own.ensures ∙ c.if-has_own.false))
     (c.read_outputs.ensures.fit tells)
 

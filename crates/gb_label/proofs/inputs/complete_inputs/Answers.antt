@@ -29,8 +29,8 @@ returns-in_err-tree-clause-blamed g c = λ place device.
     let readings = c.args.readings.items in
     let x : Read = c.in-Some.reading in
     let gives = c.into_iter-reading-iterator.ensures.into_iter_gives in
-    let turn = YieldsList-turn (YieldsList-from_vec {s = c.into_iter-reading-iterator.result} readings gives.0 (gives.1 ∙ c.args.readings.ok.0)) c.loop-reading.yielded c.loop-reading.reading-iterator c.loop-reading.yielded_by c.next.result c.next.new.self x c.in-Some.is c.next.ensures.steps in
-    among_within (is_input_of c.args.task.now) x.1 (all_at (λ (reading : Read). AllByRecursion (λ seen. IsTrue (is_input_of c.args.task.now seen.place)) reading.1) readings (length c.loop-reading.yielded) x turn.0 turn.1 c.requires.within) place
+    let execution = YieldsList-turn (YieldsList-from_vec {s = c.into_iter-reading-iterator.result} readings gives.0 (gives.1 ∙ c.args.readings.ok.0)) c.loop-reading.yielded c.loop-reading.reading-iterator c.loop-reading.yielded_by c.next.result c.next.new.self x c.in-Some.is c.next.ensures.steps in
+    among_within (is_input_of c.args.task.now) x.1 (all_at (λ (reading : Read). AllByRecursion (λ seen. IsTrue (is_input_of c.args.task.now seen.place)) reading.1) readings (length c.loop-reading.yielded) x execution.0 execution.1 c.requires.within) place
     (c.complete.ensures.blamed place (handed_on c.from_residual.result c.complete.result p.0 c.in_err-tree.field-0.0 place p.1 p.2 c.in_err-tree.was device))
 
 pub returns-in_err-tree-clause-err : goal.returns-in_err-tree-clause-err
@@ -41,8 +41,8 @@ returns-in_err-tree-clause-err g c = λ tells seen.
     let readings = c.args.readings.items in
     let x : Read = c.in-Some.reading in
     let gives = c.into_iter-reading-iterator.ensures.into_iter_gives in
-    let turn = YieldsList-turn (YieldsList-from_vec {s = c.into_iter-reading-iterator.result} readings gives.0 (gives.1 ∙ c.args.readings.ok.0)) c.loop-reading.yielded c.loop-reading.reading-iterator c.loop-reading.yielded_by c.next.result c.next.new.self x c.in-Some.is c.next.ensures.steps in
-    let stands = all_at (Stands old) readings (length c.loop-reading.yielded) x turn.0 turn.1 (inputs_stand old c.args.task.now.files readings seen) in
+    let execution = YieldsList-turn (YieldsList-from_vec {s = c.into_iter-reading-iterator.result} readings gives.0 (gives.1 ∙ c.args.readings.ok.0)) c.loop-reading.yielded c.loop-reading.reading-iterator c.loop-reading.yielded_by c.next.result c.next.new.self x c.in-Some.is c.next.ensures.steps in
+    let stands = all_at (Stands old) readings (length c.loop-reading.yielded) x execution.0 execution.1 (inputs_stand old c.args.task.now.files readings seen) in
     at_err (λ r. IfErr r (IsOfMachine (failures c.args.folder.now) (failures c.complete.new.folder))) c.from_residual.result p.0 c.in_err-tree.field-0.0 p.1 p.2
     (machine_before _ _ _ _ c.loop-reading.invariant.asks.count c.complete.ensures.asks.count
     (c.in_err-tree.ensures.err tells (subst (λ (now : Contents). Stands now.files x) (sym (c.loop-reading.invariant.same tells)) stands)))
@@ -55,7 +55,7 @@ loop-reading-preserved g c =
     let n = length c.loop-reading.yielded in
     let x : Read = c.in-Some.reading in
     let gives = c.into_iter-reading-iterator.ensures.into_iter_gives in
-    let turn = YieldsList-turn (YieldsList-from_vec {s = c.into_iter-reading-iterator.result} readings gives.0 (gives.1 ∙ c.args.readings.ok.0)) c.loop-reading.yielded c.loop-reading.reading-iterator c.loop-reading.yielded_by c.next.result c.next.new.self x c.in-Some.is c.next.ensures.steps in
+    let execution = YieldsList-turn (YieldsList-from_vec {s = c.into_iter-reading-iterator.result} readings gives.0 (gives.1 ∙ c.args.readings.ok.0)) c.loop-reading.yielded c.loop-reading.reading-iterator c.loop-reading.yielded_by c.next.result c.next.new.self x c.in-Some.is c.next.ensures.steps in
     let next = sym (length_push c.loop-reading.yielded x) in
     let tree : List ℕ × Tree = c.in_ok-tree.tree in
     let found : Prints = c.in_ok-tree.found in
@@ -68,7 +68,7 @@ loop-reading-preserved g c =
       asks = asks_then so_far.asks c.complete.ensures.asks;
       same = λ tells. c.complete.ensures.same tells ∙ so_far.same tells;
       named =
-          name_more (λ (t : List ℕ × Tree). t.0) (λ (reading : Read). reading.0) trees c.push-in-loop-reading.new.self tree readings n x turn.0 turn.1 so_far.named more one.named
+          name_more (λ (t : List ℕ × Tree). t.0) (λ (reading : Read). reading.0) trees c.push-in-loop-reading.new.self tree readings n x execution.0 execution.1 so_far.named more one.named
           ∙ ap (λ k. map (λ (reading : Read). reading.0) (take k readings)) next;
       digests =
           mapped_more (λ (t : List ℕ × Tree). let p : Prints = (t.0, digests_of t.1) in p) trees c.push-in-loop-reading.new.self tree c.loop-reading.prints.items c.push.new.self.items found so_far.digests c.in_ok-push.ensures.items more
@@ -80,13 +80,13 @@ loop-reading-preserved g c =
           let Done : FileProperty → List ℕ × Files → Type 0 = IsInputRead F.failures F.may_leave F.asked first now in
           subst (λ (k : ℕ). AllZip Done (take k files) c.push-in-loop-reading.new.self) (sym (add-one n) ∙ next)
           (subst (λ (ts : List (List ℕ × Files)). AllZip Done (take (suc n) files) ts) (sym more)
-          (next_made (IsInputAnswered F.failures F.may_leave F.asked first c.args.folder.now) Done files readings trees n x tree turn.0 turn.1 were
+          (next_made (IsInputAnswered F.failures F.may_leave F.asked first c.args.folder.now) Done files readings trees n x tree execution.0 execution.1 were
           (λ property was. input_completed so_far.asks c.complete.ensures.asks property x tree (one.answered first (asks_then asks so_far.asks)) was)
           (all_zip_more (IsInputRead F.failures F.may_leave F.asked first c.loop-reading.folder) Done (tree_read_longer (asks_nothing first) c.complete.ensures.asks)
           (take n files) trees (so_far.answered first asks were))));
       trees = λ tells all.
-          let stands = all_at (Stands old) readings n x turn.0 turn.1 all in
-          gathered_more (tree_made old) trees c.push-in-loop-reading.new.self tree readings n x turn.0 turn.1 more
+          let stands = all_at (Stands old) readings n x execution.0 execution.1 all in
+          gathered_more (tree_made old) trees c.push-in-loop-reading.new.self tree readings n x execution.0 execution.1 more
           (pair_is tree x.0 (contents_at old (entries_seen x.1)) one.named
           (one.tree tells (subst (λ (now : Contents). Stands now.files x) (sym (so_far.same tells)) stands) ∙ ap (λ now. contents_at now.files (entries_seen x.1)) (so_far.same tells)))
           (so_far.trees tells all)

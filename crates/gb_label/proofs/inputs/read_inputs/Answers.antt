@@ -67,7 +67,7 @@ loop-property-preserved g c =
     let added = c.in_ok-push.ensures.items in
     let one = c.in_ok-read_one.ensures in
     let x : Read = c.in_ok-read_one.field-0 in
-    let told : FileProperty → Prints = λ property. (property.name, digests_of (tree_of property old.files)) in
+    let reported : FileProperty → Prints = λ property. (property.name, digests_of (tree_of property old.files)) in
     record {
       asks = asks_then so_far.asks c.read_one.ensures.asks;
       same = λ tells. c.read_one.ensures.same tells ∙ so_far.same tells;
@@ -86,7 +86,7 @@ loop-property-preserved g c =
           (take index files) readings so_far.answered)
           (input_longer so_far.asks (asks_nothing now) item x one.answered);
       prints = λ tells.
-          prints_more told readings next x files index item less is added one.named (one.digests tells ∙ ap (λ folder. digests_of (tree_of item folder.files)) (so_far.same tells)) (so_far.prints tells);
+          prints_more reported readings next x files index item less is added one.named (one.digests tells ∙ ap (λ folder. digests_of (tree_of item folder.files)) (so_far.same tells)) (so_far.prints tells);
       seen = λ tells.
           seen_more (IsPropertySeen old.files) files readings next index item x less is added (so_far.seen tells)
           (subst (λ (now : Contents). IsPropertySeen now.files item x) (so_far.same tells) (one.seen tells));

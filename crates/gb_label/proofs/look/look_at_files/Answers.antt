@@ -27,9 +27,9 @@ returns-in_err-inputs-clause-err g c = λ tells.
 sourced : (task : Task) (old : Contents) (properties : List FileProperty) (inputs seen : List Read) (found b : Bool) → properties ≡ task.files
     → prints_read inputs ≡ digests_in (trees_of task old.files) → seen ≡ inputs → found ≡ lacks_source properties seen → found ≡ b
     → has_no_source task old.files ≡ b
-sourced task old properties inputs seen found b is read same told decided =
+sourced task old properties inputs seen found b is read same reported decided =
     sym (same_source task old.files) ∙ ap (lacks_source task.files) (sym read) ∙ source_read task.files inputs ∙ ap (lacks_source task.files) (sym same)
-    ∙ ap (λ ps. lacks_source ps seen) (sym is) ∙ sym told ∙ decided
+    ∙ ap (λ ps. lacks_source ps seen) (sym is) ∙ sym reported ∙ decided
 
 pub returns-then-is_without_source-clause-case : goal.returns-then-is_without_source-clause-case
 returns-then-is_without_source-clause-case g c = λ tells.
@@ -53,8 +53,8 @@ returns-clause-case g c = λ tells.
 -- what was found of the readings is that they give no source
 sourceless : (properties other : List FileProperty) (inputs seen : List Read) (found : Bool) → properties ≡ other → seen ≡ inputs → found ≡ lacks_source properties seen → found ≡ true
     → lacks_source other inputs ≡ true
-sourceless properties other inputs seen found is same told decided =
-    ap (lacks_source other) (sym same) ∙ ap (λ ps. lacks_source ps seen) (sym is) ∙ sym told ∙ decided
+sourceless properties other inputs seen found is same reported decided =
+    ap (lacks_source other) (sym same) ∙ ap (λ ps. lacks_source ps seen) (sym is) ∙ sym reported ∙ decided
 
 pub returns-then-is_without_source-clause-answered : goal.returns-then-is_without_source-clause-answered
 returns-then-is_without_source-clause-answered g c = (

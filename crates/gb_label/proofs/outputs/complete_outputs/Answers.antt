@@ -35,9 +35,9 @@ returns-in_err-files-clause-blamed g c = λ place device.
     let x : Output × Read = (c.in-Some.output.now, c.in-Some.reading) in
     let gives = c.zip-output-items.ensures.second in
     let road = YieldsList-at c.into_iter-output-iterator.ensures.into_iter_gives (YieldsList-from_zip (YieldsList-at c.zip-output-items.ensures.first (YieldsList-from_slice outputs (c.iter.ensures.rest ∙ c.as_slice.ensures))) (YieldsList-from_vec {s = zip_second c.zip-output-items.result} readings gives.0 (gives.1 ∙ c.args.readings.ok.0))) in
-    let turn = YieldsList-turn road c.loop-output.yielded c.loop-output.output-iterator c.loop-output.yielded_by c.next.result c.next.new.self _ c.in-Some.is c.next.ensures.steps in
+    let execution = YieldsList-turn road c.loop-output.yielded c.loop-output.output-iterator c.loop-output.yielded_by c.next.result c.next.new.self _ c.in-Some.is c.next.ensures.steps in
     among_within (is_output_of c.args.task.now) x.1.1
-    (all_at (λ (pair : Output × Read). AllByRecursion (λ seen. IsTrue (is_output_of c.args.task.now seen.place)) pair.1.1) pairs (length c.loop-output.yielded) x turn.0 turn.1 (pairs_within (is_output_of c.args.task.now) outputs readings c.requires.within)) place
+    (all_at (λ (pair : Output × Read). AllByRecursion (λ seen. IsTrue (is_output_of c.args.task.now seen.place)) pair.1.1) pairs (length c.loop-output.yielded) x execution.0 execution.1 (pairs_within (is_output_of c.args.task.now) outputs readings c.requires.within)) place
     (c.complete_one.ensures.blamed place (handed_on c.from_residual.result c.complete_one.result p.0 c.in_err-files.field-0.0 place p.1 p.2 c.in_err-files.was device))
 
 pub returns-in_err-files-clause-err : goal.returns-in_err-files-clause-err
@@ -51,8 +51,8 @@ returns-in_err-files-clause-err g c = λ tells seen.
     let x : Output × Read = (c.in-Some.output.now, c.in-Some.reading) in
     let gives = c.zip-output-items.ensures.second in
     let road = YieldsList-at c.into_iter-output-iterator.ensures.into_iter_gives (YieldsList-from_zip (YieldsList-at c.zip-output-items.ensures.first (YieldsList-from_slice outputs (c.iter.ensures.rest ∙ c.as_slice.ensures))) (YieldsList-from_vec {s = zip_second c.zip-output-items.result} readings gives.0 (gives.1 ∙ c.args.readings.ok.0))) in
-    let turn = YieldsList-turn road c.loop-output.yielded c.loop-output.output-iterator c.loop-output.yielded_by c.next.result c.next.new.self _ c.in-Some.is c.next.ensures.steps in
-    let stands = all_at (λ (pair : Output × Read). Stands old pair.1) pairs (length c.loop-output.yielded) x turn.0 turn.1 (pairs_stand old outputs readings seen) in
+    let execution = YieldsList-turn road c.loop-output.yielded c.loop-output.output-iterator c.loop-output.yielded_by c.next.result c.next.new.self _ c.in-Some.is c.next.ensures.steps in
+    let stands = all_at (λ (pair : Output × Read). Stands old pair.1) pairs (length c.loop-output.yielded) x execution.0 execution.1 (pairs_stand old outputs readings seen) in
     at_err (λ r. IfErr r (IsOfMachine (failures c.args.folder.now) (failures c.complete_one.new.folder))) c.from_residual.result p.0 c.in_err-files.field-0.0 p.1 p.2
     (machine_before _ _ _ _ c.loop-output.invariant.asks.count c.complete_one.ensures.asks.count
     (c.in_err-files.ensures.err tells (subst (λ (now : Contents). Stands now.files x.1) (sym (c.loop-output.invariant.same tells)) stands)))
@@ -68,25 +68,25 @@ loop-output-preserved g c =
     let x : Output × Read = (c.in-Some.output.now, c.in-Some.reading) in
     let gives = c.zip-output-items.ensures.second in
     let road = YieldsList-at c.into_iter-output-iterator.ensures.into_iter_gives (YieldsList-from_zip (YieldsList-at c.zip-output-items.ensures.first (YieldsList-from_slice outputs (c.iter.ensures.rest ∙ c.as_slice.ensures))) (YieldsList-from_vec {s = zip_second c.zip-output-items.result} readings gives.0 (gives.1 ∙ c.args.readings.ok.0))) in
-    let turn = YieldsList-turn road c.loop-output.yielded c.loop-output.output-iterator c.loop-output.yielded_by c.next.result c.next.new.self _ c.in-Some.is c.next.ensures.steps in
+    let execution = YieldsList-turn road c.loop-output.yielded c.loop-output.output-iterator c.loop-output.yielded_by c.next.result c.next.new.self _ c.in-Some.is c.next.ensures.steps in
     let next = sym (length_push c.loop-output.yielded (c.in-Some.output, c.in-Some.reading)) in
     let found : Prints = c.in_ok-files.found in
     let made : OutputFiles = c.in_ok-files.files in
     let one = c.in_ok-files.ensures in
     let seen = c.loop-output.seen in
     let more = c.in_ok-push-2.ensures.ok in
-    let named = all_at (λ (pair : Output × Read). pair.1.0 ≡ pair.0.name) pairs n x turn.0 turn.1 (pairs_named outputs readings c.requires.named) in
+    let named = all_at (λ (pair : Output × Read). pair.1.0 ≡ pair.0.name) pairs n x execution.0 execution.1 (pairs_named outputs readings c.requires.named) in
     let Shown : Type 0 = List ℕ × Form in
-    let told : OutputFiles → Shown = λ output. (output.name, output.form) in
+    let reported : OutputFiles → Shown = λ output. (output.name, output.form) in
     record {
       can_next = so_far.can_next;
       is_finite = so_far.is_finite;
       asks = asks_then so_far.asks c.complete_one.ensures.asks;
       same = λ tells. c.complete_one.ensures.same tells ∙ so_far.same tells;
       formed =
-          gathered_more form_of (map told seen) (map told c.push-in-loop-output.new.self) (told made) pairs n x turn.0 turn.1
-          (ap (map told) more ∙ map-append told seen (made ∷ []))
-          (pair_is (told made) x.0.name x.0.form one.named one.formed) so_far.formed
+          gathered_more form_of (map reported seen) (map reported c.push-in-loop-output.new.self) (reported made) pairs n x execution.0 execution.1
+          (ap (map reported) more ∙ map-append reported seen (made ∷ []))
+          (pair_is (reported made) x.0.name x.0.form one.named one.formed) so_far.formed
           ∙ ap (λ k. map form_of (take k pairs)) next;
       digests =
           mapped_more (λ (output : OutputFiles). let p : Prints = (output.name, digests_of output.files) in p) seen c.push-in-loop-output.new.self made c.loop-output.prints.items c.push.new.self.items found so_far.digests c.in_ok-push.ensures.items more
@@ -97,14 +97,14 @@ loop-output-preserved g c =
           let Done : Output × Read → OutputFiles → Type 0 = λ pair files. IsOutputRead F.failures F.may_leave F.asked first now pair.0 files in
           let SoFar : Output × Read → OutputFiles → Type 0 = λ pair files. IsOutputRead F.failures F.may_leave F.asked first c.loop-output.folder pair.0 files in
           let Answered : Output → Read → Type 0 = IsOutputAnswered F.failures F.may_leave F.asked first c.args.folder.now in
-          let was = all_at (λ (pair : Output × Read). Answered pair.0 pair.1) pairs n x turn.0 turn.1 (pairs_all Answered outputs readings were) in
+          let was = all_at (λ (pair : Output × Read). Answered pair.0 pair.1) pairs n x execution.0 execution.1 (pairs_all Answered outputs readings were) in
           subst (λ (k : ℕ). AllZip Done (take k pairs) c.push-in-loop-output.new.self) next
-          (seen_more Done pairs seen c.push-in-loop-output.new.self n x made turn.0 turn.1 more
+          (seen_more Done pairs seen c.push-in-loop-output.new.self n x made execution.0 execution.1 more
           (all_zip_more SoFar Done (λ pair. files_read_longer (asks_nothing first) c.complete_one.ensures.asks pair.0) (take n pairs) seen (so_far.answered first asks were))
           (output_completed so_far.asks c.complete_one.ensures.asks x.0 x.1 made (one.answered first (asks_then asks so_far.asks)) was));
       files = λ tells all.
-          let stands = all_at (λ (pair : Output × Read). Stands old pair.1) pairs n x turn.0 turn.1 all in
-          gathered_more (output_made old) seen c.push-in-loop-output.new.self made pairs n x turn.0 turn.1 more
+          let stands = all_at (λ (pair : Output × Read). Stands old pair.1) pairs n x execution.0 execution.1 all in
+          gathered_more (output_made old) seen c.push-in-loop-output.new.self made pairs n x execution.0 execution.1 more
           (output_is made x.0.name x.0.form (contents_at old (entries_seen x.1.1)) one.named one.formed
           (one.files tells (subst (λ (now : Contents). Stands now.files x.1) (sym (so_far.same tells)) stands) ∙ ap (λ now. contents_at now.files (entries_seen x.1.1)) (so_far.same tells)))
           (so_far.files tells all)

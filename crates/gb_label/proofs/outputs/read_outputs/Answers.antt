@@ -68,7 +68,7 @@ loop-output-preserved g c =
     let added = c.in_ok-push.ensures.items in
     let one = c.in_ok-read_one.ensures in
     let x : Read = c.in_ok-read_one.field-0 in
-    let told : Output → Prints = λ output. (recorded_of old.files output).prints in
+    let reported : Output → Prints = λ output. (recorded_of old.files output).prints in
     record {
       asks = asks_then so_far.asks c.read_one.ensures.asks;
       same = λ tells. c.read_one.ensures.same tells ∙ so_far.same tells;
@@ -87,7 +87,7 @@ loop-output-preserved g c =
           (take index outputs) readings so_far.answered)
           (output_longer so_far.asks (asks_nothing now) item x one.answered);
       prints = λ tells.
-          prints_more told readings next x outputs index item less is added one.named (one.digests tells ∙ ap (λ folder. digests_of (files_from folder.files item.place)) (so_far.same tells)) (so_far.prints tells);
+          prints_more reported readings next x outputs index item less is added one.named (one.digests tells ∙ ap (λ folder. digests_of (files_from folder.files item.place)) (so_far.same tells)) (so_far.prints tells);
       seen = λ tells.
           seen_more (IsOutputSeen old.files) outputs readings next index item x less is added (so_far.seen tells)
           (subst (λ (now : Contents). IsOutputSeen now.files item x) (so_far.same tells) (one.seen tells));

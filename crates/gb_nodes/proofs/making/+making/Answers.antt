@@ -1,9 +1,9 @@
 use Rattle.std.proofs.Common.{length, arith, ap, ◌∙◌}
-use Rattle.gb_registry.proofs.Firsts.{told_on}
+use Rattle.gb_registry.proofs.Firsts.{reported_on}
 use Rattle.gb_registry.proofs.Sizes.{element_size, step_size}
 use Rattle.gb_script.specs.Tree.{links_size}
 use Rattle.gb_nodes.specs.Site.{site_of}
-use Rattle.gb_nodes.proofs.MakingLemmas.{there_on, all_within, trees_on, trees_good, trees_first, links_on, links_good, links_first, links_below, tree_told}
+use Rattle.gb_nodes.proofs.MakingLemmas.{there_on, all_within, trees_on, trees_good, trees_first, links_on, links_good, links_first, links_below, tree_reported}
 use Rattle.gb_nodes.proofs.making.+making.Goals as goal
 
 pub add_steps-add_step-requires : goal.add_steps-add_step-requires
@@ -33,7 +33,7 @@ add_steps-add_step-requires g t c κs within =
 
 pub add_steps-returns-in_err-node-clause-faults : goal.add_steps-returns-in_err-node-clause-faults
 add_steps-returns-in_err-node-clause-faults g t c =
-    told_on _ _ c.in_err-node.field-0.0 c.from_residual.ensures.1
+    reported_on _ _ c.in_err-node.field-0.0 c.from_residual.ensures.1
     (links_first g.T.Transforms.meanings (site_of c.args.site.now) c.args.providers.now.table c.loop-step.providers.table c.loop-step.invariant.table c.args.steps.now
     c.loop-step.step-index c.step-item.result c.loop-step-test.true c.step-item.is _ c.loop-step.invariant.good c.in_err-node.field-0.0 c.in_err-node.ensures.faults)
 
@@ -79,7 +79,7 @@ add_tree-add_steps-requires g t c κs within =
 
 pub add_tree-returns-clause-faults : goal.add_tree-returns-clause-faults
 add_tree-returns-clause-faults g t c =
-    tree_told g.T.Transforms.meanings (site_of c.args.site.now) c.args.providers.now.table c.add_root.new.providers.table c.in_ok-source.ensures.made.table
+    tree_reported g.T.Transforms.meanings (site_of c.args.site.now) c.args.providers.now.table c.add_root.new.providers.table c.in_ok-source.ensures.made.table
     c.args.tree.now _ _ c.add_steps.result c.source.ensures c.steps.ensures c.in_ok-source.ensures.faults c.add_steps.ensures.faults
 
 pub add_trees-add_tree-requires : goal.add_trees-add_tree-requires
@@ -106,7 +106,7 @@ add_trees-add_tree-requires g t c κs within =
 
 pub add_trees-returns-in_err-node-clause-faults : goal.add_trees-returns-in_err-node-clause-faults
 add_trees-returns-in_err-node-clause-faults g t c =
-    told_on _ _ c.in_err-node.field-0.0 c.from_residual.ensures.1
+    reported_on _ _ c.in_err-node.field-0.0 c.from_residual.ensures.1
     (trees_first g.T.Transforms.meanings (site_of c.args.site.now) c.args.providers.now.table c.loop-tree.providers.table c.loop-tree.invariant.table c.args.trees.now
     c.loop-tree.tree-index c.tree-item.result c.loop-tree-test.true c.tree-item.is _ c.loop-tree.invariant.good c.in_err-node.field-0.0 c.in_err-node.ensures.faults)
 

@@ -1,6 +1,6 @@
 use Rattle.std.proofs.Common.{◌<◌, length, arith, ◌∙◌}
 use Rattle.gb_declare.specs.Borrowed.{now_of}
-use Rattle.gb_registry.proofs.Firsts.{told_on}
+use Rattle.gb_registry.proofs.Firsts.{reported_on}
 use Rattle.gb_nodes.specs.Site.{site_of}
 use Rattle.gb_nodes.proofs.MakingLemmas.{all_within, trees_on, trees_good, trees_first, item_now, count_now}
 use Rattle.gb_nodes.proofs.rows.add_each.Goals as goal
@@ -10,7 +10,7 @@ returns-in_err-node-clause-faults g c =
     let trees = now_of c.args.trees.now in
     let i = c.loop-tree.tree-index in
     let below : i < length trees = omega (arith, count_now c.args.trees.now, c.loop-tree-test.true) in
-    told_on _ _ c.in_err-node.field-0.0 c.from_residual.ensures.1
+    reported_on _ _ c.in_err-node.field-0.0 c.from_residual.ensures.1
     (trees_first g.T.Transforms.meanings (site_of c.args.site.now) c.args.providers.now.table c.loop-tree.providers.table c.loop-tree.invariant.table trees
     i c.tree-item.result.now below (item_now c.args.trees.now i c.tree-item.result c.loop-tree-test.true c.tree-item.is) _ c.loop-tree.invariant.good c.in_err-node.field-0.0 c.in_err-node.ensures.faults)
 

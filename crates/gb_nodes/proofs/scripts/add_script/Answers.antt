@@ -1,6 +1,6 @@
 use Rattle.std.proofs.Common.{ℕ, List, [], length, refl, ap, ◌∙◌}
 use Rattle.std.specs.Prelude.{filter_map}
-use Rattle.gb_registry.proofs.Firsts.{first_among, told_on}
+use Rattle.gb_registry.proofs.Firsts.{first_among, reported_on}
 use Rattle.gb_registry.specs.Said.{declared_property}
 use Rattle.gb_script.specs.declared.script.Statement.{Statement}
 use Rattle.gb_nodes.specs.Statements.{named_from, properties_made}
@@ -10,7 +10,7 @@ use Rattle.gb_nodes.proofs.scripts.add_script.Goals as goal
 
 pub returns-in_err-build-clause-faults : goal.returns-in_err-build-clause-faults
 returns-in_err-build-clause-faults g c =
-    told_on _ _ c.in_err-build.field-0.0 c.from_residual.ensures.1 (first_among (build_faults c.args.scripted.now.project) _ _ c.in_err-build.field-0.0 refl c.in_err-build.ensures.faults)
+    reported_on _ _ c.in_err-build.field-0.0 c.from_residual.ensures.1 (first_among (build_faults c.args.scripted.now.project) _ _ c.in_err-build.field-0.0 refl c.in_err-build.ensures.faults)
 
 pub run_script-requires : goal.run_script-requires
 run_script-requires g c =

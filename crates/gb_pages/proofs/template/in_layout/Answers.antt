@@ -15,8 +15,8 @@ returns c =
     ∙ sym c.has_token.ensures ∙ c.if-has_token.false in
     let is : in_layout sign files path layout ≡ Err (path ++ codes ": no " ++ sign) = ap
     (λ b. if b then all_pages sign layout files else Err (path ++ codes ": no " ++ sign)) none in
-    let told = subst (λ s. MatchResult c.without_token.result (λ made. ◌≡◌ {A = Result Tree (List ℕ)} (Err
+    let reported = subst (λ s. MatchResult c.without_token.result (λ made. ◌≡◌ {A = Result Tree (List ℕ)} (Err
     (path ++ codes ": no " ++ s)) (Ok made.items)) (λ fault. IsFailure {A = Tree} fault (Err
     (path ++ codes ": no " ++ s)))) c.as_str.ensures.value c.without_token.ensures in
     subst (λ meant. MatchResult c.without_token.result (λ made. meant
-    ≡ Ok made.items) (λ fault. IsFailure {A = Tree} fault meant)) (sym is) told
+    ≡ Ok made.items) (λ fault. IsFailure {A = Tree} fault meant)) (sym is) reported

@@ -1,5 +1,5 @@
 use Rattle.std.proofs.Common.{arith, ap, length, ◌∙◌}
-use Rattle.gb_registry.proofs.Firsts.{first_among, told_on}
+use Rattle.gb_registry.proofs.Firsts.{first_among, reported_on}
 use Rattle.gb_project.proofs.LaidLemmas.{faults_here, good_more, made_on, sites_on}
 use Rattle.gb_project.proofs.TaskLemmas.{length_last}
 use Rattle.gb_project.proofs.scripts.lay_scripts.Goals as goal
@@ -12,7 +12,7 @@ returns-in_err-one-clause-faults g c =
     let functions = c.args.providers.now.table in
     let table = c.loop-scripted.providers.table in
     let nodes = c.loop-scripted.providers.nodes in
-    told_on _ _ c.in_err-one.field-0.0 c.from_residual.ensures.1
+    reported_on _ _ c.in_err-one.field-0.0 c.from_residual.ensures.1
     (first_among _ _ _ c.in_err-one.field-0.0
     (faults_here functions table before.table c.args.given.now.entries c.args.scripts.now i scripted c.loop-scripted-test.true c.scripted-item.is nodes nodes g.T.Transforms.meanings _ before.good)
     c.in_err-one.ensures.faults)

@@ -9,8 +9,8 @@ use Rattle.gb_evaluate.specs.Over.{known_names}
 use Rattle.gb_project.proofs.WorkspaceLemmas.{unknown_task}
 use Rattle.gb_project.proofs.workspaces.realised.Goals as goal
 
-pub returns-in_default-clause-told : goal.returns-in_default-clause-told
-returns-in_default-clause-told g c =
+pub returns-in_default-clause-reported : goal.returns-in_default-clause-reported
+returns-in_default-clause-reported g c =
     let tables = tables_of g.T.Transforms.meanings g.A.Actions.meanings c.args.tables.now in
     let source = c.args.registry.now in
     let path = c.args.path.now in

@@ -10,8 +10,8 @@ index-requires g c =
     let within = fault_within tables c.args.registry.now c.args.providers.now.nodes c.args.declared.now c.requires.kept c.args.path.now c.args.index c.requires.index in
     omega (arith, within, c.args.declared.now.faults.ok.0)
 
-pub returns-in-Some-clause-told : goal.returns-in-Some-clause-told
-returns-in-Some-clause-told g c =
+pub returns-in-Some-clause-reported : goal.returns-in-Some-clause-reported
+returns-in-Some-clause-reported g c =
     let tables = tables_of g.T.Transforms.meanings g.A.Actions.meanings c.args.tables.now in
     inr (
       Plain c.in_ok-copy.field-0,
@@ -53,10 +53,10 @@ evaluated_entry-requires-clause-patterns g c =
     (entry_kept tables c.args.registry.now c.args.providers.now.nodes c.args.declared.now c.requires.kept c.args.path.now c.args.index c.requires.index
     c.index.result.now c.index-2.result.now c.in-Some-index.entry c.index.ensures c.in_default.is c.index-2.ensures c.in-Some-index.is).patterns
 
-pub returns-clause-told : goal.returns-clause-told
-returns-clause-told g c =
+pub returns-clause-reported : goal.returns-clause-reported
+returns-clause-reported g c =
     let tables = tables_of g.T.Transforms.meanings g.A.Actions.meanings c.args.tables.now in
     entry_tells tables c.args.registry.now c.args.providers.now.nodes c.args.declared.now c.requires.kept c.args.path.now c.args.index c.requires.index c.in-Some-index.entry
     (entry_kept tables c.args.registry.now c.args.providers.now.nodes c.args.declared.now c.requires.kept c.args.path.now c.args.index c.requires.index
     c.index.result.now c.index-2.result.now c.in-Some-index.entry c.index.ensures c.in_default.is c.index-2.ensures c.in-Some-index.is)
-    c.projects.result.now c.paths.result.now c.as_slice.result.now c.evaluated_entry.result c.projects.ensures (c.paths.ensures ∙ c.tasks.ensures.tasks) c.as_slice.ensures.value c.evaluated_entry.ensures.told
+    c.projects.result.now c.paths.result.now c.as_slice.result.now c.evaluated_entry.result c.projects.ensures (c.paths.ensures ∙ c.tasks.ensures.tasks) c.as_slice.ensures.value c.evaluated_entry.ensures.reported

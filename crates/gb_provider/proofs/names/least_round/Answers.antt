@@ -1,6 +1,6 @@
 use Rattle.std.proofs.Common.{◌≡◌, ◌+◌, ◌-◌, ◌++◌, ◌∙◌, ap, arith, length}
 use Rattle.std.proofs.lemmas.Grind.{common_steps}
-use Rattle.gb_provider.proofs.NamesLemmas.{told_round}
+use Rattle.gb_provider.proofs.NamesLemmas.{reported_round}
 use Rattle.gb_provider.proofs.names.least_round.Goals as goal
 
 pub returns : goal.returns
@@ -13,7 +13,7 @@ returns c =
     let within = rw count at c.least_place-least.ensures.within in
     let is = rw (c.new-round.ensures, count, span, c.as_slice-2.ensures, twice) at c.in_ok-push_copies.ensures in
     let all = rw (count, c.as_slice.ensures, twice) at c.least_place-least.ensures.least in
-    told_round names place c.push_copies.new.to within is all
+    reported_round names place c.push_copies.new.to within is all
 
 pub slice_bounds-push_copies-end : goal.slice_bounds-push_copies-end
 slice_bounds-push_copies-end c = grind (arith, common_steps)

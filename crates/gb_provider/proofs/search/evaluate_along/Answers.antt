@@ -1,6 +1,6 @@
 use Rattle.std.proofs.Common.{◌≡◌, ◌<◌, ℕ, List, length, refl, slice_index, sym, ◌∙◌, ap, subst, arith}
 use Rattle.gb_provider.specs.Search.{IsPastAt, IsPathEnd, known}
-use Rattle.gb_provider.proofs.EvaluateLemmas.{circle_told, looked_there, looked_settles, looked_waits, awaited_none, new_state}
+use Rattle.gb_provider.proofs.EvaluateLemmas.{circle_reported, looked_there, looked_settles, looked_waits, awaited_none, new_state}
 use Rattle.gb_provider.proofs.PastLemmas.{past_popped, past_pushed, are_past_kept, settled_extends, opened_extends}
 use Rattle.gb_provider.proofs.SearchLemmas.{started_search, top_open, top_within, settled_search, settled_less, opened_search, opened_less, no_answer, path_circle, ended_sound}
 use Rattle.gb_provider.proofs.search.evaluate_along.Goals as goal
@@ -69,7 +69,7 @@ returns-then-is_open-clause-evaluated g c =
     let is = looked_waits _ _ kept c.loop-at.states.items c.deref.result.now c.deref.ensures.value c.in-Some.at c.in_ok-look.look.reading look c.in-Waits.operand c.in-Waits.is in
     let pushed = c.deref-then-is_open.ensures.value ∙ c.in_ok-keep-in-Waits.ensures.path in
     let ends = subst (λ path. IsPathEnd path c.in-Waits.operand c.circle_from.result) pushed c.circle_from.ensures in
-    circle_told _ _ _ _ _ c.circle_from.result (λ k below on. (no_answer _ _ _ _ _ on_path _ there _ is k below on, path_circle _ _ _ _ _ on_path _ there _ is k below on)) ends
+    circle_reported _ _ _ _ _ c.circle_from.result (λ k below on. (no_answer _ _ _ _ _ on_path _ there _ is k below on, path_circle _ _ _ _ _ on_path _ there _ is k below on)) ends
 
 pub loop-at-smaller : goal.loop-at-smaller
 loop-at-smaller g c =

@@ -13,11 +13,11 @@ returns c =
     let number = decimal c.args.number in
     let kind = c.args.kind.now in
     let was = codes " was " in
-    let told = difference_text c.args.was.now c.args.is.now in
+    let reported = difference_text c.args.was.now c.args.is.now in
     let of = codes " of " in
     let behind = number ++ (of ++ (kind ++ was)) in
     let named : List ℕ = codes "argument " ++ behind in
     let grouped = append_assoc (number ++ of) kind was ∙ append_assoc number of (kind ++ was) in
     on_ok_as c.push_difference.result c.push_difference.ensures (λ is.
-    is ∙ ap (λ (l : List ℕ). l ++ told) c.in_ok-write.ensures.bytes ∙ append_assoc text named told
-    ∙ ap (λ (l : List ℕ). text ++ ((codes "argument " ++ l) ++ told)) (sym grouped))
+    is ∙ ap (λ (l : List ℕ). l ++ reported) c.in_ok-write.ensures.bytes ∙ append_assoc text named reported
+    ∙ ap (λ (l : List ℕ). text ++ ((codes "argument " ++ l) ++ reported)) (sym grouped))

@@ -10,6 +10,6 @@ on_ok_as (Err e) held f = tt
 pub returns : goal.returns
 returns c =
     let named = codes "input value " ++ c.args.name.now ++ codes " was " in
-    let told = difference_text c.args.was.now c.args.is.now in
+    let reported = difference_text c.args.was.now c.args.is.now in
     on_ok_as c.push_difference.result c.push_difference.ensures (λ is.
-    is ∙ ap (λ (l : List ℕ). l ++ told) c.in_ok-write.ensures.bytes ∙ append_assoc (string_bytes c.args.text.now) named told)
+    is ∙ ap (λ (l : List ℕ). l ++ reported) c.in_ok-write.ensures.bytes ∙ append_assoc (string_bytes c.args.text.now) named reported)

@@ -1,4 +1,4 @@
-use Rattle.gb_records.proofs.Told.{stands_elsewhere}
+use Rattle.gb_records.proofs.Reported.{stands_elsewhere}
 use Rattle.gb_records.proofs.laws.stands_elsewhere.Goals as goal
 
 pub returns : goal.returns

@@ -1,4 +1,4 @@
-use Rattle.gb_records.proofs.Told.{stands_for_memory}
+use Rattle.gb_records.proofs.Reported.{stands_for_memory}
 use Rattle.gb_records.proofs.laws.stands_for_memory.Goals as goal
 
 pub returns : goal.returns

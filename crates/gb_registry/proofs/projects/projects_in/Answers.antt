@@ -1,7 +1,7 @@
 use Rattle.std.proofs.Common.{◌++◌, ◌∙◌, sym, ap, ◌+◌, drop}
 use Rattle.std.specs.List.{flat_map}
 use Rattle.gb_registry.specs.Projects.{included, lineage_of, settings_faults, texts_faults, with_paths}
-use Rattle.gb_registry.proofs.Firsts.{first_among, told_on}
+use Rattle.gb_registry.proofs.Firsts.{first_among, reported_on}
 use Rattle.gb_registry.proofs.Lineages.{include_faults, include_left, include_paths}
 use Rattle.gb_registry.proofs.projects.projects_in.Goals as goal
 
@@ -30,5 +30,5 @@ returns-in_err-include_all-clause-faults c =
     let whole =
     c.loop-texts.invariant.faults ∙ include_faults there there includes i texts c.loop-texts-test.true c.texts-item.is
     ∙ ap (λ ts. texts_faults there ts ++ texts_faults (with_paths there (flat_map lineage_of texts)) (included (drop (i + 1) includes))) (sym c.as_slice.ensures) in
-    told_on (settings_faults includes) _ fault c.from_residual-in_err-include_all.ensures.1
+    reported_on (settings_faults includes) _ fault c.from_residual-in_err-include_all.ensures.1
     (first_among (texts_faults there given) (texts_faults (with_paths there (flat_map lineage_of texts)) (included (drop (i + 1) includes))) _ fault whole c.in_err-include_all.ensures.faults)

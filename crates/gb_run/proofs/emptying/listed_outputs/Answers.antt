@@ -15,7 +15,7 @@ use Rattle.gb_tree.specs.declared.fault.TreeFault.TheVariants as trees
 use Rattle.gb_store.specs.Faults.{IsOfMachine}
 use Rattle.gb_store.proofs.Machine.{at_err, machine_before}
 use Rattle.gb_store.proofs.Loops.{any_here, step_here}
-use Rattle.gb_meaning.specs.Tree.{told_of_tree}
+use Rattle.gb_meaning.specs.Tree.{reported_of_tree}
 use Rattle.gb_run.specs.Emptying.{is_at_output, odd_faults, places_at}
 use Rattle.gb_run.proofs.emptying.listed_outputs.Goals as goal
 
@@ -23,10 +23,10 @@ use Rattle.gb_run.proofs.emptying.listed_outputs.Goals as goal
 odd_by : (output : Output) (outputs : List Output) (folder : Contents) (is : Bool) → is_odd_under folder output.place ≡ is
     → odd_faults (output ∷ outputs) folder ≡ cond is (faults.BadFileName output.place ∷ odd_faults outputs folder) (odd_faults outputs folder)
 odd_by output outputs folder is same =
-    ap (λ b. map told_of_tree (map trees.BadFileName (cond b (output.place ∷ filter (is_odd_under folder) (map (λ (o : Output). o.place) outputs)) (filter (is_odd_under folder) (map (λ (o : Output). o.place) outputs))))) same
+    ap (λ b. map reported_of_tree (map trees.BadFileName (cond b (output.place ∷ filter (is_odd_under folder) (map (λ (o : Output). o.place) outputs)) (filter (is_odd_under folder) (map (λ (o : Output). o.place) outputs))))) same
     ∙ by_test is
   where
-    by_test : (b : Bool) → map told_of_tree (map trees.BadFileName (cond b (output.place ∷ filter (is_odd_under folder) (map (λ (o : Output). o.place) outputs)) (filter (is_odd_under folder) (map (λ (o : Output). o.place) outputs))))
+    by_test : (b : Bool) → map reported_of_tree (map trees.BadFileName (cond b (output.place ∷ filter (is_odd_under folder) (map (λ (o : Output). o.place) outputs)) (filter (is_odd_under folder) (map (λ (o : Output). o.place) outputs))))
         ≡ cond b (faults.BadFileName output.place ∷ odd_faults outputs folder) (odd_faults outputs folder)
     by_test true = refl
     by_test false = refl

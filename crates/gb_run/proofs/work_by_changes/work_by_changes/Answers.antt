@@ -21,7 +21,7 @@ use Rattle.gb_run.specs.Asking.{IsFullRequest, made_by}
 use Rattle.gb_run.specs.AskingChanges.{CanGoOn}
 use Rattle.gb_run.specs.ChangeDigests.{at_places, digests_at}
 use Rattle.gb_run.specs.Digests.{prints_at}
-use Rattle.gb_run.specs.Turn.{IsItsTurn, Makes}
+use Rattle.gb_run.specs.Execution.{IsItsExecution, Makes}
 use Rattle.gb_run.specs.WorkByChanges.{FailsWith, Increment, IsPart, IsWorkByChanges, increment_of}
 use Rattle.gb_run.specs.Work.{Work as SaidWork}
 use Rattle.gb_run.specs.Worked.{AreStepsAt, part_held, work_held}
@@ -99,9 +99,9 @@ loop-action-preserved g c =
           (λ turn is.
           subst (λ (trees : Trees). Makes kinds task action trees now.working.digests) old.invariant.full.files
           (c.in-Ok.ensures.makes kinds agrees standing sorted good
-          (subst (λ (trees : Trees). IsItsTurn kinds task action trees old.working.request.changes.lists old.working.seen standing) (sym old.invariant.full.files)
-          (subst (λ (lists : List Changes). IsItsTurn kinds task action c.args.files lists old.working.seen standing) (sym old.invariant.full.lists)
-          (subst (λ (seen : List OutputFiles). IsItsTurn kinds task action c.args.files c.args.changes seen standing) (sym old.invariant.seen) turn))) is));
+          (subst (λ (trees : Trees). IsItsExecution kinds task action trees old.working.request.changes.lists old.working.seen standing) (sym old.invariant.full.files)
+          (subst (λ (lists : List Changes). IsItsExecution kinds task action c.args.files lists old.working.seen standing) (sym old.invariant.full.lists)
+          (subst (λ (seen : List OutputFiles). IsItsExecution kinds task action c.args.files c.args.changes seen standing) (sym old.invariant.seen) turn))) is));
     }
 
 -- what holds of a value together with another

@@ -8,10 +8,10 @@ use Rattle.gb_folder.specs.Device.{IsCalled}
 use Rattle.gb_folder.proofs.Exact.{change_failed, removed, removes_well}
 use Rattle.gb_folder.specs.Files.{Contents, IsFolder, Place, file_at}
 use Rattle.gb_store.specs.Changes.{IsHindered, without_all}
-use Rattle.gb_store.specs.Faults.{told_at}
+use Rattle.gb_store.specs.Faults.{reported_at}
 use Rattle.gb_store.specs.Removals.{removal_ending, unless_absent}
 use Rattle.gb_store.proofs.Called.{at_ok, at_place}
-use Rattle.gb_store.proofs.Removing.{hindered_by, told_place}
+use Rattle.gb_store.proofs.Removing.{hindered_by, reported_place}
 use Rattle.gb_store.proofs.Emptied.{without_none, blocked_none}
 use Rattle.gb_store.proofs.Machine.{blames_device, changes_without, changes_none, changes_left, is_device, of_machine}
 use Rattle.gb_store.proofs.removal.remove_at.Goals as goal
@@ -58,7 +58,7 @@ returns-in-Err g c =
     let fault = c.in-Err.fault in
     let sound = g.met.F.Folder.sound c.args.folder.now in
     let asked = c.remove.ensures in
-    let as_told : told_at c.in_ok-at.at fault ≡ told_at place fault = ap (λ p. told_at p fault) c.in_ok-at.ensures in
+    let as_reported : reported_at c.in_ok-at.at fault ≡ reported_at place fault = ap (λ p. reported_at p fault) c.in_ok-at.ensures in
     let said = c.remove.ensures in
     let called : IsCalled F.device c.args.folder.now (Removes place c.remove.result) c.remove.new.self =
     g.met.F.Folder.called c.args.folder.now (Removes place c.remove.result) c.remove.new.self (record {
@@ -78,21 +78,21 @@ returns-in-Err g c =
       );
       asks = asked.asks;
       blame = λ at is.
-          let told = IfErr-at_err _ is (at_place c.in_ok-at.at fault c.unless_absent.result c.unless_absent.ensures) in
-          asked.device (c.in-Err.is ∙ ap Err (blames_device place fault _ (inr (told.2 ∙ as_told)) at refl));
+          let reported = IfErr-at_err _ is (at_place c.in_ok-at.at fault c.unless_absent.result c.unless_absent.ensures) in
+          asked.device (c.in-Err.is ∙ ap Err (blames_device place fault _ (inr (reported.2 ∙ as_reported)) at refl));
       blamed = λ at is.
-          let told = IfErr-at_err _ is (at_place c.in_ok-at.at fault c.unless_absent.result c.unless_absent.ensures) in
-          (bytes_decides at place).1 (sym (told_place place at fault (sym (told.2 ∙ as_told))));
+          let reported = IfErr-at_err _ is (at_place c.in_ok-at.at fault c.unless_absent.result c.unless_absent.ensures) in
+          (bytes_decides at place).1 (sym (reported_place place at fault (sym (reported.2 ∙ as_reported))));
       ok = λ tells. on_ok_weaker c.unless_absent.result (λ absent.
           elim absent [
             | inl missing ↦ none_left old new place sound (c.in-Err.ensures.same tells (λ e. cc)) (asked.missing tells (c.in-Err.is ∙ ap Err missing))
             | inr blocked ↦ none_left old new place sound (c.in-Err.ensures.same tells (λ e. cc)) (blocked_none old.files place sound (asked.blocked tells (c.in-Err.is ∙ ap Err blocked)))
           ]) (at_ok c.in_ok-at.at fault c.unless_absent.result c.unless_absent.ensures);
-      err = λ tells. IfErr-weaker c.unless_absent.result _ _ (λ told h.
-          of_machine _ _ place fault told (inr (h.2 ∙ as_told)) (λ d. asked.device (c.in-Err.is ∙ ap Err d))
+      err = λ tells. IfErr-weaker c.unless_absent.result _ _ (λ reported h.
+          of_machine _ _ place fault reported (inr (h.2 ∙ as_reported)) (λ d. asked.device (c.in-Err.is ∙ ap Err d))
           (λ a b. other_fault fault h.0 h.1 (λ e. asked.not_large (c.in-Err.is ∙ ap Err e)) (λ e. asked.not_named (c.in-Err.is ∙ ap Err e)) a b)) (at_place c.in_ok-at.at fault c.unless_absent.result c.unless_absent.ensures);
-      hindered = λ tells. IfErr-weaker c.unless_absent.result _ _ (λ told h.
-          subst (λ t. IsHindered (F.may_leave c.args.folder.now) place None old t new) (sym (h.2 ∙ as_told))
+      hindered = λ tells. IfErr-weaker c.unless_absent.result _ _ (λ reported h.
+          subst (λ t. IsHindered (F.may_leave c.args.folder.now) place None old t new) (sym (h.2 ∙ as_reported))
           (hindered_by (F.may_leave c.args.folder.now) place None old new fault h.0 h.1 (λ e. asked.not_large (c.in-Err.is ∙ ap Err e)) (λ e. asked.not_named (c.in-Err.is ∙ ap Err e))
           (c.in-Err.ensures.same tells) (λ d. asked.torn tells (c.in-Err.is ∙ ap Err d)))) (at_place c.in_ok-at.at fault c.unless_absent.result c.unless_absent.ensures);
       changes = λ tells test holds.

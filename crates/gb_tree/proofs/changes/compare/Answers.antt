@@ -2,10 +2,10 @@ use Rattle.std.proofs.Common.{◌≡◌, ◌≤◌, ◌⊎◌, ◌++◌, ◌+◌
 use Rattle.gb_action.specs.Changes.{changes_between}
 use Rattle.gb_core.specs.Lists.{byte_order}
 use Rattle.gb_action.specs.declared.change.Change.TheVariants.{Added, Removed}
-use Rattle.gb_tree.specs.Merge.{past, told}
+use Rattle.gb_tree.specs.Merge.{past, reported}
 use Rattle.gb_tree.specs.Prints.{digests_of}
 use Rattle.gb_tree.proofs.Digests.{same_changes}
-use Rattle.gb_tree.proofs.Merging.{turned, rest_told}
+use Rattle.gb_tree.proofs.Merging.{turned, rest_reported}
 use Rattle.gb_tree.proofs.changes.compare.Goals as goal
 use Rattle.gb_tree.proofs.changes.compare.Goals.{then-loop-at-test+else-to-after, else-loop-at-test}
 
@@ -24,15 +24,15 @@ loop-at-preserved c =
       to = turn.to;
       before = turn.before_sorted;
       after = turn.after_sorted;
-      told =
-          ap (λ changes. changes ++ changes_between (drop (old.at + n.0) before) (drop (old.to + n.1) after)) c.in_ok-order.ensures.told
-          ∙ append_assoc old.changes (told (byte_order a.0 b.0) a b) (changes_between (drop (old.at + n.0) before) (drop (old.to + n.1) after))
+      reported =
+          ap (λ changes. changes ++ changes_between (drop (old.at + n.0) before) (drop (old.to + n.1) after)) c.in_ok-order.ensures.reported
+          ∙ append_assoc old.changes (reported (byte_order a.0 b.0) a b) (changes_between (drop (old.at + n.0) before) (drop (old.to + n.1) after))
           ∙ ap (λ changes. old.changes ++ changes) turn.tells
-          ∙ old.invariant.told;
+          ∙ old.invariant.reported;
     }
 
-all_told : (c : goal.In_ok-tell_added) → c.tell_added.new.changes ≡ changes_between c.args.old.now.1 c.args.new.now.1
-all_told c =
+all_reported : (c : goal.In_ok-tell_added) → c.tell_added.new.changes ≡ changes_between c.args.old.now.1 c.args.new.now.1
+all_reported c =
     let before = c.as_slice-before.result.now in
     let after = c.as_slice-after.result.now in
     let old = c.loop-at in
@@ -45,17 +45,17 @@ all_told c =
     c.in_ok-tell_added.ensures
     ∙ ap (λ changes. changes ++ added) c.in_ok-tell_removed.ensures
     ∙ append_assoc old.changes removed added
-    ∙ ap (λ changes. old.changes ++ changes) (rest_told before after old.at old.to over old.invariant.before old.invariant.after)
-    ∙ old.invariant.told
+    ∙ ap (λ changes. old.changes ++ changes) (rest_reported before after old.at old.to over old.invariant.before old.invariant.after)
+    ∙ old.invariant.reported
     ∙ ap (λ tree. changes_between tree after) c.as_slice-before.ensures.digests
     ∙ ap (λ tree. changes_between c.args.old.now.1 tree) c.as_slice-after.ensures.digests
 
 pub returns-clause-changes : goal.returns-clause-changes
-returns-clause-changes c = all_told c
+returns-clause-changes c = all_reported c
 
 pub returns-clause-exact : goal.returns-clause-exact
 returns-clause-exact c = λ before after is_before is_after apart.
-    all_told c
+    all_reported c
     ∙ ap (λ tree. changes_between tree c.args.new.now.1) is_before
     ∙ ap (λ tree. changes_between (digests_of before) tree) is_after
     ∙ same_changes before after apart

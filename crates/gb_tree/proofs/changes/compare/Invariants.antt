@@ -10,7 +10,7 @@ invariant-loop-at l = record {
   to : l.to ≤ length l.after;
   before : IsTrue (is_sorted byte_order (drop l.at l.before));
   after : IsTrue (is_sorted byte_order (drop l.to l.after));
-  told : l.changes ++ changes_between (drop l.at l.before) (drop l.to l.after) ≡ changes_between l.before l.after;
+  reported : l.changes ++ changes_between (drop l.at l.before) (drop l.to l.after) ≡ changes_between l.before l.after;
 }
 
 abbrev pub decreases-loop-at : goal.decreases-loop-at

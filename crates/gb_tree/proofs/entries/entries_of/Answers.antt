@@ -83,15 +83,15 @@ returns-clause-under g c =
 
 pub returns-clause-listed : goal.returns-clause-listed
 returns-clause-listed g c =
-    let told = c.in_ok-entries.ensures.answered in
+    let reported = c.in_ok-entries.ensures.answered in
     let naming = c.args.naming in
     let include = c.args.include.now in
     let exclude = c.args.exclude.now in
     let same = these c.args.include.now c.args.roots.now c.as_slice.result.now c.as_slice-2.result.now c.in_ok-starts.starts.items c.as_slice-2.ensures.value c.in_ok-starts.ensures.starts (c.as_slice.ensures.value ∙ c.in_ok-roots.ensures) in
     record {
-      listings = told.0;
-      listed = subst (λ (starts : List (Place × Place)). AllZip (IsStartListed g.F.Folder.failures g.F.Folder.may_leave g.F.Folder.asked c.args.folder.now c.found_few.new.folder) starts told.0) same told.1;
-      are = c.sort.ensures.sorted ∙ ap in_order (told.2 ∙ ap (λ (starts : List (Place × Place)). listed_in naming include exclude (zip starts told.0)) same);
+      listings = reported.0;
+      listed = subst (λ (starts : List (Place × Place)). AllZip (IsStartListed g.F.Folder.failures g.F.Folder.may_leave g.F.Folder.asked c.args.folder.now c.found_few.new.folder) starts reported.0) same reported.1;
+      are = c.sort.ensures.sorted ∙ ap in_order (reported.2 ∙ ap (λ (starts : List (Place × Place)). listed_in naming include exclude (zip starts reported.0)) same);
     }
 
 pub returns-clause-entries : goal.returns-clause-entries

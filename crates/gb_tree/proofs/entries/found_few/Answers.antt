@@ -24,12 +24,12 @@ returns-then-len-gt-MAX_FILES-clause-err g c = λ tells.
     let many = held_many c.in_ok-entries.entries.items all (c.in_ok-entries.ensures.found tells) (omega (arith, c.len.ensures, c.if-len-gt-MAX_FILES.true)) in
     inr (back_first (odd_roots old (places_of c.args.starts.now)) (too_many name all) (c.in_ok-entries.ensures.none_odd tells)
     ∙ ap (λ b. first_of (cond b (faults.TooManyFiles name ∷ []) [])) many
-    ∙ ap (λ (told : List ℕ). Some (faults.TooManyFiles told)) (sym c.in_ok-copy.ensures))
+    ∙ ap (λ (reported : List ℕ). Some (faults.TooManyFiles reported)) (sym c.in_ok-copy.ensures))
 
 pub returns-clause-answered : goal.returns-clause-answered
 returns-clause-answered g c =
-    let told = c.in_ok-entries.ensures.answered in
-    (told.0, told.1, held_few c.in_ok-entries.entries.items _ told.2 (omega (arith, c.len.ensures, c.if-len-gt-MAX_FILES.false)))
+    let reported = c.in_ok-entries.ensures.answered in
+    (reported.0, reported.1, held_few c.in_ok-entries.entries.items _ reported.2 (omega (arith, c.len.ensures, c.if-len-gt-MAX_FILES.false)))
 
 pub returns-clause-found : goal.returns-clause-found
 returns-clause-found g c = λ tells.

@@ -6,7 +6,7 @@ use Rattle.std.specs.Option.{option_copied}
 use Rattle.gb_core.specs.Place.{segments}
 use Rattle.gb_tree.specs.Pattern.{is_double_star, segment_matches}
 use Rattle.gb_tree.specs.Passes.{pass, fits_read}
-use Rattle.gb_tree.proofs.GoesOn.{pass_on_told}
+use Rattle.gb_tree.proofs.GoesOn.{pass_on_reported}
 use Rattle.gb_tree.proofs.matching.read_segment.Goals as goal
 
 pub bounds-states-index : goal.bounds-states-index
@@ -24,7 +24,7 @@ loop-item-preserved c =
     let turn = YieldsList-turn (YieldsList-at c.into_iter-item-iterator.ensures.into_iter_gives (YieldsList-from_str_split 47 c.args.pattern.now (lit< tt) c.split-item-items.ensures.text c.split-item-items.ensures.has_more c.split-item-items.ensures.pattern)) c.loop-item.yielded _ c.loop-item.yielded_by _ _ c.in-Some.item c.in-Some.is c.next.ensures.steps in
     let old = c.loop-item in
     let at : c.in-Some.item.now ≡ _ = turn.1 ∙ ap (λ i. get_or (segments c.args.pattern.now) i c.in-Some.item.now) (sym old.invariant.count) in
-    let more = pass_on_told is_double_star (fits_read segment_matches (option_copied c.args.read)) old.pass.entered old.pass.waiting old.states (segments c.args.pattern.now) old.index c.in-Some.item.now
+    let more = pass_on_reported is_double_star (fits_read segment_matches (option_copied c.args.read)) old.pass.entered old.pass.waiting old.states (segments c.args.pattern.now) old.index c.in-Some.item.now
     c.is_double_star.result c.fits_here.result c.over.result c.over.new.self.entered c.over.new.self.waiting
     (omega (arith, turn.0, c.requires, old.invariant.count, old.invariant.size)) (omega (arith, turn.0, old.invariant.count)) at
     c.is_double_star.ensures

@@ -5,7 +5,7 @@ use Rattle.gb_folder.specs.Files.{Place}
 use Rattle.gb_tree.specs.Tree.{IsRefused, is_among, output_entries, output_faults, output_listing_faults, too_large}
 use Rattle.gb_tree.proofs.Blame.{among_read, blamed_before}
 use Rattle.gb_tree.proofs.Refused.{at_err}
-use Rattle.gb_tree.proofs.Told.{outputs_stand, refused_listing, refused_reading}
+use Rattle.gb_tree.proofs.Reported.{outputs_stand, refused_listing, refused_reading}
 use Rattle.gb_tree.proofs.output.output_prints.Goals as goal
 
 pub returns-in_err-digests-clause-err : goal.returns-in_err-digests-clause-err

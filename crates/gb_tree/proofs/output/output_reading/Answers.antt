@@ -12,7 +12,7 @@ use Rattle.gb_tree.proofs.Answering.{all_seen_longer, output_entries_longer}
 use Rattle.gb_tree.proofs.Blame.{among_read, blamed_before}
 use Rattle.gb_tree.proofs.Refused.{at_err}
 use Rattle.gb_tree.proofs.Seen.{at_entries, seen_digests}
-use Rattle.gb_tree.proofs.Told.{outputs_stand, refused_listing, refused_reading}
+use Rattle.gb_tree.proofs.Reported.{outputs_stand, refused_listing, refused_reading}
 use Rattle.gb_tree.proofs.output.output_reading.Goals as goal
 
 pub returns-in_err-seen-clause-err : goal.returns-in_err-seen-clause-err
@@ -54,7 +54,7 @@ pub returns-clause-listed : goal.returns-clause-listed
 returns-clause-listed g c =
     let F = g.F.Folder in
     let place = c.args.place.now in
-    subst (λ (told : Entries). AreOutputEntriesListed F.failures F.may_leave F.asked c.args.folder.now c.see_all.new.folder place told)
+    subst (λ (reported : Entries). AreOutputEntriesListed F.failures F.may_leave F.asked c.args.folder.now c.see_all.new.folder place reported)
     (sym (ap (λ (reading : List ℕ × List SeenFile). entries_seen reading.1) c.new.ensures ∙ c.in_ok-seen.ensures.placed ∙ c.as_slice.ensures.value))
     (output_entries_longer (asks_nothing c.args.folder.now) c.in_ok-seen.ensures.asks place c.in_ok-entries.entries.items c.in_ok-entries.ensures.listed)
 

@@ -6,7 +6,7 @@ use Rattle.gb_tree.specs.Tree.{IsRefused, is_among, too_large}
 use Rattle.gb_tree.proofs.Found.{found_stand}
 use Rattle.gb_tree.proofs.Blame.{among_read, blamed_before}
 use Rattle.gb_tree.proofs.Refused.{at_err}
-use Rattle.gb_tree.proofs.Told.{refused_listing, refused_reading}
+use Rattle.gb_tree.proofs.Reported.{refused_listing, refused_reading}
 use Rattle.gb_tree.proofs.property.prints_of.Goals as goal
 
 pub returns-in_err-digests-clause-err : goal.returns-in_err-digests-clause-err

@@ -13,7 +13,7 @@ use Rattle.gb_tree.proofs.Answering.{all_seen_longer, entries_longer}
 use Rattle.gb_tree.proofs.Blame.{among_read, blamed_before}
 use Rattle.gb_tree.proofs.Refused.{at_err}
 use Rattle.gb_tree.proofs.Seen.{at_entries, seen_digests}
-use Rattle.gb_tree.proofs.Told.{refused_listing, refused_reading}
+use Rattle.gb_tree.proofs.Reported.{refused_listing, refused_reading}
 use Rattle.gb_tree.proofs.property.reading_of.Goals as goal
 
 pub returns-in_err-seen-clause-err : goal.returns-in_err-seen-clause-err
@@ -66,7 +66,7 @@ returns-clause-listed g c =
     let include = c.args.include.now in
     let exclude = c.args.exclude.now in
     let entries = c.in_ok-entries.entries.items in
-    subst (λ (told : Entries). AreEntriesListed F.failures F.may_leave F.asked naming roots include exclude c.args.folder.now c.see_all.new.folder told)
+    subst (λ (reported : Entries). AreEntriesListed F.failures F.may_leave F.asked naming roots include exclude c.args.folder.now c.see_all.new.folder reported)
     (sym (ap (λ (reading : List ℕ × List SeenFile). entries_seen reading.1) c.new.ensures ∙ c.in_ok-seen.ensures.placed ∙ c.as_slice.ensures.value))
     (entries_longer (asks_nothing c.args.folder.now) c.in_ok-seen.ensures.asks naming roots include exclude entries c.in_ok-entries.ensures.listed)
 

@@ -17,8 +17,8 @@ returns-in_default-clause-back c records held of =
 pub returns-in_err-edition-clause-back : goal.returns-in_err-edition-clause-back
 returns-in_err-edition-clause-back c records held of =
     let json : c.in-Some.json.now ≡ compact_text (history_json of.edition records) = c.in-Some.ensures _ (as_sealed c.args.bytes.now records of) in
-    let told : c.in_err-edition.field-0.0 ≡ OutOfMemory = c.in_err-edition.ensures.read of.edition records held of.fits json in
-    err_passes c.from_residual.result (λ got. got ≡ records) (λ x. x ≡ OutOfMemory) (rw told at c.from_residual.ensures.1)
+    let reported : c.in_err-edition.field-0.0 ≡ OutOfMemory = c.in_err-edition.ensures.read of.edition records held of.fits json in
+    err_passes c.from_residual.result (λ got. got ≡ records) (λ x. x ≡ OutOfMemory) (rw reported at c.from_residual.ensures.1)
 
 pub returns-then-not-is_same-clause-back : goal.returns-then-not-is_same-clause-back
 returns-then-not-is_same-clause-back c records held of =

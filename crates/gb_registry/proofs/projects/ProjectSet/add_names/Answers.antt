@@ -6,7 +6,7 @@ use Rattle.std.proofs.lemmas.List.{length_push}
 use Rattle.std.specs.List.{slice_split}
 use Rattle.std.specs.Prelude.{string_bytes, ◌==◌}
 use Rattle.gb_registry.specs.Projects.{lineage_from, lineage_of_names, path_faults, paths_faults, with_path, with_paths}
-use Rattle.gb_registry.proofs.Firsts.{first_among, told_on}
+use Rattle.gb_registry.proofs.Firsts.{first_among, reported_on}
 use Rattle.gb_registry.proofs.Lineages.{path_good, behind_good, lineage_faults, lineage_paths, lineage_left}
 use Rattle.gb_registry.proofs.projects.ProjectSet.add_names.Goals as goal
 
@@ -62,7 +62,7 @@ returns-in_err-add-clause-faults c =
     let text = c.as_str.result.now in
     let there = c.loop-name.self in
     let whole = c.loop-name.invariant.faults ∙ lineage_faults front front' text parts i n name turn.0 turn.1 path front_is next there in
-    told_on (paths_faults c.args.self.now (lineage_of_names names)) _ c.in_err-add.field-0.0 c.from_residual-in_err-add.ensures.1
+    reported_on (paths_faults c.args.self.now (lineage_of_names names)) _ c.in_err-add.field-0.0 c.from_residual-in_err-add.ensures.1
     (first_among (path_faults there text) (paths_faults (with_path there text) (lineage_from front' (drop n parts))) _ c.in_err-add.field-0.0 whole c.in_err-add.ensures.faults)
 
 pub returns-clause-ok : goal.returns-clause-ok

@@ -18,7 +18,7 @@ pub returns-clause-answered : goal.returns-clause-answered
 returns-clause-answered g c = λ first before seen.
     let F = g.F.Folder in
     let files = c.self.inside.files.items in
-    let told = c.in_ok-files.ensures.answered first before
+    let reported = c.in_ok-files.ensures.answered first before
     (subst (λ (value : List ℕ × List SeenFile). WereSeen F.failures F.may_leave F.asked first c.args.folder.now value.1) (sym c.self.view_is) seen) in
     subst (λ (value : List ℕ × List SeenFile). IsTreeRead F.failures F.may_leave F.asked first c.complete_all.new.folder (entries_seen value.1) c.new.result.1) c.self.view_is
-    (subst (λ (tree : List ℕ × Files). IsTreeRead F.failures F.may_leave F.asked first c.complete_all.new.folder (entries_seen files) tree.1) (sym c.new.ensures) told)
+    (subst (λ (tree : List ℕ × Files). IsTreeRead F.failures F.may_leave F.asked first c.complete_all.new.folder (entries_seen files) tree.1) (sym c.new.ensures) reported)

@@ -1,0 +1,57 @@
+use Rattle.std.proofs.Common.{◌≡◌, ◌≤◌, Bool, false, List, [], IsTrue, drop, length, map, take}
+use Rattle.std.specs.List.{AllByRecursion, AllZip, flat_map}
+use Rattle.std.specs.Vec.{vec_capacity}
+use Rattle.std.specs.Vec.Iter.{into_iter_items}
+use Rattle.gb_folder.specs.Files.{Bytes}
+use Rattle.gb_exec.specs.Telling.{AllReported}
+use Rattle.gb_meaning.specs.Headline.{HasFailed}
+use Rattle.gb_meaning.specs.Kinds.{Kinds}
+use Rattle.gb_meaning.specs.Memory.{Memory}
+use Rattle.gb_meaning.specs.Outline.{AreOutlines}
+use Rattle.gb_meaning.specs.Execution.{heard_of}
+use Rattle.gb_plan.specs.Graph.{order}
+use Rattle.gb_printer.specs.Printing.{Prints}
+use Rattle.gb_report.specs.Report.{task_text}
+use Rattle.gb_exec.specs.Plans.{AreEndings, AreOfPlan}
+use Rattle.gb_store.specs.Changes.{ChangesOnly}
+use Rattle.gb_records.specs.Assumed.{IsAssumed}
+use Rattle.gb_task.specs.Executing.{Registering}
+use Rattle.gb_exec.specs.Asking.{ExecutionsAsk}
+use Rattle.gb_exec.specs.Building.{is_of_executions}
+use Rattle.gb_exec.specs.Built.{AreWorth}
+use Rattle.gb_exec.specs.Failing.{times_blamed}
+use Rattle.gb_exec.specs.Reports.{IsOf}
+use Rattle.gb_exec.proofs.Shut.{HasOwnPlaces}
+use Rattle.gb_exec.proofs.Underway.{IsUnderway, outcome_in}
+use Rattle.gb_exec.proofs.executions.execute_tasks.Given as goal
+
+abbrev pub invariant-loop-path : goal.invariant-loop-path
+invariant-loop-path g l =
+    let F = g.F.Folder in
+    let P = g.P.Printer in
+    let ear = g.L.TaskListener.ear in
+    let tasks = l.build.tasks.now in
+    let start = l.fn.folder in
+    let done = take l.index tasks in
+    record {
+      left : into_iter_items l.path-iterator ≡ order (drop l.index tasks);
+      within : l.index ≤ length tasks;
+      room : length tasks ≤ vec_capacity l.reports;
+      long : length l.reports.items ≡ l.index;
+      of_plan : AreOfPlan tasks l.starts;
+      lasting : length l.starts.endings ≡ length tasks;
+      endings : AreEndings tasks (map outcome_in l.reports.items) l.starts.endings;
+      of_tasks : AllZip IsOf done l.reports.items;
+      outline : AreOutlines l.build.options tasks [] done l.reports.items;
+      places : AllByRecursion HasOwnPlaces done;
+      heard : AllReported (heard_of false l.reports.items) l.all_heard (map ear l.fn.listeners.items) (map ear l.listeners.items);
+      printed : Prints P.contents P.whole (flat_map task_text l.reports.items) l.fn.printer l.printer;
+      asks : ExecutionsAsk F.failures F.may_leave F.asked g.A.Actions.meanings l.build.table.now l.build.options done (take l.index l.build.records.now) l.reports.items start l.folder;
+      device : HasFailed (times_blamed l.reports.items) (F.failures start) (F.failures l.folder);
+      changes : IsTrue F.tells → ChangesOnly (is_of_executions done) (F.contents start) (F.contents l.folder);
+      build : IsTrue F.tells → (kinds : Kinds) (registry_of : Registering) (remembered : Memory) (clear : Bool) (seen : List Bytes) → IsAssumed g.A.Actions.meanings l.build.table.now kinds (F.may_leave start)
+          → (IsTrue clear → AreWorth kinds tasks l.build.records.now seen (F.contents start) remembered)
+          → IsUnderway kinds registry_of (F.may_leave start) clear seen l.build.options tasks
+          (record { contents = F.contents start; remembered = remembered; failures = F.failures start }) done (drop l.index tasks) l.reports.items
+          (record { contents = F.contents l.folder; failures = F.failures l.folder });
+    }

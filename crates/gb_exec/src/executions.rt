@@ -1,0 +1,117 @@
+//! The executions of all tasks of a plan.
+ghost use Rattle.std.specs.Prelude.{◌≡◌, ◌≤◌, ◌<◌, ◌+◌, ◌++◌, ◌∷◌, Bool, List, true, false, [], map, length};
+ghost use Rattle.std.specs.Prelude.{replicate, IsTrue, vec_len};
+ghost use Rattle.std.specs.List.{AllZip, flat_map};
+ghost use Rattle.std.specs.Vec.{vec_capacity};
+ghost use Rattle.gb_folder.specs.Files.{Bytes};
+ghost use Rattle.gb_meaning.specs.Events.{State};
+ghost use Rattle.gb_meaning.specs.Headline.{HasFailed};
+ghost use Rattle.gb_meaning.specs.Kinds.{Kinds};
+ghost use Rattle.gb_meaning.specs.Memory.{Memory};
+ghost use Rattle.gb_meaning.specs.Outline.{AreOutlines};
+ghost use Rattle.gb_meaning.specs.Execution.{heard_of};
+ghost use Rattle.gb_plan.specs.Graph.{order};
+ghost use Rattle.gb_printer.specs.Printing.{Prints};
+ghost use Rattle.gb_records.specs.Assumed.{IsAssumed};
+ghost use Rattle.gb_report.specs.Report.{task_text};
+ghost use Rattle.gb_store.specs.Changes.{ChangesOnly};
+ghost use Rattle.gb_task.specs.Executing.{Registering, setting_with};
+ghost use Rattle.gb_exec.specs.Telling.{AllReported};
+ghost use Rattle.gb_exec.specs.Plans.{AreOfPlan};
+ghost use Rattle.gb_exec.specs.declared.starts.Ending.TheVariants.{ToCome};
+ghost use Rattle.gb_exec.specs.Asking.{ExecutionsAsk};
+ghost use Rattle.gb_exec.specs.Building.{CanBuild, is_of_executions};
+ghost use Rattle.gb_exec.specs.Built.{AreWorth, HasBuilt};
+ghost use Rattle.gb_exec.specs.Failing.{times_blamed};
+ghost use Rattle.gb_exec.specs.Reports.{IsOf};
+
+use crate::heard_laws::reported_more;
+use crate::listener::TaskListener;
+use crate::one::{Build, take_one};
+use crate::starts::Starts;
+use gb_action::actions::Actions;
+use gb_core::path::TaskPath;
+use gb_folder::folder::Folder;
+use gb_printer::printer::Printer;
+use gb_report::report::TaskReport;
+use gb_task::case_laws::what_is_read_is_known;
+use std::alloc::Global;
+
+/// Appends a report to the others, for which there is room.
+fn push_reserved(reports: &mut Vec<TaskReport>, report: TaskReport)
+    requires { vec_len reports.old < vec_capacity reports.old }
+    ensures items { reports.new.items ≡ reports.old.items ++ report ∷ [] }
+    ensures len { vec_len reports.new ≡ vec_len reports.old + 1 }
+    ensures capacity { vec_capacity reports.old ≤ vec_capacity reports.new }
+{
+    match reports.push(report) {
+        Ok(()) => {}
+        Err(_) => unreachable!(),
+    }
+}
+
+/// Executes all tasks, in their order, prints the part of each as soon as its execution has ended,
+/// and puts their reports into the room that is reserved for them. Returns whether all listeners
+/// were notified of all of it. The paths are those of the tasks.
+pub(crate) fn execute_tasks<A: Actions, F: Folder, L: TaskListener, P: Printer>(
+    alloc: Global,
+    folder: &mut F,
+    build: &Build<'_, A::Stored>,
+    starts: &mut Starts,
+    paths: Vec<TaskPath>,
+    listeners: &mut Vec<L>,
+    printer: &mut P,
+    reports: &mut Vec<TaskReport>,
+) -> bool
+    requires can { CanBuild A.meanings build.now.table.now build.now.tasks.now }
+    requires wet { build.now.options.dry_run ≡ false }
+    requires of_plan { AreOfPlan build.now.tasks.now starts.old }
+    requires to_come { starts.old.endings ≡ replicate (length build.now.tasks.now) ToCome }
+    requires each { length build.now.records.now ≡ length build.now.tasks.now }
+    requires paths { paths.items ≡ order build.now.tasks.now }
+    requires none { reports.old.items ≡ [] }
+    requires room { length build.now.tasks.now ≤ vec_capacity reports.old }
+    ensures of_tasks { AllZip IsOf build.now.tasks.now reports.new.items }
+    ensures outline { AreOutlines build.now.options build.now.tasks.now [] build.now.tasks.now
+        reports.new.items }
+    ensures heard { AllReported (heard_of false reports.new.items) result
+        (map L.ear listeners.old.items) (map L.ear listeners.new.items) }
+    ensures printed { Prints P.contents P.whole (flat_map task_text reports.new.items)
+        printer.old printer.new }
+    ensures asks { ExecutionsAsk F.failures F.may_leave F.asked A.meanings build.now.table.now
+        build.now.options build.now.tasks.now build.now.records.now reports.new.items folder.old folder.new }
+    ensures device { HasFailed (times_blamed reports.new.items)
+        (F.failures folder.old) (F.failures folder.new) }
+    ensures changes { IsTrue F.tells
+        → ChangesOnly (is_of_executions build.now.tasks.now) (F.contents folder.old) (F.contents folder.new) }
+    ensures build { IsTrue F.tells → (kinds : Kinds) (registry_of : Registering) (remembered : Memory)
+        (clear : Bool) (seen : List Bytes)
+        → IsAssumed A.meanings build.now.table.now kinds (F.may_leave folder.old)
+        → (IsTrue clear → AreWorth kinds build.now.tasks.now build.now.records.now seen
+        (F.contents folder.old) remembered)
+        → HasBuilt (setting_with kinds registry_of (F.may_leave folder.old)) clear seen build.now.options
+        build.now.tasks.now
+        (record {
+          contents = F.contents folder.old;
+          remembered = remembered;
+          failures = F.failures folder.old;
+        })
+        reports.new.items
+        (record { contents = F.contents folder.new; failures = F.failures folder.new }) }
+{
+    what_is_read_is_known();
+    reported_more();
+    let mut all_heard = true;
+    let mut index = 0;
+    for path in paths {
+        // Records exist only for paths of tasks; this shows that the path is one.
+        let _path = path.as_str();
+        let taken = take_one::<A, F, L>(alloc, folder, build, starts, index, path, listeners);
+        all_heard = all_heard && taken.all_heard;
+        printer.print_task(alloc, &taken.report);
+        starts.end(index, &taken.report.outcome);
+        push_reserved(reports, taken.report);
+        index += 1;
+    }
+    all_heard
+}

@@ -1,0 +1,27 @@
+use Rattle.std.proofs.Common.{◌≡◌, [], IsTrue, length, map, take}
+use Rattle.std.specs.List.{AllByRecursion, AllZip, zip}
+use Rattle.gb_folder.specs.Calls.{Asks, no_change}
+use Rattle.gb_meaning.specs.Headline.{Agrees}
+use Rattle.gb_meaning.specs.Kinds.{Kinds}
+use Rattle.gb_plan.specs.Graph.{order}
+use Rattle.gb_predict.specs.Prediction.{IsPredictedOf, IsReasoned}
+use Rattle.gb_predict.specs.Least.{AreLost}
+use Rattle.gb_predict.specs.Marks.{AreMarkedAfter}
+use Rattle.gb_predict.specs.declared.coming.Prediction.{Prediction}
+use Rattle.gb_predict.proofs.predict.predict.Given as goal
+
+abbrev pub invariant-loop-at : goal.invariant-loop-at
+invariant-loop-at g l =
+    let F = g.F.Folder in
+    record {
+      asks : Asks F.failures F.may_leave F.asked no_change l.fn.folder l.folder;
+      same : IsTrue F.tells → F.contents l.folder ≡ F.contents l.fn.folder;
+      count : length l.reported.items ≡ l.at;
+      paths : map (λ (one : Prediction). one.path) l.reported.items ≡ order (take l.at l.plan);
+      reasoned : AllByRecursion (λ (one : Prediction). IsReasoned one.coming) l.reported.items;
+      lost : AreLost l.reported.items l.lost;
+      marked : AreMarkedAfter [] (zip (take l.at l.plan) l.reported.items);
+      prediction : IsTrue F.tells → (kinds : Kinds) → Agrees g.A.Actions.meanings l.table kinds
+          → AllZip (λ pair (one : Prediction). IsPredictedOf kinds l.options pair.0.task (F.contents l.fn.folder) pair.1 (F.failures l.fn.folder) (F.failures l.folder) one.coming)
+          (take l.at (zip l.plan l.records)) l.reported.items;
+    }

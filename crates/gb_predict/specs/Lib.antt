@@ -1,0 +1,5 @@
+pub mod Explained
+pub mod Prediction
+pub mod Least
+pub mod Marks
+pub mod Predicted

@@ -1,0 +1,147 @@
+//! The prediction for the tasks of a plan.
+ghost use Rattle.std.specs.Prelude.{◌≡◌, ◌≤◌, [], false, IfOk, IsTrue, length, map, option_copied};
+ghost use Rattle.std.specs.List.{AllByRecursion, list_any, zip};
+ghost use Rattle.gb_folder.specs.Calls.{Asks, no_change};
+ghost use Rattle.gb_folder.specs.Files.{is_own};
+ghost use Rattle.gb_predict.specs.Prediction.{ArePredictedOf, IsPredictedOf, IsReasoned};
+ghost use Rattle.gb_predict.specs.Least.{AreLost};
+ghost use Rattle.gb_predict.specs.Marks.{AreMarked, lack, mark};
+ghost use Rattle.gb_label.specs.Deciding.{HasNamesInOrder};
+ghost use Rattle.gb_meaning.specs.Headline.{Agrees};
+ghost use Rattle.gb_meaning.specs.Kinds.{Kinds};
+ghost use Rattle.gb_plan.specs.Graph.{order};
+ghost use Rattle.gb_graph.specs.Places.{AreSamePlaces, IsRising, places_from, with_places};
+ghost use Rattle.gb_plan.specs.Ready.{IsReady};
+ghost use Rattle.gb_plan.specs.Task.{output_places};
+
+use crate::coming::{Coming, Prediction};
+use crate::marks::{lack, mark, note, outputs_by_place};
+use crate::task::coming_of;
+use gb_action::actions::Actions;
+use gb_action::table::ActionTable;
+use gb_core::path::TaskPath;
+use gb_folder::folder::Folder;
+use gb_graph::by_path::Numbers;
+use gb_graph::places::TaskPlace;
+use gb_history::record::Record;
+use gb_plan::plan::Planned;
+use gb_plan::task::TaskDeclaration;
+use gb_report::report::Options;
+use std::alloc::{AllocError, Global};
+
+/// The outcome of each task of a plan, if it were executed on the folder as it is, in the order of
+/// the plan. `records` has what was read of their records, in that order. Nothing is changed.
+#[tactic(auto, using(crate::proofs::Lost::none_lost))]
+pub fn predict<A: Actions, F: Folder>(
+    alloc: Global,
+    folder: &mut F,
+    plan: &[Planned],
+    table: &ActionTable<A::Stored>,
+    options: Options,
+    records: &[Option<Record>],
+) -> Result<Vec<Prediction>, AllocError>
+    requires ready { AllByRecursion (λ planned. IsReady A.meanings table.now planned.task) plan.now }
+    requires in_order { AllByRecursion (λ planned. HasNamesInOrder planned.task) plan.now }
+    requires each { length records.now ≡ length plan.now }
+    ensures asks { Asks F.failures F.may_leave F.asked no_change folder.old folder.new }
+    ensures same { IsTrue F.tells → F.contents folder.new ≡ F.contents folder.old }
+    ensures paths { IfOk result (λ reported. map (λ one. one.path) reported.items ≡ order plan.now) }
+    // Over any folder there is a reason if a task runs for reasons.
+    ensures reasoned { IfOk result
+        (λ reported. AllByRecursion (λ one. IsReasoned one.coming) reported.items) }
+    ensures marked { IfOk result (λ reported. AreMarked plan.now reported.items) }
+    ensures prediction { IsTrue F.tells → (kinds : Kinds) → Agrees A.meanings table.now kinds
+        → IfOk result (λ reported. ArePredictedOf kinds options (F.contents folder.old)
+        (F.failures folder.old)
+        (F.failures folder.new) plan.now records.now reported.items) }
+{
+    let row = outputs_by_place(alloc, plan)?;
+    let mut reported = Vec::new(alloc);
+    let mut lost = Numbers::new(alloc);
+    for (at, planned) in plan.iter().enumerate() {
+        let last = records[at].as_ref();
+        let one = prediction::<A, F>(
+            alloc,
+            folder,
+            row.as_slice(),
+            plan,
+            reported.as_slice(),
+            &lost,
+            planned,
+            table,
+            options,
+            last,
+        )?;
+        note(&mut lost, &planned.task.path, at, &one)?;
+        reported.push(one)?;
+    }
+    Ok(reported)
+}
+
+/// The prediction for a task, given those for the tasks before it.
+fn prediction<A: Actions, F: Folder>(
+    alloc: Global,
+    folder: &mut F,
+    row: &[TaskPlace],
+    plan: &[Planned],
+    reported: &[Prediction],
+    lost: &Numbers<'_>,
+    planned: &Planned,
+    table: &ActionTable<A::Stored>,
+    options: Options,
+    last: Option<&Record>,
+) -> Result<Prediction, AllocError>
+    requires ready { IsReady A.meanings table.now planned.now.task }
+    requires in_order { HasNamesInOrder planned.now.task }
+    requires rising { IsRising row.now }
+    requires of_plan { AreSamePlaces (with_places [] (places_from output_places 0 plan.now)) row.now }
+    requires each { length reported.now ≤ length plan.now }
+    requires lost { AreLost reported.now lost.now }
+    ensures asks { Asks F.failures F.may_leave F.asked no_change folder.old folder.new }
+    ensures same { IsTrue F.tells → F.contents folder.new ≡ F.contents folder.old }
+    ensures path { IfOk result (λ one. one.path ≡ planned.now.task.path) }
+    ensures reasoned { IfOk result (λ one. IsReasoned one.coming) }
+    ensures marked { IfOk result (λ one.
+        one.after ≡ mark (zip plan.now reported.now) planned.now.task one.coming) }
+    ensures needs { IfOk result (λ one. one.needs ≡ lack planned.now.task reported.now) }
+    ensures prediction { IsTrue F.tells → (kinds : Kinds) → Agrees A.meanings table.now kinds
+        → IfOk result (λ one. IsPredictedOf kinds options planned.now.task (F.contents folder.old)
+        (option_copied last.entry) (F.failures folder.old) (F.failures folder.new) one.coming) }
+{
+    let path = planned.task.path.copy()?;
+    let coming = coming_of::<A, F>(alloc, folder, &planned.task, table, options, last);
+    match marks(alloc, row, plan, reported, lost, &planned.task, &coming) {
+        Ok((after, needs)) => Ok(Prediction {
+            path,
+            coming,
+            after,
+            needs,
+        }),
+        Err(fault) => {
+            drop(coming);
+            Err(fault)
+        }
+    }
+}
+
+/// Both marks of a task: which task may change what it finds, and which one keeps it from starting.
+fn marks(
+    alloc: Global,
+    row: &[TaskPlace],
+    plan: &[Planned],
+    reported: &[Prediction],
+    lost: &Numbers<'_>,
+    task: &TaskDeclaration,
+    coming: &Coming,
+) -> Result<(Option<TaskPath>, Option<TaskPath>), AllocError>
+    requires rising { IsRising row.now }
+    requires of_plan { AreSamePlaces (with_places [] (places_from output_places 0 plan.now)) row.now }
+    requires each { length reported.now ≤ length plan.now }
+    requires lost { AreLost reported.now lost.now }
+    ensures { IfOk result (λ found. (found.0 ≡ mark (zip plan.now reported.now) task.now coming.now)
+        × (found.1 ≡ lack task.now reported.now)) }
+{
+    let after = mark(alloc, row, plan, reported, task, coming)?;
+    let needs = lack(task, reported, lost)?;
+    Ok((after, needs))
+}

@@ -1,0 +1,85 @@
+//! The outcome of one task, if it were executed now: what an execution decides, without doing it.
+ghost use Rattle.std.specs.Prelude.{◌≡◌, Bool, IfErr, IfOk, IsTrue, not, option_copied};
+ghost use Rattle.gb_folder.specs.Calls.{Asks, no_change};
+ghost use Rattle.gb_folder.specs.Files.{is_empty};
+ghost use Rattle.gb_predict.specs.Prediction.{IsPredictedOf, IsReasoned, reported_of};
+ghost use Rattle.gb_label.specs.Deciding.{HasNamesInOrder};
+ghost use Rattle.gb_label.specs.Reading.{CannotRead};
+ghost use Rattle.gb_meaning.specs.Headline.{Agrees};
+ghost use Rattle.gb_meaning.specs.Kinds.{Kinds};
+ghost use Rattle.gb_meaning.specs.Memory.{output_files};
+ghost use Rattle.gb_meaning.specs.Tree.{listing_faults};
+ghost use Rattle.gb_plan.specs.Ready.{IsReady};
+
+use crate::coming::Coming;
+use crate::explained::explained;
+use gb_action::actions::Actions;
+use gb_action::table::ActionTable;
+use gb_folder::folder::Folder;
+use gb_history::record::Record;
+use gb_label::prepare::{Prepared, prepare};
+use gb_plan::task::TaskDeclaration;
+use gb_report::fault::Fault;
+use gb_report::report::Options;
+use gb_run::emptying::listed_outputs;
+use std::alloc::Global;
+
+/// The outcome of a task on the folder as it is. `old` is the record that was read of it.
+pub(crate) fn coming_of<A: Actions, F: Folder>(
+    alloc: Global,
+    folder: &mut F,
+    task: &TaskDeclaration,
+    table: &ActionTable<A::Stored>,
+    options: Options,
+    old: Option<&Record>,
+) -> Coming
+    requires ready { IsReady A.meanings table.now task.now }
+    requires in_order { HasNamesInOrder task.now }
+    ensures asks { Asks F.failures F.may_leave F.asked no_change folder.old folder.new }
+    ensures same { IsTrue F.tells → F.contents folder.new ≡ F.contents folder.old }
+    // Over any folder there is a reason if it runs for reasons.
+    ensures reasoned { IsReasoned result }
+    ensures prediction { IsTrue F.tells → (kinds : Kinds) → Agrees A.meanings table.now kinds
+        → IsPredictedOf kinds options task.now (F.contents folder.old) (option_copied old.entry)
+        (F.failures folder.old) (F.failures folder.new) result }
+{
+    match prepare(alloc, folder, task, options, old, false) {
+        Ok(Prepared::Skips) => Coming::Skips,
+        Ok(Prepared::HasNoActions) => Coming::HasNoActions,
+        Ok(Prepared::HasNoSource) => reported(sourceless(alloc, folder, task)),
+        Ok(Prepared::Decided(decision, basis, seen)) => {
+            drop(seen);
+            explained::<A>(alloc, task, table, old, &decision, &basis)
+        }
+        Err(fault) => Coming::CannotRead(fault),
+    }
+}
+
+/// The prediction for a task that has no source: whether files at its outputs are removed.
+fn sourceless<F: Folder>(
+    alloc: Global,
+    folder: &mut F,
+    task: &TaskDeclaration,
+) -> Result<Coming, Fault>
+    ensures asks { Asks F.failures F.may_leave F.asked no_change folder.old folder.new }
+    ensures same { IsTrue F.tells → F.contents folder.new ≡ F.contents folder.old }
+    ensures reasoned { IfOk result IsReasoned }
+    ensures removes { IsTrue F.tells → IfOk result (λ coming. (removes : Bool)
+        × (coming ≡ Coming.HasNoSource removes)
+        × (removes ≡ not (is_empty (output_files task.now (F.contents folder.old).files)))) }
+    ensures err { IsTrue F.tells → IfErr result (CannotRead (F.failures folder.old) (F.failures folder.new)
+        (listing_faults task.now (F.contents folder.old))) }
+{
+    let places = listed_outputs(alloc, folder, task.outputs.as_slice())?;
+    Ok(Coming::HasNoSource(!places.as_slice().is_empty()))
+}
+
+/// The prediction for a task, from the result of reading it.
+fn reported(found: Result<Coming, Fault>) -> Coming
+    ensures { result ≡ reported_of found }
+{
+    match found {
+        Ok(coming) => coming,
+        Err(fault) => Coming::CannotRead(fault),
+    }
+}

@@ -1,0 +1,125 @@
+use Rattle.std.proofs.Common.{◌≡◌, ◌≤◌, length, Err, Ok, Some, refl, ap, subst, sym, ◌∙◌, arith}
+use Rattle.gb_folder.specs.Calls.{Writes}
+use Rattle.gb_folder.specs.Device.{IsCalled}
+use Rattle.gb_folder.specs.Files.{Bytes, Place, with_file}
+use Rattle.gb_folder.specs.Semantics.{Answer}
+use Rattle.gb_folder.proofs.Exact.{change_failed, writes_well, wrote}
+use Rattle.gb_folder.specs.declared.folder.FolderFault.TheVariants as folders
+use Rattle.gb_meaning.specs.Events.{max_record}
+use Rattle.gb_history.specs.Places.{record_place}
+use Rattle.gb_history.specs.Text.{record_text}
+use Rattle.gb_records.specs.Called.{storing_ending}
+use Rattle.gb_records.specs.Said.{IsText}
+use Rattle.gb_records.specs.declared.fault.Unwritten.{Unwritten}
+use Rattle.gb_records.specs.declared.fault.Unwritten.TheVariants as unwritten
+use Rattle.gb_records.proofs.Called.{StoringLed, storing_called, storing_hindered, storing_too_long}
+use Rattle.gb_store.proofs.Machine.{at_err}
+use Rattle.std.proofs.lemmas.Result.{err_from_is_err_and}
+use Rattle.gb_folder.specs.Each.{Ended}
+use Rattle.gb_records.specs.Standing.{StandsWith}
+use Rattle.gb_records.proofs.Calls.{LeftAt, put, stands_in, text_said}
+use Rattle.gb_records.proofs.Asked.{put_as}
+use Rattle.gb_records.proofs.keeping.store_record.Goals as goal
+
+pub returns-in-Ok-clause-stands : goal.returns-in-Ok-clause-stands
+returns-in-Ok-clause-stands g c = λ tells seen memory entry stood of.
+    let old = g.F.Folder.contents c.args.folder.now in
+    let path = c.args.path.now in
+    let run = c.args.run.now in
+    let text : c.as_slice.result.now ≡ record_text path run = c.as_slice.ensures.value ∙ c.in_ok-text.ensures.text in
+    let long : length c.in_ok-text.text.items ≡ length (record_text path run) = ap length c.in_ok-text.ensures.text in
+    let short : length (record_text path run) ≤ max_record = omega arith in
+    let reported : IsText path run (record_text path run) = text_said path run c.in_ok-text.ensures.utf8 c.in_ok-text.ensures.held short in
+    put path old (g.F.Folder.contents c.write.new.self) memory entry run c.in_ok-place.ensures.path
+    (c.in-Ok.ensures.written tells ∙ ap (λ p. record old { files = with_file old.files p c.as_slice.result.now }) c.in_ok-place.ensures.place
+    ∙ ap (λ t. record old { files = with_file old.files (record_place path) t }) text) reported of stood
+
+pub returns-clause-stands : goal.returns-clause-stands
+returns-clause-stands g c = λ tells seen memory entry stood of.
+    let F = g.F.Folder in
+    let old = F.contents c.args.folder.now in
+    let new = F.contents c.write.new.self in
+    let path = c.args.path.now in
+    let run = c.args.run.now in
+    let text : c.as_slice.result.now ≡ record_text path run = c.as_slice.ensures.value ∙ c.in_ok-text.ensures.text in
+    let long : length c.in_ok-text.text.items ≡ length (record_text path run) = ap length c.in_ok-text.ensures.text in
+    let short : length (record_text path run) ≤ max_record = omega arith in
+    let reported : IsText path run (record_text path run) = text_said path run c.in_ok-text.ensures.utf8 c.in_ok-text.ensures.held short in
+    let torn = λ (e : c.in-Err.fault ≡ folders.Device). subst (λ t. LeftAt (F.may_leave c.args.folder.now) (record_place path) (Some t) old new) text
+    (subst (λ p. LeftAt (F.may_leave c.args.folder.now) p (Some c.as_slice.result.now) old new) c.in_ok-place.ensures.place (c.write.ensures.torn tells (c.in-Err.is ∙ ap Err e))) in
+    subst (λ r. StandsWith path entry memory (Err r) new.files) (sym c.unwritten_by.ensures)
+    (stands_in (F.may_leave c.args.folder.now) path old new c.in-Err.fault memory entry run c.in_ok-place.ensures.path (c.in-Err.ensures.same tells) torn seen reported of stood)
+
+pub returns-in-Ok-clause-asks : goal.returns-in-Ok-clause-asks
+returns-in-Ok-clause-asks g c =
+    put_as c.in_ok-place.place (record_place c.args.path.now) c.as_slice.result.now (record_text c.args.path.now c.args.run.now)
+    c.in_ok-place.ensures.place (c.as_slice.ensures.value ∙ c.in_ok-text.ensures.text) c.write.ensures.asks
+
+pub returns-clause-asks : goal.returns-clause-asks
+returns-clause-asks g c =
+    put_as c.in_ok-place.place (record_place c.args.path.now) c.as_slice.result.now (record_text c.args.path.now c.args.run.now)
+    c.in_ok-place.ensures.place (c.as_slice.ensures.value ∙ c.in_ok-text.ensures.text) c.write.ensures.asks
+
+pub returns-in-Ok-clause-calls : goal.returns-in-Ok-clause-calls
+returns-in-Ok-clause-calls g c =
+    let F = g.F.Folder in
+    let old = c.args.folder.now in
+    let new = c.write.new.self in
+    let place = c.in_ok-place.place in
+    let bytes = c.as_slice.result.now in
+    let said = c.write.ensures in
+    let path = c.args.path.now in
+    let text = record_text path c.args.run.now in
+    let called : IsCalled F.device old (Writes place bytes max_record c.write.result) new =
+    g.met.F.Folder.called old (Writes place bytes max_record c.write.result) new (record {
+      asked = said.call;
+      well = writes_well bytes max_record c.write.result said.within said.large said.not_missing said.not_named;
+      count = said.asks.count;
+      tearing = said.asks.tearing;
+      risen = λ is. said.device (change_failed c.write.result is);
+      exact = λ tells. wrote (F.may_leave old) (F.contents old) place bytes max_record c.write.result (F.contents new) said.within
+          said.large said.not_missing said.not_named (said.written tells) (said.free tells) (said.blocked tells) (said.same tells) (said.torn tells);
+    }) in
+    storing_called F.device path c.args.run.now place bytes old new c.write.result (Ok tt)
+    c.in_ok-place.ensures.place (c.as_slice.ensures.value ∙ c.in_ok-text.ensures.text) called (ap storing_ending (sym c.in-Ok.is))
+
+pub returns-clause-calls : goal.returns-clause-calls
+returns-clause-calls g c =
+    let F = g.F.Folder in
+    let old = c.args.folder.now in
+    let new = c.write.new.self in
+    let place = c.in_ok-place.place in
+    let bytes = c.as_slice.result.now in
+    let said = c.write.ensures in
+    let path = c.args.path.now in
+    let text = record_text path c.args.run.now in
+    let called : IsCalled F.device old (Writes place bytes max_record c.write.result) new =
+    g.met.F.Folder.called old (Writes place bytes max_record c.write.result) new (record {
+      asked = said.call;
+      well = writes_well bytes max_record c.write.result said.within said.large said.not_missing said.not_named;
+      count = said.asks.count;
+      tearing = said.asks.tearing;
+      risen = λ is. said.device (change_failed c.write.result is);
+      exact = λ tells. wrote (F.may_leave old) (F.contents old) place bytes max_record c.write.result (F.contents new) said.within
+          said.large said.not_missing said.not_named (said.written tells) (said.free tells) (said.blocked tells) (said.same tells) (said.torn tells);
+    }) in
+    storing_called F.device path c.args.run.now place bytes old new c.write.result (Err c.unwritten_by.result)
+    c.in_ok-place.ensures.place (c.as_slice.ensures.value ∙ c.in_ok-text.ensures.text) called (ap Err c.unwritten_by.ensures ∙ ap storing_ending (sym c.in-Err.is))
+
+
+pub returns-in_err-text-clause-calls : goal.returns-in_err-text-clause-calls
+returns-in_err-text-clause-calls g c =
+    let F = g.F.Folder in
+    let p = err_from_is_err_and c.from_residual.result c.from_residual.ensures.1 in
+    at_err (λ (r : Ended Unwritten). StoringLed F.device c.args.path.now c.args.run.now c.args.folder.now r c.args.folder.now) c.from_residual.result p.0 unwritten.OutOfMemory p.1 p.2
+    (storing_hindered F.device c.args.path.now c.args.run.now c.args.folder.now unwritten.OutOfMemory (λ e. absurd (cc)))
+
+pub returns-then-clause-calls : goal.returns-then-clause-calls
+returns-then-clause-calls g c = ?
+
+pub returns-in_err-place-clause-calls : goal.returns-in_err-place-clause-calls
+returns-in_err-place-clause-calls g c =
+    let F = g.F.Folder in
+    let p = err_from_is_err_and c.from_residual-in_err-place.result c.from_residual-in_err-place.ensures.1 in
+    at_err (λ (r : Ended Unwritten). StoringLed F.device c.args.path.now c.args.run.now c.args.folder.now r c.args.folder.now) c.from_residual-in_err-place.result p.0 c.in_err-place.field-0.0 p.1 p.2
+    (storing_hindered F.device c.args.path.now c.args.run.now c.args.folder.now c.in_err-place.field-0.0 c.in_err-place.ensures.shut)

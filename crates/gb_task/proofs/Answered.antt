@@ -1,0 +1,183 @@
+-- What was decided and read in an execution, as calls returned it.
+use Rattle.std.specs.Prelude.{ℕ, ◌≡◌, Bool, List, [], ◌∷◌, map, Option, Result, Ok, Err, IfOk}
+use Rattle.std.specs.List.{AllZip}
+use Rattle.std.proofs.Common.{refl, sym, ap, ap₂, subst, ◌∙◌}
+use mathlib.Core.Bool.{true≢false}
+use Rattle.gb_action.specs.Changes.{Changes}
+use Rattle.gb_action.specs.Files.{Tree, Trees}
+use Rattle.gb_action.specs.declared.output.Form.{Form}
+use Rattle.gb_action.specs.declared.output.OutputFiles.{OutputFiles}
+use Rattle.gb_folder.specs.Calls.{Call}
+use Rattle.gb_folder.specs.Files.{Tearing}
+use Rattle.gb_history.specs.Record.{Prints, Record}
+use Rattle.gb_history.specs.declared.decide.Decision.{Decision}
+use Rattle.gb_history.specs.declared.decide.Decision.TheVariants as decisions
+use Rattle.gb_label.specs.Answered.{IsFoundCurrent, WasDecided, WasPrepared}
+use Rattle.gb_label.specs.Deciding.{IsPresentOf}
+use Rattle.gb_label.specs.Preparing.{MayPrepare}
+use Rattle.gb_label.specs.declared.prepare.Prepared.{Prepared}
+use Rattle.gb_label.specs.declared.prepare.Prepared.TheVariants as prepared
+use Rattle.gb_plan.specs.Task.{Path, seen_outputs}
+use Rattle.gb_plan.specs.declared.task.FileProperty.{FileProperty}
+use Rattle.gb_plan.specs.declared.task.Output.{Output}
+use Rattle.gb_plan.specs.declared.task.TaskDeclaration.{TaskDeclaration as Task}
+use Rattle.gb_report.specs.declared.fault.Fault.{Fault}
+use Rattle.gb_report.specs.declared.report.Options.{Options}
+use Rattle.gb_report.specs.declared.report.Outcome.TheVariants as outcomes
+use Rattle.gb_tree.specs.Answered.{IsTreeRead, WereSeen}
+use Rattle.gb_tree.specs.Prints.{digests_of}
+use Rattle.gb_tree.specs.Reading.{digests_seen, entries_seen}
+use Rattle.gb_tree.specs.declared.kept.SeenFile.{SeenFile}
+use Rattle.gb_label.specs.ReadingAnswered.{AreInputsAnswered, AreInputsRead, AreOutputsAnswered, AreOutputsRead, IsInputAnswered, IsInputRead, IsOutputAnswered, IsOutputRead}
+use Rattle.gb_label.specs.Reading.{AreInputs, AreOutputs, Read, digests_in, prints_read, prints_seen, records_with}
+use Rattle.gb_task.specs.Recheck.{recheck_by}
+use Rattle.gb_task.specs.Current.{IsCurrentOn, WasReadRecheck, WasSettled}
+use Rattle.gb_task.specs.Settled.{settled_as}
+use Rattle.gb_task.specs.Executing.{cleared_outcome, outcome_of}
+use Rattle.gb_label.specs.declared.inputs.Inputs.{Inputs}
+use Rattle.gb_label.specs.declared.outputs.Outputs.{Outputs}
+
+first_name : (a b : List ℕ) (l m : List (List ℕ)) → a ∷ l ≡ b ∷ m → a ≡ b
+first_name a b l m e = cc
+
+other_names : (a b : List ℕ) (l m : List (List ℕ)) → a ∷ l ≡ b ∷ m → l ≡ m
+other_names a b l m e = cc
+
+module _ {F : Type 0} (failures : F → ℕ) (may_leave : F → Tearing) (asked : F → Call → F → Type 0) (old new : F) where
+  -- ---- the contents whose digests were taken
+
+  abbrev tree_of_seen : (files : List SeenFile) → WereSeen failures may_leave asked old new files → Tree
+  tree_of_seen [] were = []
+  tree_of_seen (seen ∷ files) were = (seen.path, were.0.0) ∷ tree_of_seen files were.1
+
+  tree_was_read : (files : List SeenFile) (were : WereSeen failures may_leave asked old new files)
+      → IsTreeRead failures may_leave asked old new (entries_seen files) (tree_of_seen files were)
+  tree_was_read [] were = tt
+  tree_was_read (seen ∷ files) were = ((refl, were.0.1), tree_was_read files were.1)
+
+  tree_digests : (files : List SeenFile) (were : WereSeen failures may_leave asked old new files) → digests_of (tree_of_seen files were) ≡ digests_seen files
+  tree_digests [] were = refl
+  tree_digests (seen ∷ files) were =
+      ap₂ (λ (digest : List ℕ) (tree : Tree). (seen.path, digest) ∷ tree) (sym were.0.2) (tree_digests files were.1)
+
+  abbrev trees_seen : (properties : List FileProperty) (readings : List Read) → AllZip (IsInputAnswered failures may_leave asked old new) properties readings → Trees
+  trees_seen [] [] were = []
+  trees_seen [] (reading ∷ readings) were = []
+  trees_seen (property ∷ properties) [] were = []
+  trees_seen (property ∷ properties) (reading ∷ readings) were =
+      (reading.0, tree_of_seen reading.1 were.0.1) ∷ trees_seen properties readings were.1
+
+  trees_were_read : (properties : List FileProperty) (readings : List Read) (were : AllZip (IsInputAnswered failures may_leave asked old new) properties readings)
+      → AllZip (IsInputRead failures may_leave asked old new) properties (trees_seen properties readings were)
+  trees_were_read [] [] were = tt
+  trees_were_read [] (reading ∷ readings) were = absurd were
+  trees_were_read (property ∷ properties) [] were = absurd were
+  trees_were_read (property ∷ properties) (reading ∷ readings) were =
+      ((entries_seen reading.1, were.0.0, tree_was_read reading.1 were.0.1), trees_were_read properties readings were.1)
+
+  trees_digests : (properties : List FileProperty) (readings : List Read) (were : AllZip (IsInputAnswered failures may_leave asked old new) properties readings)
+      → digests_in (trees_seen properties readings were) ≡ prints_read readings
+  trees_digests [] [] were = refl
+  trees_digests [] (reading ∷ readings) were = absurd were
+  trees_digests (property ∷ properties) [] were = absurd were
+  trees_digests (property ∷ properties) (reading ∷ readings) were =
+      ap₂ (λ (tree : Tree) (trees : List Prints). (reading.0, tree) ∷ trees) (tree_digests reading.1 were.0.1) (trees_digests properties readings were.1)
+
+  trees_named : (properties : List FileProperty) (readings : List Read) (were : AllZip (IsInputAnswered failures may_leave asked old new) properties readings)
+      → map (λ (tree : List ℕ × Tree). tree.0) (trees_seen properties readings were) ≡ map (λ (reading : Read). reading.0) readings
+  trees_named [] [] were = refl
+  trees_named [] (reading ∷ readings) were = absurd were
+  trees_named (property ∷ properties) [] were = absurd were
+  trees_named (property ∷ properties) (reading ∷ readings) were = ap (λ (names : List (List ℕ)). reading.0 ∷ names) (trees_named properties readings were.1)
+
+  abbrev files_seen : (outputs : List Output) (readings : List Read) → AllZip (IsOutputAnswered failures may_leave asked old new) outputs readings → List OutputFiles
+  files_seen [] [] were = []
+  files_seen [] (reading ∷ readings) were = []
+  files_seen (output ∷ outputs) [] were = []
+  files_seen (output ∷ outputs) (reading ∷ readings) were =
+      record { name = reading.0; form = output.form; files = tree_of_seen reading.1 were.0.1 } ∷ files_seen outputs readings were.1
+
+  files_were_read : (outputs : List Output) (readings : List Read) (were : AllZip (IsOutputAnswered failures may_leave asked old new) outputs readings)
+      → AllZip (IsOutputRead failures may_leave asked old new) outputs (files_seen outputs readings were)
+  files_were_read [] [] were = tt
+  files_were_read [] (reading ∷ readings) were = absurd were
+  files_were_read (output ∷ outputs) [] were = absurd were
+  files_were_read (output ∷ outputs) (reading ∷ readings) were =
+      ((entries_seen reading.1, were.0.0, tree_was_read reading.1 were.0.1), files_were_read outputs readings were.1)
+
+  files_digests : (outputs : List Output) (readings : List Read) (were : AllZip (IsOutputAnswered failures may_leave asked old new) outputs readings)
+      → prints_seen (files_seen outputs readings were) ≡ prints_read readings
+  files_digests [] [] were = refl
+  files_digests [] (reading ∷ readings) were = absurd were
+  files_digests (output ∷ outputs) [] were = absurd were
+  files_digests (output ∷ outputs) (reading ∷ readings) were =
+      ap₂ (λ (tree : Tree) (trees : List Prints). (reading.0, tree) ∷ trees) (tree_digests reading.1 were.0.1) (files_digests outputs readings were.1)
+
+  files_formed : (outputs : List Output) (readings : List Read) (were : AllZip (IsOutputAnswered failures may_leave asked old new) outputs readings)
+      → map (λ (reading : Read). reading.0) readings ≡ map (λ (output : Output). output.name) outputs
+      → map (λ (output : OutputFiles). let form : List ℕ × Form = (output.name, output.form) in form) (files_seen outputs readings were) ≡ seen_outputs outputs
+  files_formed [] [] were named = refl
+  files_formed [] (reading ∷ readings) were named = absurd were
+  files_formed (output ∷ outputs) [] were named = absurd were
+  files_formed (output ∷ outputs) (reading ∷ readings) were named =
+      ap₂ (λ (name : List ℕ) (forms : List (List ℕ × Form)). (name, output.form) ∷ forms) (first_name _ _ _ _ named)
+      (files_formed outputs readings were.1 (other_names _ _ _ _ named))
+
+  -- ---- what is decided
+
+  current_on : (options : Options) (task : Task) (last : Option Record) (inputs outputs : List Read) → AreInputs task inputs → AreInputsAnswered failures may_leave asked old new task inputs
+      → AreOutputs task outputs → AreOutputsAnswered failures may_leave asked old new task outputs
+      → IsFoundCurrent options task last (prints_read inputs) (prints_read outputs) → IsCurrentOn failures may_leave asked options task last old new
+  current_on options task last inputs outputs of read are stood found = record {
+    run = found.run;
+    remembered = found.read;
+    trees = trees_seen task.files inputs read;
+    inputs_read = trees_were_read task.files inputs read;
+    named = trees_named task.files inputs read ∙ of.named;
+    seen = files_seen task.outputs outputs stood;
+    outputs_read = files_were_read task.outputs outputs stood;
+    formed = files_formed task.outputs outputs stood are.named;
+    present = found.present;
+    has = subst (λ (ins : List Prints). IsPresentOf options task ins (records_with task.outputs (prints_seen (files_seen task.outputs outputs stood))) found.present)
+        (sym (trees_digests task.files inputs read))
+        (subst (λ (outs : List Prints). IsPresentOf options task (prints_read inputs) (records_with task.outputs outs) found.present)
+        (sym (files_digests task.outputs outputs stood)) found.has);
+    decides = found.decides;
+  }
+
+  pub was_settled : (options : Options) (task : Task) (last : Option Record) (path : Path) (need : Bool) (result : Result Prepared Fault)
+      → IfOk result (MayPrepare task) → IfOk result (WasPrepared failures may_leave asked old new options task last)
+      → WasSettled failures may_leave asked old new options task last (settled_as task path result need)
+  was_settled options task last path need (Err fault) may was = λ reported acts. absurd (let e = reported in (cc))
+  was_settled options task last path need (Ok prepared.Skips) may was = λ reported acts. absurd (let e = reported in (cc))
+  was_settled options task last path need (Ok prepared.HasNoActions) may was = λ reported acts. absurd (true≢false (sym may.1 ∙ acts))
+  was_settled options task last path need (Ok prepared.HasNoSource) may was = was
+  was_settled options task last path need (Ok (prepared.Decided decisions.UpToDate basis seen)) may was =
+      λ reported acts. current_on options task last seen.inputs.items seen.outputs.items was.0 was.1 was.2.0 was.2.1 was.2.2
+  was_settled options task last path need (Ok (prepared.Decided (decisions.Incremental changes) basis seen)) may was = (was.1, was.2)
+  was_settled options task last path need (Ok (prepared.Decided decisions.Full basis seen)) may was = (was.1, was.2)
+
+  -- where an incremental run was decided, calls returned the outputs that the decision is based on
+  pub outputs_answered : (options : Options) (task : Task) (last : Option Record) (inputs : List Read) (decision : Decision) (changes : List Changes) (outputs : List Read)
+      → decision ≡ decisions.Incremental changes → WasDecided failures may_leave asked old new options task last inputs decision outputs
+      → AreOutputsAnswered failures may_leave asked old new task outputs
+  outputs_answered options task last inputs decision changes outputs is was =
+      by (subst (λ (d : Decision). WasDecided failures may_leave asked old new options task last inputs d outputs) is was)
+    where
+      by : WasDecided failures may_leave asked old new options task last inputs (decisions.Incremental changes) outputs → AreOutputsAnswered failures may_leave asked old new task outputs
+      by so = so
+
+  pub read_recheck : (task : Task) (decision : Decision) (inputs : Inputs) (outputs : Outputs) → AreInputsRead failures may_leave asked old new task inputs.trees
+      → AreOutputsRead failures may_leave asked old new task outputs.seen → WasReadRecheck failures may_leave asked old new task (recheck_by decision inputs outputs)
+  read_recheck task decisions.UpToDate inputs outputs read stood = read
+  read_recheck task (decisions.Incremental changes) inputs outputs read stood = (read, stood)
+  read_recheck task decisions.Full inputs outputs read stood = read
+
+-- the outcome of a run, or of deleted outputs, is never that the task is up to date
+pub run_not_current : (ended : Result (Unit {0}) Fault) → ¬ (outcome_of ended ≡ outcomes.UpToDate)
+run_not_current (Ok done) e = absurd (cc)
+run_not_current (Err fault) e = absurd (cc)
+
+pub cleared_not_current : (ended : Result (Unit {0}) Fault) → ¬ (cleared_outcome ended ≡ outcomes.UpToDate)
+cleared_not_current (Ok done) e = absurd (cc)
+cleared_not_current (Err fault) e = absurd (cc)

@@ -1,0 +1,5 @@
+use Rattle.gb_task.proofs.CaseTurning.{idle_executions_are_executions}
+use Rattle.gb_task.proofs.case_laws.idle_executions_are_executions.Goals as goal
+
+pub returns : goal.returns
+returns c = idle_executions_are_executions

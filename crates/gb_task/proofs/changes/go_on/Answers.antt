@@ -1,0 +1,123 @@
+use Rattle.std.proofs.Common.{◌≡◌, ◌≤◌, ℕ, true, Result, Err, map, refl, sym, ap, subst, ◌∙◌, inl, inr}
+use Rattle.std.proofs.lemmas.Result.{err_from_is_err_and}
+use Rattle.gb_folder.specs.Files.{Contents}
+use Rattle.gb_meaning.specs.Label.{Moment}
+use Rattle.gb_meaning.specs.Tree.{trees_of}
+use Rattle.gb_report.specs.declared.fault.Fault.{Fault}
+use Rattle.gb_store.proofs.Machine.{at_err}
+use Rattle.gb_label.specs.Reading.{seen_of}
+use Rattle.gb_task.specs.Recheck.{IsAsBefore, IsRecheck}
+use Rattle.gb_task.specs.Current.{WasReadRecheck}
+use Rattle.gb_task.specs.Executing.{HasExecuted, report_of, setting_with}
+use Rattle.gb_task.specs.declared.recheck.Recheck.TheVariants as recheck
+use Rattle.gb_task.proofs.ByChanges.{reading_failed}
+use Rattle.gb_task.proofs.Later.{comes_later, due_since, turned_before}
+use Rattle.gb_task.proofs.Recorded.{assumed_later}
+use Rattle.gb_folder.proofs.Asked.{asks_reading, asks_then}
+use Rattle.gb_task.specs.Asking.{HasRead}
+use Rattle.gb_task.proofs.Asking.{recheck_read, asks_once, full_recheck, going_recheck, text_in_execution}
+use Rattle.gb_task.proofs.Ran.{on_ok}
+use Rattle.gb_task.proofs.changes.go_on.Goals as goal
+
+pub returns-in_err-inputs-clause-execution : goal.returns-in_err-inputs-clause-execution
+returns-in_err-inputs-clause-execution g c = λ tells kinds registry_of plan moment given at read stood goes.
+    let F = g.F.Folder in
+    let task = c.args.task.now in
+    let start = c.args.folder.now in
+    let now = c.recheck_task.new.folder in
+    let p = err_from_is_err_and c.from_residual.result c.from_residual.ensures.1 in
+    at_err (λ (r : Result (Unit {0}) Fault). HasExecuted (setting_with kinds registry_of (F.may_leave start)) c.args.options plan task moment (report_of task r c.args.lines.now) (F.contents start) (F.failures now) (F.contents now))
+    c.from_residual.result p.0 c.in_err-inputs.field-0.0 p.1 p.2
+    (reading_failed kinds registry_of (F.may_leave start) c.args.options plan task true moment (F.contents start) (F.failures start) _ c.requires.buildable.not_own c.requires.apart at
+    (due_since kinds c.args.options task moment.world c.args.last.now goes)
+    c.in_err-inputs.field-0.0 c.args.lines.now (F.failures now) (F.contents now) c.requires.no_lines (c.recheck_task.ensures.same tells) (c.in_err-inputs.ensures.err tells read stood)
+    (λ place e. c.recheck_task.ensures.blamed place (c.in_err-inputs.was ∙ ap Err e)))
+
+pub returns-in-ByChanges-clause-execution : goal.returns-in-ByChanges-clause-execution
+returns-in-ByChanges-clause-execution g c = λ tells kinds registry_of plan moment given at read stood goes.
+    let F = g.F.Folder in
+    let task = c.args.task.now in
+    let start = c.args.folder.now in
+    let then = c.recheck_task.new.folder in
+    let now = c.go_by.new.folder in
+    let same : F.contents then ≡ F.contents start = c.recheck_task.ensures.same tells in
+    let later : Moment = record { world = moment.world; outcomes = moment.outcomes; failures = F.failures then } in
+    let came = comes_later task true (F.contents start) (F.failures start) moment (F.contents then) (F.failures then) same at in
+    let before = subst (IsAsBefore kinds c.args.options task (F.contents start).files moment.world) c.in-ByChanges.is (c.in_ok-inputs.ensures.as_before tells kinds moment.world at.folder read stood goes) in
+    let report = report_of task c.go_by.result c.go_by.new.lines in
+    turned_before kinds registry_of (F.may_leave start) (F.may_leave then) c.recheck_task.ensures.asks.tearing c.args.options plan task moment (F.failures then)
+    (subst (λ (n : ℕ). n ≤ F.failures then) (sym at.failures) c.recheck_task.ensures.asks.count) report (F.contents start) (F.failures now) (F.contents now) c.go_by.ensures.asks.count
+    (subst (λ (folder : Contents). HasExecuted (setting_with kinds registry_of (F.may_leave then)) c.args.options plan task later report folder (F.failures now) (F.contents now)) same
+    (c.go_by.ensures.execution tells kinds registry_of c.args.options plan later (assumed_later _ _ c.recheck_task.ensures.asks.tearing given) came
+    (before.0 ∙ ap (λ (folder : Contents). trees_of task folder.files) (sym same))
+    (before.1 ∙ ap (λ (folder : Contents). map (seen_of folder.files) task.outputs) (sym same)) before.2))
+
+pub returns-in-InFull-clause-execution : goal.returns-in-InFull-clause-execution
+returns-in-InFull-clause-execution g c = λ tells kinds registry_of plan moment given at read stood goes.
+    let F = g.F.Folder in
+    absurd
+    (subst (IsAsBefore kinds c.args.options c.args.task.now (F.contents c.args.folder.now).files moment.world) c.in-InFull.is
+    (c.in_ok-inputs.ensures.as_before tells kinds moment.world at.folder read stood goes))
+
+pub returns-in_err-inputs-clause-asks : goal.returns-in_err-inputs-clause-asks
+returns-in_err-inputs-clause-asks g c = λ first before inputs outputs. asks_reading c.recheck_task.ensures.asks
+
+pub returns-in-ByChanges-clause-asks : goal.returns-in-ByChanges-clause-asks
+returns-in-ByChanges-clause-asks g c = λ first before inputs outputs.
+    let F = g.F.Folder in
+    let task = c.args.task.now in
+    let then = c.recheck_task.new.folder in
+    let is_recheck = subst (IsRecheck c.args.options task c.args.last.now) c.in-ByChanges.is c.in_ok-inputs.ensures.recheck in
+    let was = subst (WasReadRecheck F.failures F.may_leave F.asked first then task) c.in-ByChanges.is (c.in_ok-inputs.ensures.answered first before inputs outputs) in
+    asks_then (asks_reading c.recheck_task.ensures.asks)
+    (asks_once (HasRead F.failures F.may_leave F.asked first task) _ (recheck_read F.failures F.may_leave F.asked first c.args.options task c.args.last.now (recheck.ByChanges c.in-ByChanges.inputs c.in-ByChanges.outputs c.in-ByChanges.changes) then is_recheck was)
+    (text_in_execution task _ _
+    (λ bytes. going_recheck F.failures F.may_leave F.asked first g.A.Actions.meanings c.args.table.now c.args.options task c.args.last.now
+    c.in-ByChanges.inputs c.in-ByChanges.outputs c.in-ByChanges.changes then was bytes is_recheck)
+    c.go_by.ensures.asks))
+
+pub returns-in-InFull-clause-asks : goal.returns-in-InFull-clause-asks
+returns-in-InFull-clause-asks g c = λ first before inputs outputs.
+    let F = g.F.Folder in
+    let task = c.args.task.now in
+    let then = c.recheck_task.new.folder in
+    let was = subst (WasReadRecheck F.failures F.may_leave F.asked first then task) c.in-InFull.is (c.in_ok-inputs.ensures.answered first before inputs outputs) in
+    let is_recheck = subst (IsRecheck c.args.options task c.args.last.now) c.in-InFull.is c.in_ok-inputs.ensures.recheck in
+    asks_then (asks_reading c.recheck_task.ensures.asks)
+    (asks_once (HasRead F.failures F.may_leave F.asked first task) _ (recheck_read F.failures F.may_leave F.asked first c.args.options task c.args.last.now (recheck.InFull c.in-InFull.inputs) then is_recheck was)
+    (text_in_execution task _ _
+    (full_recheck F.failures F.may_leave F.asked first g.A.Actions.meanings c.args.table.now c.args.options task c.args.last.now c.in-InFull.inputs then was is_recheck)
+    c.run_on.ensures.asks))
+
+pub returns-in-ByChanges-clause-ran : goal.returns-in-ByChanges-clause-ran
+returns-in-ByChanges-clause-ran g c = λ first before inputs outputs.
+    let F = g.F.Folder in
+    let task = c.args.task.now in
+    let then = c.recheck_task.new.folder in
+    let is_recheck = subst (IsRecheck c.args.options task c.args.last.now) c.in-ByChanges.is c.in_ok-inputs.ensures.recheck in
+    let was = subst (WasReadRecheck F.failures F.may_leave F.asked first then task) c.in-ByChanges.is (c.in_ok-inputs.ensures.answered first before inputs outputs) in
+    on_ok c.go_by.result c.go_by.ensures.ran (λ ran. inr (
+      c.args.last.now,
+      refl,
+      c.in-ByChanges.inputs.trees,
+      c.in-ByChanges.changes,
+      c.in-ByChanges.outputs.seen,
+      then,
+      record { asks = asks_then before c.recheck_task.ensures.asks; inputs = was.0; named = is_recheck.0.named },
+      record { outputs = was.1; formed = is_recheck.1.formed; decided = is_recheck.2 },
+      ran,
+    ))
+
+pub returns-in-InFull-clause-ran : goal.returns-in-InFull-clause-ran
+returns-in-InFull-clause-ran g c = λ first before inputs outputs.
+    let F = g.F.Folder in
+    let task = c.args.task.now in
+    let then = c.recheck_task.new.folder in
+    let was = subst (WasReadRecheck F.failures F.may_leave F.asked first then task) c.in-InFull.is (c.in_ok-inputs.ensures.answered first before inputs outputs) in
+    let is_recheck = subst (IsRecheck c.args.options task c.args.last.now) c.in-InFull.is c.in_ok-inputs.ensures.recheck in
+    on_ok c.run_on.result c.run_on.ensures.ran (λ ran. inl (
+      c.in-InFull.inputs.trees,
+      then,
+      record { asks = asks_then before c.recheck_task.ensures.asks; inputs = was; named = is_recheck.named },
+      ran,
+    ))

@@ -1,0 +1,82 @@
+use Rattle.std.proofs.Common.{Bool, Option, option_copied, Bor, is_some, sym, subst, ◌∙◌, inl}
+use Rattle.gb_task.specs.Case.{IsKnown}
+use Rattle.gb_history.specs.declared.record.Record.{Record}
+use Rattle.gb_task.specs.Executing.{BeginsAt}
+use Rattle.gb_task.proofs.Later.{copied_some, due_recheck, due_in_full, due_to_go_on, inputs_read, inputs_stand, none_known, outputs_read, outputs_stand}
+use Rattle.gb_task.proofs.execution.run.Goals.{in-Some+else-goes_by_changes, in_default}
+use Rattle.gb_folder.specs.Calls.{Asks}
+use Rattle.gb_task.specs.Asking.{HasRead, IsTextOf, in_execution_with, once}
+use Rattle.gb_task.proofs.Answered.{outputs_answered}
+use Rattle.gb_task.proofs.Asking.{recheck_of_task, full_of_task, one_writer, text_once}
+use Rattle.gb_task.specs.Ran.{WasExecuted}
+use Rattle.gb_task.proofs.execution.run.Goals as goal
+
+pub execute_by_changes-requires-clause-inputs : goal.execute_by_changes-requires-clause-inputs
+execute_by_changes-requires-clause-inputs g c = inputs_read c.args.task.now c.args.seen c.args.decision c.requires.due c.requires.read
+
+pub execute_by_changes-requires-clause-outputs : goal.execute_by_changes-requires-clause-outputs
+execute_by_changes-requires-clause-outputs g c =
+    let changes = c.goes_by_changes.ensures.decided c.if-goes_by_changes.true in
+    outputs_read c.args.task.now c.args.seen c.args.decision changes.0 changes.1 c.requires.read
+
+pub execute_in_full-requires-clause-inputs : goal.execute_in_full-requires-clause-inputs
+execute_in_full-requires-clause-inputs g c = inputs_read c.args.task.now c.args.seen c.args.decision c.requires.due c.requires.read
+
+pub returns-then-goes_by_changes-clause-execution : goal.returns-then-goes_by_changes-clause-execution
+returns-then-goes_by_changes-clause-execution g c = λ tells kinds registry_of plan moment given at case case_for runs stands known.
+    let F = g.F.Folder in
+    let task = c.args.task.now in
+    let files = (F.contents c.args.folder.now).files in
+    let changes = c.goes_by_changes.ensures.decided c.if-goes_by_changes.true in
+    c.execute_by_changes.ensures.execution tells kinds registry_of plan moment given
+    (subst (λ (o : Option (Bor Record)). BeginsAt task (is_some (option_copied o)) (F.contents c.args.folder.now) (F.failures c.args.folder.now) moment) c.in-Some.is at)
+    (inputs_stand task files c.args.seen c.args.decision c.requires.due stands) (outputs_stand task files c.args.seen c.args.decision changes.0 changes.1 stands)
+    (due_to_go_on kinds c.args.options task moment.world c.args.decision changes.0 _ changes.1 case case_for (c.goes_by_changes.ensures.agreed kinds given.agrees ∙ c.if-goes_by_changes.true)
+    (subst (λ (o : Option (Bor Record)). IsKnown kinds task moment.world (option_copied o)) c.in-Some.is known))
+
+pub returns-clause-execution : goal.returns-clause-execution
+returns-clause-execution g c = λ tells kinds registry_of plan moment given at case case_for runs stands known.
+    let F = g.F.Folder in
+    let task = c.args.task.now in
+    c.execute_in_full.ensures.execution tells kinds registry_of c.args.options plan moment given
+    (subst (λ (b : Bool). BeginsAt task b (F.contents c.args.folder.now) (F.failures c.args.folder.now) moment) (copied_some c.args.last ∙ sym c.is_some.ensures) at)
+    (inputs_stand task (F.contents c.args.folder.now).files c.args.seen c.args.decision c.requires.due stands)
+    (elim c.match-last.branch [
+      | in-Some+else-goes_by_changes w ↦
+          due_in_full kinds c.args.options task moment.world c.args.decision case runs (w.goes_by_changes.ensures.agreed kinds given.agrees ∙ w.if-goes_by_changes.false)
+      | in_default w ↦ due_recheck kinds c.args.options task moment.world c.args.decision case runs (none_known kinds task moment.world c.args.last w.in_default.not-Some known)
+    ])
+
+pub returns-then-goes_by_changes-clause-asks : goal.returns-then-goes_by_changes-clause-asks
+returns-then-goes_by_changes-clause-asks g c = λ first before inputs was.
+    let F = g.F.Folder in
+    let task = c.args.task.now in
+    let changes = c.goes_by_changes.ensures.decided c.if-goes_by_changes.true in
+    let outputs = outputs_answered F.failures F.may_leave F.asked first c.args.folder.now c.args.options task (option_copied c.args.last) c.args.seen.inputs.items c.args.decision changes.0 c.args.seen.outputs.items changes.1 was in
+    subst (λ (o : Option (Bor Record)). Asks F.failures F.may_leave F.asked
+    (once (HasRead F.failures F.may_leave F.asked first task)
+    (in_execution_with task (IsTextOf F.failures F.may_leave F.asked first g.A.Actions.meanings c.args.table.now c.args.options task (option_copied o))))
+    c.args.folder.now c.execute_by_changes.new.folder) (sym c.in-Some.is)
+    (text_once (HasRead F.failures F.may_leave F.asked first task) task _ _
+    (recheck_of_task F.failures F.may_leave F.asked first g.A.Actions.meanings c.args.table.now c.args.options task _
+    (λ kinds agrees. one_writer kinds task c.args.decision changes.0 changes.1 (c.goes_by_changes.ensures.agreed kinds agrees ∙ c.if-goes_by_changes.true)))
+    (c.execute_by_changes.ensures.asks first before inputs outputs))
+
+pub returns-clause-asks : goal.returns-clause-asks
+returns-clause-asks g c = λ first before inputs was.
+    let F = g.F.Folder in
+    text_once (HasRead F.failures F.may_leave F.asked first c.args.task.now) c.args.task.now _ _
+    (full_of_task F.failures F.may_leave F.asked first g.A.Actions.meanings c.args.table.now c.args.options c.args.task.now (option_copied c.args.last))
+    (c.execute_in_full.ensures.asks first before inputs)
+
+pub returns-then-goes_by_changes-clause-ran : goal.returns-then-goes_by_changes-clause-ran
+returns-then-goes_by_changes-clause-ran g c = λ first before inputs was is.
+    let F = g.F.Folder in
+    let task = c.args.task.now in
+    let changes = c.goes_by_changes.ensures.decided c.if-goes_by_changes.true in
+    let outputs = outputs_answered F.failures F.may_leave F.asked first c.args.folder.now c.args.options task (option_copied c.args.last) c.args.seen.inputs.items c.args.decision changes.0 c.args.seen.outputs.items changes.1 was in
+    subst (λ (o : Option (Bor Record)). WasExecuted F.failures F.may_leave F.asked g.A.Actions.meanings c.args.table.now c.args.options task (option_copied o) c.execute_by_changes.result.lines
+    first c.execute_by_changes.new.folder) (sym c.in-Some.is) (c.execute_by_changes.ensures.ran first before inputs outputs is)
+
+pub returns-clause-ran : goal.returns-clause-ran
+returns-clause-ran g c = λ first before inputs was is. inl (c.execute_in_full.ensures.ran first before inputs is)

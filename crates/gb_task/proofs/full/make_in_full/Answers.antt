@@ -1,0 +1,67 @@
+use Rattle.std.proofs.Common.{List, IfErr, map, refl, ap, ◌∙◌}
+use Rattle.std.proofs.lemmas.Result.{err_from_is_err_and}
+use Rattle.gb_history.specs.Record.{Prints, prints_in}
+use Rattle.gb_history.specs.declared.record.OutputRecord.{OutputRecord}
+use Rattle.gb_label.proofs.Recorded.{names_with}
+use Rattle.gb_meaning.specs.Headline.{Agrees}
+use Rattle.gb_meaning.specs.Kinds.{Kinds}
+use Rattle.gb_report.specs.declared.fault.Fault.{Fault}
+use Rattle.gb_report.specs.declared.fault.Fault.TheVariants as faults
+use Rattle.gb_run.specs.Course.{course_of}
+use Rattle.gb_run.specs.Failing.{Fails, InFull}
+use Rattle.gb_store.proofs.Machine.{at_err}
+use Rattle.gb_task.proofs.Cut.{cut_at_end}
+use Rattle.gb_task.proofs.Given.{named_digests}
+use Rattle.gb_task.proofs.Recorded.{record_is}
+use Rattle.gb_task.proofs.full.make_in_full.Goals as goal
+
+pub returns-in_err-outputs-clause-err : goal.returns-in_err-outputs-clause-err
+returns-in_err-outputs-clause-err g c = λ tells.
+    let F = g.F.Folder in
+    let start = c.args.folder.now in
+    let now = c.run_in_full.new.folder in
+    let p = err_from_is_err_and c.from_residual-in_err-outputs.result c.from_residual-in_err-outputs.ensures.1 in
+    let IsFault : Fault → Type 0 = λ fault. (kinds : Kinds) → Agrees g.A.Actions.meanings c.args.table.now kinds
+    → Fails (course_of kinds c.args.task.now c.args.trees c.args.changes (F.contents start).files) InFull (F.may_leave start) (F.failures start) fault c.run_in_full.new.lines (F.failures now) (F.contents now).files in
+    at_err (λ r. IfErr r IsFault) c.from_residual-in_err-outputs.result p.0 faults.OutOfMemory p.1 p.2 (λ kinds agrees.
+    cut_at_end (course_of kinds c.args.task.now c.args.trees c.args.changes (F.contents start).files) InFull (F.may_leave start) (F.failures start) (F.failures now) c.run_in_full.new.lines (F.contents now).files
+    (c.in_ok-made.ensures.ok tells kinds agrees) refl)
+
+pub record_of-requires-clause-inputs : goal.record_of-requires-clause-inputs
+record_of-requires-clause-inputs g c = named_digests c.args.prints.items c.args.trees _ c.requires.digests c.requires.named
+
+pub record_of-requires-clause-outputs : goal.record_of-requires-clause-outputs
+record_of-requires-clause-outputs g c =
+    ap (λ (os : List OutputRecord). map (λ (found : Prints). found.0) (prints_in os)) c.in_ok-outputs.ensures
+    ∙ names_with c.args.task.now.outputs c.in_ok-made.made.items c.in_ok-made.ensures.named
+
+pub returns-in_err-record_of-clause-err : goal.returns-in_err-record_of-clause-err
+returns-in_err-record_of-clause-err g c = λ tells.
+    let F = g.F.Folder in
+    let start = c.args.folder.now in
+    let now = c.run_in_full.new.folder in
+    let p = err_from_is_err_and c.from_residual-in_err-record_of.result c.from_residual-in_err-record_of.ensures.1 in
+    let IsFault : Fault → Type 0 = λ fault. (kinds : Kinds) → Agrees g.A.Actions.meanings c.args.table.now kinds
+    → Fails (course_of kinds c.args.task.now c.args.trees c.args.changes (F.contents start).files) InFull (F.may_leave start) (F.failures start) fault c.run_in_full.new.lines (F.failures now) (F.contents now).files in
+    at_err (λ r. IfErr r IsFault) c.from_residual-in_err-record_of.result p.0 faults.OutOfMemory p.1 p.2 (λ kinds agrees.
+    cut_at_end (course_of kinds c.args.task.now c.args.trees c.args.changes (F.contents start).files) InFull (F.may_leave start) (F.failures start) (F.failures now) c.run_in_full.new.lines (F.contents now).files
+    (c.in_ok-made.ensures.ok tells kinds agrees) refl)
+
+pub returns-clause-made : goal.returns-clause-made
+returns-clause-made g c = λ kinds agrees.
+    let made = c.in_ok-made.ensures.made kinds agrees in
+    record_is kinds c.args.task.now c.args.trees c.args.prints.items c.in_ok-made.made.items c.in_ok-outputs.outputs.items c.in_ok-record_of.field-0
+    c.in_ok-record_of.ensures c.requires.digests c.in_ok-outputs.ensures made.0 made.1 made.2
+
+pub returns-in_err-made-clause-err : goal.returns-in_err-made-clause-err
+returns-in_err-made-clause-err g c = λ tells.
+    let F = g.F.Folder in
+    let start = c.args.folder.now in
+    let now = c.run_in_full.new.folder in
+    let p = err_from_is_err_and c.from_residual.result c.from_residual.ensures.1 in
+    let IsFault : Fault → Type 0 = λ fault. (kinds : Kinds) → Agrees g.A.Actions.meanings c.args.table.now kinds
+    → Fails (course_of kinds c.args.task.now c.args.trees c.args.changes (F.contents start).files) InFull (F.may_leave start) (F.failures start) fault c.run_in_full.new.lines (F.failures now) (F.contents now).files in
+    at_err (λ r. IfErr r IsFault) c.from_residual.result p.0 c.in_err-made.field-0.0 p.1 p.2 (c.in_err-made.ensures.err tells)
+
+pub returns-clause-calls : goal.returns-clause-calls
+returns-clause-calls g c = c.in_ok-made.ensures.calls

@@ -1,0 +1,175 @@
+use Rattle.std.proofs.Common.{◌≡◌, [], List, Some, Result, Ok, Err, IfErr, length, refl, rules, arith, sym, ap, subst, ◌∙◌, inl}
+use Rattle.std.proofs.lemmas.Result.{err_from_is_err_and}
+use Rattle.gb_action.specs.Changes.{Changes}
+use Rattle.gb_folder.specs.Files.{Contents, Files}
+use Rattle.gb_folder.proofs.Changes.{SameTearing-chain}
+use Rattle.gb_history.specs.Record.{Record}
+use Rattle.gb_history.specs.Text.{record_text}
+use Rattle.gb_meaning.specs.Memory.{recalled}
+use Rattle.gb_records.specs.Said.{IsSaidOf}
+use Rattle.gb_report.specs.declared.fault.Fault.{Fault}
+use Rattle.gb_report.specs.declared.fault.Fault.TheVariants as faults
+use Rattle.gb_run.specs.Course.{EndsWell, course_of}
+use Rattle.gb_run.specs.Work.{RunsInFull}
+use Rattle.gb_run.proofs.Stood.{made_stands}
+use Rattle.gb_store.specs.Changes.{ChangesOnly}
+use Rattle.gb_store.proofs.Machine.{at_err, changes_chain}
+use Rattle.gb_label.specs.Reading.{digests_in}
+use Rattle.gb_task.specs.Clearing.{HasCleared, IsCleared}
+use Rattle.gb_task.specs.Keeping.{IsUnwritten, run_now}
+use Rattle.gb_task.specs.Executing.{HasExecuted, is_of_execution, report_of, setting_with}
+use Rattle.gb_task.specs.Reading.{added_of}
+use Rattle.gb_task.proofs.Added.{all_of}
+use Rattle.gb_task.proofs.Cleared.{outputs_in_execution, record_in_execution}
+use Rattle.gb_task.proofs.Given.{as_many, none_read}
+use Rattle.gb_task.proofs.Parts.{outside_same}
+use Rattle.gb_task.proofs.Recorded.{record_stands, seen_later}
+use Rattle.gb_task.proofs.Whole.{clearing_failed, reading_failed, remembering, running_failed}
+use Rattle.gb_folder.proofs.Asked.{asks_then}
+use Rattle.gb_task.specs.Asking.{IsTextIn}
+use Rattle.gb_task.proofs.Asking.{full_text, made_in_execution, put_in_execution, taken_in_execution}
+use Rattle.gb_task.proofs.Ran.{all_answered, on_ok}
+use Rattle.gb_task.proofs.full.run_on.Goals as goal
+
+pub all_added-requires : goal.all_added-requires
+all_added-requires g c =
+    as_many c.args.task.now.files c.args.inputs.trees c.args.inputs.prints.items c.requires.digests c.requires.named ∙ ap length (sym c.as_slice.ensures.value)
+
+pub returns-in_err-changes-clause-execution : goal.returns-in_err-changes-clause-execution
+returns-in_err-changes-clause-execution g c = λ tells kinds registry_of options plan moment given at are_trees due.
+    let F = g.F.Folder in
+    let task = c.args.task.now in
+    let start = c.args.folder.now in
+    let p = err_from_is_err_and c.from_residual.result c.from_residual.ensures.1 in
+    at_err (λ (r : Result (Unit {0}) Fault). HasExecuted (setting_with kinds registry_of (F.may_leave start)) options plan task moment (report_of task r c.args.lines.now) (F.contents start) (F.failures start) (F.contents start))
+    c.from_residual.result p.0 faults.OutOfMemory p.1 p.2
+    (reading_failed kinds registry_of (F.may_leave start) options plan task c.args.was_read moment (F.contents start) (F.failures start) c.requires.buildable.not_own c.requires.apart at due
+    faults.OutOfMemory c.args.lines.now (F.failures start) (F.contents start) c.requires.no_lines refl (inl refl) (λ place e. absurd (let d = e in (cc))))
+
+pub returns-in_err-clear-clause-execution : goal.returns-in_err-clear-clause-execution
+returns-in_err-clear-clause-execution g c = λ tells kinds registry_of options plan moment given at are_trees due.
+    let F = g.F.Folder in
+    let task = c.args.task.now in
+    let start = c.args.folder.now in
+    let now = c.clear.new.folder in
+    let memory = moment.world.memory in
+    let cleared = c.clear.ensures.cleared tells given.tears memory at.records (none_read (recalled memory task.path) c.args.was_read at.read) in
+    let p = err_from_is_err_and c.from_residual-in_err-clear.result c.from_residual-in_err-clear.ensures.1 in
+    at_err (λ (r : Result (Unit {0}) Fault). HasExecuted (setting_with kinds registry_of (F.may_leave start)) options plan task moment (report_of task r c.args.lines.now) (F.contents start) (F.failures now) (F.contents now))
+    c.from_residual-in_err-clear.result p.0 c.in_err-clear.field-0.0 p.1 p.2
+    (clearing_failed kinds registry_of (F.may_leave start) options plan task c.args.was_read moment (F.contents start) (F.failures start) c.requires.buildable.not_own c.requires.apart at due
+    (F.may_leave start) c.in_err-clear.field-0.0 c.args.lines.now (F.failures start) (F.failures now) (F.contents start) (F.contents now) c.requires.no_lines refl
+    (search rules) (omega arith) c.clear.ensures.asks.count
+    (subst (λ (r : Result (Unit {0}) Fault). HasCleared task c.args.was_read memory (F.may_leave start) (F.failures start) (F.contents start) r (F.failures now) (F.contents now)) c.in_err-clear.was cleared)
+    (c.clear.ensures.changes tells)
+    (λ place e. c.clear.ensures.blamed place (c.in_err-clear.was ∙ ap Err e)))
+
+pub returns-in_err-run-clause-changes : goal.returns-in_err-run-clause-changes
+returns-in_err-run-clause-changes g c = λ tells.
+    let F = g.F.Folder in
+    let task = c.args.task.now in
+    changes_chain (is_of_execution task) (F.contents c.args.folder.now) (F.contents c.clear.new.folder) (F.contents c.make_in_full.new.folder)
+    (c.clear.ensures.changes tells)
+    (outputs_in_execution task (F.contents c.clear.new.folder) (F.contents c.make_in_full.new.folder) (c.make_in_full.ensures.changes tells))
+
+pub returns-in_err-run-clause-execution : goal.returns-in_err-run-clause-execution
+returns-in_err-run-clause-execution g c = λ tells kinds registry_of options plan moment given at are_trees due.
+    let F = g.F.Folder in
+    let task = c.args.task.now in
+    let start = c.args.folder.now in
+    let then = c.clear.new.folder in
+    let now = c.make_in_full.new.folder in
+    let memory = moment.world.memory in
+    let cleared = c.clear.ensures.cleared tells given.tears memory at.records (none_read (recalled memory task.path) c.args.was_read at.read) in
+    let is_cleared : IsCleared task memory (F.contents start) (F.contents then) =
+    subst (λ (r : Result (Unit {0}) Fault). HasCleared task c.args.was_read memory (F.may_leave start) (F.failures start) (F.contents start) r (F.failures then) (F.contents then)) c.in_ok-clear.was cleared in
+    let p = err_from_is_err_and c.from_residual-in_err-run.result c.from_residual-in_err-run.ensures.1 in
+    at_err (λ (r : Result (Unit {0}) Fault). HasExecuted (setting_with kinds registry_of (F.may_leave start)) options plan task moment (report_of task r c.make_in_full.new.lines) (F.contents start) (F.failures now) (F.contents now))
+    c.from_residual-in_err-run.result p.0 c.in_err-run.field-0.0 p.1 p.2
+    (running_failed kinds registry_of (F.may_leave start) options plan task c.args.was_read moment (F.contents start) (F.failures start) c.requires.buildable.not_own c.requires.apart at due
+    (F.may_leave then) c.make_in_full.new.lines (F.failures then) (F.contents then) (F.contents now) c.args.inputs.trees c.in_ok-changes.changes
+    c.clear.ensures.asks.tearing c.clear.ensures.asks.count is_cleared
+    are_trees (c.in_ok-changes.ensures c.args.inputs.trees (c.as_slice.ensures.value ∙ c.requires.digests) ∙ ap (added_of task.files) are_trees ∙ all_of (F.contents start).files task.files) (c.make_in_full.ensures.changes tells)
+    (returns-in_err-run-clause-changes g c tells) c.in_err-run.field-0.0 (F.failures now) c.make_in_full.ensures.asks.count
+    (λ place e. c.make_in_full.ensures.blamed place (c.in_err-run.was ∙ ap Err e)) (c.in_err-run.ensures.err tells kinds given.agrees))
+
+pub returns-clause-changes : goal.returns-clause-changes
+returns-clause-changes g c = λ tells.
+    let F = g.F.Folder in
+    let task = c.args.task.now in
+    changes_chain (is_of_execution task) (F.contents c.args.folder.now) (F.contents c.make_in_full.new.folder) (F.contents c.remember.new.folder)
+    (changes_chain (is_of_execution task) (F.contents c.args.folder.now) (F.contents c.clear.new.folder) (F.contents c.make_in_full.new.folder)
+    (c.clear.ensures.changes tells)
+    (outputs_in_execution task (F.contents c.clear.new.folder) (F.contents c.make_in_full.new.folder) (c.make_in_full.ensures.changes tells)))
+    (record_in_execution task (F.contents c.make_in_full.new.folder) (F.contents c.remember.new.folder) (c.remember.ensures.changes tells))
+
+pub returns-clause-execution : goal.returns-clause-execution
+returns-clause-execution g c = λ tells kinds registry_of options plan moment given at are_trees due.
+    let F = g.F.Folder in
+    let task = c.args.task.now in
+    let start = c.args.folder.now in
+    let then = c.clear.new.folder in
+    let ran = c.make_in_full.new.folder in
+    let now = c.remember.new.folder in
+    let memory = moment.world.memory in
+    let cleared = c.clear.ensures.cleared tells given.tears memory at.records (none_read (recalled memory task.path) c.args.was_read at.read) in
+    let is_cleared : IsCleared task memory (F.contents start) (F.contents then) =
+    subst (λ (r : Result (Unit {0}) Fault). HasCleared task c.args.was_read memory (F.may_leave start) (F.failures start) (F.contents start) r (F.failures then) (F.contents then)) c.in_ok-clear.was cleared in
+    let changed : ChangesOnly (is_of_execution task) (F.contents start) (F.contents ran) =
+    changes_chain (is_of_execution task) (F.contents start) (F.contents then) (F.contents ran)
+    (c.clear.ensures.changes tells)
+    (outputs_in_execution task (F.contents then) (F.contents ran) (c.make_in_full.ensures.changes tells)) in
+    let reported = c.in_ok-changes.ensures c.args.inputs.trees (c.as_slice.ensures.value ∙ c.requires.digests) ∙ ap (added_of task.files) are_trees ∙ all_of (F.contents start).files task.files in
+    let ended = c.in_ok-run.ensures.ok tells kinds given.agrees in
+    let stands : c.in_ok-run.run' ≡ run_now task c.args.inputs.prints.items (F.contents ran).files =
+    record_stands kinds task c.args.inputs.trees c.args.inputs.prints.items (F.contents ran).files c.in_ok-run.run' (c.in_ok-run.ensures.made kinds given.agrees) c.requires.digests
+    (λ held makes. made_stands kinds task c.args.inputs.trees c.in_ok-changes.changes is_cleared.taken.files c.make_in_full.new.lines (F.contents ran).files held is_cleared.is_folder.in_order
+    (subst (λ (rest : Files). EndsWell (course_of kinds task c.args.inputs.trees c.in_ok-changes.changes rest) c.make_in_full.new.lines (F.contents ran).files) is_cleared.emptied ended) makes) in
+    remembering kinds registry_of (F.may_leave start) options plan task c.args.was_read moment (F.contents start) (F.failures start) c.requires.buildable.not_own c.requires.apart at due
+    (F.may_leave then) c.make_in_full.new.lines (F.failures then) (F.contents then) (F.contents ran) c.args.inputs.trees c.in_ok-changes.changes
+    c.clear.ensures.asks.tearing c.clear.ensures.asks.count is_cleared
+    are_trees reported (c.make_in_full.ensures.changes tells) changed
+    ended c.args.inputs.prints.items (F.failures ran) (F.failures now) (F.contents now)
+    (c.requires.digests ∙ ap digests_in are_trees)
+    c.make_in_full.ensures.asks.count c.remember.ensures.asks.count
+    (changes_chain (is_of_execution task) (F.contents start) (F.contents ran) (F.contents now) changed (record_in_execution task (F.contents ran) (F.contents now) (c.remember.ensures.changes tells)))
+    (ap (λ (folder : Contents). folder.files) (outside_same task.path (F.contents ran) (F.contents now) (c.remember.ensures.changes tells)))
+    c.remember.result
+    (subst (λ (run : Record). IfErr c.remember.result (IsUnwritten task.path (Some (record_text task.path run)) (F.contents ran).files (F.failures ran) (F.failures now))) stands (c.remember.ensures.err tells))
+    c.remember.ensures.outputs
+    (λ m entry stood of. c.remember.ensures.stands tells (seen_later _ _ (SameTearing-chain _ _ _ c.clear.ensures.asks.tearing c.make_in_full.ensures.asks.tearing) given.tears) m entry stood
+    (subst (λ (run : Record). IsSaidOf run entry) (sym stands) of))
+
+pub returns-in_err-clear-clause-asks : goal.returns-in_err-clear-clause-asks
+returns-in_err-clear-clause-asks g c = taken_in_execution c.args.task.now _ c.clear.ensures.asks
+
+pub returns-in_err-run-clause-asks : goal.returns-in_err-run-clause-asks
+returns-in_err-run-clause-asks g c =
+    asks_then (taken_in_execution c.args.task.now _ c.clear.ensures.asks) (made_in_execution c.args.task.now _ c.make_in_full.ensures.asks)
+
+pub returns-clause-asks : goal.returns-clause-asks
+returns-clause-asks g c =
+    let task = c.args.task.now in
+    asks_then (asks_then (taken_in_execution task _ c.clear.ensures.asks) (made_in_execution task _ c.make_in_full.ensures.asks))
+    (put_in_execution task (IsTextIn g.A.Actions.meanings c.args.table.now task c.args.inputs.trees) c.in_ok-run.run'
+    (full_text g.A.Actions.meanings c.args.table.now task c.args.inputs.trees c.in_ok-run.run' c.in_ok-run.ensures.made) c.remember.ensures.asks)
+
+pub returns-clause-ran : goal.returns-clause-ran
+returns-clause-ran g c =
+    let F = g.F.Folder in
+    let made = c.in_ok-run.ensures.calls in
+    on_ok c.remember.result c.remember.ensures.stored (λ stored. record {
+      emptied = c.clear.new.folder;
+      empties = c.clear.ensures.asks;
+      calls = made.0;
+      done = c.make_in_full.new.folder;
+      answered = all_answered F.failures F.may_leave F.asked F.tells F.contents F.device g.met.F.Folder.said made.0 c.clear.new.folder c.make_in_full.new.folder made.1;
+      run = c.in_ok-run.run';
+      ran = λ kinds agrees. (
+        subst (λ (changes : List Changes). RunsInFull (course_of kinds c.args.task.now c.args.inputs.trees changes []) made.0 c.make_in_full.new.lines (Ok tt))
+            (c.in_ok-changes.ensures c.args.inputs.trees (c.as_slice.ensures.value ∙ c.requires.digests)) (made.2 kinds agrees),
+        c.in_ok-run.ensures.made kinds agrees,
+      );
+      limit = stored.0;
+      stored = stored.1;
+    })

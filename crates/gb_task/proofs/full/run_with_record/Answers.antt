@@ -1,0 +1,74 @@
+use Rattle.std.proofs.Common.{◌≡◌, ◌≤◌, ◌||◌, ℕ, Result, Err, sym, ap, subst, ◌∙◌}
+use Rattle.std.proofs.lemmas.Result.{err_from_is_err_and}
+use Rattle.gb_folder.specs.Files.{Contents}
+use Rattle.gb_meaning.specs.Label.{Moment}
+use Rattle.gb_meaning.specs.Tree.{trees_of}
+use Rattle.gb_plan.specs.Task.{is_output_of}
+use Rattle.gb_report.specs.declared.fault.Fault.{Fault}
+use Rattle.gb_store.proofs.Machine.{at_err}
+use Rattle.gb_task.specs.Executing.{HasExecuted, report_of, setting_with}
+use Rattle.gb_task.proofs.Later.{comes_later, turned_before}
+use Rattle.gb_task.proofs.Recorded.{assumed_later}
+use Rattle.gb_task.proofs.Whole.{reading_failed}
+use Rattle.gb_folder.proofs.Asked.{asks_reading, asks_then}
+use Rattle.gb_task.specs.Asking.{HasRead}
+use Rattle.gb_task.proofs.Asking.{asks_once, full_is_one, run_read, text_in_execution}
+use Rattle.gb_task.proofs.Ran.{on_ok}
+use Rattle.gb_task.proofs.full.run_with_record.Goals as goal
+
+pub returns-in_err-inputs-clause-execution : goal.returns-in_err-inputs-clause-execution
+returns-in_err-inputs-clause-execution g c = λ tells kinds registry_of options plan moment given at read due.
+    let F = g.F.Folder in
+    let task = c.args.task.now in
+    let start = c.args.folder.now in
+    let now = c.complete_inputs.new.folder in
+    let p = err_from_is_err_and c.from_residual.result c.from_residual.ensures.1 in
+    at_err (λ (r : Result (Unit {0}) Fault). HasExecuted (setting_with kinds registry_of (F.may_leave start)) options plan task moment (report_of task r c.args.lines.now) (F.contents start) (F.failures now) (F.contents now))
+    c.from_residual.result p.0 c.in_err-inputs.field-0.0 p.1 p.2
+    (reading_failed kinds registry_of (F.may_leave start) options plan task c.args.was_read moment (F.contents start) (F.failures start) c.requires.buildable.not_own c.requires.apart at due
+    c.in_err-inputs.field-0.0 c.args.lines.now (F.failures now) (F.contents now) c.requires.no_lines (c.complete_inputs.ensures.same tells) (c.in_err-inputs.ensures.err tells read)
+    (λ place e. ap (λ b. b || is_output_of task place) (c.complete_inputs.ensures.blamed place (c.in_err-inputs.was ∙ ap Err e))))
+
+pub returns-clause-execution : goal.returns-clause-execution
+returns-clause-execution g c = λ tells kinds registry_of options plan moment given at read due.
+    let F = g.F.Folder in
+    let task = c.args.task.now in
+    let start = c.args.folder.now in
+    let then = c.complete_inputs.new.folder in
+    let now = c.run_on.new.folder in
+    let same : F.contents then ≡ F.contents start = c.complete_inputs.ensures.same tells in
+    let later : Moment = record { world = moment.world; outcomes = moment.outcomes; failures = F.failures then } in
+    let came = comes_later task c.args.was_read (F.contents start) (F.failures start) moment (F.contents then) (F.failures then) same at in
+    turned_before kinds registry_of (F.may_leave start) (F.may_leave then) c.complete_inputs.ensures.asks.tearing options plan task moment (F.failures then)
+    (subst (λ (n : ℕ). n ≤ F.failures then) (sym at.failures) c.complete_inputs.ensures.asks.count) (report_of task c.run_on.result c.run_on.new.lines) (F.contents start) (F.failures now) (F.contents now) c.run_on.ensures.asks.count
+    (subst (λ (folder : Contents). HasExecuted (setting_with kinds registry_of (F.may_leave then)) options plan task later (report_of task c.run_on.result c.run_on.new.lines) folder (F.failures now) (F.contents now)) same
+    (c.run_on.ensures.execution tells kinds registry_of options plan later (assumed_later _ _ c.complete_inputs.ensures.asks.tearing given) came
+    (c.in_ok-inputs.ensures.trees tells read ∙ ap (λ (folder : Contents). trees_of task folder.files) (sym same)) due))
+
+pub returns-in_err-inputs-clause-asks : goal.returns-in_err-inputs-clause-asks
+returns-in_err-inputs-clause-asks g c = λ first before inputs. asks_reading c.complete_inputs.ensures.asks
+
+pub returns-clause-asks : goal.returns-clause-asks
+returns-clause-asks g c = λ first before inputs.
+    let F = g.F.Folder in
+    let task = c.args.task.now in
+    let trees = c.in_ok-inputs.inputs.trees in
+    let read = c.complete_inputs.new.folder in
+    let were = c.in_ok-inputs.ensures.answered first before inputs in
+    asks_then (asks_reading c.complete_inputs.ensures.asks)
+    (asks_once (HasRead F.failures F.may_leave F.asked first task) _ (run_read F.failures F.may_leave F.asked first task trees read were c.in_ok-inputs.ensures.named)
+    (text_in_execution task _ _
+    (full_is_one F.failures F.may_leave F.asked first g.A.Actions.meanings c.args.table.now task trees read were c.in_ok-inputs.ensures.named) c.run_on.ensures.asks))
+
+pub returns-clause-ran : goal.returns-clause-ran
+returns-clause-ran g c = λ first before inputs.
+    on_ok c.run_on.result c.run_on.ensures.ran (λ ran. (
+      c.in_ok-inputs.inputs.trees,
+      c.complete_inputs.new.folder,
+      record {
+        asks = asks_then before c.complete_inputs.ensures.asks;
+        inputs = c.in_ok-inputs.ensures.answered first before inputs;
+        named = c.in_ok-inputs.ensures.named;
+      },
+      ran,
+    ))

@@ -1,0 +1,163 @@
+use Rattle.std.proofs.Common.{◌≡◌, true, Some, Result, Err, IfErr, refl, arith, sym, ap, subst, ◌∙◌}
+use Rattle.std.proofs.lemmas.Result.{err_from_is_err_and}
+use Rattle.gb_folder.specs.Files.{Contents}
+use Rattle.gb_folder.proofs.Changes.{SameTearing-chain}
+use Rattle.gb_history.specs.Places.{record_place}
+use Rattle.gb_history.specs.Record.{Record}
+use Rattle.gb_history.specs.Text.{record_text}
+use Rattle.gb_meaning.specs.Memory.{forget, recalled}
+use Rattle.gb_records.specs.Said.{IsSaidOf}
+use Rattle.gb_records.specs.Standing.{Standing}
+use Rattle.gb_report.specs.declared.fault.Fault.{Fault}
+use Rattle.gb_run.proofs.Stood.{made_stands}
+use Rattle.gb_store.specs.Changes.{ChangesOnly, is_at}
+use Rattle.gb_store.proofs.Machine.{at_err, changes_chain}
+use Rattle.gb_run.proofs.Fitting.{all_fitting}
+use Rattle.gb_label.specs.Reading.{digests_in}
+use Rattle.gb_task.specs.Keeping.{IsForgotten, IsUnwritten, run_now}
+use Rattle.gb_task.specs.Executing.{HasExecuted, is_of_execution, report_of, setting_with}
+use Rattle.gb_task.proofs.ByChanges.{forgetting_failed, goes_on, remembering, running_failed}
+use Rattle.gb_task.proofs.Cleared.{outputs_in_execution, record_in_execution}
+use Rattle.gb_task.proofs.Given.{none_read}
+use Rattle.gb_task.proofs.Parts.{outside_same}
+use Rattle.gb_task.proofs.Recorded.{record_stands, seen_later}
+use Rattle.gb_folder.proofs.Asked.{asks_then}
+use Rattle.gb_task.specs.Asking.{IsTextBy}
+use Rattle.gb_task.proofs.Asking.{going_text, made_in_execution, put_in_execution, record_taken, taken_in_execution}
+use Rattle.gb_task.proofs.Ran.{all_answered, on_ok}
+use Rattle.gb_task.proofs.going.go_by.Goals as goal
+
+pub returns-in_err-forget-clause-changes : goal.returns-in_err-forget-clause-changes
+returns-in_err-forget-clause-changes g c = λ tells.
+    let F = g.F.Folder in
+    record_in_execution c.args.task.now (F.contents c.args.folder.now) (F.contents c.forget.new.folder) (c.forget.ensures.changes tells)
+
+pub returns-in_err-forget-clause-execution : goal.returns-in_err-forget-clause-execution
+returns-in_err-forget-clause-execution g c = λ tells kinds registry_of options plan moment given at are_trees are_outputs due.
+    let F = g.F.Folder in
+    let task = c.args.task.now in
+    let start = c.args.folder.now in
+    let now = c.forget.new.folder in
+    let memory = moment.world.memory in
+    let records = c.forget.ensures.stands tells given.tears memory at.records (none_read (recalled memory task.path) true at.read) in
+    let p = err_from_is_err_and c.from_residual.result c.from_residual.ensures.1 in
+    at_err (λ (r : Result (Unit {0}) Fault). HasExecuted (setting_with kinds registry_of (F.may_leave start)) options plan task moment (report_of task r c.args.lines.now) (F.contents start) (F.failures now) (F.contents now))
+    c.from_residual.result p.0 c.in_err-forget.field-0.0 p.1 p.2
+    (forgetting_failed kinds registry_of (F.may_leave start) options plan task true moment (F.contents start) (F.failures start) c.args.changes c.requires.buildable.not_own c.requires.apart at due
+    c.in_err-forget.field-0.0 c.args.lines.now (F.failures start) (F.failures now) (F.contents start) (F.contents now) c.requires.no_lines refl
+    (omega arith) c.forget.ensures.asks.count refl (c.in_err-forget.ensures.err tells) (c.forget.ensures.changes tells)
+    (subst (λ (r : Result (Unit {0}) Fault). IsForgotten task.path memory r (F.contents now).files) c.in_err-forget.was records))
+
+pub returns-in_err-run-clause-changes : goal.returns-in_err-run-clause-changes
+returns-in_err-run-clause-changes g c = λ tells.
+    let F = g.F.Folder in
+    let task = c.args.task.now in
+    changes_chain (is_of_execution task) (F.contents c.args.folder.now) (F.contents c.forget.new.folder) (F.contents c.make_by_changes.new.folder)
+    (record_in_execution task (F.contents c.args.folder.now) (F.contents c.forget.new.folder) (c.forget.ensures.changes tells))
+    (outputs_in_execution task (F.contents c.forget.new.folder) (F.contents c.make_by_changes.new.folder) (c.make_by_changes.ensures.changes tells))
+
+pub returns-in_err-run-clause-execution : goal.returns-in_err-run-clause-execution
+returns-in_err-run-clause-execution g c = λ tells kinds registry_of options plan moment given at are_trees are_outputs due.
+    let F = g.F.Folder in
+    let task = c.args.task.now in
+    let start = c.args.folder.now in
+    let then = c.forget.new.folder in
+    let now = c.make_by_changes.new.folder in
+    let memory = moment.world.memory in
+    let records = c.forget.ensures.stands tells given.tears memory at.records (none_read (recalled memory task.path) true at.read) in
+    let forgotten : Standing (F.contents then).files (forget memory task.path) =
+    subst (λ (r : Result (Unit {0}) Fault). IsForgotten task.path memory r (F.contents then).files) c.in_ok-forget.was records in
+    let gone : ChangesOnly (is_at (record_place task.path)) (F.contents start) (F.contents then) = c.forget.ensures.changes tells in
+    let goes = goes_on kinds registry_of (F.may_leave start) options plan task true moment (F.contents start) (F.failures start) c.args.changes c.requires.buildable.not_own c.requires.apart at due
+    c.requires.buildable.in_order c.as_str-path.ensures.path c.requires.outputs_apart (F.contents then) gone c.args.inputs.trees c.args.outputs.seen are_trees are_outputs in
+    let p = err_from_is_err_and c.from_residual-in_err-run.result c.from_residual-in_err-run.ensures.1 in
+    at_err (λ (r : Result (Unit {0}) Fault). HasExecuted (setting_with kinds registry_of (F.may_leave start)) options plan task moment (report_of task r c.make_by_changes.new.lines) (F.contents start) (F.failures now) (F.contents now))
+    c.from_residual-in_err-run.result p.0 c.in_err-run.field-0.0 p.1 p.2
+    (running_failed kinds registry_of (F.may_leave start) options plan task true moment (F.contents start) (F.failures start) c.args.changes c.requires.buildable.not_own c.requires.apart at due
+    (F.may_leave then) c.make_by_changes.new.lines (F.failures then) (F.contents then) (F.contents now) c.args.inputs.trees
+    c.forget.ensures.asks.tearing c.forget.ensures.asks.count gone forgotten
+    are_trees (c.make_by_changes.ensures.changes tells)
+    (returns-in_err-run-clause-changes g c tells) c.in_err-run.field-0.0 (F.failures now) c.make_by_changes.ensures.asks.count
+    (λ place e. c.make_by_changes.ensures.blamed place (c.in_err-run.was ∙ ap Err e))
+    (all_fitting g.A.Actions.meanings kinds c.args.table.now task task.actions g.A.Actions.own_output given.agrees c.requires.buildable.ready)
+    (c.in_err-run.ensures.err tells kinds given.agrees _ goes))
+
+pub returns-clause-changes : goal.returns-clause-changes
+returns-clause-changes g c = λ tells.
+    let F = g.F.Folder in
+    let task = c.args.task.now in
+    changes_chain (is_of_execution task) (F.contents c.args.folder.now) (F.contents c.make_by_changes.new.folder) (F.contents c.remember.new.folder)
+    (changes_chain (is_of_execution task) (F.contents c.args.folder.now) (F.contents c.forget.new.folder) (F.contents c.make_by_changes.new.folder)
+    (record_in_execution task (F.contents c.args.folder.now) (F.contents c.forget.new.folder) (c.forget.ensures.changes tells))
+    (outputs_in_execution task (F.contents c.forget.new.folder) (F.contents c.make_by_changes.new.folder) (c.make_by_changes.ensures.changes tells)))
+    (record_in_execution task (F.contents c.make_by_changes.new.folder) (F.contents c.remember.new.folder) (c.remember.ensures.changes tells))
+
+pub returns-clause-execution : goal.returns-clause-execution
+returns-clause-execution g c = λ tells kinds registry_of options plan moment given at are_trees are_outputs due.
+    let F = g.F.Folder in
+    let task = c.args.task.now in
+    let start = c.args.folder.now in
+    let then = c.forget.new.folder in
+    let ran = c.make_by_changes.new.folder in
+    let now = c.remember.new.folder in
+    let memory = moment.world.memory in
+    let records = c.forget.ensures.stands tells given.tears memory at.records (none_read (recalled memory task.path) true at.read) in
+    let forgotten : Standing (F.contents then).files (forget memory task.path) =
+    subst (λ (r : Result (Unit {0}) Fault). IsForgotten task.path memory r (F.contents then).files) c.in_ok-forget.was records in
+    let gone : ChangesOnly (is_at (record_place task.path)) (F.contents start) (F.contents then) = c.forget.ensures.changes tells in
+    let goes = goes_on kinds registry_of (F.may_leave start) options plan task true moment (F.contents start) (F.failures start) c.args.changes c.requires.buildable.not_own c.requires.apart at due
+    c.requires.buildable.in_order c.as_str-path.ensures.path c.requires.outputs_apart (F.contents then) gone c.args.inputs.trees c.args.outputs.seen are_trees are_outputs in
+    let changed : ChangesOnly (is_of_execution task) (F.contents start) (F.contents ran) =
+    changes_chain (is_of_execution task) (F.contents start) (F.contents then) (F.contents ran)
+    (record_in_execution task (F.contents start) (F.contents then) gone)
+    (outputs_in_execution task (F.contents then) (F.contents ran) (c.make_by_changes.ensures.changes tells)) in
+    let ended = c.in_ok-run.ensures.ok tells kinds given.agrees _ goes in
+    let stands : c.in_ok-run.run' ≡ run_now task c.args.inputs.prints.items (F.contents ran).files =
+    record_stands kinds task c.args.inputs.trees c.args.inputs.prints.items (F.contents ran).files c.in_ok-run.run'
+    (c.in_ok-run.ensures.made kinds given.agrees _ (F.contents then).files (g.met.F.Folder.sound then) (g.met.F.Folder.placed then) goes) c.requires.digests
+    (λ held makes. made_stands kinds task c.args.inputs.trees c.args.changes (F.contents then).files c.make_by_changes.new.lines (F.contents ran).files held
+    (g.met.F.Folder.sound then).in_order ended makes) in
+    remembering kinds registry_of (F.may_leave start) options plan task true moment (F.contents start) (F.failures start) c.args.changes c.requires.buildable.not_own c.requires.apart at due
+    (F.may_leave then) c.make_by_changes.new.lines (F.failures then) (F.contents then) (F.contents ran) c.args.inputs.trees
+    c.forget.ensures.asks.tearing c.forget.ensures.asks.count gone forgotten
+    are_trees (c.make_by_changes.ensures.changes tells) changed
+    (g.met.F.Folder.sound then).in_order ended c.args.inputs.prints.items (F.failures ran) (F.failures now) (F.contents now)
+    (c.requires.digests ∙ ap digests_in are_trees)
+    c.make_by_changes.ensures.asks.count c.remember.ensures.asks.count
+    (changes_chain (is_of_execution task) (F.contents start) (F.contents ran) (F.contents now) changed (record_in_execution task (F.contents ran) (F.contents now) (c.remember.ensures.changes tells)))
+    (ap (λ (folder : Contents). folder.files) (outside_same task.path (F.contents ran) (F.contents now) (c.remember.ensures.changes tells)))
+    c.remember.result
+    (subst (λ (run : Record). IfErr c.remember.result (IsUnwritten task.path (Some (record_text task.path run)) (F.contents ran).files (F.failures ran) (F.failures now))) stands (c.remember.ensures.err tells))
+    c.remember.ensures.outputs
+    (λ m entry stood of. c.remember.ensures.stands tells (seen_later _ _ (SameTearing-chain _ _ _ c.forget.ensures.asks.tearing c.make_by_changes.ensures.asks.tearing) given.tears) m entry stood
+    (subst (λ (run : Record). IsSaidOf run entry) (sym stands) of))
+
+pub returns-in_err-forget-clause-asks : goal.returns-in_err-forget-clause-asks
+returns-in_err-forget-clause-asks g c = taken_in_execution c.args.task.now _ (record_taken c.args.task.now c.forget.ensures.asks)
+
+pub returns-in_err-run-clause-asks : goal.returns-in_err-run-clause-asks
+returns-in_err-run-clause-asks g c =
+    asks_then (taken_in_execution c.args.task.now _ (record_taken c.args.task.now c.forget.ensures.asks)) (made_in_execution c.args.task.now _ c.make_by_changes.ensures.asks)
+
+pub returns-clause-asks : goal.returns-clause-asks
+returns-clause-asks g c =
+    let task = c.args.task.now in
+    asks_then (asks_then (taken_in_execution task _ (record_taken task c.forget.ensures.asks)) (made_in_execution task _ c.make_by_changes.ensures.asks))
+    (put_in_execution task (IsTextBy g.A.Actions.meanings c.args.table.now task c.args.inputs.trees c.args.changes c.args.outputs.seen) c.in_ok-run.run'
+    (going_text g.A.Actions.meanings c.args.table.now task c.args.inputs.trees c.args.changes c.args.outputs.seen c.in_ok-run.run' c.in_ok-run.ensures.made) c.remember.ensures.asks)
+
+pub returns-clause-ran : goal.returns-clause-ran
+returns-clause-ran g c =
+    let F = g.F.Folder in
+    let made = c.in_ok-run.ensures.calls in
+    on_ok c.remember.result c.remember.ensures.stored (λ stored. record {
+      forgot = c.forget.new.folder;
+      forgets = c.forget.ensures.asks;
+      calls = made.0;
+      done = c.make_by_changes.new.folder;
+      answered = all_answered F.failures F.may_leave F.asked F.tells F.contents F.device g.met.F.Folder.said made.0 c.forget.new.folder c.make_by_changes.new.folder made.1;
+      run = c.in_ok-run.run';
+      ran = λ kinds agrees. (made.2 kinds agrees, c.in_ok-run.ensures.made kinds agrees);
+      limit = stored.0;
+      stored = stored.1;
+    })

@@ -1,0 +1,67 @@
+use Rattle.std.proofs.Common.{◌≡◌, ◌∷◌, [], false, true, Ok, Some, Err, rules, sym, subst}
+use Rattle.gb_folder.specs.Calls.{Writes}
+use Rattle.gb_folder.specs.Files.{is_empty}
+use Rattle.gb_history.specs.Places.{record_place}
+use Rattle.gb_history.specs.Text.{record_text}
+use Rattle.gb_report.specs.declared.fault.Fault.{Fault}
+use Rattle.gb_store.specs.Changes.{is_at}
+use Rattle.gb_store.proofs.Machine.{changes_with}
+use Rattle.gb_task.specs.Keeping.{IsRemembered, IsUnwritten}
+use Rattle.gb_task.proofs.Recorded.{with_outputs_stands}
+use Rattle.gb_task.proofs.Unwritten.{at_itself, changes_unwritten, remembered_reported, why_unwritten}
+use Rattle.gb_task.proofs.Ran.{all_answered, stored_none, stored_one}
+use Rattle.gb_task.proofs.keeping.remember.Goals as goal
+
+pub returns-in-Ok-clause-changes : goal.returns-in-Ok-clause-changes
+returns-in-Ok-clause-changes g c = λ tells.
+    let F = g.F.Folder in
+    let place = record_place c.args.task.now.path in
+    changes_with (is_at place) (F.contents c.args.folder.now) (F.contents c.store_record.new.folder) place (record_text c.args.task.now.path c.args.run.now) (c.in-Ok.ensures.written tells) (at_itself place)
+
+pub returns-in-Ok-clause-stands : goal.returns-in-Ok-clause-stands
+returns-in-Ok-clause-stands g c = λ tells seen memory entry stood of.
+    let task = c.args.task.now in
+    let some : is_empty task.outputs ≡ false = search rules in
+    with_outputs_stands task entry memory (g.F.Folder.contents c.store_record.new.folder).files some (c.in-Ok.ensures.stands tells seen memory entry stood of)
+
+pub returns-in-Err-clause-changes : goal.returns-in-Err-clause-changes
+returns-in-Err-clause-changes g c = λ tells.
+    let F = g.F.Folder in
+    let path = c.args.task.now.path in
+    changes_unwritten (F.may_leave c.args.folder.now) path (Some (record_text path c.args.run.now)) _ _ (F.contents c.args.folder.now) (F.contents c.store_record.new.folder)
+    c.in-Err.unwritten (c.in-Err.ensures.err tells)
+
+pub returns-in-Err-clause-err : goal.returns-in-Err-clause-err
+returns-in-Err-clause-err g c = λ tells.
+    let F = g.F.Folder in
+    let path = c.args.task.now.path in
+    subst (λ (fault : Fault). IsUnwritten path (Some (record_text path c.args.run.now)) (F.contents c.args.folder.now).files (F.failures c.args.folder.now) (F.failures c.store_record.new.folder) fault)
+    (sym c.fault.ensures)
+    (why_unwritten (F.may_leave c.args.folder.now) path (Some (record_text path c.args.run.now)) _ _ (F.contents c.args.folder.now) (F.contents c.store_record.new.folder) c.in-Err.unwritten
+    (c.in-Err.ensures.err tells))
+
+pub returns-in-Err-clause-stands : goal.returns-in-Err-clause-stands
+returns-in-Err-clause-stands g c = λ tells seen memory entry stood of.
+    let F = g.F.Folder in
+    let task = c.args.task.now in
+    subst (λ (fault : Fault). IsRemembered task entry memory (Err fault) (F.contents c.store_record.new.folder).files) (sym c.fault.ensures)
+    (remembered_reported task entry memory c.in-Err.unwritten (F.contents c.store_record.new.folder).files (c.in-Err.ensures.stands tells seen memory entry stood of))
+
+pub returns-then-is_empty-clause-stored : goal.returns-then-is_empty-clause-stored
+returns-then-is_empty-clause-stored g c =
+    let F = g.F.Folder in
+    let task = c.args.task.now in
+    let none : is_empty task.outputs ≡ true = search rules in
+    (0, stored_none F.failures F.may_leave F.asked task c.args.run.now 0 c.args.folder.now none)
+
+pub returns-in-Ok-clause-stored : goal.returns-in-Ok-clause-stored
+returns-in-Ok-clause-stored g c =
+    let F = g.F.Folder in
+    let task = c.args.task.now in
+    let some : is_empty task.outputs ≡ false = search rules in
+    let stored = c.in-Ok.ensures.stored in (
+      stored.0,
+      stored_one F.failures F.may_leave F.asked task c.args.run.now stored.0 c.args.folder.now c.store_record.new.folder some
+          (all_answered F.failures F.may_leave F.asked F.tells F.contents F.device g.met.F.Folder.said
+          (Writes (record_place task.path) (record_text task.path c.args.run.now) stored.0 (Ok tt) ∷ []) c.args.folder.now c.store_record.new.folder stored.1),
+    )

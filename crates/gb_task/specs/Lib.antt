@@ -1,0 +1,15 @@
+pub mod Case
+pub mod Known
+pub mod Executions
+pub mod Reading
+pub mod Keeping
+pub mod Clearing
+pub mod Executing
+pub mod Settled
+pub mod Recheck
+pub mod Buildable
+pub mod Asking
+pub mod Truth
+pub mod Current
+pub mod Ran
+pub mod ByOutcome

@@ -1,0 +1,158 @@
+//! The execution of a task that may run incrementally, starting from the outputs of its previous
+//! execution.
+ghost use Rattle.std.specs.Prelude.{◌≡◌, ◌||◌, [], ℕ, List, Some, false, true, not, IsTrue, OnOk};
+ghost use Rattle.std.specs.List.{AllByRecursion};
+ghost use Rattle.gb_folder.specs.Calls.{Asks, no_change};
+ghost use Rattle.gb_folder.specs.Files.{HasRisen, is_empty};
+ghost use Rattle.gb_label.specs.ReadingAnswered.{AreInputsAnswered, AreOutputsAnswered};
+ghost use Rattle.gb_label.specs.Reading.{AreInputs, AreInputsSeen, AreOutputs, AreOutputsSeen, is_input_of};
+ghost use Rattle.gb_meaning.specs.Kinds.{Kinds};
+ghost use Rattle.gb_meaning.specs.Label.{Moment};
+ghost use Rattle.gb_plan.specs.Graph.{Plan, reads_output_of, some_overlap};
+ghost use Rattle.gb_plan.specs.Task.{is_output_of, output_places};
+ghost use Rattle.gb_records.specs.Assumed.{IsAssumed};
+ghost use Rattle.gb_report.specs.declared.report.Outcome.TheVariants.{Executed, Failed};
+ghost use Rattle.gb_run.specs.AskingChanges.{CanGoOn};
+ghost use Rattle.gb_store.specs.Changes.{ChangesOnly};
+ghost use Rattle.gb_store.specs.Faults.{Blames, BlamesOnly};
+ghost use Rattle.gb_task.specs.Asking.{HasRead, IsTextRecheck, in_execution_with, once};
+ghost use Rattle.gb_task.specs.Buildable.{IsBuildable};
+ghost use Rattle.gb_task.specs.Ran.{WasExecuted};
+ghost use Rattle.gb_task.specs.Executing.{BeginsAt, HasExecuted, IsToGoOn, IsReportedOf, Registering};
+ghost use Rattle.gb_task.specs.Executing.{is_of_execution};
+ghost use Rattle.gb_task.specs.Executing.{outcome_of, report_of, setting_with};
+
+use crate::recheck::{Recheck, recheck_task};
+use crate::full::{outcome_of, run_on};
+use crate::going::go_by;
+use gb_action::actions::Actions;
+use gb_action::table::ActionTable;
+use gb_core::path::TaskPath;
+use gb_core::text::Texts;
+use gb_folder::folder::Folder;
+use gb_history::record::Record;
+use gb_label::prepare::Seen;
+use gb_plan::task::TaskDeclaration;
+use gb_report::fault::Fault;
+use gb_report::report::{Options, TaskReport};
+use std::alloc::Global;
+
+/// Executes a task that may run incrementally, starting from the outputs of its previous execution
+/// (`last` is its record), on its inputs and outputs as they were read. The path is the task's own,
+/// so that a report needs no memory.
+pub fn execute_by_changes<A: Actions, F: Folder>(
+    alloc: Global,
+    folder: &mut F,
+    task: &TaskDeclaration,
+    path: TaskPath,
+    table: &ActionTable<A::Stored>,
+    options: Options,
+    last: &Record,
+    seen: Seen,
+) -> TaskReport
+    requires buildable { IsBuildable A.meanings table.now task.now }
+    requires able { AllByRecursion (CanGoOn A.meanings table.now) task.now.actions }
+    requires apart { reads_output_of task.now task.now ≡ false }
+    requires outputs_apart { some_overlap (output_places task.now) ≡ false }
+    requires path { path ≡ task.now.path }
+    requires inputs { AreInputs task.now seen.inputs.items }
+    requires outputs { AreOutputs task.now seen.outputs.items }
+    ensures path { result.path ≡ task.now.path }
+    ensures has_actions { result.has_actions ≡ not (is_empty task.now.actions) }
+    ensures outcome { IsReportedOf outcome_of result.outcome }
+    // Nothing is changed before calls returned its inputs whole. Where calls returned the inputs
+    // and outputs on the way from a state of the folder, records are of these.
+    ensures asks { (first : _) → Asks F.failures F.may_leave F.asked no_change first folder.old
+        → AreInputsAnswered F.failures F.may_leave F.asked first folder.old task.now seen.inputs.items
+        → AreOutputsAnswered F.failures F.may_leave F.asked first folder.old task.now seen.outputs.items
+        → Asks F.failures F.may_leave F.asked (once (HasRead F.failures F.may_leave F.asked first task.now)
+        (in_execution_with task.now
+        (IsTextRecheck F.failures F.may_leave F.asked first A.meanings table.now options task.now last.now)))
+        folder.old folder.new }
+    // The task is executed only where each write was answered as done, with just the bytes that its
+    // actions make.
+    ensures ran { (first : _) → Asks F.failures F.may_leave F.asked no_change first folder.old
+        → AreInputsAnswered F.failures F.may_leave F.asked first folder.old task.now seen.inputs.items
+        → AreOutputsAnswered F.failures F.may_leave F.asked first folder.old task.now seen.outputs.items
+        → result.outcome ≡ Executed → WasExecuted F.failures F.may_leave F.asked A.meanings table.now
+        options task.now (Some last.now) result.lines first folder.new }
+    ensures blame { (place : List ℕ) → result.outcome ≡ Failed (Fault.Device place)
+        → HasRisen (F.failures folder.old) (F.failures folder.new) }
+    ensures blamed { (place : List ℕ) → result.outcome ≡ Failed (Fault.Device place)
+        → IsTrue (is_input_of task.now place || is_output_of task.now place) }
+    ensures changes { IsTrue F.tells
+        → ChangesOnly (is_of_execution task.now) (F.contents folder.old) (F.contents folder.new) }
+    // Where the task runs incrementally, based on its record, this is its execution.
+    ensures execution { IsTrue F.tells → (kinds : Kinds) (registry_of : Registering)
+        (plan : Plan) (moment : Moment) → IsAssumed A.meanings table.now kinds (F.may_leave folder.old)
+        → BeginsAt task.now true (F.contents folder.old) (F.failures folder.old) moment
+        → AreInputsSeen task.now (F.contents folder.old).files seen.inputs.items
+        → AreOutputsSeen task.now (F.contents folder.old).files seen.outputs.items
+        → IsToGoOn kinds options task.now moment.world last.now
+        → HasExecuted (setting_with kinds registry_of (F.may_leave folder.old)) options plan task.now moment
+        result (F.contents folder.old) (F.failures folder.new) (F.contents folder.new) }
+{
+    let has_actions = !task.actions.is_empty();
+    let mut lines = Texts::new(alloc);
+    let ended = go_on::<A, F>(alloc, folder, task, table, options, last, seen, &mut lines);
+    TaskReport {
+        path,
+        outcome: outcome_of(ended),
+        has_actions,
+        lines,
+    }
+}
+
+/// Reads the remaining contents, decides once more, and runs according to that decision.
+fn go_on<A: Actions, F: Folder>(
+    alloc: Global,
+    folder: &mut F,
+    task: &TaskDeclaration,
+    table: &ActionTable<A::Stored>,
+    options: Options,
+    last: &Record,
+    seen: Seen,
+    lines: &mut Texts,
+) -> Result<(), Fault>
+    requires buildable { IsBuildable A.meanings table.now task.now }
+    requires able { AllByRecursion (CanGoOn A.meanings table.now) task.now.actions }
+    requires apart { reads_output_of task.now task.now ≡ false }
+    requires outputs_apart { some_overlap (output_places task.now) ≡ false }
+    requires inputs { AreInputs task.now seen.inputs.items }
+    requires outputs { AreOutputs task.now seen.outputs.items }
+    requires no_lines { lines.old ≡ [] }
+    // Nothing is changed before calls returned its inputs whole. Where calls returned the inputs
+    // and outputs on the way from a state of the folder, records are of these.
+    ensures asks { (first : _) → Asks F.failures F.may_leave F.asked no_change first folder.old
+        → AreInputsAnswered F.failures F.may_leave F.asked first folder.old task.now seen.inputs.items
+        → AreOutputsAnswered F.failures F.may_leave F.asked first folder.old task.now seen.outputs.items
+        → Asks F.failures F.may_leave F.asked (once (HasRead F.failures F.may_leave F.asked first task.now)
+        (in_execution_with task.now
+        (IsTextRecheck F.failures F.may_leave F.asked first A.meanings table.now options task.now last.now)))
+        folder.old folder.new }
+    ensures ran { (first : _) → Asks F.failures F.may_leave F.asked no_change first folder.old
+        → AreInputsAnswered F.failures F.may_leave F.asked first folder.old task.now seen.inputs.items
+        → AreOutputsAnswered F.failures F.may_leave F.asked first folder.old task.now seen.outputs.items
+        → OnOk result (WasExecuted F.failures F.may_leave F.asked A.meanings table.now options task.now
+        (Some last.now) lines.new first folder.new) }
+    ensures blame { Blames result (F.failures folder.old) (F.failures folder.new) }
+    ensures blamed { BlamesOnly (λ place. is_input_of task.now place || is_output_of task.now place) result }
+    ensures changes { IsTrue F.tells
+        → ChangesOnly (is_of_execution task.now) (F.contents folder.old) (F.contents folder.new) }
+    ensures execution { IsTrue F.tells → (kinds : Kinds) (registry_of : Registering)
+        (plan : Plan) (moment : Moment) → IsAssumed A.meanings table.now kinds (F.may_leave folder.old)
+        → BeginsAt task.now true (F.contents folder.old) (F.failures folder.old) moment
+        → AreInputsSeen task.now (F.contents folder.old).files seen.inputs.items
+        → AreOutputsSeen task.now (F.contents folder.old).files seen.outputs.items
+        → IsToGoOn kinds options task.now moment.world last.now
+        → HasExecuted (setting_with kinds registry_of (F.may_leave folder.old)) options plan task.now moment
+        (report_of task.now result lines.new)
+        (F.contents folder.old) (F.failures folder.new) (F.contents folder.new) }
+{
+    match recheck_task(alloc, folder, task, options, last, seen)? {
+        Recheck::ByChanges(inputs, outputs, changes) => {
+            go_by::<A, F>(alloc, folder, task, table, inputs, outputs, changes, lines)
+        }
+        Recheck::InFull(inputs) => run_on::<A, F>(alloc, folder, task, table, inputs, true, lines),
+    }
+}

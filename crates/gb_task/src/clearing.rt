@@ -1,0 +1,46 @@
+//! Deletes the record and the outputs of a task's previous execution.
+ghost use Rattle.std.specs.Prelude.{◌≡◌, None, false, IsTrue};
+ghost use Rattle.std.specs.List.{list_any};
+ghost use Rattle.gb_folder.specs.Calls.{Asks, takes_at};
+ghost use Rattle.gb_folder.specs.Files.{is_own};
+ghost use Rattle.gb_history.specs.Places.{record_place};
+ghost use Rattle.gb_meaning.specs.Headline.{TearsAreSeen};
+ghost use Rattle.gb_meaning.specs.Memory.{Memory, recalled};
+ghost use Rattle.gb_plan.specs.Task.{is_output_of};
+ghost use Rattle.gb_records.specs.Said.{IsText};
+ghost use Rattle.gb_records.specs.Standing.{Standing};
+ghost use Rattle.gb_store.specs.Changes.{ChangesOnly};
+ghost use Rattle.gb_store.specs.Faults.{Blames, BlamesOnly};
+ghost use Rattle.gb_task.specs.Clearing.{HasCleared};
+ghost use Rattle.gb_task.specs.Executing.{is_of_execution};
+
+use crate::keeping::forget;
+use gb_folder::folder::Folder;
+use gb_plan::task::TaskDeclaration;
+use gb_report::fault::Fault;
+use gb_run::emptying::empty_outputs;
+use std::alloc::Global;
+
+/// Deletes the record of a task, where one was read, and then the files at its outputs.
+pub fn clear<F: Folder>(
+    alloc: Global,
+    folder: &mut F,
+    task: &TaskDeclaration,
+    was_read: bool,
+) -> Result<(), Fault>
+    requires not_own { list_any (λ output. is_own output.place) task.now.outputs ≡ false }
+    ensures asks { Asks F.failures F.may_leave F.asked (takes_at (is_of_execution task.now)) folder.old
+        folder.new }
+    ensures blame { Blames result (F.failures folder.old) (F.failures folder.new) }
+    ensures blamed { BlamesOnly (is_output_of task.now) result }
+    ensures changes { IsTrue F.tells
+        → ChangesOnly (is_of_execution task.now) (F.contents folder.old) (F.contents folder.new) }
+    ensures cleared { IsTrue F.tells → TearsAreSeen IsText record_place (F.may_leave folder.old)
+        → (memory : Memory) → Standing (F.contents folder.old).files memory
+        → (was_read ≡ false → recalled memory task.now.path ≡ None)
+        → HasCleared task.now was_read memory (F.may_leave folder.old) (F.failures folder.old)
+        (F.contents folder.old) result (F.failures folder.new) (F.contents folder.new) }
+{
+    forget(alloc, folder, &task.path, was_read)?;
+    empty_outputs(alloc, folder, task)
+}

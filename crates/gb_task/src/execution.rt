@@ -1,0 +1,202 @@
+//! The execution of a started task.
+ghost use Rattle.std.specs.Prelude.{◌≡◌, ◌≢◌, ◌||◌, ℕ, List, None, false, not, is_some, IsTrue};
+ghost use Rattle.std.specs.Prelude.{option_copied};
+ghost use Rattle.std.specs.List.{AllByRecursion};
+ghost use Rattle.gb_action.specs.Changes.{Changes};
+ghost use Rattle.gb_folder.specs.Calls.{Asks, no_change};
+ghost use Rattle.gb_folder.specs.Files.{HasRisen, is_empty};
+ghost use Rattle.gb_label.specs.Answered.{WasDecided};
+ghost use Rattle.gb_label.specs.Preparing.{IsReadFor, IsSeenFor};
+ghost use Rattle.gb_label.specs.ReadingAnswered.{AreInputsAnswered};
+ghost use Rattle.gb_label.specs.Reading.{is_input_of};
+ghost use Rattle.gb_meaning.specs.Headline.{Agrees};
+ghost use Rattle.gb_meaning.specs.Kinds.{Kinds};
+ghost use Rattle.gb_meaning.specs.Label.{Moment, early_case, some_outcome};
+ghost use Rattle.gb_plan.specs.Graph.{Plan, needs_in, reads_output_of, some_overlap};
+ghost use Rattle.gb_plan.specs.Ready.{IsReady};
+ghost use Rattle.gb_plan.specs.Task.{is_output_of, output_places};
+ghost use Rattle.gb_records.specs.Assumed.{IsAssumed};
+ghost use Rattle.gb_report.specs.Outcome.{is_executed, is_started};
+ghost use Rattle.gb_report.specs.declared.report.Options.{Options};
+ghost use Rattle.gb_report.specs.declared.report.Outcome.TheVariants.{Executed, Failed};
+ghost use Rattle.gb_run.specs.AskingChanges.{CanGoOn};
+ghost use Rattle.gb_store.specs.Changes.{ChangesOnly};
+ghost use Rattle.gb_task.specs.Buildable.{IsBuildable};
+ghost use Rattle.gb_task.specs.Case.{IsCaseFor, IsKnown};
+ghost use Rattle.gb_task.specs.Executions.{IsRunFor, goes_by_changes};
+ghost use Rattle.gb_task.specs.Asking.{HasRead, IsTextOf, in_execution_with, once};
+ghost use Rattle.gb_task.specs.ByOutcome.{ExecutionAsks};
+ghost use Rattle.gb_task.specs.Ran.{WasExecuted};
+ghost use Rattle.gb_task.specs.Settled.{IsAnswer, IsAnsweredAlone};
+ghost use Rattle.gb_task.specs.Executing.{BeginsAt, HasExecuted, IsReportedOf, Registering, is_of_execution};
+ghost use Rattle.gb_task.specs.Executing.{outcome_of};
+ghost use Rattle.gb_task.specs.Executing.{setting_with};
+
+use crate::changes::execute_by_changes;
+use crate::full::execute_in_full;
+use crate::settle::{Settled, settle};
+use crate::sourceless::execute_without_source;
+use gb_action::actions::Actions;
+use gb_action::table::ActionTable;
+use gb_core::path::TaskPath;
+use gb_folder::folder::Folder;
+use gb_history::decide::Decision;
+use gb_history::record::Record;
+use gb_label::prepare::Seen;
+use gb_plan::task::TaskDeclaration;
+use gb_report::fault::Fault;
+use gb_report::report::{Options, TaskReport};
+use gb_run::asking_changes::has_one_writer;
+use std::alloc::Global;
+
+/// Executes a started task. `last` is the record that was read of it, and `has_executed_need` says
+/// whether a task that it needs was executed in this build. The path is the task's own, so that a
+/// report needs no memory.
+pub fn execute_task<A: Actions, F: Folder>(
+    alloc: Global,
+    folder: &mut F,
+    task: &TaskDeclaration,
+    path: TaskPath,
+    table: &ActionTable<A::Stored>,
+    options: Options,
+    last: Option<&Record>,
+    has_executed_need: bool,
+) -> TaskReport
+    requires buildable { IsBuildable A.meanings table.now task.now }
+    requires apart { reads_output_of task.now task.now ≡ false }
+    requires outputs_apart { some_overlap (output_places task.now) ≡ false }
+    requires path { path ≡ task.now.path }
+    ensures path { result.path ≡ task.now.path }
+    ensures has_actions { result.has_actions ≡ not (is_empty task.now.actions) }
+    // Over any folder: a task that is skipped or up to date requests no change, and it is up to
+    // date only if it was found so on what the calls of this execution returned. Every other task
+    // requests changes only at its outputs and its record, and none before calls returned its
+    // inputs whole, or that it has no source. A record that it stores is of the trees that these
+    // calls returned. A task is executed only if each write was answered as done, with just the
+    // bytes that its actions make.
+    ensures asks { ExecutionAsks F.failures F.may_leave F.asked A.meanings table.now options task.now
+        (option_copied last.entry) result.outcome result.lines folder.old folder.new }
+    ensures blame { (place : List ℕ) → result.outcome ≡ Failed (Fault.Device place)
+        → HasRisen (F.failures folder.old) (F.failures folder.new) }
+    ensures blamed { (place : List ℕ) → result.outcome ≡ Failed (Fault.Device place)
+        → IsTrue (is_input_of task.now place || is_output_of task.now place) }
+    ensures started { IsTrue (is_started result.outcome) }
+    // Over any folder: a task that is skipped or has no actions is reported as such. A task that
+    // has actions and runs gets one of the outcomes that are possible for it, and prints nothing
+    // where its outcome leaves no choice.
+    ensures alone { IsAnsweredAlone task.now.runs (is_empty task.now.actions) has_executed_need
+        result.outcome }
+    ensures answer { IsAnswer options task.now result }
+    ensures changes { IsTrue F.tells
+        → ChangesOnly (is_of_execution task.now) (F.contents folder.old) (F.contents folder.new) }
+    // Where the record that was read of the task is known of it, this is its execution.
+    ensures execution { IsTrue F.tells → (kinds : Kinds) (registry_of : Registering) (plan : Plan)
+        (moment : Moment) → IsAssumed A.meanings table.now kinds (F.may_leave folder.old)
+        → BeginsAt task.now (is_some (option_copied last.entry)) (F.contents folder.old)
+        (F.failures folder.old) moment
+        → some_outcome is_executed moment (needs_in plan task.now) ≡ has_executed_need
+        → IsKnown kinds task.now moment.world (option_copied last.entry)
+        → HasExecuted (setting_with kinds registry_of (F.may_leave folder.old)) options plan task.now moment
+        result (F.contents folder.old) (F.failures folder.new) (F.contents folder.new) }
+{
+    match settle(alloc, folder, task, path, options, last, has_executed_need) {
+        Settled::Reported(report) => report,
+        Settled::Sourceless(path) => {
+            execute_without_source(alloc, folder, task, path, last.is_some())
+        }
+        Settled::Due(path, decision, seen) => run::<A, F>(
+            alloc, folder, task, path, table, options, last, decision, seen,
+        ),
+    }
+}
+
+/// Runs a task that is due: incrementally, based on its record, where it can, or else in full.
+fn run<A: Actions, F: Folder>(
+    alloc: Global,
+    folder: &mut F,
+    task: &TaskDeclaration,
+    path: TaskPath,
+    table: &ActionTable<A::Stored>,
+    options: Options,
+    last: Option<&Record>,
+    decision: Decision,
+    seen: Seen,
+) -> TaskReport
+    requires buildable { IsBuildable A.meanings table.now task.now }
+    requires apart { reads_output_of task.now task.now ≡ false }
+    requires outputs_apart { some_overlap (output_places task.now) ≡ false }
+    requires path { path ≡ task.now.path }
+    requires due { decision ≢ Decision.UpToDate }
+    requires read { IsReadFor task.now seen decision }
+    ensures path { result.path ≡ task.now.path }
+    ensures has_actions { result.has_actions ≡ not (is_empty task.now.actions) }
+    ensures outcome { IsReportedOf outcome_of result.outcome }
+    ensures asks { (first : _) → Asks F.failures F.may_leave F.asked no_change first folder.old
+        → AreInputsAnswered F.failures F.may_leave F.asked first folder.old task.now seen.inputs.items
+        → WasDecided F.failures F.may_leave F.asked first folder.old options task.now
+        (option_copied last.entry) seen.inputs.items decision seen.outputs.items
+        → Asks F.failures F.may_leave F.asked (once (HasRead F.failures F.may_leave F.asked first task.now)
+        (in_execution_with task.now
+        (IsTextOf F.failures F.may_leave F.asked first A.meanings table.now options task.now
+        (option_copied last.entry)))) folder.old folder.new }
+    ensures ran { (first : _) → Asks F.failures F.may_leave F.asked no_change first folder.old
+        → AreInputsAnswered F.failures F.may_leave F.asked first folder.old task.now seen.inputs.items
+        → WasDecided F.failures F.may_leave F.asked first folder.old options task.now
+        (option_copied last.entry) seen.inputs.items decision seen.outputs.items
+        → result.outcome ≡ Executed → WasExecuted F.failures F.may_leave F.asked A.meanings table.now
+        options task.now (option_copied last.entry) result.lines first folder.new }
+    ensures blame { (place : List ℕ) → result.outcome ≡ Failed (Fault.Device place)
+        → HasRisen (F.failures folder.old) (F.failures folder.new) }
+    ensures blamed { (place : List ℕ) → result.outcome ≡ Failed (Fault.Device place)
+        → IsTrue (is_input_of task.now place || is_output_of task.now place) }
+    ensures changes { IsTrue F.tells
+        → ChangesOnly (is_of_execution task.now) (F.contents folder.old) (F.contents folder.new) }
+    ensures execution { IsTrue F.tells → (kinds : Kinds) (registry_of : Registering)
+        (plan : Plan) (moment : Moment) → IsAssumed A.meanings table.now kinds (F.may_leave folder.old)
+        → BeginsAt task.now (is_some (option_copied last.entry)) (F.contents folder.old)
+        (F.failures folder.old) moment
+        → early_case task.now moment.world.folder ≡ None
+        → IsCaseFor kinds options task.now moment.world decision
+        → IsRunFor kinds options task.now moment.world decision
+        → IsSeenFor task.now (F.contents folder.old).files seen decision
+        → IsKnown kinds task.now moment.world (option_copied last.entry)
+        → HasExecuted (setting_with kinds registry_of (F.may_leave folder.old)) options plan task.now moment
+        result (F.contents folder.old) (F.failures folder.new) (F.contents folder.new) }
+{
+    if let Some(record) = last {
+        if goes_by_changes::<A>(table, task, &decision) {
+            return execute_by_changes::<A, F>(
+                alloc, folder, task, path, table, options, record, seen,
+            );
+        }
+    }
+    execute_in_full::<A, F>(
+        alloc,
+        folder,
+        task,
+        path,
+        table,
+        seen.inputs,
+        last.is_some(),
+    )
+}
+
+/// Whether a run is incremental: where that was decided, and one action writes that supports
+/// changes.
+pub fn goes_by_changes<A: Actions>(
+    table: &ActionTable<A::Stored>,
+    task: &TaskDeclaration,
+    decision: &Decision,
+) -> bool
+    requires { IsReady A.meanings table.now task.now }
+    ensures agreed { (kinds : Kinds) → Agrees A.meanings table.now kinds
+        → goes_by_changes kinds task.now decision.now ≡ result }
+    ensures able { IsTrue result → AllByRecursion (CanGoOn A.meanings table.now) task.now.actions }
+    ensures decided { IsTrue result → (changes : List Changes)
+        × (decision.now ≡ Decision.Incremental changes) }
+{
+    match decision {
+        Decision::Incremental(_) => has_one_writer::<A>(table, task),
+        Decision::UpToDate | Decision::Full => false,
+    }
+}

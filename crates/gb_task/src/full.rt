@@ -1,0 +1,248 @@
+//! A full run of a task.
+ghost use Rattle.std.specs.Prelude.{◌≡◌, ◌||◌, [], ℕ, List, Ok, false, not, map, IsTrue, IfOk, IfErr, OnOk};
+ghost use Rattle.gb_folder.specs.Calls.{Asks, Call, changes_at, no_change};
+ghost use Rattle.gb_folder.specs.Device.{Leads};
+ghost use Rattle.gb_folder.specs.Files.{HasRisen, is_empty};
+ghost use Rattle.gb_label.specs.Deciding.{HasNamesInOrder};
+ghost use Rattle.gb_label.specs.ReadingAnswered.{AreInputsAnswered};
+ghost use Rattle.gb_label.specs.Reading.{AreInputs, AreInputsSeen, digests_in, is_input_of};
+ghost use Rattle.gb_meaning.specs.Headline.{Agrees};
+ghost use Rattle.gb_meaning.specs.Kinds.{Kinds};
+ghost use Rattle.gb_meaning.specs.Label.{Moment};
+ghost use Rattle.gb_meaning.specs.Tree.{trees_of};
+ghost use Rattle.gb_plan.specs.Graph.{Plan, reads_output_of};
+ghost use Rattle.gb_plan.specs.Ready.{IsReady};
+ghost use Rattle.gb_plan.specs.Task.{is_output_of, seen_files};
+ghost use Rattle.gb_records.specs.Assumed.{IsAssumed};
+ghost use Rattle.gb_report.specs.declared.report.Options.{Options};
+ghost use Rattle.gb_report.specs.declared.report.Outcome.TheVariants.{Executed, Failed};
+ghost use Rattle.gb_run.specs.Course.{EndsWell, course_of};
+ghost use Rattle.gb_run.specs.Failing.{Fails, InFull};
+ghost use Rattle.gb_run.specs.Work.{RunsInFull};
+ghost use Rattle.gb_store.specs.Changes.{ChangesOnly};
+ghost use Rattle.gb_store.specs.Faults.{Blames, BlamesOnly};
+ghost use Rattle.gb_task.specs.Asking.{HasRead, IsInFull, IsTextIn, in_execution_with, once};
+ghost use Rattle.gb_task.specs.Buildable.{IsBuildable};
+ghost use Rattle.gb_task.specs.Keeping.{IsRecordOf};
+ghost use Rattle.gb_task.specs.Ran.{ExecutedInFull, RanInFull};
+ghost use Rattle.gb_task.specs.Executing.{BeginsAt, HasExecuted, IsDue, IsReportedOf, Registering};
+ghost use Rattle.gb_task.specs.Executing.{is_of_execution};
+ghost use Rattle.gb_task.specs.Executing.{outcome_of, report_of, setting_with};
+
+use crate::adding::all_added;
+use crate::clearing::clear;
+use crate::keeping::remember;
+use gb_action::actions::Actions;
+use gb_action::change::ChangeLists;
+use gb_action::snapshot::Snapshots;
+use gb_action::table::ActionTable;
+use gb_core::path::TaskPath;
+use gb_core::text::Texts;
+use gb_folder::folder::Folder;
+use gb_history::record::Record;
+use gb_label::inputs::{Inputs, complete_inputs};
+use gb_label::outputs::records_of;
+use gb_label::record::record_of;
+use gb_plan::task::TaskDeclaration;
+use gb_report::fault::Fault;
+use gb_report::report::{Outcome, TaskReport};
+use gb_run::run::run_in_full;
+use gb_tree::kept::Reading;
+use gb_tree::prints::Prints;
+use std::alloc::Global;
+
+/// Executes a task in full, on its inputs as they were read. `was_read` says whether a record of it
+/// was read; the path is the task's own, so that a report needs no memory.
+pub fn execute_in_full<A: Actions, F: Folder>(
+    alloc: Global,
+    folder: &mut F,
+    task: &TaskDeclaration,
+    path: TaskPath,
+    table: &ActionTable<A::Stored>,
+    inputs: Vec<Reading>,
+    was_read: bool,
+) -> TaskReport
+    requires buildable { IsBuildable A.meanings table.now task.now }
+    requires apart { reads_output_of task.now task.now ≡ false }
+    requires path { path ≡ task.now.path }
+    requires inputs { AreInputs task.now inputs.items }
+    ensures path { result.path ≡ task.now.path }
+    ensures has_actions { result.has_actions ≡ not (is_empty task.now.actions) }
+    ensures outcome { IsReportedOf outcome_of result.outcome }
+    // Nothing is changed before calls returned its inputs whole. Where calls returned them on the
+    // way from a state of the folder, the record is of these.
+    ensures asks { (first : _) → Asks F.failures F.may_leave F.asked no_change first folder.old
+        → AreInputsAnswered F.failures F.may_leave F.asked first folder.old task.now inputs.items
+        → Asks F.failures F.may_leave F.asked (once (HasRead F.failures F.may_leave F.asked first task.now)
+        (in_execution_with task.now
+        (IsInFull F.failures F.may_leave F.asked first A.meanings table.now task.now)))
+        folder.old folder.new }
+    // The task is executed only where each write was answered as done, with just the bytes that its
+    // actions make.
+    ensures ran { (first : _) → Asks F.failures F.may_leave F.asked no_change first folder.old
+        → AreInputsAnswered F.failures F.may_leave F.asked first folder.old task.now inputs.items
+        → result.outcome ≡ Executed → ExecutedInFull F.failures F.may_leave F.asked A.meanings table.now
+        task.now result.lines first folder.new }
+    ensures blame { (place : List ℕ) → result.outcome ≡ Failed (Fault.Device place)
+        → HasRisen (F.failures folder.old) (F.failures folder.new) }
+    ensures blamed { (place : List ℕ) → result.outcome ≡ Failed (Fault.Device place)
+        → IsTrue (is_input_of task.now place || is_output_of task.now place) }
+    ensures changes { IsTrue F.tells
+        → ChangesOnly (is_of_execution task.now) (F.contents folder.old) (F.contents folder.new) }
+    // Where the full run is due, this is the task's execution.
+    ensures execution { IsTrue F.tells → (kinds : Kinds) (registry_of : Registering) (options : Options)
+        (plan : Plan) (moment : Moment) → IsAssumed A.meanings table.now kinds (F.may_leave folder.old)
+        → BeginsAt task.now was_read (F.contents folder.old) (F.failures folder.old) moment
+        → AreInputsSeen task.now (F.contents folder.old).files inputs.items
+        → IsDue kinds options task.now moment.world
+        → HasExecuted (setting_with kinds registry_of (F.may_leave folder.old)) options plan task.now moment
+        result (F.contents folder.old) (F.failures folder.new) (F.contents folder.new) }
+{
+    let has_actions = !task.actions.is_empty();
+    let mut lines = Texts::new(alloc);
+    let ended = run_with_record::<A, F>(alloc, folder, task, table, inputs, was_read, &mut lines);
+    TaskReport {
+        path,
+        outcome: outcome_of(ended),
+        has_actions,
+        lines,
+    }
+}
+
+/// The outcome that is reported for a run that ended so.
+pub(crate) fn outcome_of(ended: Result<(), Fault>) -> Outcome
+    ensures { result ≡ outcome_of ended }
+{
+    match ended {
+        Ok(()) => Outcome::Executed,
+        Err(fault) => Outcome::Failed(fault),
+    }
+}
+
+/// Reads the remaining inputs, and runs on them.
+fn run_with_record<A: Actions, F: Folder>(
+    alloc: Global,
+    folder: &mut F,
+    task: &TaskDeclaration,
+    table: &ActionTable<A::Stored>,
+    inputs: Vec<Reading>,
+    was_read: bool,
+    lines: &mut Texts,
+) -> Result<(), Fault>
+    requires buildable { IsBuildable A.meanings table.now task.now }
+    requires apart { reads_output_of task.now task.now ≡ false }
+    requires inputs { AreInputs task.now inputs.items }
+    requires no_lines { lines.old ≡ [] }
+    // Nothing is changed before calls returned its inputs whole. Where calls returned them on the
+    // way from a state of the folder, the record is of these.
+    ensures asks { (first : _) → Asks F.failures F.may_leave F.asked no_change first folder.old
+        → AreInputsAnswered F.failures F.may_leave F.asked first folder.old task.now inputs.items
+        → Asks F.failures F.may_leave F.asked (once (HasRead F.failures F.may_leave F.asked first task.now)
+        (in_execution_with task.now
+        (IsInFull F.failures F.may_leave F.asked first A.meanings table.now task.now)))
+        folder.old folder.new }
+    ensures ran { (first : _) → Asks F.failures F.may_leave F.asked no_change first folder.old
+        → AreInputsAnswered F.failures F.may_leave F.asked first folder.old task.now inputs.items
+        → OnOk result (ExecutedInFull F.failures F.may_leave F.asked A.meanings table.now task.now
+        lines.new first folder.new) }
+    ensures blame { Blames result (F.failures folder.old) (F.failures folder.new) }
+    ensures blamed { BlamesOnly (λ place. is_input_of task.now place || is_output_of task.now place) result }
+    ensures changes { IsTrue F.tells
+        → ChangesOnly (is_of_execution task.now) (F.contents folder.old) (F.contents folder.new) }
+    ensures execution { IsTrue F.tells → (kinds : Kinds) (registry_of : Registering) (options : Options)
+        (plan : Plan) (moment : Moment) → IsAssumed A.meanings table.now kinds (F.may_leave folder.old)
+        → BeginsAt task.now was_read (F.contents folder.old) (F.failures folder.old) moment
+        → AreInputsSeen task.now (F.contents folder.old).files inputs.items
+        → IsDue kinds options task.now moment.world
+        → HasExecuted (setting_with kinds registry_of (F.may_leave folder.old)) options plan task.now moment
+        (report_of task.now result lines.new)
+        (F.contents folder.old) (F.failures folder.new) (F.contents folder.new) }
+{
+    let inputs = complete_inputs(alloc, folder, task, inputs)?;
+    run_on::<A, F>(alloc, folder, task, table, inputs, was_read, lines)
+}
+
+/// Deletes the record, empties the outputs, runs the actions on these inputs, and stores the new
+/// record.
+pub(crate) fn run_on<A: Actions, F: Folder>(
+    alloc: Global,
+    folder: &mut F,
+    task: &TaskDeclaration,
+    table: &ActionTable<A::Stored>,
+    inputs: Inputs,
+    was_read: bool,
+    lines: &mut Texts,
+) -> Result<(), Fault>
+    requires buildable { IsBuildable A.meanings table.now task.now }
+    requires apart { reads_output_of task.now task.now ≡ false }
+    requires named { map (λ tree. tree.0) inputs.trees ≡ seen_files task.now.files }
+    requires digests { inputs.prints.items ≡ digests_in inputs.trees }
+    requires no_lines { lines.old ≡ [] }
+    ensures asks { Asks F.failures F.may_leave F.asked
+        (in_execution_with task.now (IsTextIn A.meanings table.now task.now inputs.trees))
+        folder.old folder.new }
+    // Over any folder: the run ends well only once all of this was answered as done.
+    ensures ran { OnOk result (RanInFull F.failures F.may_leave F.asked A.meanings table.now task.now
+        inputs.trees lines.new folder.old folder.new) }
+    ensures blame { Blames result (F.failures folder.old) (F.failures folder.new) }
+    ensures blamed { BlamesOnly (is_output_of task.now) result }
+    ensures changes { IsTrue F.tells
+        → ChangesOnly (is_of_execution task.now) (F.contents folder.old) (F.contents folder.new) }
+    ensures execution { IsTrue F.tells → (kinds : Kinds) (registry_of : Registering) (options : Options)
+        (plan : Plan) (moment : Moment) → IsAssumed A.meanings table.now kinds (F.may_leave folder.old)
+        → BeginsAt task.now was_read (F.contents folder.old) (F.failures folder.old) moment
+        → inputs.trees ≡ trees_of task.now (F.contents folder.old).files
+        → IsDue kinds options task.now moment.world
+        → HasExecuted (setting_with kinds registry_of (F.may_leave folder.old)) options plan task.now moment
+        (report_of task.now result lines.new)
+        (F.contents folder.old) (F.failures folder.new) (F.contents folder.new) }
+{
+    let Inputs { trees, prints } = inputs;
+    let changes = all_added(alloc, task, prints.as_slice())?;
+    clear(alloc, folder, task, was_read)?;
+    let run = make_in_full::<A, F>(alloc, folder, task, table, trees, prints, changes, lines)?;
+    remember(alloc, folder, task, &run)
+}
+
+/// Runs the actions in full over a folder without the task's files and returns the record of the
+/// run, by what it made.
+fn make_in_full<A: Actions, F: Folder>(
+    alloc: Global,
+    folder: &mut F,
+    task: &TaskDeclaration,
+    table: &ActionTable<A::Stored>,
+    trees: Snapshots,
+    prints: Vec<Prints>,
+    changes: ChangeLists,
+    lines: &mut Texts,
+) -> Result<Record, Fault>
+    requires ready { IsReady A.meanings table.now task.now }
+    requires in_order { HasNamesInOrder task.now }
+    requires named { map (λ tree. tree.0) trees ≡ seen_files task.now.files }
+    requires digests { prints.items ≡ digests_in trees }
+    requires no_lines { lines.old ≡ [] }
+    ensures asks { Asks F.failures F.may_leave F.asked (changes_at (is_output_of task.now)) folder.old
+        folder.new }
+    ensures blame { Blames result (F.failures folder.old) (F.failures folder.new) }
+    ensures blamed { BlamesOnly (is_output_of task.now) result }
+    // Over any folder: which calls were made, with which bytes, and which lines are printed.
+    ensures calls { OnOk result ((calls : List Call) × Leads F.device folder.old calls folder.new
+        × ((kinds : Kinds) → Agrees A.meanings table.now kinds
+        → RunsInFull (course_of kinds task.now trees changes []) calls lines.new (Ok tt))) }
+    // Over any folder, whoever else writes in it: the record is true.
+    ensures made { IfOk result (λ run. (kinds : Kinds) → Agrees A.meanings table.now kinds
+        → IsRecordOf kinds task.now trees run) }
+    ensures changes { IsTrue F.tells
+        → ChangesOnly (is_output_of task.now) (F.contents folder.old) (F.contents folder.new) }
+    ensures ok { IsTrue F.tells → OnOk result ((kinds : Kinds) → Agrees A.meanings table.now kinds
+        → EndsWell (course_of kinds task.now trees changes (F.contents folder.old).files)
+        lines.new (F.contents folder.new).files) }
+    ensures err { IsTrue F.tells → IfErr result (λ fault. (kinds : Kinds) → Agrees A.meanings table.now kinds
+        → Fails (course_of kinds task.now trees changes (F.contents folder.old).files) InFull
+        (F.may_leave folder.old) (F.failures folder.old) fault
+        lines.new (F.failures folder.new) (F.contents folder.new).files) }
+{
+    let made = run_in_full::<A, F>(alloc, folder, task, table, trees, changes, lines)?;
+    let outputs = records_of(alloc, task, made)?;
+    Ok(record_of(alloc, task, prints, outputs)?)
+}

@@ -1,0 +1,163 @@
+//! An incremental run of a task, by changes that were decided on what it works on.
+ghost use Rattle.std.specs.Prelude.{◌≡◌, [], ℕ, List, Ok, false, true, map, IsTrue, IfOk, IfErr, OnOk};
+ghost use Rattle.std.specs.List.{AllByRecursion};
+ghost use Rattle.gb_action.specs.Files.{Trees};
+ghost use Rattle.gb_folder.specs.Calls.{Asks, Call, changes_at};
+ghost use Rattle.gb_folder.specs.Device.{Leads};
+ghost use Rattle.gb_folder.specs.Files.{Files, IsFolder, are_placed};
+ghost use Rattle.gb_label.specs.Deciding.{HasNamesInOrder};
+ghost use Rattle.gb_label.specs.Reading.{digests_in, prints_seen, seen_of};
+ghost use Rattle.gb_meaning.specs.Headline.{Agrees};
+ghost use Rattle.gb_meaning.specs.Kinds.{Kinds};
+ghost use Rattle.gb_meaning.specs.Label.{Moment};
+ghost use Rattle.gb_meaning.specs.Made.{rest_of};
+ghost use Rattle.gb_meaning.specs.Tree.{trees_of};
+ghost use Rattle.gb_plan.specs.Graph.{Plan, reads_output_of, some_overlap};
+ghost use Rattle.gb_plan.specs.Ready.{IsReady};
+ghost use Rattle.gb_plan.specs.Task.{is_output_of, output_places, seen_files, seen_outputs};
+ghost use Rattle.gb_records.specs.Assumed.{IsAssumed};
+ghost use Rattle.gb_report.specs.declared.report.Options.{Options};
+ghost use Rattle.gb_run.specs.AskingChanges.{CanGoOn, GoesOn};
+ghost use Rattle.gb_run.specs.Course.{EndsWell, course_of};
+ghost use Rattle.gb_run.specs.Failing.{ByChanges, Fails};
+ghost use Rattle.gb_run.specs.WorkByChanges.{RunsByChanges, increment_of};
+ghost use Rattle.gb_store.specs.Changes.{ChangesOnly};
+ghost use Rattle.gb_store.specs.Faults.{Blames, BlamesOnly};
+ghost use Rattle.gb_task.specs.Asking.{IsTextBy, in_execution_with};
+ghost use Rattle.gb_task.specs.Buildable.{IsBuildable};
+ghost use Rattle.gb_task.specs.Keeping.{IsRecordOf};
+ghost use Rattle.gb_task.specs.Ran.{RanByChanges};
+ghost use Rattle.gb_task.specs.Executing.{BeginsAt, HasExecuted, IsDueByChanges, Registering};
+ghost use Rattle.gb_task.specs.Executing.{is_of_execution};
+ghost use Rattle.gb_task.specs.Executing.{report_of, setting_with};
+
+use crate::keeping::{forget, remember};
+use gb_action::actions::Actions;
+use gb_action::change::ChangeLists;
+use gb_action::table::ActionTable;
+use gb_core::text::Texts;
+use gb_folder::folder::Folder;
+use gb_history::record::Record;
+use gb_label::inputs::Inputs;
+use gb_label::outputs::{Outputs, records_of};
+use gb_label::record::record_of;
+use gb_plan::task::TaskDeclaration;
+use gb_report::fault::Fault;
+use gb_run::by_changes::run_by_changes;
+use std::alloc::Global;
+
+/// Deletes the record, runs the actions by these changes over the files that are at the outputs,
+/// and stores the new record.
+pub(crate) fn go_by<A: Actions, F: Folder>(
+    alloc: Global,
+    folder: &mut F,
+    task: &TaskDeclaration,
+    table: &ActionTable<A::Stored>,
+    inputs: Inputs,
+    outputs: Outputs,
+    changes: ChangeLists,
+    lines: &mut Texts,
+) -> Result<(), Fault>
+    requires buildable { IsBuildable A.meanings table.now task.now }
+    requires able { AllByRecursion (CanGoOn A.meanings table.now) task.now.actions }
+    requires apart { reads_output_of task.now task.now ≡ false }
+    requires outputs_apart { some_overlap (output_places task.now) ≡ false }
+    requires named { map (λ tree. tree.0) inputs.trees ≡ seen_files task.now.files }
+    requires digests { inputs.prints.items ≡ digests_in inputs.trees }
+    requires formed { map (λ output. (output.name, output.form)) outputs.seen
+        ≡ seen_outputs task.now.outputs }
+    requires stood { outputs.prints.items ≡ prints_seen outputs.seen }
+    requires no_lines { lines.old ≡ [] }
+    ensures asks { Asks F.failures F.may_leave F.asked
+        (in_execution_with task.now (IsTextBy A.meanings table.now task.now inputs.trees changes
+        outputs.seen))
+        folder.old folder.new }
+    // Over any folder: the run ends well only once all of this was answered as done.
+    ensures ran { OnOk result (RanByChanges F.failures F.may_leave F.asked A.meanings table.now task.now
+        inputs.trees changes outputs.seen lines.new folder.old folder.new) }
+    ensures blame { Blames result (F.failures folder.old) (F.failures folder.new) }
+    ensures blamed { BlamesOnly (is_output_of task.now) result }
+    ensures changes { IsTrue F.tells
+        → ChangesOnly (is_of_execution task.now) (F.contents folder.old) (F.contents folder.new) }
+    // Where the incremental run by these changes is due, this is the task's execution.
+    ensures execution { IsTrue F.tells → (kinds : Kinds) (registry_of : Registering) (options : Options)
+        (plan : Plan) (moment : Moment) → IsAssumed A.meanings table.now kinds (F.may_leave folder.old)
+        → BeginsAt task.now true (F.contents folder.old) (F.failures folder.old) moment
+        → inputs.trees ≡ trees_of task.now (F.contents folder.old).files
+        → outputs.seen ≡ map (seen_of (F.contents folder.old).files) task.now.outputs
+        → IsDueByChanges kinds options task.now moment.world changes
+        → HasExecuted (setting_with kinds registry_of (F.may_leave folder.old)) options plan task.now moment
+        (report_of task.now result lines.new)
+        (F.contents folder.old) (F.failures folder.new) (F.contents folder.new) }
+{
+    // Records exist only for paths of tasks; this shows that the path is one.
+    let _path = task.path.as_str();
+    forget(alloc, folder, &task.path, true)?;
+    let run = make_by_changes::<A, F>(alloc, folder, task, table, inputs, outputs, changes, lines)?;
+    remember(alloc, folder, task, &run)
+}
+
+/// Runs the actions by these changes and returns the record of the run; its outputs are the former
+/// files with the reply written over them.
+fn make_by_changes<A: Actions, F: Folder>(
+    alloc: Global,
+    folder: &mut F,
+    task: &TaskDeclaration,
+    table: &ActionTable<A::Stored>,
+    inputs: Inputs,
+    outputs: Outputs,
+    changes: ChangeLists,
+    lines: &mut Texts,
+) -> Result<Record, Fault>
+    requires ready { IsReady A.meanings table.now task.now }
+    requires able { AllByRecursion (CanGoOn A.meanings table.now) task.now.actions }
+    requires in_order { HasNamesInOrder task.now }
+    requires named { map (λ tree. tree.0) inputs.trees ≡ seen_files task.now.files }
+    requires digests { inputs.prints.items ≡ digests_in inputs.trees }
+    requires formed { map (λ output. (output.name, output.form)) outputs.seen
+        ≡ seen_outputs task.now.outputs }
+    requires stood { outputs.prints.items ≡ prints_seen outputs.seen }
+    requires no_lines { lines.old ≡ [] }
+    ensures asks { Asks F.failures F.may_leave F.asked (changes_at (is_output_of task.now)) folder.old
+        folder.new }
+    ensures blame { Blames result (F.failures folder.old) (F.failures folder.new) }
+    ensures blamed { BlamesOnly (is_output_of task.now) result }
+    // Over any folder: which calls were made, with which bytes, and which lines are printed.
+    ensures calls { OnOk result ((calls : List Call) × Leads F.device folder.old calls folder.new
+        × ((kinds : Kinds) → Agrees A.meanings table.now kinds
+        → RunsByChanges (increment_of kinds task.now inputs.trees changes outputs.seen) calls lines.new
+        (Ok tt))) }
+    // Over any folder, whoever else writes in it: the record is true. The premise: what was read at
+    // the outputs was made from old trees, and the changes lead from these to the trees of this
+    // run.
+    ensures made { IfOk result (λ run. (kinds : Kinds) → Agrees A.meanings table.now kinds
+        → (old : Trees) (standing : Files) → IsFolder standing → IsTrue (are_placed standing)
+        → GoesOn kinds task.now old inputs.trees changes outputs.seen standing
+        → IsRecordOf kinds task.now inputs.trees run) }
+    ensures changes { IsTrue F.tells
+        → ChangesOnly (is_output_of task.now) (F.contents folder.old) (F.contents folder.new) }
+    ensures ok { IsTrue F.tells → OnOk result ((kinds : Kinds) → Agrees A.meanings table.now kinds
+        → (old : Trees)
+        → GoesOn kinds task.now old inputs.trees changes outputs.seen (F.contents folder.old).files
+        → EndsWell (course_of kinds task.now inputs.trees changes
+        (rest_of task.now (F.contents folder.old).files))
+        lines.new (F.contents folder.new).files) }
+    ensures err { IsTrue F.tells → IfErr result (λ fault. (kinds : Kinds) → Agrees A.meanings table.now kinds
+        → (old : Trees)
+        → GoesOn kinds task.now old inputs.trees changes outputs.seen (F.contents folder.old).files
+        → Fails (course_of kinds task.now inputs.trees changes
+        (rest_of task.now (F.contents folder.old).files))
+        (ByChanges (F.contents folder.old).files) (F.may_leave folder.old) (F.failures folder.old) fault
+        lines.new (F.failures folder.new) (F.contents folder.new).files) }
+{
+    let Inputs { trees, prints } = inputs;
+    let Outputs {
+        seen,
+        prints: stood,
+    } = outputs;
+    let made = run_by_changes::<A, F>(
+        alloc, folder, task, table, trees, seen, stood, changes, lines,
+    )?;
+    let outputs = records_of(alloc, task, made)?;
+    Ok(record_of(alloc, task, prints, outputs)?)
+}

@@ -1,0 +1,87 @@
+//! The record of a task: deleted as its run begins, and stored as it ends.
+ghost use Rattle.std.specs.Prelude.{◌≡◌, ◌≢◌, ℕ, List, None, Some, Err, false, true, IsTrue, IfErr, OnErr};
+ghost use Rattle.std.specs.Prelude.{OnOk};
+ghost use Rattle.gb_folder.specs.Calls.{Asks, put_at, taken_at};
+ghost use Rattle.gb_folder.specs.Files.{is_empty};
+ghost use Rattle.gb_history.specs.Places.{record_place};
+ghost use Rattle.gb_history.specs.Text.{record_text};
+ghost use Rattle.gb_meaning.specs.Headline.{TearsAreSeen};
+ghost use Rattle.gb_meaning.specs.Memory.{Entry, Memory, recalled};
+ghost use Rattle.gb_records.specs.Said.{IsSaidOf, IsText};
+ghost use Rattle.gb_records.specs.Standing.{Standing};
+ghost use Rattle.gb_store.specs.Changes.{ChangesOnly, is_at};
+ghost use Rattle.gb_task.specs.Keeping.{IsForgotten, IsRemembered, IsUnwritten};
+ghost use Rattle.gb_task.specs.Ran.{AreAnswered, stores};
+
+use gb_core::path::TaskPath;
+use gb_folder::folder::Folder;
+use gb_history::record::Record;
+use gb_plan::task::TaskDeclaration;
+use gb_records::keeping::{store_record, delete_record};
+use gb_report::fault::Fault;
+use std::alloc::Global;
+
+/// Deletes the record of a task, where one was read.
+pub fn forget<F: Folder>(
+    alloc: Global,
+    folder: &mut F,
+    path: &TaskPath,
+    was_read: bool,
+) -> Result<(), Fault>
+    ensures asks { Asks F.failures F.may_leave F.asked (taken_at (record_place path.now)) folder.old
+        folder.new }
+    ensures blame { (place : List ℕ) → result ≢ Err (Fault.Device place) }
+    ensures changes { IsTrue F.tells
+        → ChangesOnly (is_at (record_place path.now)) (F.contents folder.old) (F.contents folder.new) }
+    ensures err { IsTrue F.tells → IfErr result
+        (IsUnwritten path.now None (F.contents folder.old).files (F.failures folder.old)
+        (F.failures folder.new)) }
+    ensures read { OnErr result (was_read ≡ true) }
+    ensures stands { IsTrue F.tells → TearsAreSeen IsText record_place (F.may_leave folder.old)
+        → (memory : Memory) → Standing (F.contents folder.old).files memory
+        → (was_read ≡ false → recalled memory path.now ≡ None)
+        → IsForgotten path.now memory result (F.contents folder.new).files }
+{
+    // The contract speaks only of paths of tasks; this shows that the path is one.
+    let _path = path.as_str();
+    if !was_read {
+        return Ok(());
+    }
+    match delete_record(alloc, folder, path, true) {
+        Ok(()) => Ok(()),
+        Err(fault) => Err(fault.fault()),
+    }
+}
+
+/// Stores the record of a run that ended well, of a task with outputs. Nothing is read.
+pub fn remember<F: Folder>(
+    alloc: Global,
+    folder: &mut F,
+    task: &TaskDeclaration,
+    run: &Record,
+) -> Result<(), Fault>
+    ensures asks { Asks F.failures F.may_leave F.asked (put_at (record_place task.now.path)
+        (record_text task.now.path run.now)) folder.old folder.new }
+    // Over any folder: by one call, which was answered as done; by none where the task has no
+    // outputs.
+    ensures stored { OnOk result ((limit : ℕ) × AreAnswered F.failures F.may_leave F.asked folder.old
+        (stores task.now run.now limit) folder.new) }
+    ensures blame { (place : List ℕ) → result ≢ Err (Fault.Device place) }
+    ensures changes { IsTrue F.tells
+        → ChangesOnly (is_at (record_place task.now.path)) (F.contents folder.old) (F.contents folder.new) }
+    ensures err { IsTrue F.tells → IfErr result
+        (IsUnwritten task.now.path (Some (record_text task.now.path run.now)) (F.contents folder.old).files
+        (F.failures folder.old) (F.failures folder.new)) }
+    ensures outputs { OnErr result (is_empty task.now.outputs ≡ false) }
+    ensures stands { IsTrue F.tells → TearsAreSeen IsText record_place (F.may_leave folder.old)
+        → (memory : Memory) (entry : Entry) → Standing (F.contents folder.old).files memory
+        → IsSaidOf run.now entry → IsRemembered task.now entry memory result (F.contents folder.new).files }
+{
+    if task.outputs.as_slice().is_empty() {
+        return Ok(());
+    }
+    match store_record(alloc, folder, &task.path, run) {
+        Ok(()) => Ok(()),
+        Err(unwritten) => Err(unwritten.fault()),
+    }
+}

@@ -1,0 +1,134 @@
+//! The part of a task's execution that is decided before anything is changed.
+ghost use Rattle.std.specs.Prelude.{◌≡◌, ◌||◌, false, IsTrue, option_copied};
+ghost use Rattle.std.specs.List.{list_any};
+ghost use Rattle.gb_folder.specs.Calls.{Asks, no_change};
+ghost use Rattle.gb_folder.specs.Files.{is_empty, is_own};
+ghost use Rattle.gb_label.specs.Deciding.{HasNamesInOrder};
+ghost use Rattle.gb_meaning.specs.Kinds.{Kinds};
+ghost use Rattle.gb_meaning.specs.Label.{Moment, some_outcome};
+ghost use Rattle.gb_meaning.specs.TrueRecord.{outside};
+ghost use Rattle.gb_plan.specs.Graph.{Plan, needs_in};
+ghost use Rattle.gb_report.specs.Outcome.{is_executed};
+ghost use Rattle.gb_task.specs.Case.{IsKnown};
+ghost use Rattle.gb_task.specs.Current.{WasSettled};
+ghost use Rattle.gb_task.specs.Settled.{AnswersAlone, IsOfTask, SettlesExecution, TellsAnswer, idle_outcome};
+ghost use Rattle.gb_task.specs.Settled.{settled_as, silent_report};
+ghost use Rattle.gb_task.specs.Executing.{Registering, setting_with};
+
+use crate::case_laws::{
+    idle_executions_are_executions, outside_is_enough, prepared_is_case, runs_are_of_case,
+};
+use gb_core::path::TaskPath;
+use gb_core::text::Texts;
+use gb_folder::folder::Folder;
+use gb_history::decide::Decision;
+use gb_history::record::Record;
+use gb_label::prepare::{Prepared, Seen, prepare};
+use gb_plan::task::TaskDeclaration;
+use gb_report::fault::Fault;
+use gb_report::report::{Options, Outcome, TaskReport};
+use std::alloc::Global;
+
+/// What is decided of a started task's execution before anything is changed.
+#[derive(Drop)]
+pub enum Settled {
+    /// The whole execution: there is nothing to do, or what the task has cannot be read.
+    Reported(TaskReport),
+    /// The task has no source.
+    Sourceless(TaskPath),
+    /// The task is to run, as was decided on what was read of it: incrementally or in full.
+    Due(TaskPath, Decision, Seen),
+}
+
+/// Decides how a started task is executed, and reports its outcome where nothing is to be done.
+/// Nothing is changed. `last` is the record that was read of the task, and `has_executed_need` says
+/// whether a task that it needs was executed in this build. The path is the task's own, so that a
+/// report needs no memory.
+pub fn settle<F: Folder>(
+    alloc: Global,
+    folder: &mut F,
+    task: &TaskDeclaration,
+    path: TaskPath,
+    options: Options,
+    last: Option<&Record>,
+    has_executed_need: bool,
+) -> Settled
+    requires in_order { HasNamesInOrder task.now }
+    requires not_own { list_any (λ output. is_own output.place) task.now.outputs ≡ false }
+    requires path { path ≡ task.now.path }
+    ensures asks { Asks F.failures F.may_leave F.asked no_change folder.old folder.new }
+    // Over any folder: a report is of the task. A task that is skipped or has no actions is
+    // reported as such. A task that has actions and runs is reported with no other outcome than
+    // those possible for it.
+    ensures of_task { IsOfTask task.now (F.failures folder.old) (F.failures folder.new) result }
+    ensures alone { AnswersAlone task.now.runs (is_empty task.now.actions) has_executed_need result }
+    ensures answer { TellsAnswer options task.now result }
+    // And the decision is based on what calls returned.
+    ensures answered { WasSettled F.failures F.may_leave F.asked folder.old folder.new options task.now
+        (option_copied last.entry) result }
+    ensures same { IsTrue F.tells → F.contents folder.new ≡ F.contents folder.old }
+    // A report is the result of the task's execution; a result without a report is the task's case.
+    ensures settled { IsTrue F.tells → (kinds : Kinds) (registry_of : Registering) (plan : Plan)
+        (moment : Moment) → moment.world.folder ≡ outside (F.contents folder.old)
+        → moment.failures ≡ F.failures folder.old
+        → some_outcome is_executed moment (needs_in plan task.now) ≡ has_executed_need
+        → IsKnown kinds task.now moment.world (option_copied last.entry)
+        → SettlesExecution (setting_with kinds registry_of (F.may_leave folder.old)) options plan task.now
+        moment
+        (F.contents folder.old) (F.failures folder.new) result }
+{
+    outside_is_enough();
+    prepared_is_case();
+    idle_executions_are_executions();
+    runs_are_of_case();
+    let prepared = prepare(alloc, folder, task, options, last, true);
+    settled_by(alloc, task, path, prepared, has_executed_need)
+}
+
+/// The decision that follows from what the execution was prepared for.
+fn settled_by(
+    alloc: Global,
+    task: &TaskDeclaration,
+    path: TaskPath,
+    prepared: Result<Prepared, Fault>,
+    has_executed_need: bool,
+) -> Settled
+    ensures { result ≡ settled_as task.now path prepared has_executed_need }
+{
+    match prepared {
+        Ok(Prepared::Skips) => reported(alloc, task, path, Outcome::Skipped),
+        Ok(Prepared::HasNoActions) => reported(alloc, task, path, idle_outcome(has_executed_need)),
+        Ok(Prepared::HasNoSource) => Settled::Sourceless(path),
+        Ok(Prepared::Decided(Decision::UpToDate, _, _)) => reported(
+            alloc,
+            task,
+            path,
+            Outcome::UpToDate,
+        ),
+        Ok(Prepared::Decided(decision, _, seen)) => Settled::Due(path, decision, seen),
+        Err(fault) => reported(alloc, task, path, Outcome::Failed(fault)),
+    }
+}
+
+/// The outcome that is reported for a task without actions.
+fn idle_outcome(has_executed_need: bool) -> Outcome
+    ensures { result ≡ idle_outcome has_executed_need }
+{
+    if has_executed_need {
+        Outcome::Executed
+    } else {
+        Outcome::UpToDate
+    }
+}
+
+/// The task's report without a line.
+fn reported(alloc: Global, task: &TaskDeclaration, path: TaskPath, outcome: Outcome) -> Settled
+    ensures { result ≡ Settled.Reported (silent_report task.now path outcome) }
+{
+    Settled::Reported(TaskReport {
+        path,
+        outcome,
+        has_actions: !task.actions.is_empty(),
+        lines: Texts::new(alloc),
+    })
+}

@@ -1,0 +1,78 @@
+//! The execution of a task without source.
+ghost use Rattle.std.specs.Prelude.{◌≡◌, [], ℕ, List, Some, false, not, IsTrue};
+ghost use Rattle.std.specs.List.{list_any};
+ghost use Rattle.gb_folder.specs.Calls.{Asks, takes_at};
+ghost use Rattle.gb_folder.specs.Files.{HasRisen, is_empty, is_own};
+ghost use Rattle.gb_history.specs.Places.{record_place};
+ghost use Rattle.gb_meaning.specs.Headline.{TearsAreSeen};
+ghost use Rattle.gb_meaning.specs.Kinds.{Kinds};
+ghost use Rattle.gb_meaning.specs.Label.{HasNoSource, Moment, early_case};
+ghost use Rattle.gb_plan.specs.Graph.{Plan};
+ghost use Rattle.gb_plan.specs.Task.{is_output_of};
+ghost use Rattle.gb_records.specs.Said.{IsText};
+ghost use Rattle.gb_report.specs.declared.report.Options.{Options};
+ghost use Rattle.gb_report.specs.declared.report.Outcome.TheVariants.{Failed};
+ghost use Rattle.gb_store.specs.Changes.{ChangesOnly};
+ghost use Rattle.gb_task.specs.Executing.{BeginsAt, HasExecuted, IsReportedOf, Registering, cleared_outcome};
+ghost use Rattle.gb_task.specs.Executing.{is_of_execution, setting_with};
+
+use crate::clearing::clear;
+use gb_core::path::TaskPath;
+use gb_core::text::Texts;
+use gb_folder::folder::Folder;
+use gb_plan::task::TaskDeclaration;
+use gb_report::fault::Fault;
+use gb_report::report::{Outcome, TaskReport};
+use std::alloc::Global;
+
+/// Executes a task without source: nothing of its previous execution is kept. `was_read` says
+/// whether a record of it was read; the path is the task's own, so that a report needs no memory.
+pub fn execute_without_source<F: Folder>(
+    alloc: Global,
+    folder: &mut F,
+    task: &TaskDeclaration,
+    path: TaskPath,
+    was_read: bool,
+) -> TaskReport
+    requires not_own { list_any (λ output. is_own output.place) task.now.outputs ≡ false }
+    requires path { path ≡ task.now.path }
+    ensures path { result.path ≡ task.now.path }
+    ensures has_actions { result.has_actions ≡ not (is_empty task.now.actions) }
+    ensures outcome { IsReportedOf cleared_outcome result.outcome }
+    ensures lines { result.lines ≡ [] }
+    ensures asks { Asks F.failures F.may_leave F.asked (takes_at (is_of_execution task.now)) folder.old
+        folder.new }
+    ensures blame { (place : List ℕ) → result.outcome ≡ Failed (Fault.Device place)
+        → HasRisen (F.failures folder.old) (F.failures folder.new) }
+    ensures blamed { (place : List ℕ) → result.outcome ≡ Failed (Fault.Device place)
+        → IsTrue (is_output_of task.now place) }
+    ensures changes { IsTrue F.tells
+        → ChangesOnly (is_of_execution task.now) (F.contents folder.old) (F.contents folder.new) }
+    // Where the task has no source, this is its execution.
+    ensures execution { IsTrue F.tells → (kinds : Kinds) (registry_of : Registering) (options : Options)
+        (plan : Plan) (moment : Moment) → TearsAreSeen IsText record_place (F.may_leave folder.old)
+        → BeginsAt task.now was_read (F.contents folder.old) (F.failures folder.old) moment
+        → early_case task.now moment.world.folder ≡ Some HasNoSource
+        → HasExecuted (setting_with kinds registry_of (F.may_leave folder.old)) options plan task.now moment
+        result (F.contents folder.old) (F.failures folder.new) (F.contents folder.new) }
+{
+    let has_actions = !task.actions.is_empty();
+    let cleared = clear(alloc, folder, task, was_read);
+    TaskReport {
+        path,
+        outcome: outcome_of(cleared),
+        has_actions,
+        lines: Texts::new(alloc),
+    }
+}
+
+/// The outcome that is reported for a task without source, by the result of deleting its record and
+/// outputs.
+fn outcome_of(cleared: Result<(), Fault>) -> Outcome
+    ensures { result ≡ cleared_outcome cleared }
+{
+    match cleared {
+        Ok(()) => Outcome::NoSource,
+        Err(fault) => Outcome::Failed(fault),
+    }
+}

@@ -1,5 +1,0 @@
-use Rattle.gb_turn.proofs.CaseOutside.{decided_outside}
-use Rattle.gb_turn.proofs.case_laws.decided_outside.Goals as goal
-
-pub returns : goal.returns
-returns c = decided_outside

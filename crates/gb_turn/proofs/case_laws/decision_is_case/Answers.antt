@@ -1,5 +1,0 @@
-use Rattle.gb_turn.proofs.Decided.{decision_is_case}
-use Rattle.gb_turn.proofs.case_laws.decision_is_case.Goals as goal
-
-pub returns : goal.returns
-returns c = decision_is_case

@@ -1,5 +1,0 @@
-use Rattle.gb_turn.proofs.Grown.{made_is_not_grown}
-use Rattle.gb_turn.proofs.case_laws.made_is_not_grown.Goals as goal
-
-pub returns : goal.returns
-returns c = made_is_not_grown

@@ -1,5 +1,0 @@
-use Rattle.gb_turn.proofs.CaseOutside.{outside_is_enough}
-use Rattle.gb_turn.proofs.case_laws.outside_is_enough.Goals as goal
-
-pub returns : goal.returns
-returns c = outside_is_enough

@@ -1,5 +1,0 @@
-use Rattle.gb_turn.proofs.CaseTurning.{runs_are_of_case}
-use Rattle.gb_turn.proofs.case_laws.runs_are_of_case.Goals as goal
-
-pub returns : goal.returns
-returns c = runs_are_of_case

@@ -1,5 +1,0 @@
-use Rattle.gb_turn.proofs.Knowing.{what_is_read_is_known}
-use Rattle.gb_turn.proofs.case_laws.what_is_read_is_known.Goals as goal
-
-pub returns : goal.returns
-returns c = what_is_read_is_known

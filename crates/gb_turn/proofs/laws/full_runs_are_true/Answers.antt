@@ -1,5 +1,0 @@
-use Rattle.gb_turn.proofs.Truth.{full_runs_are_true as law}
-use Rattle.gb_turn.proofs.laws.full_runs_are_true.Goals as goal
-
-pub returns : goal.returns
-returns c = λ returned. law _ _ _ _

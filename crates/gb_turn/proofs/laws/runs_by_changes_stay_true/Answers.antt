@@ -1,5 +1,0 @@
-use Rattle.gb_turn.proofs.Truth.{runs_by_changes_stay_true as law}
-use Rattle.gb_turn.proofs.laws.runs_by_changes_stay_true.Goals as goal
-
-pub returns : goal.returns
-returns c = λ returned. law _ _ _ _

@@ -1,5 +1,0 @@
-use Rattle.gb_turn.proofs.Truth.{up_to_date_is_made as law}
-use Rattle.gb_turn.proofs.laws.up_to_date_is_made.Goals as goal
-
-pub returns : goal.returns
-returns c = λ returned. law _ _ _
