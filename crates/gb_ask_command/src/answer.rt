@@ -42,7 +42,11 @@ fn write_reported(alloc: Global, notation: Notation, reported: Vec<Prediction>) 
     }
 }
 
-fn reported_text(alloc: Global, notation: Notation, reported: &[Prediction]) -> Result<String, AllocError>
+fn reported_text(
+    alloc: Global,
+    notation: Notation,
+    reported: &[Prediction],
+) -> Result<String, AllocError>
     ensures { IfOk result (λ text. IsWhyText notation reported.now (string_bytes text)) }
 {
     match notation {

@@ -67,7 +67,14 @@ fn with_needs(
 {
     let after = task_value(alloc, &reported.after)?;
     let outcome = outcome_word(&reported.coming);
-    let value = outcome_object(alloc, reported.path.as_str(), outcome, reasons, needs, &after);
+    let value = outcome_object(
+        alloc,
+        reported.path.as_str(),
+        outcome,
+        reasons,
+        needs,
+        &after,
+    );
     drop(after);
     value
 }

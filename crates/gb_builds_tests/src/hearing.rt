@@ -1,6 +1,8 @@
 //! The notifications of listeners in builds of two tasks, over a device that fails and with a
 //! listener that refuses.
-use crate::building::{Step, are_held, go_on, is_reported, is_reported_of, reported_beside, reported_of};
+use crate::building::{
+    Step, are_held, go_on, is_reported, is_reported_of, reported_beside, reported_of,
+};
 use crate::listening::{Refusing, heard_by_each, heard_text};
 use crate::offering::offered;
 use gb_action::actions::Actions;

@@ -28,7 +28,11 @@ impl Span {
         ensures reported { reported ≢ 0 → (result.most ≡ min (reported - at) len)
             × (result.least ≡ result.most) }
     {
-        let end = if reported == 0 { LONGEST_FILE } else { reported };
+        let end = if reported == 0 {
+            LONGEST_FILE
+        } else {
+            reported
+        };
         let most = end.saturating_sub(at).min(len);
         let least = if reported == 0 { 0 } else { most };
         Span { at, least, most }

@@ -18,11 +18,11 @@ ghost use Rattle.gb_exec.specs.Failing.{times_blamed};
 ghost use Rattle.gb_exec.specs.Reports.{IsOf};
 
 use crate::dry::dry_reports;
+use crate::executions::execute_tasks;
 use crate::heard_laws::reported_is_heard;
 use crate::listener::TaskListener;
 use crate::one::Build;
 use crate::plans::starts_of;
-use crate::executions::execute_tasks;
 use gb_action::actions::Actions;
 use gb_action::table::ActionTable;
 use gb_core::path::TaskPath;

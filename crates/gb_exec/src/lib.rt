@@ -16,6 +16,7 @@
 
 pub mod building;
 mod dry;
+mod executions;
 mod heard_laws;
 pub mod listener;
 mod one;
@@ -23,7 +24,6 @@ mod plans;
 mod start_laws;
 mod starts;
 pub mod telling;
-mod executions;
 
 pub use crate::building::execute;
 pub use crate::listener::{Recorder, TaskListener};

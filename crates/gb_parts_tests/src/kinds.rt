@@ -75,7 +75,11 @@ fn push_change(
 fn take_step(alloc: Global, asked: &mut Asked, step: &str) -> Result<(), PlaceFault> {
     let (word, reported) = cut(step, ' ');
     match word {
-        "arg" => Ok(asked.args.push(Value::Text(Text::from_str(alloc, reported)?))?),
+        "arg" => Ok(
+            asked
+                .args
+                .push(Value::Text(Text::from_str(alloc, reported)?))?,
+        ),
         "src" => put(alloc, &mut asked.files, reported),
         "out" => put(alloc, &mut asked.stood, reported),
         _ => push_change(alloc, &mut asked.changes, word, reported),

@@ -94,7 +94,12 @@ fn is_reported_between(
 
 /// Whether each text between the first two reads as its own reading between the last two; if not,
 /// which one does not.
-fn are_reported(alloc: Global, around: Pair, around_reported: Pair, cases: &[Case]) -> Result<(), Fail> {
+fn are_reported(
+    alloc: Global,
+    around: Pair,
+    around_reported: Pair,
+    cases: &[Case],
+) -> Result<(), Fail> {
     for case in cases {
         if is_reported_between(alloc, &around, &around_reported, case) != Ok(true) {
             return Err(Fail::new(case.0));
@@ -421,7 +426,11 @@ fn is_a_word_of(alloc: Global, count: usize) -> Result<bool, AllocError> {
     Ok(is_read(alloc, text.as_str()))
 }
 
-fn is_reported_behind_a_word_of(alloc: Global, count: usize, want: &str) -> Result<bool, AllocError> {
+fn is_reported_behind_a_word_of(
+    alloc: Global,
+    count: usize,
+    want: &str,
+) -> Result<bool, AllocError> {
     let text = repeated(alloc, "\nproperty ", "w", count, "")?;
     is_reported(alloc, text.as_bytes(), want)
 }
@@ -439,7 +448,11 @@ fn takes_words_of_64_bytes(rt: HostRuntime) -> Result<(), Fail> {
 }
 
 /// Whether 64 open brackets followed by this text have this reading.
-fn is_reported_behind_64_brackets(alloc: Global, then: &str, want: &str) -> Result<bool, AllocError> {
+fn is_reported_behind_64_brackets(
+    alloc: Global,
+    then: &str,
+    want: &str,
+) -> Result<bool, AllocError> {
     let text = repeated(alloc, "set a = ", "[", 64, then)?;
     is_reported(alloc, text.as_bytes(), want)
 }

@@ -9,7 +9,7 @@
 
 pub mod coming;
 mod explained;
-pub mod predict;
 pub mod laws;
 mod marks;
+pub mod predict;
 mod task;

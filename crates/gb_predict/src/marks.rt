@@ -149,7 +149,11 @@ pub(crate) fn lack(
 }
 
 /// The culprit of the task at a path, if it has one.
-fn culprit_at<'a>(reported: &'a [Prediction], lost: &Numbers<'_>, path: &TaskPath) -> Option<&'a TaskPath>
+fn culprit_at<'a>(
+    reported: &'a [Prediction],
+    lost: &Numbers<'_>,
+    path: &TaskPath,
+) -> Option<&'a TaskPath>
     requires { AreLost reported.now lost.now }
     ensures { option_copied result ≡ culprit_at reported.now path.now }
 {

@@ -22,9 +22,9 @@ ghost use Rattle.gb_task.specs.Executing.{BeginsAt, HasExecuted, IsToGoOn, IsRep
 ghost use Rattle.gb_task.specs.Executing.{is_of_execution};
 ghost use Rattle.gb_task.specs.Executing.{outcome_of, report_of, setting_with};
 
-use crate::recheck::{Recheck, recheck_task};
 use crate::full::{outcome_of, run_on};
 use crate::going::go_by;
+use crate::recheck::{Recheck, recheck_task};
 use gb_action::actions::Actions;
 use gb_action::table::ActionTable;
 use gb_core::path::TaskPath;

@@ -17,7 +17,7 @@ use gb_core::path::TaskPath;
 use gb_folder::folder::Folder;
 use gb_history::record::Record;
 use gb_plan::task::TaskDeclaration;
-use gb_records::keeping::{store_record, delete_record};
+use gb_records::keeping::{delete_record, store_record};
 use gb_report::fault::Fault;
 use std::alloc::Global;
 

@@ -106,7 +106,6 @@ returns-clause-calls g c =
     storing_called F.device path c.args.run.now place bytes old new c.write.result (Err c.unwritten_by.result)
     c.in_ok-place.ensures.place (c.as_slice.ensures.value ∙ c.in_ok-text.ensures.text) called (ap Err c.unwritten_by.ensures ∙ ap storing_ending (sym c.in-Err.is))
 
-
 pub returns-in_err-text-clause-calls : goal.returns-in_err-text-clause-calls
 returns-in_err-text-clause-calls g c =
     let F = g.F.Folder in
