@@ -4,7 +4,7 @@ use Rattle.std.proofs.Common.{refl, sym, ap, subst, arith}
 use Rattle.gb_action.specs.Meanings.{Meanings}
 use Rattle.gb_folder.specs.Calls.{Asks, Call, changes_at}
 use Rattle.gb_folder.specs.Files.{Place, Tearing}
-use Rattle.gb_folder.proofs.Asked.{asks_more, asks_nothing, asks_reading, asks_then, change_at}
+use Rattle.gb_folder.proofs.Asked.{asks_more, asks_nothing, asks_then, change_at}
 use Rattle.gb_history.specs.Record.{Record}
 use Rattle.gb_meaning.specs.Execution.{dry_reports}
 use Rattle.gb_plan.specs.Ready.{Rows}
@@ -16,10 +16,10 @@ use Rattle.gb_report.specs.declared.report.Outcome.{Outcome}
 use Rattle.gb_report.specs.declared.report.Outcome.TheVariants as outcomes
 use Rattle.gb_report.specs.declared.report.TaskReport.{TaskReport}
 use Rattle.gb_task.specs.Executing.{is_of_execution}
-use Rattle.gb_task.proofs.Asking.{of_execution, permitted_of_once}
+use Rattle.gb_task.proofs.ByOutcome.{execution_places}
 use Rattle.gb_exec.specs.Asking.{ExecutionsAsk}
 use Rattle.gb_exec.specs.Building.{is_of_executions}
-use Rattle.gb_task.specs.ByOutcome.{ChangesOnceRead, ExecutionAsks}
+use Rattle.gb_task.specs.ByOutcome.{ExecutionAsks}
 
 right : (a b : Bool) → b ≡ true → (a || b) ≡ true
 right true b e = refl
@@ -41,20 +41,6 @@ module _ {F S : Type 0} (failures : F → ℕ) (may_leave : F → Tearing) (aske
 
   -- ---- Where changes are requested
 
-  changed_places : (task : Task) (last : Option Record) (old new : F) → ChangesOnceRead failures may_leave asked meanings rows options task last old new
-      → Asks failures may_leave asked (changes_at (is_of_execution task)) old new
-  changed_places task last old new asks =
-      asks_more (λ place next may. change_at (is_of_execution task) place next (of_execution task _ place next (permitted_of_once _ _ place next may))) asks
-
-  pub execution_places : (task : Task) (last : Option Record) (outcome : Outcome) (lines : List Text) (old new : F) → ExecutionAsks failures may_leave asked meanings rows options task last outcome lines old new
-      → Asks failures may_leave asked (changes_at (is_of_execution task)) old new
-  execution_places task last outcomes.NotRun lines old new execution = subst (λ (f : F). Asks failures may_leave asked (changes_at (is_of_execution task)) old f) (sym execution) (asks_nothing old)
-  execution_places task last outcomes.Skipped lines old new execution = asks_reading execution
-  execution_places task last outcomes.UpToDate lines old new execution = asks_reading execution.0
-  execution_places task last outcomes.NoSource lines old new execution = changed_places task last old new execution
-  execution_places task last outcomes.Executed lines old new execution = changed_places task last old new execution.0
-  execution_places task last (outcomes.Failed fault) lines old new execution = changed_places task last old new execution
-
   wider : (test wide : Place → Bool) → ((place : Place) → test place ≡ true → wide place ≡ true) → (old new : F) → Asks failures may_leave asked (changes_at test) old new
       → Asks failures may_leave asked (changes_at wide) old new
   unfolding changes_at
@@ -67,7 +53,7 @@ module _ {F S : Type 0} (failures : F → ℕ) (may_leave : F → Tearing) (aske
   executions_places (planned ∷ plan) (last ∷ records) (report ∷ reports) old new executions =
       asks_then
       (wider (is_of_execution planned.task) (is_of_executions (planned ∷ plan)) (λ place e. ap (λ b. b || is_of_executions plan place) e) old executions.0
-      (execution_places planned.task last report.outcome report.lines old executions.0 executions.1))
+      (execution_places failures may_leave asked meanings rows options planned.task last report.lines old executions.0 report.outcome executions.1))
       (wider (is_of_executions plan) (is_of_executions (planned ∷ plan)) (λ place e. right (is_of_execution planned.task place) (is_of_executions plan place) e) executions.0 new
       (executions_places plan records reports executions.0 new executions.2))
   executions_places [] [] (r ∷ reports) old new executions = absurd executions

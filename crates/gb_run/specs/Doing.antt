@@ -11,6 +11,7 @@ use Rattle.gb_folder.specs.declared.folder.FolderFault.TheVariants as folders
 use Rattle.gb_report.specs.declared.fault.Fault.{Fault}
 use Rattle.gb_report.specs.declared.fault.Fault.TheVariants as faults
 use Rattle.gb_store.specs.Faults.{reported_at}
+use Rattle.gb_store.specs.Removals.{removal_ending}
 use Rattle.gb_run.specs.Steps.{Step}
 
 -- it went well, or ended with this fault
@@ -22,22 +23,9 @@ abbrev pub call_of : Step → Answer → Call
 call_of (place, None) answer = Removes place answer
 call_of (place, Some bytes) answer = Writes place bytes max_file answer
 
--- the fault of a removal, unless there was no file to remove
-abbrev pub unless_absent : Place → FolderFault → Ending
-unless_absent place folders.Missing = Ok tt
-unless_absent place folders.Blocked = Ok tt
-unless_absent place folders.OutOfMemory = Err faults.OutOfMemory
-unless_absent place folders.Device = Err (faults.Device place)
-unless_absent place folders.TooLarge = Err (faults.TooLarge place)
-unless_absent place folders.BadFileName = Err (faults.BadFileName place)
-
 abbrev pub write_ending : Place → Answer → Ending
 write_ending place (Ok done) = Ok tt
 write_ending place (Err fault) = Err (reported_at place fault)
-
-abbrev pub removal_ending : Place → Answer → Ending
-removal_ending place (Ok done) = Ok tt
-removal_ending place (Err fault) = unless_absent place fault
 
 -- how a step ends, by the answer to its call
 abbrev pub ending_of : Step → Answer → Ending

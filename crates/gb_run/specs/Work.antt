@@ -1,14 +1,16 @@
 -- The steps and lines of a full rebuild, computed before anything is changed, and what it means to do them.
+use Rattle.std.specs.List.{AllByRecursion}
 use Rattle.std.specs.Prelude.{◌≡◌, ◌⊎◌, ◌++◌, List, [], ◌∷◌, Option, None, Some, Result, Ok, Err}
 use Rattle.gb_core.specs.Lists.{first_of}
-use Rattle.gb_folder.specs.Calls.{Call}
+use Rattle.gb_folder.specs.Calls.{Call, IsPermitted, changes_at}
 use Rattle.gb_folder.specs.Files.{Files}
 use Rattle.gb_report.specs.declared.fault.Fault.{Fault}
 use Rattle.gb_report.specs.declared.fault.Fault.TheVariants as faults
 use Rattle.gb_action.specs.declared.reply.Written.{Written}
-use Rattle.gb_plan.specs.Task.{Text}
+use Rattle.gb_plan.specs.Task.{Text, is_output_of}
 use Rattle.gb_plan.specs.declared.task.Action.{Action}
 use Rattle.gb_plan.specs.declared.task.Output.{Output}
+use Rattle.gb_plan.specs.declared.task.TaskDeclaration.{TaskDeclaration as Task}
 use Rattle.gb_meaning.specs.Made.{placed, put_over, put_result}
 use Rattle.gb_run.specs.Asking.{made_by, printed_by}
 use Rattle.gb_run.specs.Course.{Course}
@@ -52,6 +54,10 @@ work_of course held (action ∷ actions) =
     (λ more. with_part (part_of course action) (work_of course more actions))
 
 -- ---- Done
+
+-- the calls change files at the outputs of the task alone
+abbrev pub AreAtOutputs : Task → List Call → Type 0
+AreAtOutputs task calls = AllByRecursion (IsPermitted (changes_at (is_output_of task))) calls
 
 -- A part that is done prints its lines, unless memory runs out for them. One that failed is the last.
 abbrev pub OrPrints : Ending → List Text → (List Text → Type 0) → List Call → List Text → Ending → Type 0

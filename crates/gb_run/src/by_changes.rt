@@ -19,7 +19,7 @@ ghost use Rattle.gb_run.specs.AskingChanges.{CanGoOn, GoesOn};
 ghost use Rattle.gb_run.specs.Course.{EndsWell, course_of};
 ghost use Rattle.gb_run.specs.Digests.{prints_at};
 ghost use Rattle.gb_run.specs.Failing.{ByChanges, Fails};
-ghost use Rattle.gb_run.specs.Work.{ending};
+ghost use Rattle.gb_run.specs.Work.{AreAtOutputs, ending};
 ghost use Rattle.gb_run.specs.WorkByChanges.{RunsByChanges, increment_of};
 
 use crate::parts::do_parts;
@@ -70,7 +70,7 @@ pub fn run_by_changes<A: Actions, F: Folder>(
         × (made_of kinds task.now.actions task.now.values files task.now.outputs ≡ Ok held)
         × (made.items ≡ prints_at task.now.outputs held)) }
     ensures calls { (calls : List Call) × Leads F.device folder.old calls folder.new
-        × ((kinds : Kinds) → Agrees A.meanings table.now kinds
+        × AreAtOutputs task.now calls × ((kinds : Kinds) → Agrees A.meanings table.now kinds
         → RunsByChanges (increment_of kinds task.now files changes outputs) calls lines.new
         (ending result)) }
     ensures asks { Asks F.failures F.may_leave F.asked (changes_at (is_output_of task.now)) folder.old

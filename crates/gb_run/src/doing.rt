@@ -2,15 +2,16 @@
 ghost use Rattle.std.specs.Prelude.{◌≡◌, List, Some, None};
 ghost use Rattle.gb_folder.specs.Calls.{Call};
 ghost use Rattle.gb_folder.specs.Device.{Leads};
-ghost use Rattle.gb_run.specs.Doing.{Does, Tried, removal_ending, unless_absent, write_ending};
+ghost use Rattle.gb_run.specs.Doing.{Does, Tried, write_ending};
 
 use gb_core::bytes::Bytes;
 use gb_core::place::Place;
-use gb_folder::calls::{remove, write};
+use gb_folder::calls::write;
 use gb_folder::folder::{Folder, FolderFault};
 use gb_folder::limits::MAX_FILE;
 use gb_report::fault::Fault;
 use gb_store::faults::fault_of;
+use gb_store::removal::remove_at;
 
 /// Does these steps, one after another, up to the first that fails.
 pub fn do_steps<F: Folder>(folder: &mut F, steps: &[(Place, Option<Bytes>)]) -> Result<(), Fault>
@@ -29,7 +30,7 @@ fn do_step<F: Folder>(folder: &mut F, step: &(Place, Option<Bytes>)) -> Result<(
 {
     match &step.1 {
         Some(bytes) => write_file(folder, &step.0, bytes),
-        None => remove_file(folder, &step.0),
+        None => remove_at(folder, &step.0),
     }
 }
 
@@ -43,15 +44,6 @@ fn write_file<F: Folder>(folder: &mut F, place: &Place, bytes: &Bytes) -> Result
     write_ending(answer, at)
 }
 
-/// Removes a file, if one is there.
-fn remove_file<F: Folder>(folder: &mut F, place: &Place) -> Result<(), Fault>
-    ensures { Tried F.device (place.now, None) folder.old result folder.new }
-{
-    let at = place.copy()?;
-    let answer = remove(folder, place);
-    removal_ending(answer, at)
-}
-
 /// How a write ends, by the folder's answer.
 fn write_ending(answer: Result<(), FolderFault>, place: Place) -> Result<(), Fault>
     ensures { result ≡ write_ending place answer }
@@ -59,28 +51,5 @@ fn write_ending(answer: Result<(), FolderFault>, place: Place) -> Result<(), Fau
     match answer {
         Ok(()) => Ok(()),
         Err(fault) => Err(fault_of(fault, place)),
-    }
-}
-
-/// How a removal ends, by the folder's answer.
-fn removal_ending(answer: Result<(), FolderFault>, place: Place) -> Result<(), Fault>
-    ensures { result ≡ removal_ending place answer }
-{
-    match answer {
-        Ok(()) => Ok(()),
-        Err(fault) => unless_absent(fault, place),
-    }
-}
-
-/// The fault of a removal, unless there was no file to remove.
-fn unless_absent(fault: FolderFault, place: Place) -> Result<(), Fault>
-    ensures { result ≡ unless_absent place fault }
-{
-    match fault {
-        FolderFault::Missing | FolderFault::Blocked => Ok(()),
-        FolderFault::OutOfMemory
-        | FolderFault::Device
-        | FolderFault::TooLarge
-        | FolderFault::BadFileName => Err(fault_of(fault, place)),
     }
 }

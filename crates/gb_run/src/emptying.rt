@@ -1,14 +1,18 @@
 //! Lists and empties the output places of a task.
-ghost use Rattle.std.specs.Prelude.{◌≡◌, ◌⊎◌, [], Some, IsTrue, IfOk, IfErr, OnOk};
+ghost use Rattle.std.specs.Prelude.{◌≡◌, ◌⊎◌, [], List, Some, IsTrue, IfOk, IfErr, OnOk};
 ghost use Rattle.std.specs.List.{list_all};
 ghost use Rattle.gb_core.specs.Lists.{first_of};
-ghost use Rattle.gb_folder.specs.Calls.{Asks, no_change, takes_at};
+ghost use Rattle.gb_folder.specs.Calls.{Asks, Call, no_change, takes_at};
+ghost use Rattle.gb_folder.specs.Device.{Leads};
+ghost use Rattle.gb_folder.specs.Each.{Each};
+ghost use Rattle.gb_folder.specs.Files.{Place};
 ghost use Rattle.gb_store.specs.Changes.{ChangesOnly};
 ghost use Rattle.gb_store.specs.Faults.{Blames, BlamesOnly, IsOfMachine};
 ghost use Rattle.gb_plan.specs.Task.{is_output_of};
 ghost use Rattle.gb_meaning.specs.Made.{rest_of};
 ghost use Rattle.gb_meaning.specs.Tree.{listing_faults};
-ghost use Rattle.gb_run.specs.Emptying.{CannotEmpty, is_at_output, odd_faults, places_at};
+ghost use Rattle.gb_run.specs.Emptying.{CannotEmpty, Emptying, Listing, is_at_output, odd_faults, places_at};
+ghost use Rattle.gb_run.specs.Work.{ending};
 
 use gb_core::place::Place;
 use gb_folder::folder::Folder;
@@ -25,6 +29,9 @@ pub fn empty_outputs<F: Folder>(
     folder: &mut F,
     task: &TaskDeclaration,
 ) -> Result<(), Fault>
+    // Over any folder: by these calls.
+    ensures calls { (calls : List Call) × Leads F.device folder.old calls folder.new
+        × Emptying task.now.outputs calls result }
     ensures asks { Asks F.failures F.may_leave F.asked (takes_at (is_output_of task.now)) folder.old
         folder.new }
     ensures blame { Blames result (F.failures folder.old) (F.failures folder.new) }
@@ -49,6 +56,10 @@ pub fn listed_outputs<F: Folder>(
     folder: &mut F,
     outputs: &[Output],
 ) -> Result<Vec<Place>, Fault>
+    // Over any folder: by these calls, which found these places.
+    ensures calls { (calls : List Call) × (places : List Place) × Leads F.device folder.old calls folder.new
+        × Each Listing outputs.now calls places (ending result)
+        × IfOk result (λ found. found.items ≡ places) }
     ensures asks { Asks F.failures F.may_leave F.asked no_change folder.old folder.new }
     ensures blame { Blames result (F.failures folder.old) (F.failures folder.new) }
     ensures blamed { BlamesOnly (is_at_output outputs.now) result }

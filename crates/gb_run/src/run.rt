@@ -13,7 +13,7 @@ ghost use Rattle.gb_meaning.specs.Made.{made_of};
 ghost use Rattle.gb_run.specs.Course.{EndsWell, course_of};
 ghost use Rattle.gb_run.specs.Digests.{prints_at};
 ghost use Rattle.gb_run.specs.Failing.{Fails, InFull};
-ghost use Rattle.gb_run.specs.Work.{RunsInFull, ending, or_made};
+ghost use Rattle.gb_run.specs.Work.{AreAtOutputs, RunsInFull, ending, or_made};
 
 use crate::parts::do_parts;
 use crate::work::{Work, work_in_full};
@@ -50,7 +50,7 @@ pub fn run_in_full<A: Actions, F: Folder>(
         × (made_of kinds task.now.actions task.now.values files task.now.outputs ≡ Ok held)
         × (made.items ≡ prints_at task.now.outputs held)) }
     ensures calls { (calls : List Call) × Leads F.device folder.old calls folder.new
-        × ((kinds : Kinds) → Agrees A.meanings table.now kinds
+        × AreAtOutputs task.now calls × ((kinds : Kinds) → Agrees A.meanings table.now kinds
         → RunsInFull (course_of kinds task.now files changes []) calls lines.new (ending result)) }
     ensures asks { Asks F.failures F.may_leave F.asked (changes_at (is_output_of task.now)) folder.old
         folder.new }

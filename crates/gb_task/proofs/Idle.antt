@@ -1,5 +1,5 @@
 -- The execution of a task, decided by what it was prepared for.
-use Rattle.std.specs.Prelude.{ℕ, ◌≡◌, ◌||◌, ◌&&◌, Bool, true, false, not, List, [], if◌then◌else◌, Option, None, Some, Result, Ok, Err, OnErr, IfOk, IfErr, IsTrue}
+use Rattle.std.specs.Prelude.{ℕ, ◌≡◌, ◌≢◌, ◌||◌, ◌&&◌, Bool, true, false, not, List, [], if◌then◌else◌, Option, None, Some, Result, Ok, Err, OnErr, IfOk, IfErr, IsTrue}
 use Rattle.std.specs.List.{list_any}
 use Rattle.std.proofs.Common.{refl, sym, ap, subst, ◌∙◌, inl, inr}
 use Rattle.gb_task.specs.Case.{IsCaseOf, IsKnown, OutsideIsEnough, PreparedIsCase}
@@ -156,16 +156,20 @@ module _ (task : Task) (path : Path) (is_path : path ≡ task.path) (before afte
   started_idly true = refl
   started_idly false = refl
 
+  has_source : (b : Bool) → idle_outcome b ≢ outcomes.NoSource
+  has_source true e = cc
+  has_source false e = cc
+
   pub of_task : (result : Result Prepared Fault) → IfOk result (MayPrepare task) → IfOk result (IsRead task)
       → ((place : Place) → result ≡ Err (faults.Device place) → HasRisen before after)
       → ((place : Place) → result ≡ Err (faults.Device place) → (is_input_of task place || is_output_of task place) ≡ true)
       → IsOfTask task before after (settled_as task path result need)
   of_task (Err fault) may read_so rises blamed =
-      (is_path, refl, refl, λ place is. (rises place (ap Err (same_fault fault (faults.Device place) is)), blamed place (ap Err (same_fault fault (faults.Device place) is))), refl, λ e. absurd (let d = e in (cc)))
-  of_task (Ok prepared.Skips) may read_so rises blamed = (is_path, refl, refl, silent outcomes.Skipped refl, refl, λ e. absurd (let d = e in (cc)))
-  of_task (Ok prepared.HasNoActions) may read_so rises blamed = (is_path, refl, refl, silent (idle_outcome need) (failed_idly need), started_idly need, λ e. may.1)
+      (is_path, refl, refl, λ place is. (rises place (ap Err (same_fault fault (faults.Device place) is)), blamed place (ap Err (same_fault fault (faults.Device place) is))), refl, (λ e. absurd (let d = e in (cc))), λ e. cc)
+  of_task (Ok prepared.Skips) may read_so rises blamed = (is_path, refl, refl, silent outcomes.Skipped refl, refl, (λ e. absurd (let d = e in (cc))), λ e. cc)
+  of_task (Ok prepared.HasNoActions) may read_so rises blamed = (is_path, refl, refl, silent (idle_outcome need) (failed_idly need), started_idly need, (λ e. may.1), has_source need)
   of_task (Ok prepared.HasNoSource) may read_so rises blamed = (is_path, may.2)
-  of_task (Ok (prepared.Decided decisions.UpToDate basis seen)) may read_so rises blamed = (is_path, refl, refl, silent outcomes.UpToDate refl, refl, λ e. absurd (let d = e in (cc)))
+  of_task (Ok (prepared.Decided decisions.UpToDate basis seen)) may read_so rises blamed = (is_path, refl, refl, silent outcomes.UpToDate refl, refl, (λ e. absurd (let d = e in (cc))), λ e. cc)
   of_task (Ok (prepared.Decided (decisions.Incremental changes) basis seen)) may read_so rises blamed = (is_path, (λ e. absurd (let d = e in (cc))), read_so)
   of_task (Ok (prepared.Decided decisions.Full basis seen)) may read_so rises blamed = (is_path, (λ e. absurd (let d = e in (cc))), read_so)
 

@@ -29,7 +29,8 @@ mod Idle
 mod Answering
 mod Cut
 mod Settling
-pub mod Asking
+mod Stages
+mod Places
 mod Made
 mod Truth
 pub mod Answered

@@ -10,8 +10,7 @@ use Rattle.gb_history.specs.Text.{record_text}
 use Rattle.gb_plan.specs.declared.task.TaskDeclaration.{TaskDeclaration as Task}
 use Rattle.gb_report.specs.declared.fault.Fault.{Fault}
 use Rattle.gb_report.specs.declared.report.Outcome.TheVariants as outcomes
-use Rattle.gb_task.specs.Ran.{AreAnswered, stores}
-use Rattle.gb_task.specs.Executing.{outcome_of}
+use Rattle.gb_task.specs.Ran.{AreAnswered}
 
 module _ {F : Type 0} (failures : F → ℕ) (may_leave : F → Tearing) (asked : F → Call → F → Type 0) where
   module _ (tells : Bool) (contents : F → Contents) (device : Device F)
@@ -33,24 +32,3 @@ module _ {F : Type 0} (failures : F → ℕ) (may_leave : F → Tearing) (asked 
     pub all_answered : (calls : List Call) (old new : F) → Leads device old calls new → AreAnswered failures may_leave asked old calls new
     all_answered [] old new led = led
     all_answered (call ∷ calls) old new led = (led.0, one_answered old call led.0 led.1, all_answered calls led.0 new led.2)
-
-  module _ (task : Task) (run : Record) (limit : ℕ) where
-    abbrev one : List Call
-    one = Writes (record_place task.path) (record_text task.path run) limit (Ok tt) ∷ []
-
-    -- a task without outputs has no record
-    pub stored_none : (old : F) → is_empty task.outputs ≡ true → AreAnswered failures may_leave asked old (stores task run limit) old
-    stored_none old none = subst (λ b. AreAnswered failures may_leave asked old (cond b [] one) old) (sym none) refl
-
-    pub stored_one : (old new : F) → is_empty task.outputs ≡ false → AreAnswered failures may_leave asked old one new
-        → AreAnswered failures may_leave asked old (stores task run limit) new
-    stored_one old new some answered = subst (λ b. AreAnswered failures may_leave asked old (cond b [] one) new) (sym some) answered
-
-pub on_ok : {T E : Type 0} {P Q : Type 0} (r : Result T E) → OnOk r P → (P → Q) → OnOk r Q
-on_ok (Ok x) held follows = follows held
-on_ok (Err e) held follows = tt
-
--- what is executed has ended well
-pub executed_ok : {P : Type 0} (ended : Result (Unit {0}) Fault) → outcome_of ended ≡ outcomes.Executed → OnOk ended P → P
-executed_ok (Ok done) is held = held
-executed_ok (Err fault) is held = absurd (let e = is in (cc))

@@ -70,9 +70,8 @@ text_of_record failures may_leave asked old read kinds task trees run bytes inpu
 }
 
 pub full_runs_are_true : {F S : Type 0} (failures : F → ℕ) (may_leave : F → Tearing) (asked : F → Call → F → Type 0) (meanings : Meanings S) → FullRunsAreTrue failures may_leave asked meanings
-unfolding Rattle.gb_task.specs.Asking.IsInFull Rattle.gb_task.specs.Asking.IsTextIn
-full_runs_are_true failures may_leave asked meanings old rows kinds task bytes agrees full =
-    text_of_record failures may_leave asked old full.1 kinds task full.0 full.4.0 bytes full.2 full.3 (full.4.2 kinds agrees) full.4.1
+full_runs_are_true failures may_leave asked meanings first read rows kinds task trees run agrees have full =
+    text_of_record failures may_leave asked first read kinds task trees run (record_text task.path run) have.inputs have.named (full kinds agrees) refl
 
 -- ---- what the lists of changes say of trees
 
@@ -339,15 +338,14 @@ module _ (kinds : Kinds) (task : Task) (last : Record) (trees : Trees) (seen : L
 -- ---- the laws
 
 pub runs_by_changes_stay_true : {F S : Type 0} (failures : F → ℕ) (may_leave : F → Tearing) (asked : F → Call → F → Type 0) (meanings : Meanings S) → RunsByChangesStayTrue failures may_leave asked meanings
-unfolding Rattle.gb_task.specs.Asking.IsTextBy
-runs_by_changes_stay_true failures may_leave asked meanings old rows kinds options task last bytes agrees lie one held on so =
-    text_of_record failures may_leave asked old on.read kinds task on.trees on.text.0 bytes on.inputs_read on.named
-    (on.text.2 kinds agrees so.entry.inputs so.entry.files
+runs_by_changes_stay_true failures may_leave asked meanings first read rows kinds options task last trees changes seen run agrees lie one held have on by so =
+    text_of_record failures may_leave asked first read kinds task trees run (record_text task.path run) have.inputs have.named
+    (by kinds agrees so.entry.inputs so.entry.files
     (made_folder kinds task.outputs task.values so.entry.inputs task.actions so.entry.files made)
     (made_placed kinds task.outputs task.values so.entry.inputs task.actions so.entry.files made)
-    (subst (λ (lists : List Changes). GoesOn kinds task so.entry.inputs on.trees lists on.seen so.entry.files) (sym lists)
-    (goes_on kinds task last on.trees on.seen lie on.formed so actions values outputs names held.inputs alike one)))
-    on.text.1
+    (subst (λ (lists : List Changes). GoesOn kinds task so.entry.inputs trees lists seen so.entry.files) (sym lists)
+    (goes_on kinds task last trees seen lie on.formed so actions values outputs names held.inputs alike one)))
+    refl
   where
     present : Present
     present = on.decided.present
@@ -361,20 +359,20 @@ runs_by_changes_stay_true failures may_leave asked meanings old rows kinds optio
     values : last.values ≡ task.values
     values = on.decided.decides.1.same_values ∙ ap (λ (run : Record). run.values) on.decided.is.now
 
-    outputs : last.outputs ≡ records_with task.outputs (prints_seen on.seen)
+    outputs : last.outputs ≡ records_with task.outputs (prints_seen seen)
     outputs = on.decided.decides.1.same_outputs ∙ ap (λ (run : Record). run.outputs) on.decided.is.now
 
-    inputs : on.decided.present.now.inputs ≡ digests_in on.trees
+    inputs : on.decided.present.now.inputs ≡ digests_in trees
     inputs = ap (λ (run : Record). run.inputs) on.decided.is.now
 
-    alike : AllZip (IsAlike names) last.inputs (digests_in on.trees)
+    alike : AllZip (IsAlike names) last.inputs (digests_in trees)
     alike = subst (λ prints. AllZip (IsAlike names) last.inputs prints) inputs on.decided.decides.1.alike
 
-    lists : on.changes ≡ flat_map (changes_of names) (zip last.inputs (digests_in on.trees))
+    lists : changes ≡ flat_map (changes_of names) (zip last.inputs (digests_in trees))
     lists = on.decided.decides.2 ∙ ap (λ prints. flat_map (changes_of names) (zip last.inputs prints)) inputs
 
     made : made_of kinds task.actions task.values so.entry.inputs task.outputs ≡ Ok so.entry.files
-    made = made_then kinds task last on.trees on.seen lie on.formed so actions values outputs
+    made = made_then kinds task last trees seen lie on.formed so actions values outputs
 
 pub up_to_date_is_made : {F : Type 0} (failures : F → ℕ) (may_leave : F → Tearing) (asked : F → Call → F → Type 0) → UpToDateIsMade failures may_leave asked
 up_to_date_is_made failures may_leave asked kinds options task last old new lie on so =

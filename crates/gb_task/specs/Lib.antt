@@ -11,5 +11,6 @@ pub mod Buildable
 pub mod Asking
 pub mod Truth
 pub mod Current
+pub mod Stages
 pub mod Ran
 pub mod ByOutcome

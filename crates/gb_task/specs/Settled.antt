@@ -49,8 +49,9 @@ settled_as task path (Ok (prepared.Decided decisions.UpToDate basis seen)) need 
 settled_as task path (Ok (prepared.Decided decision basis seen)) need = settled.Due path decision seen
 
 -- A report is of the task, has no line, and says that the task was started. It attributes a fault to the
--- device only if the device failed meanwhile. A task that is reported as executed here has no actions. A task
--- without source has a property that skips it; and a task that is due is not up to date.
+-- device only if the device failed meanwhile. A task that is reported as executed here has no actions, and
+-- none is reported as one without source. A task without source has a property that skips it; and a task that
+-- is due is not up to date.
 abbrev pub IsOfTask : Task → ℕ → ℕ → Settled → Type 0
 IsOfTask task before after (settled.Reported report) =
     (report.path ≡ task.path) × (report.has_actions ≡ not (is_empty task.actions)) × (report.lines ≡ [])
@@ -58,6 +59,7 @@ IsOfTask task before after (settled.Reported report) =
     → HasRisen before after × IsTrue (is_input_of task place || is_output_of task place))
     × IsTrue (is_started report.outcome)
     × (report.outcome ≡ outcomes.Executed → is_empty task.actions ≡ true)
+    × (report.outcome ≢ outcomes.NoSource)
 IsOfTask task before after (settled.Sourceless path) =
     (path ≡ task.path) × (list_any (λ property. property.skip_when_empty) task.files ≡ true)
 IsOfTask task before after (settled.Due path decision seen) =

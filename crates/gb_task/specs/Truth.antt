@@ -3,6 +3,7 @@
 use Rattle.std.specs.Prelude.{ℕ, ◌≡◌, ◌++◌, false, List, map, Ok, Option, IsTrue}
 use Rattle.std.specs.List.{list_any}
 use Rattle.sha2.specs.Sha256.{sha256}
+use Rattle.gb_action.specs.Changes.{Changes}
 use Rattle.gb_action.specs.Files.{Trees}
 use Rattle.gb_action.specs.Meanings.{Meanings}
 use Rattle.gb_action.specs.declared.output.OutputFiles.{OutputFiles}
@@ -24,8 +25,9 @@ use Rattle.gb_plan.specs.Task.{output_places, seen_files}
 use Rattle.gb_plan.specs.declared.task.TaskDeclaration.{TaskDeclaration as Task}
 use Rattle.gb_records.specs.Said.{IsSaidOf}
 use Rattle.gb_report.specs.declared.report.Options.{Options}
-use Rattle.gb_task.specs.Asking.{IsInFull, IsTextOn}
 use Rattle.gb_task.specs.Current.{IsCurrentOn}
+use Rattle.gb_task.specs.Ran.{GoesFrom, HaveRead}
+use Rattle.gb_task.specs.Stages.{IsOfFullRun, IsOfRunByChanges}
 
 -- The bytes are the text of a true record of the task: there is an entry with its actions, values and
 -- outputs. Calls returned the entry's inputs on the way from a state of the folder, its files are what these
@@ -64,21 +66,24 @@ pub record LieApart (task : Task) : Type 0 where
 abbrev pub FullRunsAreTrue : {F S : Type 0} → (F → ℕ) → (F → Tearing) → (F → Call → F → Type 0) → Meanings S
     → Type 0
 FullRunsAreTrue {F = F} {S = S} failures may_leave asked meanings =
-    (old : F) (rows : Rows S) (kinds : Kinds) (task : Task) (bytes : Bytes) → Agrees meanings rows kinds
-    → IsInFull failures may_leave asked old meanings rows task bytes
-    → IsTextOfTrue failures may_leave asked old kinds task bytes
+    (first read : F) (rows : Rows S) (kinds : Kinds) (task : Task) (trees : Trees) (run : Record)
+    → Agrees meanings rows kinds → HaveRead failures may_leave asked task trees first read
+    → IsOfFullRun meanings rows task trees run
+    → IsTextOfTrue failures may_leave asked first kinds task (record_text task.path run)
 
--- What an incremental run stores is true where the record that it is based on is true. The premise: no two
+-- What a run by changes stores is true where the record that it is based on is true. The premise: no two
 -- contents among those of that record and what was read share a digest.
 abbrev pub RunsByChangesStayTrue : {F S : Type 0} → (F → ℕ) → (F → Tearing) → (F → Call → F → Type 0)
     → Meanings S → Type 0
 RunsByChangesStayTrue {F = F} {S = S} failures may_leave asked meanings =
-    (old : F) (rows : Rows S) (kinds : Kinds) (options : Options) (task : Task) (last : Record)
-    (bytes : Bytes) → Agrees meanings rows kinds → LieApart task
-    → IsTrue (has_one_writer kinds task.actions) → IsWellFormed last
-    → (on : IsTextOn failures may_leave asked old meanings rows options task last bytes)
-    → IsTrueBeside kinds last (contents_read on.trees on.seen)
-    → IsTextOfTrue failures may_leave asked old kinds task bytes
+    (first read : F) (rows : Rows S) (kinds : Kinds) (options : Options) (task : Task) (last : Record)
+    (trees : Trees) (changes : List Changes) (seen : List OutputFiles) (run : Record)
+    → Agrees meanings rows kinds → LieApart task → IsTrue (has_one_writer kinds task.actions)
+    → IsWellFormed last → HaveRead failures may_leave asked task trees first read
+    → GoesFrom failures may_leave asked options task last trees changes seen first read
+    → IsOfRunByChanges meanings rows task trees changes seen run
+    → IsTrueBeside kinds last (contents_read trees seen)
+    → IsTextOfTrue failures may_leave asked first kinds task (record_text task.path run)
 
 -- these files are what the task's actions make of these trees
 pub record AreMadeOf (kinds : Kinds) (task : Task) (trees : Trees) (seen : List OutputFiles) : Type 0 where

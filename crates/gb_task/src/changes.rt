@@ -1,6 +1,6 @@
 //! The execution of a task that may run incrementally, starting from the outputs of its previous
 //! execution.
-ghost use Rattle.std.specs.Prelude.{◌≡◌, ◌||◌, [], ℕ, List, Some, false, true, not, IsTrue, OnOk};
+ghost use Rattle.std.specs.Prelude.{◌≡◌, ◌≤◌, ◌⊎◌, ◌||◌, [], ℕ, List, false, true, not, IsTrue};
 ghost use Rattle.std.specs.List.{AllByRecursion};
 ghost use Rattle.gb_folder.specs.Calls.{Asks, no_change};
 ghost use Rattle.gb_folder.specs.Files.{HasRisen, is_empty};
@@ -11,16 +11,14 @@ ghost use Rattle.gb_meaning.specs.Label.{Moment};
 ghost use Rattle.gb_plan.specs.Graph.{Plan, reads_output_of, some_overlap};
 ghost use Rattle.gb_plan.specs.Task.{is_output_of, output_places};
 ghost use Rattle.gb_records.specs.Assumed.{IsAssumed};
-ghost use Rattle.gb_report.specs.declared.report.Outcome.TheVariants.{Executed, Failed};
+ghost use Rattle.gb_report.specs.declared.report.Outcome.TheVariants.{Failed};
 ghost use Rattle.gb_run.specs.AskingChanges.{CanGoOn};
 ghost use Rattle.gb_store.specs.Changes.{ChangesOnly};
 ghost use Rattle.gb_store.specs.Faults.{Blames, BlamesOnly};
-ghost use Rattle.gb_task.specs.Asking.{HasRead, IsTextRecheck, in_execution_with, once};
 ghost use Rattle.gb_task.specs.Buildable.{IsBuildable};
-ghost use Rattle.gb_task.specs.Ran.{WasExecuted};
+ghost use Rattle.gb_task.specs.Ran.{EndsAs, OnlyRead, RanFrom};
 ghost use Rattle.gb_task.specs.Executing.{BeginsAt, HasExecuted, IsToGoOn, IsReportedOf, Registering};
-ghost use Rattle.gb_task.specs.Executing.{is_of_execution};
-ghost use Rattle.gb_task.specs.Executing.{outcome_of, report_of, setting_with};
+ghost use Rattle.gb_task.specs.Executing.{is_of_execution, outcome_of, report_of, setting_with};
 
 use crate::full::{outcome_of, run_on};
 use crate::going::go_by;
@@ -60,22 +58,15 @@ pub fn execute_by_changes<A: Actions, F: Folder>(
     ensures path { result.path ≡ task.now.path }
     ensures has_actions { result.has_actions ≡ not (is_empty task.now.actions) }
     ensures outcome { IsReportedOf outcome_of result.outcome }
-    // Nothing is changed before calls returned its inputs whole. Where calls returned the inputs
-    // and outputs on the way from a state of the folder, records are of these.
-    ensures asks { (first : _) → Asks F.failures F.may_leave F.asked no_change first folder.old
-        → AreInputsAnswered F.failures F.may_leave F.asked first folder.old task.now seen.inputs.items
-        → AreOutputsAnswered F.failures F.may_leave F.asked first folder.old task.now seen.outputs.items
-        → Asks F.failures F.may_leave F.asked (once (HasRead F.failures F.may_leave F.asked first task.now)
-        (in_execution_with task.now
-        (IsTextRecheck F.failures F.may_leave F.asked first A.meanings table.now options task.now last.now)))
-        folder.old folder.new }
-    // The task is executed only where each write was answered as done, with just the bytes that its
-    // actions make.
+    // Over any folder: where calls returned its inputs and outputs since a state of the folder, without
+    // a change, it only read and failed, or it ran on just these, in full or by the changes.
     ensures ran { (first : _) → Asks F.failures F.may_leave F.asked no_change first folder.old
         → AreInputsAnswered F.failures F.may_leave F.asked first folder.old task.now seen.inputs.items
         → AreOutputsAnswered F.failures F.may_leave F.asked first folder.old task.now seen.outputs.items
-        → result.outcome ≡ Executed → WasExecuted F.failures F.may_leave F.asked A.meanings table.now
-        options task.now (Some last.now) result.lines first folder.new }
+        → EndsAs (λ ended. OnlyRead F.failures F.may_leave F.asked result.lines ended first folder.new
+        ⊎ RanFrom F.failures F.may_leave F.asked A.meanings table.now task.now options last.now result.lines
+        ended first folder.new) result.outcome }
+    ensures count { F.failures folder.old ≤ F.failures folder.new }
     ensures blame { (place : List ℕ) → result.outcome ≡ Failed (Fault.Device place)
         → HasRisen (F.failures folder.old) (F.failures folder.new) }
     ensures blamed { (place : List ℕ) → result.outcome ≡ Failed (Fault.Device place)
@@ -121,20 +112,15 @@ fn go_on<A: Actions, F: Folder>(
     requires inputs { AreInputs task.now seen.inputs.items }
     requires outputs { AreOutputs task.now seen.outputs.items }
     requires no_lines { lines.old ≡ [] }
-    // Nothing is changed before calls returned its inputs whole. Where calls returned the inputs
-    // and outputs on the way from a state of the folder, records are of these.
-    ensures asks { (first : _) → Asks F.failures F.may_leave F.asked no_change first folder.old
-        → AreInputsAnswered F.failures F.may_leave F.asked first folder.old task.now seen.inputs.items
-        → AreOutputsAnswered F.failures F.may_leave F.asked first folder.old task.now seen.outputs.items
-        → Asks F.failures F.may_leave F.asked (once (HasRead F.failures F.may_leave F.asked first task.now)
-        (in_execution_with task.now
-        (IsTextRecheck F.failures F.may_leave F.asked first A.meanings table.now options task.now last.now)))
-        folder.old folder.new }
+    // Over any folder: where calls returned its inputs and outputs since a state of the folder, without
+    // a change, it only read and failed, or it ran on just these, in full or by the changes.
     ensures ran { (first : _) → Asks F.failures F.may_leave F.asked no_change first folder.old
         → AreInputsAnswered F.failures F.may_leave F.asked first folder.old task.now seen.inputs.items
         → AreOutputsAnswered F.failures F.may_leave F.asked first folder.old task.now seen.outputs.items
-        → OnOk result (WasExecuted F.failures F.may_leave F.asked A.meanings table.now options task.now
-        (Some last.now) lines.new first folder.new) }
+        → OnlyRead F.failures F.may_leave F.asked lines.new result first folder.new
+        ⊎ RanFrom F.failures F.may_leave F.asked A.meanings table.now task.now options last.now lines.new
+        result first folder.new }
+    ensures count { F.failures folder.old ≤ F.failures folder.new }
     ensures blame { Blames result (F.failures folder.old) (F.failures folder.new) }
     ensures blamed { BlamesOnly (λ place. is_input_of task.now place || is_output_of task.now place) result }
     ensures changes { IsTrue F.tells

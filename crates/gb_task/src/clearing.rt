@@ -1,7 +1,8 @@
 //! Deletes the record and the outputs of a task's previous execution.
-ghost use Rattle.std.specs.Prelude.{◌≡◌, None, false, IsTrue};
+ghost use Rattle.std.specs.Prelude.{◌≡◌, [], List, None, false, IsTrue};
 ghost use Rattle.std.specs.List.{list_any};
-ghost use Rattle.gb_folder.specs.Calls.{Asks, takes_at};
+ghost use Rattle.gb_folder.specs.Calls.{Asks, Call, takes_at};
+ghost use Rattle.gb_folder.specs.Device.{Leads};
 ghost use Rattle.gb_folder.specs.Files.{is_own};
 ghost use Rattle.gb_history.specs.Places.{record_place};
 ghost use Rattle.gb_meaning.specs.Headline.{TearsAreSeen};
@@ -13,6 +14,7 @@ ghost use Rattle.gb_store.specs.Changes.{ChangesOnly};
 ghost use Rattle.gb_store.specs.Faults.{Blames, BlamesOnly};
 ghost use Rattle.gb_task.specs.Clearing.{HasCleared};
 ghost use Rattle.gb_task.specs.Executing.{is_of_execution};
+ghost use Rattle.gb_task.specs.Stages.{Clears};
 
 use crate::keeping::forget;
 use gb_folder::folder::Folder;
@@ -29,6 +31,9 @@ pub fn clear<F: Folder>(
     was_read: bool,
 ) -> Result<(), Fault>
     requires not_own { list_any (λ output. is_own output.place) task.now.outputs ≡ false }
+    // Over any folder: by these calls.
+    ensures calls { (calls : List Call) × Leads F.device folder.old calls folder.new
+        × Clears task.now was_read calls [] result }
     ensures asks { Asks F.failures F.may_leave F.asked (takes_at (is_of_execution task.now)) folder.old
         folder.new }
     ensures blame { Blames result (F.failures folder.old) (F.failures folder.new) }

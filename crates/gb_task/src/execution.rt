@@ -1,5 +1,5 @@
 //! The execution of a started task.
-ghost use Rattle.std.specs.Prelude.{◌≡◌, ◌≢◌, ◌||◌, ℕ, List, None, false, not, is_some, IsTrue};
+ghost use Rattle.std.specs.Prelude.{◌≡◌, ◌≤◌, ◌≢◌, ◌⊎◌, ◌||◌, ℕ, List, None, false, not, is_some, IsTrue};
 ghost use Rattle.std.specs.Prelude.{option_copied};
 ghost use Rattle.std.specs.List.{AllByRecursion};
 ghost use Rattle.gb_action.specs.Changes.{Changes};
@@ -18,19 +18,17 @@ ghost use Rattle.gb_plan.specs.Task.{is_output_of, output_places};
 ghost use Rattle.gb_records.specs.Assumed.{IsAssumed};
 ghost use Rattle.gb_report.specs.Outcome.{is_executed, is_started};
 ghost use Rattle.gb_report.specs.declared.report.Options.{Options};
-ghost use Rattle.gb_report.specs.declared.report.Outcome.TheVariants.{Executed, Failed};
+ghost use Rattle.gb_report.specs.declared.report.Outcome.TheVariants.{Failed};
 ghost use Rattle.gb_run.specs.AskingChanges.{CanGoOn};
 ghost use Rattle.gb_store.specs.Changes.{ChangesOnly};
 ghost use Rattle.gb_task.specs.Buildable.{IsBuildable};
 ghost use Rattle.gb_task.specs.Case.{IsCaseFor, IsKnown};
 ghost use Rattle.gb_task.specs.Executions.{IsRunFor, goes_by_changes};
-ghost use Rattle.gb_task.specs.Asking.{HasRead, IsTextOf, in_execution_with, once};
 ghost use Rattle.gb_task.specs.ByOutcome.{ExecutionAsks};
-ghost use Rattle.gb_task.specs.Ran.{WasExecuted};
+ghost use Rattle.gb_task.specs.Ran.{EndsAs, OnlyRead, WasRun};
 ghost use Rattle.gb_task.specs.Settled.{IsAnswer, IsAnsweredAlone};
-ghost use Rattle.gb_task.specs.Executing.{BeginsAt, HasExecuted, IsReportedOf, Registering, is_of_execution};
-ghost use Rattle.gb_task.specs.Executing.{outcome_of};
-ghost use Rattle.gb_task.specs.Executing.{setting_with};
+ghost use Rattle.gb_task.specs.Executing.{BeginsAt, HasExecuted, IsReportedOf, Registering};
+ghost use Rattle.gb_task.specs.Executing.{is_of_execution, outcome_of, setting_with};
 
 use crate::changes::execute_by_changes;
 use crate::full::execute_in_full;
@@ -68,12 +66,9 @@ pub fn execute_task<A: Actions, F: Folder>(
     requires path { path ≡ task.now.path }
     ensures path { result.path ≡ task.now.path }
     ensures has_actions { result.has_actions ≡ not (is_empty task.now.actions) }
-    // Over any folder: a task that is skipped or up to date requests no change, and it is up to
-    // date only if it was found so on what the calls of this execution returned. Every other task
-    // requests changes only at its outputs and its record, and none before calls returned its
-    // inputs whole, or that it has no source. A record that it stores is of the trees that these
-    // calls returned. A task is executed only if each write was answered as done, with just the
-    // bytes that its actions make.
+    // Over any folder: which calls were made, stage by stage, up to the first that failed; with which
+    // bytes; and what they were based on. A task that is skipped or up to date requests no change, and
+    // it is up to date only if it was found so on what the calls of this execution returned.
     ensures asks { ExecutionAsks F.failures F.may_leave F.asked A.meanings table.now options task.now
         (option_copied last.entry) result.outcome result.lines folder.old folder.new }
     ensures blame { (place : List ℕ) → result.outcome ≡ Failed (Fault.Device place)
@@ -131,20 +126,16 @@ fn run<A: Actions, F: Folder>(
     ensures path { result.path ≡ task.now.path }
     ensures has_actions { result.has_actions ≡ not (is_empty task.now.actions) }
     ensures outcome { IsReportedOf outcome_of result.outcome }
-    ensures asks { (first : _) → Asks F.failures F.may_leave F.asked no_change first folder.old
-        → AreInputsAnswered F.failures F.may_leave F.asked first folder.old task.now seen.inputs.items
-        → WasDecided F.failures F.may_leave F.asked first folder.old options task.now
-        (option_copied last.entry) seen.inputs.items decision seen.outputs.items
-        → Asks F.failures F.may_leave F.asked (once (HasRead F.failures F.may_leave F.asked first task.now)
-        (in_execution_with task.now
-        (IsTextOf F.failures F.may_leave F.asked first A.meanings table.now options task.now
-        (option_copied last.entry)))) folder.old folder.new }
+    // Over any folder: where calls returned what it was decided on since a state of the folder, without
+    // a change, it only read and failed, or it ran on just that.
     ensures ran { (first : _) → Asks F.failures F.may_leave F.asked no_change first folder.old
         → AreInputsAnswered F.failures F.may_leave F.asked first folder.old task.now seen.inputs.items
         → WasDecided F.failures F.may_leave F.asked first folder.old options task.now
         (option_copied last.entry) seen.inputs.items decision seen.outputs.items
-        → result.outcome ≡ Executed → WasExecuted F.failures F.may_leave F.asked A.meanings table.now
-        options task.now (option_copied last.entry) result.lines first folder.new }
+        → EndsAs (λ ended. OnlyRead F.failures F.may_leave F.asked result.lines ended first folder.new
+        ⊎ WasRun F.failures F.may_leave F.asked A.meanings table.now task.now options
+        (option_copied last.entry) result.lines ended first folder.new) result.outcome }
+    ensures count { F.failures folder.old ≤ F.failures folder.new }
     ensures blame { (place : List ℕ) → result.outcome ≡ Failed (Fault.Device place)
         → HasRisen (F.failures folder.old) (F.failures folder.new) }
     ensures blamed { (place : List ℕ) → result.outcome ≡ Failed (Fault.Device place)

@@ -1,5 +1,5 @@
 //! A full run of a task.
-ghost use Rattle.std.specs.Prelude.{◌≡◌, ◌||◌, [], ℕ, List, Ok, false, not, map, IsTrue, IfOk, IfErr, OnOk};
+ghost use Rattle.std.specs.Prelude.{◌≡◌, ◌≤◌, ◌⊎◌, ◌||◌, [], ℕ, List, false, not, map, IsTrue, IfOk, IfErr, OnOk};
 ghost use Rattle.gb_folder.specs.Calls.{Asks, Call, changes_at, no_change};
 ghost use Rattle.gb_folder.specs.Device.{Leads};
 ghost use Rattle.gb_folder.specs.Files.{HasRisen, is_empty};
@@ -15,19 +15,18 @@ ghost use Rattle.gb_plan.specs.Ready.{IsReady};
 ghost use Rattle.gb_plan.specs.Task.{is_output_of, seen_files};
 ghost use Rattle.gb_records.specs.Assumed.{IsAssumed};
 ghost use Rattle.gb_report.specs.declared.report.Options.{Options};
-ghost use Rattle.gb_report.specs.declared.report.Outcome.TheVariants.{Executed, Failed};
+ghost use Rattle.gb_report.specs.declared.report.Outcome.TheVariants.{Failed};
 ghost use Rattle.gb_run.specs.Course.{EndsWell, course_of};
 ghost use Rattle.gb_run.specs.Failing.{Fails, InFull};
-ghost use Rattle.gb_run.specs.Work.{RunsInFull};
+ghost use Rattle.gb_run.specs.Doing.{Ending};
+ghost use Rattle.gb_run.specs.Work.{ending};
 ghost use Rattle.gb_store.specs.Changes.{ChangesOnly};
 ghost use Rattle.gb_store.specs.Faults.{Blames, BlamesOnly};
-ghost use Rattle.gb_task.specs.Asking.{HasRead, IsInFull, IsTextIn, in_execution_with, once};
 ghost use Rattle.gb_task.specs.Buildable.{IsBuildable};
-ghost use Rattle.gb_task.specs.Keeping.{IsRecordOf};
-ghost use Rattle.gb_task.specs.Ran.{ExecutedInFull, RanInFull};
+ghost use Rattle.gb_task.specs.Ran.{EndsAs, OnlyRead, RanInFull};
+ghost use Rattle.gb_task.specs.Stages.{FullRun, HasMade, IsOfFullRun, WritesGiven};
 ghost use Rattle.gb_task.specs.Executing.{BeginsAt, HasExecuted, IsDue, IsReportedOf, Registering};
-ghost use Rattle.gb_task.specs.Executing.{is_of_execution};
-ghost use Rattle.gb_task.specs.Executing.{outcome_of, report_of, setting_with};
+ghost use Rattle.gb_task.specs.Executing.{is_of_execution, outcome_of, report_of, setting_with};
 
 use crate::adding::all_added;
 use crate::clearing::clear;
@@ -69,20 +68,14 @@ pub fn execute_in_full<A: Actions, F: Folder>(
     ensures path { result.path ≡ task.now.path }
     ensures has_actions { result.has_actions ≡ not (is_empty task.now.actions) }
     ensures outcome { IsReportedOf outcome_of result.outcome }
-    // Nothing is changed before calls returned its inputs whole. Where calls returned them on the
-    // way from a state of the folder, the record is of these.
-    ensures asks { (first : _) → Asks F.failures F.may_leave F.asked no_change first folder.old
-        → AreInputsAnswered F.failures F.may_leave F.asked first folder.old task.now inputs.items
-        → Asks F.failures F.may_leave F.asked (once (HasRead F.failures F.may_leave F.asked first task.now)
-        (in_execution_with task.now
-        (IsInFull F.failures F.may_leave F.asked first A.meanings table.now task.now)))
-        folder.old folder.new }
-    // The task is executed only where each write was answered as done, with just the bytes that its
-    // actions make.
+    // Over any folder: where calls returned its inputs since a state of the folder, without a change,
+    // it only read and failed, or it ran on just these, in full.
     ensures ran { (first : _) → Asks F.failures F.may_leave F.asked no_change first folder.old
         → AreInputsAnswered F.failures F.may_leave F.asked first folder.old task.now inputs.items
-        → result.outcome ≡ Executed → ExecutedInFull F.failures F.may_leave F.asked A.meanings table.now
-        task.now result.lines first folder.new }
+        → EndsAs (λ ended. OnlyRead F.failures F.may_leave F.asked result.lines ended first folder.new
+        ⊎ RanInFull F.failures F.may_leave F.asked A.meanings table.now task.now was_read result.lines ended
+        first folder.new) result.outcome }
+    ensures count { F.failures folder.old ≤ F.failures folder.new }
     ensures blame { (place : List ℕ) → result.outcome ≡ Failed (Fault.Device place)
         → HasRisen (F.failures folder.old) (F.failures folder.new) }
     ensures blamed { (place : List ℕ) → result.outcome ≡ Failed (Fault.Device place)
@@ -133,18 +126,14 @@ fn run_with_record<A: Actions, F: Folder>(
     requires apart { reads_output_of task.now task.now ≡ false }
     requires inputs { AreInputs task.now inputs.items }
     requires no_lines { lines.old ≡ [] }
-    // Nothing is changed before calls returned its inputs whole. Where calls returned them on the
-    // way from a state of the folder, the record is of these.
-    ensures asks { (first : _) → Asks F.failures F.may_leave F.asked no_change first folder.old
-        → AreInputsAnswered F.failures F.may_leave F.asked first folder.old task.now inputs.items
-        → Asks F.failures F.may_leave F.asked (once (HasRead F.failures F.may_leave F.asked first task.now)
-        (in_execution_with task.now
-        (IsInFull F.failures F.may_leave F.asked first A.meanings table.now task.now)))
-        folder.old folder.new }
+    // Over any folder: where calls returned its inputs since a state of the folder, without a change,
+    // it only read and failed, or it ran on just these, in full.
     ensures ran { (first : _) → Asks F.failures F.may_leave F.asked no_change first folder.old
         → AreInputsAnswered F.failures F.may_leave F.asked first folder.old task.now inputs.items
-        → OnOk result (ExecutedInFull F.failures F.may_leave F.asked A.meanings table.now task.now
-        lines.new first folder.new) }
+        → OnlyRead F.failures F.may_leave F.asked lines.new result first folder.new
+        ⊎ RanInFull F.failures F.may_leave F.asked A.meanings table.now task.now was_read lines.new result
+        first folder.new }
+    ensures count { F.failures folder.old ≤ F.failures folder.new }
     ensures blame { Blames result (F.failures folder.old) (F.failures folder.new) }
     ensures blamed { BlamesOnly (λ place. is_input_of task.now place || is_output_of task.now place) result }
     ensures changes { IsTrue F.tells
@@ -178,12 +167,10 @@ pub(crate) fn run_on<A: Actions, F: Folder>(
     requires named { map (λ tree. tree.0) inputs.trees ≡ seen_files task.now.files }
     requires digests { inputs.prints.items ≡ digests_in inputs.trees }
     requires no_lines { lines.old ≡ [] }
-    ensures asks { Asks F.failures F.may_leave F.asked
-        (in_execution_with task.now (IsTextIn A.meanings table.now task.now inputs.trees))
-        folder.old folder.new }
-    // Over any folder: the run ends well only once all of this was answered as done.
-    ensures ran { OnOk result (RanInFull F.failures F.may_leave F.asked A.meanings table.now task.now
-        inputs.trees lines.new folder.old folder.new) }
+    // Over any folder: it is a full run on these inputs, by these calls.
+    ensures ran { (calls : List Call) × Leads F.device folder.old calls folder.new
+        × FullRun A.meanings table.now task.now inputs.trees was_read calls lines.new result }
+    ensures count { F.failures folder.old ≤ F.failures folder.new }
     ensures blame { Blames result (F.failures folder.old) (F.failures folder.new) }
     ensures blamed { BlamesOnly (is_output_of task.now) result }
     ensures changes { IsTrue F.tells
@@ -225,13 +212,12 @@ fn make_in_full<A: Actions, F: Folder>(
         folder.new }
     ensures blame { Blames result (F.failures folder.old) (F.failures folder.new) }
     ensures blamed { BlamesOnly (is_output_of task.now) result }
-    // Over any folder: which calls were made, with which bytes, and which lines are printed.
-    ensures calls { OnOk result ((calls : List Call) × Leads F.device folder.old calls folder.new
-        × ((kinds : Kinds) → Agrees A.meanings table.now kinds
-        → RunsInFull (course_of kinds task.now trees changes []) calls lines.new (Ok tt))) }
+    // Over any folder: by these calls, with just the bytes and the lines of the actions.
+    ensures calls { (calls : List Call) × (ran : Ending) × Leads F.device folder.old calls folder.new
+        × WritesGiven A.meanings table.now task.now trees changes calls lines.new ran
+        × HasMade ran (ending result) }
     // Over any folder, whoever else writes in it: the record is true.
-    ensures made { IfOk result (λ run. (kinds : Kinds) → Agrees A.meanings table.now kinds
-        → IsRecordOf kinds task.now trees run) }
+    ensures made { IfOk result (IsOfFullRun A.meanings table.now task.now trees) }
     ensures changes { IsTrue F.tells
         → ChangesOnly (is_output_of task.now) (F.contents folder.old) (F.contents folder.new) }
     ensures ok { IsTrue F.tells → OnOk result ((kinds : Kinds) → Agrees A.meanings table.now kinds

@@ -1,10 +1,9 @@
 //! An incremental run of a task, by changes that were decided on what it works on.
-ghost use Rattle.std.specs.Prelude.{◌≡◌, [], ℕ, List, Ok, false, true, map, IsTrue, IfOk, IfErr, OnOk};
+ghost use Rattle.std.specs.Prelude.{◌≡◌, ◌≤◌, [], ℕ, List, false, true, map, IsTrue, IfOk, IfErr, OnOk};
 ghost use Rattle.std.specs.List.{AllByRecursion};
 ghost use Rattle.gb_action.specs.Files.{Trees};
 ghost use Rattle.gb_folder.specs.Calls.{Asks, Call, changes_at};
 ghost use Rattle.gb_folder.specs.Device.{Leads};
-ghost use Rattle.gb_folder.specs.Files.{Files, IsFolder, are_placed};
 ghost use Rattle.gb_label.specs.Deciding.{HasNamesInOrder};
 ghost use Rattle.gb_label.specs.Reading.{digests_in, prints_seen, seen_of};
 ghost use Rattle.gb_meaning.specs.Headline.{Agrees};
@@ -20,16 +19,14 @@ ghost use Rattle.gb_report.specs.declared.report.Options.{Options};
 ghost use Rattle.gb_run.specs.AskingChanges.{CanGoOn, GoesOn};
 ghost use Rattle.gb_run.specs.Course.{EndsWell, course_of};
 ghost use Rattle.gb_run.specs.Failing.{ByChanges, Fails};
-ghost use Rattle.gb_run.specs.WorkByChanges.{RunsByChanges, increment_of};
+ghost use Rattle.gb_run.specs.Doing.{Ending};
+ghost use Rattle.gb_run.specs.Work.{ending};
 ghost use Rattle.gb_store.specs.Changes.{ChangesOnly};
 ghost use Rattle.gb_store.specs.Faults.{Blames, BlamesOnly};
-ghost use Rattle.gb_task.specs.Asking.{IsTextBy, in_execution_with};
 ghost use Rattle.gb_task.specs.Buildable.{IsBuildable};
-ghost use Rattle.gb_task.specs.Keeping.{IsRecordOf};
-ghost use Rattle.gb_task.specs.Ran.{RanByChanges};
+ghost use Rattle.gb_task.specs.Stages.{HasMade, IsOfRunByChanges, RunByChanges, WritesChanges};
 ghost use Rattle.gb_task.specs.Executing.{BeginsAt, HasExecuted, IsDueByChanges, Registering};
-ghost use Rattle.gb_task.specs.Executing.{is_of_execution};
-ghost use Rattle.gb_task.specs.Executing.{report_of, setting_with};
+ghost use Rattle.gb_task.specs.Executing.{is_of_execution, report_of, setting_with};
 
 use crate::keeping::{forget, remember};
 use gb_action::actions::Actions;
@@ -68,13 +65,11 @@ pub(crate) fn go_by<A: Actions, F: Folder>(
         ≡ seen_outputs task.now.outputs }
     requires stood { outputs.prints.items ≡ prints_seen outputs.seen }
     requires no_lines { lines.old ≡ [] }
-    ensures asks { Asks F.failures F.may_leave F.asked
-        (in_execution_with task.now (IsTextBy A.meanings table.now task.now inputs.trees changes
-        outputs.seen))
-        folder.old folder.new }
-    // Over any folder: the run ends well only once all of this was answered as done.
-    ensures ran { OnOk result (RanByChanges F.failures F.may_leave F.asked A.meanings table.now task.now
-        inputs.trees changes outputs.seen lines.new folder.old folder.new) }
+    // Over any folder: it is a run by these changes, by these calls.
+    ensures ran { (calls : List Call) × Leads F.device folder.old calls folder.new
+        × RunByChanges A.meanings table.now task.now inputs.trees changes outputs.seen calls lines.new
+        result }
+    ensures count { F.failures folder.old ≤ F.failures folder.new }
     ensures blame { Blames result (F.failures folder.old) (F.failures folder.new) }
     ensures blamed { BlamesOnly (is_output_of task.now) result }
     ensures changes { IsTrue F.tells
@@ -122,18 +117,15 @@ fn make_by_changes<A: Actions, F: Folder>(
         folder.new }
     ensures blame { Blames result (F.failures folder.old) (F.failures folder.new) }
     ensures blamed { BlamesOnly (is_output_of task.now) result }
-    // Over any folder: which calls were made, with which bytes, and which lines are printed.
-    ensures calls { OnOk result ((calls : List Call) × Leads F.device folder.old calls folder.new
-        × ((kinds : Kinds) → Agrees A.meanings table.now kinds
-        → RunsByChanges (increment_of kinds task.now inputs.trees changes outputs.seen) calls lines.new
-        (Ok tt))) }
+    // Over any folder: by these calls, with just the bytes and the lines of the actions.
+    ensures calls { (calls : List Call) × (ran : Ending) × Leads F.device folder.old calls folder.new
+        × WritesChanges A.meanings table.now task.now inputs.trees changes outputs.seen calls lines.new ran
+        × HasMade ran (ending result) }
     // Over any folder, whoever else writes in it: the record is true. The premise: what was read at
     // the outputs was made from old trees, and the changes lead from these to the trees of this
     // run.
-    ensures made { IfOk result (λ run. (kinds : Kinds) → Agrees A.meanings table.now kinds
-        → (old : Trees) (standing : Files) → IsFolder standing → IsTrue (are_placed standing)
-        → GoesOn kinds task.now old inputs.trees changes outputs.seen standing
-        → IsRecordOf kinds task.now inputs.trees run) }
+    ensures made { IfOk result
+        (IsOfRunByChanges A.meanings table.now task.now inputs.trees changes outputs.seen) }
     ensures changes { IsTrue F.tells
         → ChangesOnly (is_output_of task.now) (F.contents folder.old) (F.contents folder.new) }
     ensures ok { IsTrue F.tells → OnOk result ((kinds : Kinds) → Agrees A.meanings table.now kinds

@@ -1,7 +1,8 @@
 //! The record of a task: deleted as its run begins, and stored as it ends.
 ghost use Rattle.std.specs.Prelude.{◌≡◌, ◌≢◌, ℕ, List, None, Some, Err, false, true, IsTrue, IfErr, OnErr};
 ghost use Rattle.std.specs.Prelude.{OnOk};
-ghost use Rattle.gb_folder.specs.Calls.{Asks, put_at, taken_at};
+ghost use Rattle.gb_folder.specs.Calls.{Asks, Call, put_at, taken_at};
+ghost use Rattle.gb_folder.specs.Device.{Leads};
 ghost use Rattle.gb_folder.specs.Files.{is_empty};
 ghost use Rattle.gb_history.specs.Places.{record_place};
 ghost use Rattle.gb_history.specs.Text.{record_text};
@@ -11,7 +12,7 @@ ghost use Rattle.gb_records.specs.Said.{IsSaidOf, IsText};
 ghost use Rattle.gb_records.specs.Standing.{Standing};
 ghost use Rattle.gb_store.specs.Changes.{ChangesOnly, is_at};
 ghost use Rattle.gb_task.specs.Keeping.{IsForgotten, IsRemembered, IsUnwritten};
-ghost use Rattle.gb_task.specs.Ran.{AreAnswered, stores};
+ghost use Rattle.gb_task.specs.Stages.{DeletesRecord, StoresRecord};
 
 use gb_core::path::TaskPath;
 use gb_folder::folder::Folder;
@@ -28,6 +29,9 @@ pub fn forget<F: Folder>(
     path: &TaskPath,
     was_read: bool,
 ) -> Result<(), Fault>
+    // Over any folder: by these calls.
+    ensures calls { (calls : List Call) × Leads F.device folder.old calls folder.new
+        × DeletesRecord path.now was_read calls result }
     ensures asks { Asks F.failures F.may_leave F.asked (taken_at (record_place path.now)) folder.old
         folder.new }
     ensures blame { (place : List ℕ) → result ≢ Err (Fault.Device place) }
@@ -62,10 +66,9 @@ pub fn remember<F: Folder>(
 ) -> Result<(), Fault>
     ensures asks { Asks F.failures F.may_leave F.asked (put_at (record_place task.now.path)
         (record_text task.now.path run.now)) folder.old folder.new }
-    // Over any folder: by one call, which was answered as done; by none where the task has no
-    // outputs.
-    ensures stored { OnOk result ((limit : ℕ) × AreAnswered F.failures F.may_leave F.asked folder.old
-        (stores task.now run.now limit) folder.new) }
+    // Over any folder: by these calls.
+    ensures calls { (calls : List Call) × Leads F.device folder.old calls folder.new
+        × StoresRecord task.now run.now calls result }
     ensures blame { (place : List ℕ) → result ≢ Err (Fault.Device place) }
     ensures changes { IsTrue F.tells
         → ChangesOnly (is_at (record_place task.now.path)) (F.contents folder.old) (F.contents folder.new) }

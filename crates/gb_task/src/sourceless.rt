@@ -1,7 +1,8 @@
 //! The execution of a task without source.
 ghost use Rattle.std.specs.Prelude.{◌≡◌, [], ℕ, List, Some, false, not, IsTrue};
 ghost use Rattle.std.specs.List.{list_any};
-ghost use Rattle.gb_folder.specs.Calls.{Asks, takes_at};
+ghost use Rattle.gb_folder.specs.Calls.{Asks, Call, takes_at};
+ghost use Rattle.gb_folder.specs.Device.{Leads};
 ghost use Rattle.gb_folder.specs.Files.{HasRisen, is_empty, is_own};
 ghost use Rattle.gb_history.specs.Places.{record_place};
 ghost use Rattle.gb_meaning.specs.Headline.{TearsAreSeen};
@@ -15,6 +16,8 @@ ghost use Rattle.gb_report.specs.declared.report.Outcome.TheVariants.{Failed};
 ghost use Rattle.gb_store.specs.Changes.{ChangesOnly};
 ghost use Rattle.gb_task.specs.Executing.{BeginsAt, HasExecuted, IsReportedOf, Registering, cleared_outcome};
 ghost use Rattle.gb_task.specs.Executing.{is_of_execution, setting_with};
+ghost use Rattle.gb_run.specs.Doing.{Ending};
+ghost use Rattle.gb_task.specs.Stages.{Clears};
 
 use crate::clearing::clear;
 use gb_core::path::TaskPath;
@@ -40,6 +43,9 @@ pub fn execute_without_source<F: Folder>(
     ensures has_actions { result.has_actions ≡ not (is_empty task.now.actions) }
     ensures outcome { IsReportedOf cleared_outcome result.outcome }
     ensures lines { result.lines ≡ [] }
+    // Over any folder: it was cleared by these calls.
+    ensures calls { (calls : List Call) × (ended : Ending) × Leads F.device folder.old calls folder.new
+        × Clears task.now was_read calls [] ended × (result.outcome ≡ cleared_outcome ended) }
     ensures asks { Asks F.failures F.may_leave F.asked (takes_at (is_of_execution task.now)) folder.old
         folder.new }
     ensures blame { (place : List ℕ) → result.outcome ≡ Failed (Fault.Device place)

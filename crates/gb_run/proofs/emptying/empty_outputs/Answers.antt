@@ -1,13 +1,17 @@
-use Rattle.std.proofs.Common.{◌≡◌, true, List, ℕ, fold, sym, ap, ◌∙◌}
+use Rattle.std.proofs.Common.{◌≡◌, true, Err, List, Ok, ℕ, fold, sym, ap, subst, ◌∙◌}
 use Rattle.std.specs.List.{list_all}
-use Rattle.std.proofs.lemmas.Result.{on_ok_weaker}
+use Rattle.std.proofs.lemmas.Result.{err_from_is_err_and, on_ok_weaker}
+use Rattle.gb_folder.specs.Each.{Each, Ended}
+use Rattle.gb_report.specs.declared.fault.Fault.{Fault}
+use Rattle.gb_store.proofs.Machine.{at_err}
+use Rattle.gb_run.proofs.Listed.{EmptyingLed, emptying_done, emptying_unlisted}
 use Rattle.gb_folder.specs.Files.{Contents, without}
 use Rattle.gb_plan.specs.Task.{is_output_of}
 use Rattle.gb_plan.specs.declared.task.Output.{Output}
 use Rattle.gb_store.proofs.Emptied.{emptied}
 use Rattle.gb_store.proofs.Machine.{among_all, changes_chain, changes_none}
 use Rattle.gb_meaning.proofs.Lemmas.Truth.{each_of_all}
-use Rattle.gb_run.specs.Emptying.{is_at_output, places_at}
+use Rattle.gb_run.specs.Emptying.{Listing, is_at_output, places_at}
 use Rattle.gb_folder.proofs.Asked.{asks_reading, asks_then, takes_where}
 use Rattle.gb_store.specs.Changes.{is_among}
 use Rattle.gb_run.proofs.emptying.empty_outputs.Goals as goal
@@ -51,3 +55,23 @@ returns-clause-asks g c =
     asks_then (asks_reading c.listed_outputs.ensures.asks)
     (takes_where (is_among c.as_slice-2.result.now) (is_output_of c.args.task.now)
     (λ place is. among_all (is_output_of c.args.task.now) c.as_slice-2.result.now place listed is) c.remove_all.ensures.asks)
+
+pub returns-in_err-places-clause-calls : goal.returns-in_err-places-clause-calls
+returns-in_err-places-clause-calls g c =
+    let F = g.F.Folder in
+    let outputs = c.args.task.now.outputs in
+    let p = err_from_is_err_and c.from_residual.result c.from_residual.ensures.1 in
+    let led = c.in_err-places.ensures.calls in
+    at_err (λ (r : Ended Fault). EmptyingLed F.device outputs c.args.folder.now r c.listed_outputs.new.folder) c.from_residual.result p.0 c.in_err-places.field-0.0 p.1 p.2
+    (emptying_unlisted F.device outputs c.args.folder.now c.listed_outputs.new.folder led.0 led.1 c.in_err-places.field-0.0 led.2
+    (subst (λ (os : List Output). Each Listing os led.0 led.1 (Err c.in_err-places.field-0.0)) c.as_slice.ensures led.3))
+
+pub returns-clause-calls : goal.returns-clause-calls
+returns-clause-calls g c =
+    let F = g.F.Folder in
+    let outputs = c.args.task.now.outputs in
+    let led = c.in_ok-places.ensures.calls in
+    let removed = c.remove_all.ensures.calls in
+    emptying_done F.device outputs c.args.folder.now c.listed_outputs.new.folder c.remove_all.new.folder led.0 led.1 c.as_slice-2.result.now c.remove_all.result led.2
+    (subst (λ (os : List Output). Each Listing os led.0 led.1 (Ok tt)) c.as_slice.ensures led.3)
+    (c.as_slice-2.ensures.value ∙ led.4) removed.0 removed.1 removed.2

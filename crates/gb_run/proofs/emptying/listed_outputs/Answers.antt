@@ -1,5 +1,12 @@
-use Rattle.std.proofs.Common.{Bool, ◌<◌, ◌++◌, [], false, append_assoc, get_or, length, ◌≡◌, ◌⊎◌, ℕ, List, true, cond, map, IfErr, Some, refl, sym, ap, ◌∙◌, inl, inr, drop, ◌∷◌, ◌+◌}
+use Rattle.std.proofs.Common.{Bool, IfOk, Ok, Result, subst, take, ◌<◌, ◌++◌, [], false, append_assoc, get_or, length, ◌≡◌, ◌⊎◌, ℕ, List, true, cond, map, IfErr, Some, refl, sym, ap, ◌∙◌, inl, inr, drop, ◌∷◌, ◌+◌}
 use Rattle.std.proofs.lemmas.Result.{err_from_is_err_and}
+use Rattle.std.proofs.lemmas.List.{take_all}
+use Rattle.std.specs.Global.{Global}
+use Rattle.std.specs.declared.vec.Vec.{Vec}
+use Rattle.gb_folder.specs.Calls.{Call}
+use Rattle.gb_folder.specs.Device.{Device, Leads}
+use Rattle.gb_folder.specs.Each.{Each}
+use Rattle.gb_folder.proofs.EachOf.{EachLed, each_more, each_short}
 use Rattle.std.proofs.lemmas.Bool.{and_from, and_parts}
 use Rattle.std.proofs.lemmas.List.Folds.{list_all-append}
 use Rattle.std.proofs.lemmas.List.Sums.{list_all-from_AllPass}
@@ -16,7 +23,9 @@ use Rattle.gb_store.specs.Faults.{IsOfMachine}
 use Rattle.gb_store.proofs.Machine.{at_err, machine_before}
 use Rattle.gb_store.proofs.Loops.{any_here, step_here}
 use Rattle.gb_meaning.specs.Tree.{reported_of_tree}
-use Rattle.gb_run.specs.Emptying.{is_at_output, odd_faults, places_at}
+use Rattle.gb_run.specs.Work.{ending}
+use Rattle.gb_run.proofs.Listed.{listing_failed, listing_lost, listing_more}
+use Rattle.gb_run.specs.Emptying.{Listing, is_at_output, odd_faults, places_at}
 use Rattle.gb_run.proofs.emptying.listed_outputs.Goals as goal
 
 -- the faults at an output and at others, by whether there is an unsupported entry at it
@@ -67,6 +76,10 @@ loop-output-preserved g c =
     let under : list_all (is_at_output outputs) c.in_ok-listed.listed.items ≡ true =
     at_outputs outputs i output c.loop-output-test.true c.output-item.is _ (list_all-from_AllPass (λ at. is_under at output.place) c.in_ok-listed.listed.items c.in_ok-listed.ensures.under) in
     record {
+      led =
+          subst (λ (places : List (List ℕ)). EachLed Listing F.device (take (i + 1) outputs) c.args.folder.now places (Ok tt) c.listed_at.new.folder) (sym items)
+          (each_more Listing F.device outputs i output c.loop-output-test.true c.output-item.is _ _ _ c.loop-output.places.items c.in_ok-listed.listed.items so_far.led
+          (listing_more F.device output _ _ c.in_ok-listed.listed c.in_ok-listed.ensures.call));
       asks = asks_then so_far.asks c.listed_at.ensures.asks;
       under =
           ap (list_all (is_at_output outputs)) items ∙ list_all-append (is_at_output outputs) c.loop-output.places.items c.in_ok-listed.listed.items
@@ -85,3 +98,35 @@ loop-output-preserved g c =
           ∙ sym (step_here (λ os. odd_faults os old) outputs i output c.loop-output-test.true c.output-item.is)
           ∙ so_far.odd tells;
     }
+
+abbrev ListedBy : {F : Type 0} → Device F → List Output → F → Result (Vec (List ℕ) Global) Fault → F → Type 0
+ListedBy device outputs old result new =
+    (calls : List Call) × (places : List (List ℕ)) × Leads device old calls new × Each Listing outputs calls places (ending result)
+    × IfOk result (λ found. found.items ≡ places)
+
+pub returns-in_err-listed-clause-calls : goal.returns-in_err-listed-clause-calls
+returns-in_err-listed-clause-calls g c =
+    let F = g.F.Folder in
+    let outputs = c.args.outputs.now in
+    let p = err_from_is_err_and c.from_residual.result c.from_residual.ensures.1 in
+    let led = each_short Listing F.device outputs c.loop-output.output-index c.output-item.result c.loop-output-test.true c.output-item.is _ _ _ c.loop-output.places.items [] c.in_err-listed.field-0.0
+    c.loop-output.invariant.led (listing_failed F.device c.output-item.result _ _ c.in_err-listed.field-0.0 c.in_err-listed.ensures.call) in
+    at_err (λ r. ListedBy F.device outputs c.args.folder.now r c.listed_at.new.folder) c.from_residual.result p.0 c.in_err-listed.field-0.0 p.1 p.2
+    (led.0, c.loop-output.places.items ++ [], led.1, led.2, tt)
+
+pub returns-in_err-append-clause-calls : goal.returns-in_err-append-clause-calls
+returns-in_err-append-clause-calls g c =
+    let F = g.F.Folder in
+    let outputs = c.args.outputs.now in
+    let p = err_from_is_err_and c.from_residual-in_err-append.result c.from_residual-in_err-append.ensures.1 in
+    let led = each_short Listing F.device outputs c.loop-output.output-index c.output-item.result c.loop-output-test.true c.output-item.is _ _ _ c.loop-output.places.items [] faults.OutOfMemory
+    c.loop-output.invariant.led (listing_lost F.device c.output-item.result _ _ c.in_ok-listed.listed c.in_ok-listed.ensures.call) in
+    at_err (λ r. ListedBy F.device outputs c.args.folder.now r c.listed_at.new.folder) c.from_residual-in_err-append.result p.0 faults.OutOfMemory p.1 p.2
+    (led.0, c.loop-output.places.items ++ [], led.1, led.2, tt)
+
+pub returns-clause-calls : goal.returns-clause-calls
+returns-clause-calls g c =
+    let F = g.F.Folder in
+    let led = subst (λ (outputs : List Output). EachLed Listing F.device outputs c.args.folder.now c.loop-output.places.items (Ok tt) c.loop-output.folder)
+    (take_all c.loop-output.output-index c.args.outputs.now c.loop-output-test.false) c.loop-output.invariant.led in
+    (led.0, c.loop-output.places.items, led.1, led.2, refl)

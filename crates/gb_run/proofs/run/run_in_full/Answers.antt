@@ -19,7 +19,7 @@ use Rattle.gb_meaning.specs.Made.{made_of}
 use Rattle.gb_run.specs.Course.{EndsWell, course_of}
 use Rattle.gb_run.specs.Digests.{prints_at}
 use Rattle.gb_run.specs.Failing.{Fails, InFull}
-use Rattle.gb_run.specs.Work.{RunsInFull, ending, or_made}
+use Rattle.gb_run.specs.Work.{AreAtOutputs, RunsInFull, ending, or_made}
 use Rattle.gb_run.specs.Worked.{AreStepsAt}
 use Rattle.gb_run.specs.declared.work.Part.{Part}
 use Rattle.gb_run.proofs.Changed.{changes_of}
@@ -49,9 +49,9 @@ returns-in_err-parts-clause-calls g c =
     let folder = c.args.folder.now in
     let p = err_from_is_err_and c.from_residual.result c.from_residual.ensures.1 in
     let Made : Type 0 = Vec (List ℕ × List (List ℕ × List ℕ)) Global in
-    let IsDone : Result Made Fault → Type 0 = λ result. (calls : List Call) × Leads F.device folder calls folder
+    let IsDone : Result Made Fault → Type 0 = λ result. (calls : List Call) × Leads F.device folder calls folder × AreAtOutputs c.args.task.now calls
     × ((kinds : Kinds) → Agrees g.A.Actions.meanings c.args.table.now kinds → RunsInFull (course_of kinds c.args.task.now c.args.files c.args.changes []) calls c.args.lines.now (ending result)) in
-    at_err IsDone c.from_residual.result p.0 faults.OutOfMemory p.1 p.2 ([], refl, λ kinds agrees. inl (refl, c.requires.no_lines, refl))
+    at_err IsDone c.from_residual.result p.0 faults.OutOfMemory p.1 p.2 ([], refl, tt, λ kinds agrees. inl (refl, c.requires.no_lines, refl))
 
 pub returns-in_err-parts-clause-err : goal.returns-in_err-parts-clause-err
 returns-in_err-parts-clause-err g c = λ tells.
@@ -77,11 +77,15 @@ returns-clause-made g c =
     (if_made _ c.do_parts-done.result c.in_ok-parts.field-0.made c.in_ok-parts.ensures.made)
 
 pub returns-clause-calls : goal.returns-clause-calls
+unfolding changes_at
 returns-clause-calls g c =
     let F = g.F.Folder in
-    let led = c.do_parts-done.ensures in (
+    let led = c.do_parts-done.ensures in
+    let at = is_output_of c.args.task.now in
+    let places = subst (λ (parts : List Part). AllByRecursion (AreStepsAt at) parts) (sym c.as_slice.ensures.value) c.in_ok-parts.ensures.places in (
       led.0,
       led.2,
+      permitted_parts (changes_at at) c.as_slice.result.now led.0 led.1 c.do_parts-done.result places led.3,
       λ kinds agrees.
           let course = course_of kinds c.args.task.now c.args.files c.args.changes [] in
           let Made : Type 0 = Vec (List ℕ × List (List ℕ × List ℕ)) Global in

@@ -3,7 +3,6 @@ use Rattle.gb_folder.specs.Files.{is_empty}
 use Rattle.gb_report.specs.declared.report.TaskReport.{TaskReport}
 use Rattle.gb_task.specs.Executing.{HasExecuted, setting_with}
 use Rattle.gb_task.proofs.Reported.{same_report}
-use Rattle.gb_task.proofs.Ran.{executed_ok}
 use Rattle.gb_task.proofs.changes.execute_by_changes.Goals as goal
 
 pub returns-clause-outcome : goal.returns-clause-outcome
@@ -21,5 +20,4 @@ returns-clause-execution g c = λ tells kinds registry_of plan moment given at r
     (c.go_on-ended.ensures.execution tells kinds registry_of plan moment given at read stood due)
 
 pub returns-clause-ran : goal.returns-clause-ran
-returns-clause-ran g c = λ first before inputs outputs is.
-    executed_ok c.go_on-ended.result (sym c.outcome_of.ensures ∙ is) (c.go_on-ended.ensures.ran first before inputs outputs)
+returns-clause-ran g c = λ first before inputs outputs. (c.go_on-ended.result, c.outcome_of.ensures, c.go_on-ended.ensures.ran first before inputs outputs)

@@ -13,10 +13,8 @@ use Rattle.gb_task.specs.declared.recheck.Recheck.TheVariants as recheck
 use Rattle.gb_task.proofs.ByChanges.{reading_failed}
 use Rattle.gb_task.proofs.Later.{comes_later, due_since, turned_before}
 use Rattle.gb_task.proofs.Recorded.{assumed_later}
-use Rattle.gb_folder.proofs.Asked.{asks_reading, asks_then}
-use Rattle.gb_task.specs.Asking.{HasRead}
-use Rattle.gb_task.proofs.Asking.{recheck_read, asks_once, full_recheck, going_recheck, text_in_execution}
-use Rattle.gb_task.proofs.Ran.{on_ok}
+use Rattle.gb_folder.proofs.Asked.{asks_then}
+use Rattle.gb_task.proofs.Ran.{all_answered}
 use Rattle.gb_task.proofs.changes.go_on.Goals as goal
 
 pub returns-in_err-inputs-clause-execution : goal.returns-in_err-inputs-clause-execution
@@ -59,35 +57,10 @@ returns-in-InFull-clause-execution g c = λ tells kinds registry_of plan moment 
     (subst (IsAsBefore kinds c.args.options c.args.task.now (F.contents c.args.folder.now).files moment.world) c.in-InFull.is
     (c.in_ok-inputs.ensures.as_before tells kinds moment.world at.folder read stood goes))
 
-pub returns-in_err-inputs-clause-asks : goal.returns-in_err-inputs-clause-asks
-returns-in_err-inputs-clause-asks g c = λ first before inputs outputs. asks_reading c.recheck_task.ensures.asks
-
-pub returns-in-ByChanges-clause-asks : goal.returns-in-ByChanges-clause-asks
-returns-in-ByChanges-clause-asks g c = λ first before inputs outputs.
-    let F = g.F.Folder in
-    let task = c.args.task.now in
-    let then = c.recheck_task.new.folder in
-    let is_recheck = subst (IsRecheck c.args.options task c.args.last.now) c.in-ByChanges.is c.in_ok-inputs.ensures.recheck in
-    let was = subst (WasReadRecheck F.failures F.may_leave F.asked first then task) c.in-ByChanges.is (c.in_ok-inputs.ensures.answered first before inputs outputs) in
-    asks_then (asks_reading c.recheck_task.ensures.asks)
-    (asks_once (HasRead F.failures F.may_leave F.asked first task) _ (recheck_read F.failures F.may_leave F.asked first c.args.options task c.args.last.now (recheck.ByChanges c.in-ByChanges.inputs c.in-ByChanges.outputs c.in-ByChanges.changes) then is_recheck was)
-    (text_in_execution task _ _
-    (λ bytes. going_recheck F.failures F.may_leave F.asked first g.A.Actions.meanings c.args.table.now c.args.options task c.args.last.now
-    c.in-ByChanges.inputs c.in-ByChanges.outputs c.in-ByChanges.changes then was bytes is_recheck)
-    c.go_by.ensures.asks))
-
-pub returns-in-InFull-clause-asks : goal.returns-in-InFull-clause-asks
-returns-in-InFull-clause-asks g c = λ first before inputs outputs.
-    let F = g.F.Folder in
-    let task = c.args.task.now in
-    let then = c.recheck_task.new.folder in
-    let was = subst (WasReadRecheck F.failures F.may_leave F.asked first then task) c.in-InFull.is (c.in_ok-inputs.ensures.answered first before inputs outputs) in
-    let is_recheck = subst (IsRecheck c.args.options task c.args.last.now) c.in-InFull.is c.in_ok-inputs.ensures.recheck in
-    asks_then (asks_reading c.recheck_task.ensures.asks)
-    (asks_once (HasRead F.failures F.may_leave F.asked first task) _ (recheck_read F.failures F.may_leave F.asked first c.args.options task c.args.last.now (recheck.InFull c.in-InFull.inputs) then is_recheck was)
-    (text_in_execution task _ _
-    (full_recheck F.failures F.may_leave F.asked first g.A.Actions.meanings c.args.table.now c.args.options task c.args.last.now c.in-InFull.inputs then was is_recheck)
-    c.run_on.ensures.asks))
+pub returns-in_err-inputs-clause-ran : goal.returns-in_err-inputs-clause-ran
+returns-in_err-inputs-clause-ran g c = λ first before inputs outputs.
+    let p = err_from_is_err_and c.from_residual.result c.from_residual.ensures.1 in
+    inl (asks_then before c.recheck_task.ensures.asks, c.requires.no_lines, p.0, p.1)
 
 pub returns-in-ByChanges-clause-ran : goal.returns-in-ByChanges-clause-ran
 returns-in-ByChanges-clause-ran g c = λ first before inputs outputs.
@@ -96,16 +69,17 @@ returns-in-ByChanges-clause-ran g c = λ first before inputs outputs.
     let then = c.recheck_task.new.folder in
     let is_recheck = subst (IsRecheck c.args.options task c.args.last.now) c.in-ByChanges.is c.in_ok-inputs.ensures.recheck in
     let was = subst (WasReadRecheck F.failures F.may_leave F.asked first then task) c.in-ByChanges.is (c.in_ok-inputs.ensures.answered first before inputs outputs) in
-    on_ok c.go_by.result c.go_by.ensures.ran (λ ran. inr (
-      c.args.last.now,
-      refl,
+    let ran = c.go_by.ensures.ran in
+    inr (inr (
       c.in-ByChanges.inputs.trees,
       c.in-ByChanges.changes,
       c.in-ByChanges.outputs.seen,
       then,
       record { asks = asks_then before c.recheck_task.ensures.asks; inputs = was.0; named = is_recheck.0.named },
       record { outputs = was.1; formed = is_recheck.1.formed; decided = is_recheck.2 },
-      ran,
+      ran.0,
+      all_answered F.failures F.may_leave F.asked F.tells F.contents F.device g.met.F.Folder.said ran.0 then c.go_by.new.folder ran.1,
+      ran.2,
     ))
 
 pub returns-in-InFull-clause-ran : goal.returns-in-InFull-clause-ran
@@ -115,9 +89,12 @@ returns-in-InFull-clause-ran g c = λ first before inputs outputs.
     let then = c.recheck_task.new.folder in
     let was = subst (WasReadRecheck F.failures F.may_leave F.asked first then task) c.in-InFull.is (c.in_ok-inputs.ensures.answered first before inputs outputs) in
     let is_recheck = subst (IsRecheck c.args.options task c.args.last.now) c.in-InFull.is c.in_ok-inputs.ensures.recheck in
-    on_ok c.run_on.result c.run_on.ensures.ran (λ ran. inl (
+    let ran = c.run_on.ensures.ran in
+    inr (inl (
       c.in-InFull.inputs.trees,
       then,
       record { asks = asks_then before c.recheck_task.ensures.asks; inputs = was; named = is_recheck.named },
-      ran,
+      ran.0,
+      all_answered F.failures F.may_leave F.asked F.tells F.contents F.device g.met.F.Folder.said ran.0 then c.run_on.new.folder ran.1,
+      ran.2,
     ))

@@ -1,4 +1,4 @@
-use Rattle.std.proofs.Common.{Result, inl, subst}
+use Rattle.std.proofs.Common.{[], Result, inl, subst}
 use Rattle.std.proofs.lemmas.Result.{err_from_is_err_and}
 use Rattle.gb_folder.specs.Files.{Contents}
 use Rattle.gb_report.specs.declared.fault.Fault.{Fault}
@@ -8,7 +8,9 @@ use Rattle.gb_task.specs.Keeping.{IsForgotten}
 use Rattle.gb_task.specs.Executing.{is_of_execution}
 use Rattle.gb_task.proofs.Cleared.{cleared_by, outputs_in_execution, record_in_execution, records_stay}
 use Rattle.gb_folder.proofs.Asked.{asks_then}
-use Rattle.gb_task.proofs.Asking.{outputs_taken, record_taken}
+use Rattle.gb_task.proofs.Places.{outputs_taken, record_taken}
+use Rattle.gb_task.specs.Stages.{Clears}
+use Rattle.gb_task.proofs.Stages.{StageLed, cleared, kept}
 use Rattle.gb_task.proofs.clearing.clear.Goals as goal
 
 pub returns-in_err-forget-clause-changes : goal.returns-in_err-forget-clause-changes
@@ -58,3 +60,16 @@ returns-in_err-forget-clause-asks g c = record_taken c.args.task.now c.forget.en
 
 pub returns-clause-asks : goal.returns-clause-asks
 returns-clause-asks g c = asks_then (record_taken c.args.task.now c.forget.ensures.asks) (outputs_taken c.args.task.now c.empty_outputs.ensures.asks)
+
+pub returns-in_err-forget-clause-calls : goal.returns-in_err-forget-clause-calls
+returns-in_err-forget-clause-calls g c =
+    let F = g.F.Folder in
+    let task = c.args.task.now in
+    let p = err_from_is_err_and c.from_residual.result c.from_residual.ensures.1 in
+    at_err (λ r. StageLed F.device (Clears task c.args.was_read) c.args.folder.now [] r c.forget.new.folder) c.from_residual.result p.0 c.in_err-forget.field-0.0 p.1 p.2
+    (kept F.device task c.args.was_read c.args.folder.now c.forget.new.folder c.in_err-forget.field-0.0 c.in_err-forget.ensures.calls)
+
+pub returns-clause-calls : goal.returns-clause-calls
+returns-clause-calls g c =
+    let F = g.F.Folder in
+    cleared F.device c.args.task.now c.args.was_read c.args.folder.now c.forget.new.folder c.empty_outputs.new.folder c.empty_outputs.result c.in_ok-forget.ensures.calls c.empty_outputs.ensures.calls

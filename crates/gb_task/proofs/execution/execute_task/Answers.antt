@@ -8,9 +8,9 @@ use Rattle.gb_task.proofs.ByOutcome.{cleared_asks, ran_asks, reported_asks}
 use Rattle.gb_task.proofs.Answering.{cleared_answers, run_answers, reported_answers}
 use Rattle.gb_task.proofs.Later.{cleared_started, comes_later, copied_some, run_started, reported_turned, turned_before}
 use Rattle.gb_task.proofs.Recorded.{assumed_later, seen_later}
-use Rattle.gb_folder.proofs.Asked.{asks_reading, asks_then}
-use Rattle.gb_task.specs.Asking.{HasRead}
-use Rattle.gb_task.proofs.Asking.{asks_once, source_read, taken_in_execution}
+use Rattle.gb_plan.specs.Task.{Text}
+use Rattle.gb_task.specs.Stages.{Clears}
+use Rattle.gb_task.proofs.Ran.{all_answered}
 use Rattle.gb_task.proofs.execution.execute_task.Goals as goal
 
 pub returns-in-Reported-clause-blame : goal.returns-in-Reported-clause-blame
@@ -70,7 +70,7 @@ returns-in-Due-clause-execution g c = λ tells kinds registry_of plan moment giv
     let later : Moment = record { world = moment.world; outcomes = moment.outcomes; failures = F.failures then } in
     let due = c.in-Due.ensures.settled tells kinds registry_of plan moment at.folder at.failures needed known in
     turned_before kinds registry_of (F.may_leave start) (F.may_leave then) c.settle.ensures.asks.tearing c.args.options plan task moment (F.failures then)
-    (subst (λ (n : ℕ). n ≤ F.failures then) (sym at.failures) c.settle.ensures.asks.count) c.run.result (F.contents start) (F.failures now) (F.contents now) (c.run.ensures.asks start c.settle.ensures.asks c.in-Due.ensures.answered.0 c.in-Due.ensures.answered.1).count
+    (subst (λ (n : ℕ). n ≤ F.failures then) (sym at.failures) c.settle.ensures.asks.count) c.run.result (F.contents start) (F.failures now) (F.contents now) c.run.ensures.count
     (subst (λ (folder : Contents). HasExecuted (setting_with kinds registry_of (F.may_leave then)) c.args.options plan task later c.run.result folder (F.failures now) (F.contents now)) same
     (c.run.ensures.execution tells kinds registry_of plan later (assumed_later _ _ c.settle.ensures.asks.tearing given) came due.0 due.1 due.2
     (subst (λ (folder : Contents). IsSeenFor task folder.files c.in-Due.seen c.in-Due.decision) (sym same) due.3) known))
@@ -87,25 +87,29 @@ returns-in-Due-clause-started g c = run_started c.run.result.outcome c.run.ensur
 pub returns-in-Reported-clause-asks : goal.returns-in-Reported-clause-asks
 returns-in-Reported-clause-asks g c =
     let F = g.F.Folder in
-    reported_asks F.failures F.may_leave F.asked g.A.Actions.meanings c.args.table.now c.args.options c.args.task.now (option_copied c.args.last) c.in-Reported.report.lines c.args.folder.now c.settle.new.folder
-    c.in-Reported.report.outcome c.in-Reported.ensures.of_task.4 c.in-Reported.ensures.of_task.5 c.settle.ensures.asks c.in-Reported.ensures.answered
+    let report = c.in-Reported.report in
+    reported_asks F.failures F.may_leave F.asked g.A.Actions.meanings c.args.table.now c.args.options c.args.task.now (option_copied c.args.last) report.lines c.args.folder.now c.settle.new.folder
+    report.outcome c.in-Reported.ensures.of_task.2 c.in-Reported.ensures.of_task.4 c.in-Reported.ensures.of_task.5 c.in-Reported.ensures.of_task.6 c.settle.ensures.asks c.in-Reported.ensures.answered
 
 pub returns-in-Sourceless-clause-asks : goal.returns-in-Sourceless-clause-asks
 returns-in-Sourceless-clause-asks g c =
     let F = g.F.Folder in
     let task = c.args.task.now in
-    cleared_asks F.failures F.may_leave F.asked g.A.Actions.meanings c.args.table.now c.args.options task (option_copied c.args.last) c.execute_without_source.result.lines c.args.folder.now
-    c.execute_without_source.new.folder c.execute_without_source.result.outcome
-    c.execute_without_source.ensures.outcome
-    (asks_then (asks_reading c.settle.ensures.asks)
-    (asks_once (HasRead F.failures F.may_leave F.asked c.args.folder.now task) _
-    (source_read F.failures F.may_leave F.asked c.args.folder.now task c.settle.new.folder c.in-Sourceless.ensures.answered)
-    (taken_in_execution task _ c.execute_without_source.ensures.asks)))
+    let done = c.execute_without_source in
+    let led = done.ensures.calls in
+    cleared_asks F.failures F.may_leave F.asked g.A.Actions.meanings c.args.table.now c.args.options task (option_copied c.args.last) done.result.lines c.args.folder.now done.new.folder
+    done.result.outcome led.1 led.4 (
+      c.settle.new.folder,
+      c.settle.ensures.asks,
+      c.in-Sourceless.ensures.answered,
+      led.0,
+      all_answered F.failures F.may_leave F.asked F.tells F.contents F.device g.met.F.Folder.said led.0 c.settle.new.folder done.new.folder led.2,
+      subst (λ (b : Bool). Clears task b led.0 done.result.lines led.1) (c.is_some.ensures ∙ sym (copied_some c.args.last))
+          (subst (λ (ls : List Text). Clears task c.is_some.result led.0 ls led.1) (sym done.ensures.lines) led.3),
+    )
 
 pub returns-in-Due-clause-asks : goal.returns-in-Due-clause-asks
 returns-in-Due-clause-asks g c =
     let F = g.F.Folder in
     ran_asks F.failures F.may_leave F.asked g.A.Actions.meanings c.args.table.now c.args.options c.args.task.now (option_copied c.args.last) c.run.result.lines c.args.folder.now c.run.new.folder c.run.result.outcome
-    c.run.ensures.outcome
-    (asks_then (asks_reading c.settle.ensures.asks) (c.run.ensures.asks c.args.folder.now c.settle.ensures.asks c.in-Due.ensures.answered.0 c.in-Due.ensures.answered.1))
     (c.run.ensures.ran c.args.folder.now c.settle.ensures.asks c.in-Due.ensures.answered.0 c.in-Due.ensures.answered.1)

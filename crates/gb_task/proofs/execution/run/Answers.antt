@@ -1,14 +1,12 @@
-use Rattle.std.proofs.Common.{Bool, Option, option_copied, Bor, is_some, sym, subst, ◌∙◌, inl}
+use Rattle.std.proofs.Common.{◌⊎◌, Bool, Option, option_copied, Bor, is_some, sym, subst, ◌∙◌, inl, inr}
 use Rattle.gb_task.specs.Case.{IsKnown}
 use Rattle.gb_history.specs.declared.record.Record.{Record}
 use Rattle.gb_task.specs.Executing.{BeginsAt}
 use Rattle.gb_task.proofs.Later.{copied_some, due_recheck, due_in_full, due_to_go_on, inputs_read, inputs_stand, none_known, outputs_read, outputs_stand}
 use Rattle.gb_task.proofs.execution.run.Goals.{in-Some+else-goes_by_changes, in_default}
-use Rattle.gb_folder.specs.Calls.{Asks}
-use Rattle.gb_task.specs.Asking.{HasRead, IsTextOf, in_execution_with, once}
 use Rattle.gb_task.proofs.Answered.{outputs_answered}
-use Rattle.gb_task.proofs.Asking.{recheck_of_task, full_of_task, one_writer, text_once}
-use Rattle.gb_task.specs.Ran.{WasExecuted}
+use Rattle.gb_task.specs.Ran.{OnlyRead, RanInFull, WasRun}
+use Rattle.gb_task.proofs.ByOutcome.{one_writer, was_run}
 use Rattle.gb_task.proofs.execution.run.Goals as goal
 
 pub execute_by_changes-requires-clause-inputs : goal.execute_by_changes-requires-clause-inputs
@@ -47,36 +45,39 @@ returns-clause-execution g c = λ tells kinds registry_of plan moment given at c
       | in_default w ↦ due_recheck kinds c.args.options task moment.world c.args.decision case runs (none_known kinds task moment.world c.args.last w.in_default.not-Some known)
     ])
 
-pub returns-then-goes_by_changes-clause-asks : goal.returns-then-goes_by_changes-clause-asks
-returns-then-goes_by_changes-clause-asks g c = λ first before inputs was.
-    let F = g.F.Folder in
-    let task = c.args.task.now in
-    let changes = c.goes_by_changes.ensures.decided c.if-goes_by_changes.true in
-    let outputs = outputs_answered F.failures F.may_leave F.asked first c.args.folder.now c.args.options task (option_copied c.args.last) c.args.seen.inputs.items c.args.decision changes.0 c.args.seen.outputs.items changes.1 was in
-    subst (λ (o : Option (Bor Record)). Asks F.failures F.may_leave F.asked
-    (once (HasRead F.failures F.may_leave F.asked first task)
-    (in_execution_with task (IsTextOf F.failures F.may_leave F.asked first g.A.Actions.meanings c.args.table.now c.args.options task (option_copied o))))
-    c.args.folder.now c.execute_by_changes.new.folder) (sym c.in-Some.is)
-    (text_once (HasRead F.failures F.may_leave F.asked first task) task _ _
-    (recheck_of_task F.failures F.may_leave F.asked first g.A.Actions.meanings c.args.table.now c.args.options task _
-    (λ kinds agrees. one_writer kinds task c.args.decision changes.0 changes.1 (c.goes_by_changes.ensures.agreed kinds agrees ∙ c.if-goes_by_changes.true)))
-    (c.execute_by_changes.ensures.asks first before inputs outputs))
-
-pub returns-clause-asks : goal.returns-clause-asks
-returns-clause-asks g c = λ first before inputs was.
-    let F = g.F.Folder in
-    text_once (HasRead F.failures F.may_leave F.asked first c.args.task.now) c.args.task.now _ _
-    (full_of_task F.failures F.may_leave F.asked first g.A.Actions.meanings c.args.table.now c.args.options c.args.task.now (option_copied c.args.last))
-    (c.execute_in_full.ensures.asks first before inputs)
-
 pub returns-then-goes_by_changes-clause-ran : goal.returns-then-goes_by_changes-clause-ran
-returns-then-goes_by_changes-clause-ran g c = λ first before inputs was is.
+returns-then-goes_by_changes-clause-ran g c = λ first before inputs was.
     let F = g.F.Folder in
+    let meanings = g.A.Actions.meanings in
+    let rows = c.args.table.now in
     let task = c.args.task.now in
+    let by = c.execute_by_changes in
     let changes = c.goes_by_changes.ensures.decided c.if-goes_by_changes.true in
     let outputs = outputs_answered F.failures F.may_leave F.asked first c.args.folder.now c.args.options task (option_copied c.args.last) c.args.seen.inputs.items c.args.decision changes.0 c.args.seen.outputs.items changes.1 was in
-    subst (λ (o : Option (Bor Record)). WasExecuted F.failures F.may_leave F.asked g.A.Actions.meanings c.args.table.now c.args.options task (option_copied o) c.execute_by_changes.result.lines
-    first c.execute_by_changes.new.folder) (sym c.in-Some.is) (c.execute_by_changes.ensures.ran first before inputs outputs is)
+    let ran = by.ensures.ran first before inputs outputs in (
+      ran.0,
+      ran.1,
+      subst (λ (o : Option (Bor Record)). OnlyRead F.failures F.may_leave F.asked by.result.lines ran.0 first by.new.folder
+          ⊎ WasRun F.failures F.may_leave F.asked meanings rows task c.args.options (option_copied o) by.result.lines ran.0 first by.new.folder) (sym c.in-Some.is)
+          (was_run F.failures F.may_leave F.asked meanings rows task c.args.options _ by.result.lines ran.0 first by.new.folder
+          (λ kinds agrees. one_writer kinds task c.args.decision changes.0 changes.1 (c.goes_by_changes.ensures.agreed kinds agrees ∙ c.if-goes_by_changes.true)) ran.2),
+    )
 
 pub returns-clause-ran : goal.returns-clause-ran
-returns-clause-ran g c = λ first before inputs was is. inl (c.execute_in_full.ensures.ran first before inputs is)
+returns-clause-ran g c = λ first before inputs was.
+    let F = g.F.Folder in
+    let meanings = g.A.Actions.meanings in
+    let rows = c.args.table.now in
+    let task = c.args.task.now in
+    let full = c.execute_in_full in
+    let ran = full.ensures.ran first before inputs in (
+      ran.0,
+      ran.1,
+      subst (λ (b : Bool). OnlyRead F.failures F.may_leave F.asked full.result.lines ran.0 first full.new.folder
+          ⊎ RanInFull F.failures F.may_leave F.asked meanings rows task b full.result.lines ran.0 first full.new.folder
+          → OnlyRead F.failures F.may_leave F.asked full.result.lines ran.0 first full.new.folder
+          ⊎ WasRun F.failures F.may_leave F.asked meanings rows task c.args.options (option_copied c.args.last) full.result.lines ran.0 first full.new.folder)
+          (copied_some c.args.last ∙ sym c.is_some.ensures)
+          (λ held. elim held [ inl only ↦ inl only | inr in_full ↦ inr (inl in_full) ])
+          ran.2,
+    )

@@ -3,7 +3,6 @@ use Rattle.gb_folder.specs.Files.{is_empty}
 use Rattle.gb_report.specs.declared.report.TaskReport.{TaskReport}
 use Rattle.gb_task.specs.Executing.{HasExecuted, setting_with}
 use Rattle.gb_task.proofs.Reported.{same_report}
-use Rattle.gb_task.proofs.Ran.{executed_ok}
 use Rattle.gb_task.proofs.full.execute_in_full.Goals as goal
 
 pub returns-clause-outcome : goal.returns-clause-outcome
@@ -21,5 +20,4 @@ returns-clause-execution g c = λ tells kinds registry_of options plan moment gi
     (c.run_with_record-ended.ensures.execution tells kinds registry_of options plan moment given at read due)
 
 pub returns-clause-ran : goal.returns-clause-ran
-returns-clause-ran g c = λ first before inputs is.
-    executed_ok c.run_with_record-ended.result (sym c.outcome_of.ensures ∙ is) (c.run_with_record-ended.ensures.ran first before inputs)
+returns-clause-ran g c = λ first before inputs. (c.run_with_record-ended.result, c.outcome_of.ensures, c.run_with_record-ended.ensures.ran first before inputs)

@@ -1,6 +1,6 @@
-use Rattle.std.proofs.Common.{List, IfErr, map, refl, ap, ◌∙◌}
+use Rattle.std.proofs.Common.{List, Err, IfErr, Ok, Result, inl, inr, map, refl, ap, ◌∙◌}
 use Rattle.std.proofs.lemmas.Result.{err_from_is_err_and}
-use Rattle.gb_history.specs.Record.{Prints, prints_in}
+use Rattle.gb_history.specs.Record.{Prints, Record, prints_in}
 use Rattle.gb_history.specs.declared.record.OutputRecord.{OutputRecord}
 use Rattle.gb_label.proofs.Recorded.{names_with}
 use Rattle.gb_meaning.specs.Headline.{Agrees}
@@ -13,6 +13,11 @@ use Rattle.gb_store.proofs.Machine.{at_err}
 use Rattle.gb_task.proofs.Cut.{cut_at_end}
 use Rattle.gb_task.proofs.Given.{named_digests}
 use Rattle.gb_task.proofs.Recorded.{record_is}
+use Rattle.gb_folder.specs.Calls.{Call}
+use Rattle.gb_folder.specs.Device.{Leads}
+use Rattle.gb_run.specs.Doing.{Ending}
+use Rattle.gb_run.specs.Work.{ending}
+use Rattle.gb_task.specs.Stages.{HasMade, WritesGiven}
 use Rattle.gb_task.proofs.full.make_in_full.Goals as goal
 
 pub returns-in_err-outputs-clause-err : goal.returns-in_err-outputs-clause-err
@@ -63,5 +68,34 @@ returns-in_err-made-clause-err g c = λ tells.
     → Fails (course_of kinds c.args.task.now c.args.trees c.args.changes (F.contents start).files) InFull (F.may_leave start) (F.failures start) fault c.run_in_full.new.lines (F.failures now) (F.contents now).files in
     at_err (λ r. IfErr r IsFault) c.from_residual.result p.0 c.in_err-made.field-0.0 p.1 p.2 (c.in_err-made.ensures.err tells)
 
+pub returns-in_err-made-clause-calls : goal.returns-in_err-made-clause-calls
+returns-in_err-made-clause-calls g c =
+    let F = g.F.Folder in
+    let p = err_from_is_err_and c.from_residual.result c.from_residual.ensures.1 in
+    let led = c.in_err-made.ensures.calls in
+    at_err (λ (r : Result Record Fault). (calls : List Call) × (ran : Ending) × Leads F.device c.args.folder.now calls c.run_in_full.new.folder
+    × WritesGiven g.A.Actions.meanings c.args.table.now c.args.task.now c.args.trees c.args.changes calls c.run_in_full.new.lines ran × HasMade ran (ending r)) c.from_residual.result p.0 c.in_err-made.field-0.0 p.1 p.2
+    (led.0, Err c.in_err-made.field-0.0, led.1, (led.2, led.3), refl)
+
+pub returns-in_err-outputs-clause-calls : goal.returns-in_err-outputs-clause-calls
+returns-in_err-outputs-clause-calls g c =
+    let F = g.F.Folder in
+    let p = err_from_is_err_and c.from_residual-in_err-outputs.result c.from_residual-in_err-outputs.ensures.1 in
+    let led = c.in_ok-made.ensures.calls in
+    at_err (λ (r : Result Record Fault). (calls : List Call) × (ran : Ending) × Leads F.device c.args.folder.now calls c.run_in_full.new.folder
+    × WritesGiven g.A.Actions.meanings c.args.table.now c.args.task.now c.args.trees c.args.changes calls c.run_in_full.new.lines ran × HasMade ran (ending r)) c.from_residual-in_err-outputs.result p.0 faults.OutOfMemory p.1 p.2
+    (led.0, Ok tt, led.1, (led.2, led.3), inr refl)
+
+pub returns-in_err-record_of-clause-calls : goal.returns-in_err-record_of-clause-calls
+returns-in_err-record_of-clause-calls g c =
+    let F = g.F.Folder in
+    let p = err_from_is_err_and c.from_residual-in_err-record_of.result c.from_residual-in_err-record_of.ensures.1 in
+    let led = c.in_ok-made.ensures.calls in
+    at_err (λ (r : Result Record Fault). (calls : List Call) × (ran : Ending) × Leads F.device c.args.folder.now calls c.run_in_full.new.folder
+    × WritesGiven g.A.Actions.meanings c.args.table.now c.args.task.now c.args.trees c.args.changes calls c.run_in_full.new.lines ran × HasMade ran (ending r)) c.from_residual-in_err-record_of.result p.0 faults.OutOfMemory p.1 p.2
+    (led.0, Ok tt, led.1, (led.2, led.3), inr refl)
+
 pub returns-clause-calls : goal.returns-clause-calls
-returns-clause-calls g c = c.in_ok-made.ensures.calls
+returns-clause-calls g c =
+    let led = c.in_ok-made.ensures.calls in
+    (led.0, Ok tt, led.1, (led.2, led.3), inl refl)

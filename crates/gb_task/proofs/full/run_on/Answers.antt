@@ -25,10 +25,8 @@ use Rattle.gb_task.proofs.Given.{as_many, none_read}
 use Rattle.gb_task.proofs.Parts.{outside_same}
 use Rattle.gb_task.proofs.Recorded.{record_stands, seen_later}
 use Rattle.gb_task.proofs.Whole.{clearing_failed, reading_failed, remembering, running_failed}
-use Rattle.gb_folder.proofs.Asked.{asks_then}
-use Rattle.gb_task.specs.Asking.{IsTextIn}
-use Rattle.gb_task.proofs.Asking.{full_text, made_in_execution, put_in_execution, taken_in_execution}
-use Rattle.gb_task.proofs.Ran.{all_answered, on_ok}
+use Rattle.gb_task.specs.Stages.{FullRun, IsOfFullRun, WritesAll, WritesGiven}
+use Rattle.gb_task.proofs.Stages.{StageLed, full_early, full_on, full_uncleared, made, unmade}
 use Rattle.gb_task.proofs.full.run_on.Goals as goal
 
 pub all_added-requires : goal.all_added-requires
@@ -140,36 +138,45 @@ returns-clause-execution g c = λ tells kinds registry_of options plan moment gi
     (λ m entry stood of. c.remember.ensures.stands tells (seen_later _ _ (SameTearing-chain _ _ _ c.clear.ensures.asks.tearing c.make_in_full.ensures.asks.tearing) given.tears) m entry stood
     (subst (λ (run : Record). IsSaidOf run entry) (sym stands) of))
 
-pub returns-in_err-clear-clause-asks : goal.returns-in_err-clear-clause-asks
-returns-in_err-clear-clause-asks g c = taken_in_execution c.args.task.now _ c.clear.ensures.asks
+pub returns-in_err-changes-clause-ran : goal.returns-in_err-changes-clause-ran
+returns-in_err-changes-clause-ran g c =
+    let F = g.F.Folder in
+    let p = err_from_is_err_and c.from_residual.result c.from_residual.ensures.1 in
+    at_err (λ r. StageLed F.device (FullRun g.A.Actions.meanings c.args.table.now c.args.task.now c.args.inputs.trees c.args.was_read) c.args.folder.now c.args.lines.now r c.args.folder.now) c.from_residual.result p.0 faults.OutOfMemory p.1 p.2
+    (full_early F.device g.A.Actions.meanings c.args.table.now c.args.task.now c.args.inputs.trees c.args.was_read c.args.folder.now c.args.lines.now c.requires.no_lines)
 
-pub returns-in_err-run-clause-asks : goal.returns-in_err-run-clause-asks
-returns-in_err-run-clause-asks g c =
-    asks_then (taken_in_execution c.args.task.now _ c.clear.ensures.asks) (made_in_execution c.args.task.now _ c.make_in_full.ensures.asks)
+pub returns-in_err-clear-clause-ran : goal.returns-in_err-clear-clause-ran
+returns-in_err-clear-clause-ran g c =
+    let F = g.F.Folder in
+    let p = err_from_is_err_and c.from_residual-in_err-clear.result c.from_residual-in_err-clear.ensures.1 in
+    at_err (λ r. StageLed F.device (FullRun g.A.Actions.meanings c.args.table.now c.args.task.now c.args.inputs.trees c.args.was_read) c.args.folder.now c.args.lines.now r c.clear.new.folder) c.from_residual-in_err-clear.result p.0 c.in_err-clear.field-0.0 p.1 p.2
+    (full_uncleared F.device g.A.Actions.meanings c.args.table.now c.args.task.now c.args.inputs.trees c.args.was_read c.args.folder.now c.clear.new.folder c.args.lines.now c.in_err-clear.field-0.0 c.requires.no_lines
+    c.in_err-clear.ensures.calls)
 
-pub returns-clause-asks : goal.returns-clause-asks
-returns-clause-asks g c =
+pub returns-in_err-run-clause-ran : goal.returns-in_err-run-clause-ran
+returns-in_err-run-clause-ran g c =
+    let F = g.F.Folder in
+    let meanings = g.A.Actions.meanings in
+    let rows = c.args.table.now in
     let task = c.args.task.now in
-    asks_then (asks_then (taken_in_execution task _ c.clear.ensures.asks) (made_in_execution task _ c.make_in_full.ensures.asks))
-    (put_in_execution task (IsTextIn g.A.Actions.meanings c.args.table.now task c.args.inputs.trees) c.in_ok-run.run'
-    (full_text g.A.Actions.meanings c.args.table.now task c.args.inputs.trees c.in_ok-run.run' c.in_ok-run.ensures.made) c.remember.ensures.asks)
+    let trees = c.args.inputs.trees in
+    let p = err_from_is_err_and c.from_residual-in_err-run.result c.from_residual-in_err-run.ensures.1 in
+    let led = c.in_err-run.ensures.calls in
+    let added = c.in_ok-changes.ensures trees (c.as_slice.ensures.value ∙ c.requires.digests) in
+    at_err (λ r. StageLed F.device (FullRun g.A.Actions.meanings c.args.table.now c.args.task.now c.args.inputs.trees c.args.was_read) c.args.folder.now c.make_in_full.new.lines r c.make_in_full.new.folder) c.from_residual-in_err-run.result p.0 c.in_err-run.field-0.0 p.1 p.2
+    (full_on F.device meanings rows task trees c.args.was_read c.args.folder.now c.clear.new.folder c.make_in_full.new.folder c.make_in_full.new.lines (Err c.in_err-run.field-0.0) c.in_ok-clear.ensures.calls
+    (unmade F.device task (WritesAll meanings rows task trees) (IsOfFullRun meanings rows task trees) c.clear.new.folder c.make_in_full.new.folder c.make_in_full.new.lines led.1 c.in_err-run.field-0.0
+    (led.0, led.2, subst (λ (changes : List Changes). WritesGiven meanings rows task trees changes led.0 c.make_in_full.new.lines led.1) added led.3) led.4))
 
 pub returns-clause-ran : goal.returns-clause-ran
 returns-clause-ran g c =
     let F = g.F.Folder in
-    let made = c.in_ok-run.ensures.calls in
-    on_ok c.remember.result c.remember.ensures.stored (λ stored. record {
-      emptied = c.clear.new.folder;
-      empties = c.clear.ensures.asks;
-      calls = made.0;
-      done = c.make_in_full.new.folder;
-      answered = all_answered F.failures F.may_leave F.asked F.tells F.contents F.device g.met.F.Folder.said made.0 c.clear.new.folder c.make_in_full.new.folder made.1;
-      run = c.in_ok-run.run';
-      ran = λ kinds agrees. (
-        subst (λ (changes : List Changes). RunsInFull (course_of kinds c.args.task.now c.args.inputs.trees changes []) made.0 c.make_in_full.new.lines (Ok tt))
-            (c.in_ok-changes.ensures c.args.inputs.trees (c.as_slice.ensures.value ∙ c.requires.digests)) (made.2 kinds agrees),
-        c.in_ok-run.ensures.made kinds agrees,
-      );
-      limit = stored.0;
-      stored = stored.1;
-    })
+    let meanings = g.A.Actions.meanings in
+    let rows = c.args.table.now in
+    let task = c.args.task.now in
+    let trees = c.args.inputs.trees in
+    let led = c.in_ok-run.ensures.calls in
+    let added = c.in_ok-changes.ensures trees (c.as_slice.ensures.value ∙ c.requires.digests) in
+    full_on F.device meanings rows task trees c.args.was_read c.args.folder.now c.clear.new.folder c.remember.new.folder c.make_in_full.new.lines c.remember.result c.in_ok-clear.ensures.calls
+    (made F.device task (WritesAll meanings rows task trees) (IsOfFullRun meanings rows task trees) c.clear.new.folder c.make_in_full.new.folder c.remember.new.folder c.make_in_full.new.lines led.1 c.remember.result c.in_ok-run.run'
+    (led.0, led.2, subst (λ (changes : List Changes). WritesGiven meanings rows task trees changes led.0 c.make_in_full.new.lines led.1) added led.3) led.4 c.in_ok-run.ensures.made c.remember.ensures.calls)

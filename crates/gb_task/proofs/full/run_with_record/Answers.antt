@@ -1,4 +1,4 @@
-use Rattle.std.proofs.Common.{◌≡◌, ◌≤◌, ◌||◌, ℕ, Result, Err, sym, ap, subst, ◌∙◌}
+use Rattle.std.proofs.Common.{◌≡◌, ◌≤◌, ◌||◌, ℕ, Result, Err, sym, ap, subst, ◌∙◌, inl, inr}
 use Rattle.std.proofs.lemmas.Result.{err_from_is_err_and}
 use Rattle.gb_folder.specs.Files.{Contents}
 use Rattle.gb_meaning.specs.Label.{Moment}
@@ -10,10 +10,8 @@ use Rattle.gb_task.specs.Executing.{HasExecuted, report_of, setting_with}
 use Rattle.gb_task.proofs.Later.{comes_later, turned_before}
 use Rattle.gb_task.proofs.Recorded.{assumed_later}
 use Rattle.gb_task.proofs.Whole.{reading_failed}
-use Rattle.gb_folder.proofs.Asked.{asks_reading, asks_then}
-use Rattle.gb_task.specs.Asking.{HasRead}
-use Rattle.gb_task.proofs.Asking.{asks_once, full_is_one, run_read, text_in_execution}
-use Rattle.gb_task.proofs.Ran.{on_ok}
+use Rattle.gb_folder.proofs.Asked.{asks_then}
+use Rattle.gb_task.proofs.Ran.{all_answered}
 use Rattle.gb_task.proofs.full.run_with_record.Goals as goal
 
 pub returns-in_err-inputs-clause-execution : goal.returns-in_err-inputs-clause-execution
@@ -45,24 +43,16 @@ returns-clause-execution g c = λ tells kinds registry_of options plan moment gi
     (c.run_on.ensures.execution tells kinds registry_of options plan later (assumed_later _ _ c.complete_inputs.ensures.asks.tearing given) came
     (c.in_ok-inputs.ensures.trees tells read ∙ ap (λ (folder : Contents). trees_of task folder.files) (sym same)) due))
 
-pub returns-in_err-inputs-clause-asks : goal.returns-in_err-inputs-clause-asks
-returns-in_err-inputs-clause-asks g c = λ first before inputs. asks_reading c.complete_inputs.ensures.asks
-
-pub returns-clause-asks : goal.returns-clause-asks
-returns-clause-asks g c = λ first before inputs.
-    let F = g.F.Folder in
-    let task = c.args.task.now in
-    let trees = c.in_ok-inputs.inputs.trees in
-    let read = c.complete_inputs.new.folder in
-    let were = c.in_ok-inputs.ensures.answered first before inputs in
-    asks_then (asks_reading c.complete_inputs.ensures.asks)
-    (asks_once (HasRead F.failures F.may_leave F.asked first task) _ (run_read F.failures F.may_leave F.asked first task trees read were c.in_ok-inputs.ensures.named)
-    (text_in_execution task _ _
-    (full_is_one F.failures F.may_leave F.asked first g.A.Actions.meanings c.args.table.now task trees read were c.in_ok-inputs.ensures.named) c.run_on.ensures.asks))
+pub returns-in_err-inputs-clause-ran : goal.returns-in_err-inputs-clause-ran
+returns-in_err-inputs-clause-ran g c = λ first before inputs.
+    let p = err_from_is_err_and c.from_residual.result c.from_residual.ensures.1 in
+    inl (asks_then before c.complete_inputs.ensures.asks, c.requires.no_lines, p.0, p.1)
 
 pub returns-clause-ran : goal.returns-clause-ran
 returns-clause-ran g c = λ first before inputs.
-    on_ok c.run_on.result c.run_on.ensures.ran (λ ran. (
+    let F = g.F.Folder in
+    let ran = c.run_on.ensures.ran in
+    inr (
       c.in_ok-inputs.inputs.trees,
       c.complete_inputs.new.folder,
       record {
@@ -70,5 +60,7 @@ returns-clause-ran g c = λ first before inputs.
         inputs = c.in_ok-inputs.ensures.answered first before inputs;
         named = c.in_ok-inputs.ensures.named;
       },
-      ran,
-    ))
+      ran.0,
+      all_answered F.failures F.may_leave F.asked F.tells F.contents F.device g.met.F.Folder.said ran.0 c.complete_inputs.new.folder c.run_on.new.folder ran.1,
+      ran.2,
+    )

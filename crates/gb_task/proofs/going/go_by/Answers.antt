@@ -21,10 +21,8 @@ use Rattle.gb_task.proofs.Cleared.{outputs_in_execution, record_in_execution}
 use Rattle.gb_task.proofs.Given.{none_read}
 use Rattle.gb_task.proofs.Parts.{outside_same}
 use Rattle.gb_task.proofs.Recorded.{record_stands, seen_later}
-use Rattle.gb_folder.proofs.Asked.{asks_then}
-use Rattle.gb_task.specs.Asking.{IsTextBy}
-use Rattle.gb_task.proofs.Asking.{going_text, made_in_execution, put_in_execution, record_taken, taken_in_execution}
-use Rattle.gb_task.proofs.Ran.{all_answered, on_ok}
+use Rattle.gb_task.specs.Stages.{IsOfRunByChanges, RunByChanges, WritesChanges}
+use Rattle.gb_task.proofs.Stages.{StageLed, changes_kept, changes_on, made, unmade}
 use Rattle.gb_task.proofs.going.go_by.Goals as goal
 
 pub returns-in_err-forget-clause-changes : goal.returns-in_err-forget-clause-changes
@@ -132,32 +130,40 @@ returns-clause-execution g c = λ tells kinds registry_of options plan moment gi
     (λ m entry stood of. c.remember.ensures.stands tells (seen_later _ _ (SameTearing-chain _ _ _ c.forget.ensures.asks.tearing c.make_by_changes.ensures.asks.tearing) given.tears) m entry stood
     (subst (λ (run : Record). IsSaidOf run entry) (sym stands) of))
 
-pub returns-in_err-forget-clause-asks : goal.returns-in_err-forget-clause-asks
-returns-in_err-forget-clause-asks g c = taken_in_execution c.args.task.now _ (record_taken c.args.task.now c.forget.ensures.asks)
+pub returns-in_err-forget-clause-ran : goal.returns-in_err-forget-clause-ran
+returns-in_err-forget-clause-ran g c =
+    let F = g.F.Folder in
+    let p = err_from_is_err_and c.from_residual.result c.from_residual.ensures.1 in
+    at_err (λ r. StageLed F.device (RunByChanges g.A.Actions.meanings c.args.table.now c.args.task.now c.args.inputs.trees c.args.changes c.args.outputs.seen) c.args.folder.now c.args.lines.now r c.forget.new.folder) c.from_residual.result p.0 c.in_err-forget.field-0.0 p.1 p.2
+    (changes_kept F.device g.A.Actions.meanings c.args.table.now c.args.task.now c.args.inputs.trees c.args.changes c.args.outputs.seen c.args.folder.now c.forget.new.folder c.args.lines.now c.in_err-forget.field-0.0
+    c.requires.no_lines c.in_err-forget.ensures.calls)
 
-pub returns-in_err-run-clause-asks : goal.returns-in_err-run-clause-asks
-returns-in_err-run-clause-asks g c =
-    asks_then (taken_in_execution c.args.task.now _ (record_taken c.args.task.now c.forget.ensures.asks)) (made_in_execution c.args.task.now _ c.make_by_changes.ensures.asks)
-
-pub returns-clause-asks : goal.returns-clause-asks
-returns-clause-asks g c =
+pub returns-in_err-run-clause-ran : goal.returns-in_err-run-clause-ran
+returns-in_err-run-clause-ran g c =
+    let F = g.F.Folder in
+    let meanings = g.A.Actions.meanings in
+    let rows = c.args.table.now in
     let task = c.args.task.now in
-    asks_then (asks_then (taken_in_execution task _ (record_taken task c.forget.ensures.asks)) (made_in_execution task _ c.make_by_changes.ensures.asks))
-    (put_in_execution task (IsTextBy g.A.Actions.meanings c.args.table.now task c.args.inputs.trees c.args.changes c.args.outputs.seen) c.in_ok-run.run'
-    (going_text g.A.Actions.meanings c.args.table.now task c.args.inputs.trees c.args.changes c.args.outputs.seen c.in_ok-run.run' c.in_ok-run.ensures.made) c.remember.ensures.asks)
+    let trees = c.args.inputs.trees in
+    let changes = c.args.changes in
+    let seen = c.args.outputs.seen in
+    let p = err_from_is_err_and c.from_residual-in_err-run.result c.from_residual-in_err-run.ensures.1 in
+    let led = c.in_err-run.ensures.calls in
+    at_err (λ r. StageLed F.device (RunByChanges g.A.Actions.meanings c.args.table.now c.args.task.now c.args.inputs.trees c.args.changes c.args.outputs.seen) c.args.folder.now c.make_by_changes.new.lines r c.make_by_changes.new.folder) c.from_residual-in_err-run.result p.0 c.in_err-run.field-0.0 p.1 p.2
+    (changes_on F.device meanings rows task trees changes seen c.args.folder.now c.forget.new.folder c.make_by_changes.new.folder c.make_by_changes.new.lines (Err c.in_err-run.field-0.0) c.in_ok-forget.ensures.calls
+    (unmade F.device task (WritesChanges meanings rows task trees changes seen) (IsOfRunByChanges meanings rows task trees changes seen) c.forget.new.folder c.make_by_changes.new.folder c.make_by_changes.new.lines led.1
+    c.in_err-run.field-0.0 (led.0, led.2, led.3) led.4))
 
 pub returns-clause-ran : goal.returns-clause-ran
 returns-clause-ran g c =
     let F = g.F.Folder in
-    let made = c.in_ok-run.ensures.calls in
-    on_ok c.remember.result c.remember.ensures.stored (λ stored. record {
-      forgot = c.forget.new.folder;
-      forgets = c.forget.ensures.asks;
-      calls = made.0;
-      done = c.make_by_changes.new.folder;
-      answered = all_answered F.failures F.may_leave F.asked F.tells F.contents F.device g.met.F.Folder.said made.0 c.forget.new.folder c.make_by_changes.new.folder made.1;
-      run = c.in_ok-run.run';
-      ran = λ kinds agrees. (made.2 kinds agrees, c.in_ok-run.ensures.made kinds agrees);
-      limit = stored.0;
-      stored = stored.1;
-    })
+    let meanings = g.A.Actions.meanings in
+    let rows = c.args.table.now in
+    let task = c.args.task.now in
+    let trees = c.args.inputs.trees in
+    let changes = c.args.changes in
+    let seen = c.args.outputs.seen in
+    let led = c.in_ok-run.ensures.calls in
+    changes_on F.device meanings rows task trees changes seen c.args.folder.now c.forget.new.folder c.remember.new.folder c.make_by_changes.new.lines c.remember.result c.in_ok-forget.ensures.calls
+    (made F.device task (WritesChanges meanings rows task trees changes seen) (IsOfRunByChanges meanings rows task trees changes seen) c.forget.new.folder c.make_by_changes.new.folder c.remember.new.folder
+    c.make_by_changes.new.lines led.1 c.remember.result c.in_ok-run.run' (led.0, led.2, led.3) led.4 c.in_ok-run.ensures.made c.remember.ensures.calls)

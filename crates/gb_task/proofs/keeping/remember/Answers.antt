@@ -9,7 +9,8 @@ use Rattle.gb_store.proofs.Machine.{changes_with}
 use Rattle.gb_task.specs.Keeping.{IsRemembered, IsUnwritten}
 use Rattle.gb_task.proofs.Recorded.{with_outputs_stands}
 use Rattle.gb_task.proofs.Unwritten.{at_itself, changes_unwritten, remembered_reported, why_unwritten}
-use Rattle.gb_task.proofs.Ran.{all_answered, stored_none, stored_one}
+use Rattle.gb_task.specs.Stages.{StoresRecord}
+use Rattle.gb_task.proofs.Stages.{QuietLed, stored, stored_none}
 use Rattle.gb_task.proofs.keeping.remember.Goals as goal
 
 pub returns-in-Ok-clause-changes : goal.returns-in-Ok-clause-changes
@@ -47,21 +48,22 @@ returns-in-Err-clause-stands g c = λ tells seen memory entry stood of.
     subst (λ (fault : Fault). IsRemembered task entry memory (Err fault) (F.contents c.store_record.new.folder).files) (sym c.fault.ensures)
     (remembered_reported task entry memory c.in-Err.unwritten (F.contents c.store_record.new.folder).files (c.in-Err.ensures.stands tells seen memory entry stood of))
 
-pub returns-then-is_empty-clause-stored : goal.returns-then-is_empty-clause-stored
-returns-then-is_empty-clause-stored g c =
-    let F = g.F.Folder in
+pub returns-then-is_empty-clause-calls : goal.returns-then-is_empty-clause-calls
+returns-then-is_empty-clause-calls g c =
     let task = c.args.task.now in
     let none : is_empty task.outputs ≡ true = search rules in
-    (0, stored_none F.failures F.may_leave F.asked task c.args.run.now 0 c.args.folder.now none)
+    stored_none g.F.Folder.device task c.args.run.now c.args.folder.now none
 
-pub returns-in-Ok-clause-stored : goal.returns-in-Ok-clause-stored
-returns-in-Ok-clause-stored g c =
+pub returns-in-Ok-clause-calls : goal.returns-in-Ok-clause-calls
+returns-in-Ok-clause-calls g c =
+    let task = c.args.task.now in
+    let some : is_empty task.outputs ≡ false = search rules in
+    stored g.F.Folder.device task c.args.run.now c.args.folder.now c.store_record.new.folder (Ok tt) some c.in-Ok.ensures.calls
+
+pub returns-in-Err-clause-calls : goal.returns-in-Err-clause-calls
+returns-in-Err-clause-calls g c =
     let F = g.F.Folder in
     let task = c.args.task.now in
     let some : is_empty task.outputs ≡ false = search rules in
-    let stored = c.in-Ok.ensures.stored in (
-      stored.0,
-      stored_one F.failures F.may_leave F.asked task c.args.run.now stored.0 c.args.folder.now c.store_record.new.folder some
-          (all_answered F.failures F.may_leave F.asked F.tells F.contents F.device g.met.F.Folder.said
-          (Writes (record_place task.path) (record_text task.path c.args.run.now) stored.0 (Ok tt) ∷ []) c.args.folder.now c.store_record.new.folder stored.1),
-    )
+    subst (λ (fault : Fault). QuietLed F.device (StoresRecord task c.args.run.now) c.args.folder.now (Err fault) c.store_record.new.folder) (sym c.fault.ensures)
+    (stored F.device task c.args.run.now c.args.folder.now c.store_record.new.folder (Err c.in-Err.unwritten) some c.in-Err.ensures.calls)

@@ -24,3 +24,8 @@ returns-clause-execution g c = λ tells kinds registry_of options plan moment se
     (cleared_execution kinds registry_of (F.may_leave start) options plan task c.args.was_read moment (F.contents start) (F.failures start) c.requires.not_own at case
     (F.failures start) (F.failures now) (F.contents now) (omega arith) asked.asks.count (asked.changes tells) c.clear-cleared.result asked.blamed
     (asked.cleared tells seen moment.world.memory at.records (none_read (recalled moment.world.memory task.path) c.args.was_read at.read)))
+
+pub returns-clause-calls : goal.returns-clause-calls
+returns-clause-calls g c =
+    let led = c.clear-cleared.ensures.calls in
+    (led.0, c.clear-cleared.result, led.1, led.2, c.outcome_of.ensures)
