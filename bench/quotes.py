@@ -30,7 +30,7 @@ ROOTS = [
     ("gb_meaning", "Every"),
     ("gb_meaning", "Headline"),
     ("gb_meaning", "Kinds"),
-    ("gb_records", "Granted"),
+    ("gb_records", "Assumed"),
     ("gb_build", "Registering"),
     ("gb_registry", "Tables"),
 ]
