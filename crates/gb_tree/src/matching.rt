@@ -11,6 +11,10 @@ ghost use Rattle.gb_tree.specs.Pattern.{is_double_star, is_star, is_wild, path_m
 ghost use Rattle.gb_tree.specs.Pattern.{segment_matches, stands_for, wild_matches};
 ghost use Rattle.gb_tree.specs.Passes.{pass, fits_read, is_start};
 
+use crate::shortcut::{
+    after_folders, after_star, before_all, has_wild, is_double_star, is_under, last_of,
+};
+
 /// More than the most items of a pattern: a place has at most 1,024 bytes.
 const MOST_ITEMS: usize = 1025;
 
@@ -83,18 +87,13 @@ fn segment_matches(pattern: &str, text: &str) -> bool
     requires { length pattern.now ≤ 1024 }
     ensures { result ≡ segment_matches pattern.now text.now }
 {
-    if has_wild(pattern) {
-        wild_matches(pattern, text)
-    } else {
-        pattern == text
+    if !has_wild(pattern) {
+        return pattern == text;
     }
-}
-
-/// Whether the text contains a `*` or a `?`.
-pub(crate) fn has_wild(text: &str) -> bool
-    ensures { result ≡ list_any is_wild text.now }
-{
-    text.as_bytes().iter().any(|b| *b == b'*' || *b == b'?')
+    match after_star(pattern) {
+        Some(end) => text.ends_with(end),
+        None => wild_matches(pattern, text),
+    }
 }
 
 /// Whether the text matches a segment with `*` and `?`.
@@ -134,12 +133,6 @@ fn read_segment(states: &mut [bool], pattern: &str, read: Option<&str>) -> bool
     pass.entered
 }
 
-fn is_double_star(item: &str) -> bool
-    ensures { result ≡ is_double_star item.now }
-{
-    item == "**"
-}
-
 /// Whether the segment that was read matches this one of a pattern; evaluated only where a match is
 /// before it.
 fn fits_here(here: bool, item: &str, read: Option<&str>) -> bool
@@ -154,6 +147,23 @@ fn fits_here(here: bool, item: &str, read: Option<&str>) -> bool
 
 /// Whether the path matches the pattern.
 pub fn path_matches(pattern: &str, path: &str) -> bool
+    requires { length pattern.now ≤ 1024 }
+    ensures { result ≡ path_matches pattern.now path.now }
+{
+    if !has_wild(pattern) {
+        return pattern == path;
+    }
+    if let Some(item) = after_folders(pattern) {
+        return segment_matches(item, last_of(path));
+    }
+    match before_all(pattern) {
+        Some(folder) => is_under(path, folder),
+        None => steps_match(pattern, path),
+    }
+}
+
+/// Whether the path matches the pattern, by steps along both.
+fn steps_match(pattern: &str, path: &str) -> bool
     requires { length pattern.now ≤ 1024 }
     ensures { result ≡ path_matches pattern.now path.now }
 {

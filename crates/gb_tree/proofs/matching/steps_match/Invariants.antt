@@ -2,7 +2,7 @@ use Rattle.std.proofs.Common.{◌≡◌, [], length, drop}
 use Rattle.gb_core.specs.Place.{segments}
 use Rattle.gb_tree.specs.Pattern.{is_double_star, segment_matches, path_matches}
 use Rattle.gb_tree.specs.Passes.{goes_on}
-use Rattle.gb_tree.proofs.matching.path_matches.Given as goal
+use Rattle.gb_tree.proofs.matching.steps_match.Given as goal
 
 abbrev pub invariant-loop-segment : goal.invariant-loop-segment
 invariant-loop-segment l = record {
