@@ -2,8 +2,8 @@
 //!
 //! The text is read from the left, once. For each item of the pattern one flag records whether a
 //! match of the text read so far can end before the item, so no choice is tried twice.
-ghost use Rattle.std.specs.Prelude.{◌≡◌, ◌≤◌, ◌&&◌, ◌||◌, if◌then◌else◌, false, length};
-ghost use Rattle.std.specs.List.{list_any};
+ghost use Rattle.std.specs.Prelude.{◌≡◌, ◌≤◌, ◌<◌, ◌&&◌, ◌||◌, if◌then◌else◌, false, length};
+ghost use Rattle.std.specs.List.{list_any, AllByRecursion};
 ghost use Rattle.std.specs.Str.{chars};
 ghost use Rattle.std.specs.Option.{option_copied};
 ghost use Rattle.gb_core.specs.Place.{segments};
@@ -17,6 +17,9 @@ use crate::shortcut::{
 
 /// More than the most items of a pattern: a place has at most 1,024 bytes.
 const MOST_ITEMS: usize = 1025;
+
+/// More than the items of a pattern of at most 64 bytes, for which fewer flags are cleared.
+const FEW_ITEMS: usize = 65;
 
 /// One pass along a pattern, as one more element of the text is read.
 #[derive(Clone, Copy)]
@@ -101,10 +104,24 @@ fn wild_matches(pattern: &str, text: &str) -> bool
     requires { length pattern.now ≤ 1024 }
     ensures { result ≡ wild_matches pattern.now text.now }
 {
-    let mut states = [false; MOST_ITEMS];
-    let mut matched = read_character(&mut states, pattern, None);
+    if pattern.len() < FEW_ITEMS {
+        let mut states = [false; FEW_ITEMS];
+        characters_match(&mut states, pattern, text)
+    } else {
+        let mut states = [false; MOST_ITEMS];
+        characters_match(&mut states, pattern, text)
+    }
+}
+
+/// The same with these flags, more than the pattern has bytes and none of them set.
+fn characters_match(states: &mut [bool], pattern: &str, text: &str) -> bool
+    requires fit { length pattern.now < length states.now }
+    requires none { AllByRecursion (λ stands. stands ≡ false) states.now }
+    ensures { result ≡ wild_matches pattern.now text.now }
+{
+    let mut matched = read_character(states, pattern, None);
     for character in text.chars() {
-        matched = read_character(&mut states, pattern, Some(character));
+        matched = read_character(states, pattern, Some(character));
     }
     matched
 }
@@ -167,10 +184,25 @@ fn steps_match(pattern: &str, path: &str) -> bool
     requires { length pattern.now ≤ 1024 }
     ensures { result ≡ path_matches pattern.now path.now }
 {
-    let mut states = [false; MOST_ITEMS];
-    let mut matched = read_segment(&mut states, pattern, None);
+    if pattern.len() < FEW_ITEMS {
+        let mut states = [false; FEW_ITEMS];
+        segments_match(&mut states, pattern, path)
+    } else {
+        let mut states = [false; MOST_ITEMS];
+        segments_match(&mut states, pattern, path)
+    }
+}
+
+/// The same with these flags, more than the pattern has bytes and none of them set.
+fn segments_match(states: &mut [bool], pattern: &str, path: &str) -> bool
+    requires short { length pattern.now ≤ 1024 }
+    requires fit { length pattern.now < length states.now }
+    requires none { AllByRecursion (λ stands. stands ≡ false) states.now }
+    ensures { result ≡ path_matches pattern.now path.now }
+{
+    let mut matched = read_segment(states, pattern, None);
     for segment in path.split('/') {
-        matched = read_segment(&mut states, pattern, Some(segment));
+        matched = read_segment(states, pattern, Some(segment));
     }
     matched
 }
