@@ -15,20 +15,20 @@ use Rattle.gb_tree.specs.Pattern.{ends_of, front_of, is_double_star, is_wild, ma
 
 -- ---- Segments without wild bytes
 
-abbrev is_plain : List ℕ → Bool
+abbrev pub is_plain : List ℕ → Bool
 is_plain text = not (list_any is_wild text)
 
 pub plain_from : (text : List ℕ) → list_any is_wild text ≡ false → is_plain text ≡ true
 plain_from text none = ap not none
 
-no_double : (segment : List ℕ) → is_plain segment ≡ true → is_double_star segment ≡ false
+pub no_double : (segment : List ℕ) → is_plain segment ≡ true → is_double_star segment ≡ false
 no_double segment plain = by (is_double_star segment) refl
   where
     by : (b : Bool) → is_double_star segment ≡ b → b ≡ false
     by false is = refl
     by true is = absurd (false≢true (sym (ap is_plain ((bytes_decides segment (codes "**")).0 is)) ∙ plain))
 
-same_segment : (segment text : List ℕ) → is_plain segment ≡ true → segment_matches segment text ≡ true → segment ≡ text
+pub same_segment : (segment text : List ℕ) → is_plain segment ≡ true → segment_matches segment text ≡ true → segment ≡ text
 same_segment segment text plain matched =
     (bytes_decides segment text).0 (sym (ap (λ b. cond b (wild_matches segment text) (bytes_eq segment text)) (not-true (list_any is_wild segment) plain)) ∙ matched)
 
@@ -51,7 +51,7 @@ onto_plain c [] tame all = ap (λ b. not (b || false) && true) tame
 onto_plain c (part ∷ parts) tame all =
     ap (λ b. not (b || list_any is_wild part) && list_all is_plain parts) tame ∙ all
 
-segments_plain : (text : List ℕ) → list_any is_wild text ≡ false → list_all is_plain (segments text) ≡ true
+pub segments_plain : (text : List ℕ) → list_any is_wild text ≡ false → list_all is_plain (segments text) ≡ true
 segments_plain [] none = refl
 segments_plain (c ∷ text) none =
     let parts = or_parts (is_wild c) (list_any is_wild text) none in
@@ -62,7 +62,7 @@ segments_plain (c ∷ text) none =
     ]
 
 -- a path whose segments begin with those of a folder is at it or under it
-under_folder : (path folder : List ℕ) (more : List (List ℕ)) → segments path ≡ segments folder ++ more → is_under path folder ≡ true
+pub under_folder : (path folder : List ℕ) (more : List (List ℕ)) → segments path ≡ segments folder ++ more → is_under path folder ≡ true
 under_folder path folder [] same =
     let is : path ≡ folder = sym (join_with_byte-slice_split 47 path) ∙ ap (join_with_byte 47) (same ∙ with_none (segments folder)) ∙ join_with_byte-slice_split 47 folder in
     ap (λ b. b || is_beneath path folder) ((bytes_decides path folder).1 is)
@@ -78,7 +78,7 @@ under_folder path folder (first ∷ rest) same = either (bytes_eq path folder) (
 
 -- ---- The front of a pattern
 
-behind_first : (front back : List ℕ) (path : List ℕ) → list_any is_wild front ≡ false → path_matches (front ++ 47 ∷ back) path ≡ true → is_under path front ≡ true
+pub behind_first : (front back : List ℕ) (path : List ℕ) → list_any is_wild front ≡ false → path_matches (front ++ 47 ∷ back) path ≡ true → is_under path front ≡ true
 behind_first front back path none matched =
     let found = begins_with (segments front) (segments back) (segments path) (segments_plain front none)
     (sym (ap (λ parts. matches_by is_double_star segment_matches parts (segments path)) (segments-joined front back)) ∙ matched) in

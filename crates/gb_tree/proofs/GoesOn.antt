@@ -24,7 +24,7 @@ none_read any fits p ps (x ∷ xs) is =
     again false b = refl
 
 -- it matches nothing, or the next element and more
-unrolled : {P X : Type 0} (any : P → Bool) (fits : P → X → Bool) (p : P) (ps : List P) (x : X) (xs : List X) → any p ≡ true
+pub unrolled : {P X : Type 0} (any : P → Bool) (fits : P → X → Bool) (p : P) (ps : List P) (x : X) (xs : List X) → any p ≡ true
     → matches_by any fits (p ∷ ps) (x ∷ xs) ≡ (matches_by any fits ps (x ∷ xs) || matches_by any fits (p ∷ ps) xs)
 unrolled any fits p ps x xs is =
     ap (λ b. cond b (matches_by any fits ps (x ∷ xs) || list_any (matches_by any fits ps) (ends_of xs)) (fits p x && matches_by any fits ps xs)) is

@@ -23,3 +23,4 @@ pub mod Outermost
 pub mod Starting
 pub mod Above
 pub mod Small
+pub mod Comparing

@@ -37,5 +37,6 @@ pub mod prints;
 pub mod property;
 mod reading;
 mod seeing;
+mod shortcut;
 mod starts;
 mod waiting;

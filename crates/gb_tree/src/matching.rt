@@ -2,8 +2,8 @@
 //!
 //! The text is read from the left, once. For each item of the pattern one flag records whether a
 //! match of the text read so far can end before the item, so no choice is tried twice.
-ghost use Rattle.std.specs.Prelude.{◌≡◌, ◌≤◌, ◌&&◌, ◌||◌, if◌then◌else◌, false, length};
-ghost use Rattle.std.specs.List.{list_any};
+ghost use Rattle.std.specs.Prelude.{◌≡◌, ◌≤◌, ◌<◌, ◌&&◌, ◌||◌, if◌then◌else◌, false, length};
+ghost use Rattle.std.specs.List.{list_any, AllByRecursion};
 ghost use Rattle.std.specs.Str.{chars};
 ghost use Rattle.std.specs.Option.{option_copied};
 ghost use Rattle.gb_core.specs.Place.{segments};
@@ -11,8 +11,15 @@ ghost use Rattle.gb_tree.specs.Pattern.{is_double_star, is_star, is_wild, path_m
 ghost use Rattle.gb_tree.specs.Pattern.{segment_matches, stands_for, wild_matches};
 ghost use Rattle.gb_tree.specs.Passes.{pass, fits_read, is_start};
 
+use crate::shortcut::{
+    after_folders, after_star, before_all, has_wild, is_double_star, is_under, last_of,
+};
+
 /// More than the most items of a pattern: a place has at most 1,024 bytes.
 const MOST_ITEMS: usize = 1025;
+
+/// More than the items of a pattern of at most 64 bytes, for which fewer flags are cleared.
+const FEW_ITEMS: usize = 65;
 
 /// One pass along a pattern, as one more element of the text is read.
 #[derive(Clone, Copy)]
@@ -83,18 +90,13 @@ fn segment_matches(pattern: &str, text: &str) -> bool
     requires { length pattern.now ≤ 1024 }
     ensures { result ≡ segment_matches pattern.now text.now }
 {
-    if has_wild(pattern) {
-        wild_matches(pattern, text)
-    } else {
-        pattern == text
+    if !has_wild(pattern) {
+        return pattern == text;
     }
-}
-
-/// Whether the text contains a `*` or a `?`.
-pub(crate) fn has_wild(text: &str) -> bool
-    ensures { result ≡ list_any is_wild text.now }
-{
-    text.as_bytes().iter().any(|b| *b == b'*' || *b == b'?')
+    match after_star(pattern) {
+        Some(end) => text.ends_with(end),
+        None => wild_matches(pattern, text),
+    }
 }
 
 /// Whether the text matches a segment with `*` and `?`.
@@ -102,10 +104,24 @@ fn wild_matches(pattern: &str, text: &str) -> bool
     requires { length pattern.now ≤ 1024 }
     ensures { result ≡ wild_matches pattern.now text.now }
 {
-    let mut states = [false; MOST_ITEMS];
-    let mut matched = read_character(&mut states, pattern, None);
+    if pattern.len() < FEW_ITEMS {
+        let mut states = [false; FEW_ITEMS];
+        characters_match(&mut states, pattern, text)
+    } else {
+        let mut states = [false; MOST_ITEMS];
+        characters_match(&mut states, pattern, text)
+    }
+}
+
+/// The same with these flags, more than the pattern has bytes and none of them set.
+fn characters_match(states: &mut [bool], pattern: &str, text: &str) -> bool
+    requires fit { length pattern.now < length states.now }
+    requires none { AllByRecursion (λ stands. stands ≡ false) states.now }
+    ensures { result ≡ wild_matches pattern.now text.now }
+{
+    let mut matched = read_character(states, pattern, None);
     for character in text.chars() {
-        matched = read_character(&mut states, pattern, Some(character));
+        matched = read_character(states, pattern, Some(character));
     }
     matched
 }
@@ -134,12 +150,6 @@ fn read_segment(states: &mut [bool], pattern: &str, read: Option<&str>) -> bool
     pass.entered
 }
 
-fn is_double_star(item: &str) -> bool
-    ensures { result ≡ is_double_star item.now }
-{
-    item == "**"
-}
-
 /// Whether the segment that was read matches this one of a pattern; evaluated only where a match is
 /// before it.
 fn fits_here(here: bool, item: &str, read: Option<&str>) -> bool
@@ -157,10 +167,42 @@ pub fn path_matches(pattern: &str, path: &str) -> bool
     requires { length pattern.now ≤ 1024 }
     ensures { result ≡ path_matches pattern.now path.now }
 {
-    let mut states = [false; MOST_ITEMS];
-    let mut matched = read_segment(&mut states, pattern, None);
+    if !has_wild(pattern) {
+        return pattern == path;
+    }
+    if let Some(item) = after_folders(pattern) {
+        return segment_matches(item, last_of(path));
+    }
+    match before_all(pattern) {
+        Some(folder) => is_under(path, folder),
+        None => steps_match(pattern, path),
+    }
+}
+
+/// Whether the path matches the pattern, by steps along both.
+fn steps_match(pattern: &str, path: &str) -> bool
+    requires { length pattern.now ≤ 1024 }
+    ensures { result ≡ path_matches pattern.now path.now }
+{
+    if pattern.len() < FEW_ITEMS {
+        let mut states = [false; FEW_ITEMS];
+        segments_match(&mut states, pattern, path)
+    } else {
+        let mut states = [false; MOST_ITEMS];
+        segments_match(&mut states, pattern, path)
+    }
+}
+
+/// The same with these flags, more than the pattern has bytes and none of them set.
+fn segments_match(states: &mut [bool], pattern: &str, path: &str) -> bool
+    requires short { length pattern.now ≤ 1024 }
+    requires fit { length pattern.now < length states.now }
+    requires none { AllByRecursion (λ stands. stands ≡ false) states.now }
+    ensures { result ≡ path_matches pattern.now path.now }
+{
+    let mut matched = read_segment(states, pattern, None);
     for segment in path.split('/') {
-        matched = read_segment(&mut states, pattern, Some(segment));
+        matched = read_segment(states, pattern, Some(segment));
     }
     matched
 }
