@@ -1,5 +1,6 @@
 -- What an execution did, over any folder: what it read, and the calls of its stages.
-use Rattle.std.specs.Prelude.{ℕ, ◌≡◌, ◌⊎◌, Bool, true, false, List, [], map, Option, Some, Err, IsTrue, is_some}
+use Rattle.std.specs.Prelude.{ℕ, ◌≡◌, ◌⊎◌, Bool, true, false, List, [], map, Option, Some, Err}
+use Rattle.std.specs.Prelude.{IsTrue, is_some}
 use Rattle.gb_action.specs.Changes.{Changes}
 use Rattle.gb_action.specs.Files.{Trees}
 use Rattle.gb_action.specs.Meanings.{Meanings}
@@ -56,7 +57,8 @@ module _ {F : Type 0} (failures : F → ℕ) (may_leave : F → Tearing)
   -- no change was requested and no line printed, and it ended with a fault
   abbrev pub OnlyRead : List Text → Ending → F → F → Type 0
   OnlyRead lines result first new =
-      Asks failures may_leave asked no_change first new × (lines ≡ []) × (fault : Fault) × (result ≡ Err fault)
+      Asks failures may_leave asked no_change first new × (lines ≡ []) × (fault : Fault)
+      × (result ≡ Err fault)
 
   -- the task was found without source, and then what is left of its last execution was removed
   abbrev pub WasCleared : Task → Bool → List Text → Ending → F → F → Type 0
