@@ -4,7 +4,7 @@
     bench/pictures.py          writes them
     bench/pictures.py --check  fails if one differs from what would be written
 
-layers: the crates by their groups in crates.txt. turn: the outcome of a task. record: the record of a task at
+layers: the crates by their groups in crates.txt. execution: the outcome of a task. record: the record of a task at
 each point where a build may stop. From bench/figures.json: cost, the cost of layouts compared with sha256sum;
 growth, the same by the number of tasks; peers, the cost of other tools.
 """
@@ -126,7 +126,7 @@ RUNS = [
 ]
 
 
-def turn():
+def execution():
     """A question below another, each with the label for yes."""
     picture = Picture(840)
     y = 12
@@ -294,7 +294,7 @@ def main(words):
     os.makedirs(PICTURES, exist_ok=True)
     stale = []
     measured = {cost: "sums", growth: "sums", peers: "builds"}
-    for make in (layers, turn, record, *(it for it, figures in measured.items() if figures in kept())):
+    for make in (layers, execution, record, *(it for it, figures in measured.items() if figures in kept())):
         path = os.path.join(PICTURES, f"{make.__name__}.svg")
         text = make().svg()
         if words == ["--check"]:
