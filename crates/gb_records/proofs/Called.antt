@@ -1,6 +1,6 @@
 -- The call that deletes or stores a record, or none, by what the code goes through.
-use Rattle.std.specs.Prelude.{◌≡◌, ◌⊎◌, Bool, true, false, not, ◌||◌, List, [], ◌∷◌, Ok, Err, Some, IsTrue}
-use Rattle.std.proofs.Common.{refl, sym, ap, subst, ◌∙◌, inl, inr}
+use Rattle.std.specs.Prelude.{◌≡◌, Bool, true, false, not, ◌||◌, List, [], ◌∷◌, Ok, Err, Some, IsTrue}
+use Rattle.std.proofs.Common.{refl, sym, ap, subst, inl, inr}
 use Rattle.gb_core.specs.Place.{is_place}
 use Rattle.gb_folder.specs.Calls.{Call, Removes, Writes}
 use Rattle.gb_folder.specs.Device.{Device, IsCalled, Leads}

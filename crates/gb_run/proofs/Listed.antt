@@ -1,5 +1,5 @@
 -- Outputs listed and emptied, by their calls.
-use Rattle.std.specs.Prelude.{◌≡◌, ◌⊎◌, ◌++◌, List, [], ◌∷◌, Result, Ok, Err}
+use Rattle.std.specs.Prelude.{◌≡◌, ◌++◌, List, [], ◌∷◌, Result, Ok, Err}
 use Rattle.std.proofs.Common.{refl, sym, ap, subst, inl, inr}
 use Rattle.std.proofs.lemmas.List.{append-nil}
 use Rattle.std.specs.Global.{Global}
@@ -14,9 +14,7 @@ use Rattle.gb_folder.proofs.Leading.{leads_on, leads_once}
 use Rattle.gb_plan.specs.declared.task.Output.{Output}
 use Rattle.gb_report.specs.declared.fault.Fault.{Fault}
 use Rattle.gb_report.specs.declared.fault.Fault.TheVariants as faults
-use Rattle.gb_store.specs.Faults.{reported_at}
 use Rattle.gb_store.specs.Removals.{IsListed, Removals, WasListed}
-use Rattle.gb_run.specs.Doing.{OrEnds}
 use Rattle.gb_run.specs.Emptying.{Emptying, IsFound, Listing}
 
 module _ {F : Type 0} (device : Device F) (output : Output) (old new : F) where

@@ -6,8 +6,6 @@ use Rattle.gb_folder.specs.Each.{Ended}
 use Rattle.gb_folder.specs.Files.{Place}
 use Rattle.gb_folder.specs.Limits.{max_file}
 use Rattle.gb_folder.specs.Semantics.{Answer}
-use Rattle.gb_folder.specs.declared.folder.FolderFault.{FolderFault}
-use Rattle.gb_folder.specs.declared.folder.FolderFault.TheVariants as folders
 use Rattle.gb_report.specs.declared.fault.Fault.{Fault}
 use Rattle.gb_report.specs.declared.fault.Fault.TheVariants as faults
 use Rattle.gb_store.specs.Faults.{reported_at}

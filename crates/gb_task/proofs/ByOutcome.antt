@@ -1,5 +1,5 @@
 -- The execution of a task makes the calls that its outcome permits.
-use Rattle.std.specs.Prelude.{ℕ, ◌≡◌, ◌≢◌, ◌⊎◌, [], true, Err, IsTrue, List, Ok, Option, Some, Result, is_some}
+use Rattle.std.specs.Prelude.{ℕ, ◌≡◌, ◌≢◌, ◌⊎◌, [], true, Err, IsTrue, List, Ok, Option, Some, is_some}
 use Rattle.std.proofs.Common.{refl, subst, sym, ap, ◌∙◌, inl, inr}
 use Rattle.gb_action.specs.Changes.{Changes}
 use Rattle.gb_action.specs.Meanings.{Meanings}
@@ -16,7 +16,6 @@ use Rattle.gb_plan.specs.Ready.{Rows}
 use Rattle.gb_plan.specs.Task.{Text}
 use Rattle.gb_plan.specs.declared.task.TaskDeclaration.{TaskDeclaration as Task}
 use Rattle.gb_report.specs.Outcome.{is_started}
-use Rattle.gb_report.specs.declared.fault.Fault.{Fault}
 use Rattle.gb_report.specs.declared.report.Options.{Options}
 use Rattle.gb_report.specs.declared.report.Outcome.{Outcome}
 use Rattle.gb_report.specs.declared.report.Outcome.TheVariants as outcomes
@@ -26,7 +25,7 @@ use Rattle.gb_task.specs.ByOutcome.{ExecutionAsks}
 use Rattle.gb_task.specs.Current.{IsReportedCurrent}
 use Rattle.gb_task.specs.Executing.{cleared_outcome, is_of_execution, outcome_of}
 use Rattle.gb_task.specs.Executions.{goes_by_changes}
-use Rattle.gb_task.specs.Ran.{EndsAs, OnlyRead, RanByChanges, RanFrom, RanInFull, WasCleared, WasRun}
+use Rattle.gb_task.specs.Ran.{EndsAs, OnlyRead, RanFrom, WasCleared, WasRun}
 use Rattle.gb_task.proofs.Places.{at_changes, at_clearing, at_full, done_places}
 
 -- an incremental run has one writer

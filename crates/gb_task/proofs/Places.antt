@@ -1,6 +1,6 @@
 -- The stages of an execution change files at the outputs and the record of the task alone.
-use Rattle.std.specs.Prelude.{ℕ, ◌≡◌, ◌≢◌, ◌⊎◌, ◌||◌, ◌++◌, Bool, true, false, List, [], ◌∷◌, Result, Ok, Err, IsTrue}
-use Rattle.std.specs.List.{AllByRecursion, AllPass, list_all}
+use Rattle.std.specs.Prelude.{ℕ, ◌≡◌, ◌≢◌, ◌⊎◌, ◌||◌, ◌++◌, Bool, true, false, List, [], ◌∷◌, Result, Ok, Err}
+use Rattle.std.specs.List.{AllByRecursion, list_all}
 use Rattle.std.specs.Cmp.Lexicographic.{bytes_decides}
 use Rattle.std.proofs.Common.{refl, sym, ap, subst, ◌∙◌, inl, inr}
 use Rattle.std.proofs.lemmas.Bool.{and_from, and_parts}
@@ -20,6 +20,8 @@ use Rattle.gb_folder.specs.declared.folder.FolderFault.{FolderFault}
 use Rattle.gb_folder.proofs.Leading.{asks_of}
 use Rattle.gb_history.specs.Places.{record_place}
 use Rattle.gb_history.specs.Record.{Record}
+use Rattle.gb_history.specs.Text.{record_text}
+use Rattle.gb_meaning.specs.Events.{max_record}
 use Rattle.gb_plan.specs.Ready.{Rows}
 use Rattle.gb_plan.specs.Task.{Text, is_output_of}
 use Rattle.gb_plan.specs.declared.task.Output.{Output}
@@ -35,7 +37,7 @@ use Rattle.gb_store.specs.Changes.{is_at}
 use Rattle.gb_store.specs.Removals.{Removal, Removals}
 use Rattle.gb_task.specs.Executing.{is_of_execution}
 use Rattle.gb_task.specs.Ran.{AreAnswered, WasDone}
-use Rattle.gb_task.specs.Stages.{Clears, DeletesRecord, FullRun, IsOfFullRun, IsOfRunByChanges, RunByChanges, Silently, Stage, Stores, StoresRecord, StoresUnless, Then, WritesAll, WritesChanges}
+use Rattle.gb_task.specs.Stages.{Clears, DeletesRecord, FullRun, IsOfFullRun, IsOfRunByChanges, RunByChanges, Silently, Stage, Stores, StoresUnless, Then, WritesAll, WritesChanges}
 
 -- the record's place is one of the execution's
 at_record : (task : Task) → is_of_execution task (record_place task.path) ≡ true
@@ -92,26 +94,26 @@ module _ (test : Place → Bool) where
   removals_may (place ∷ places) calls made result all removes =
       let parts = and_parts (test place) (list_all test places) all in
       subst (λ (cs : List Call). AllByRecursion May cs) (sym removes.5)
-      (all_append May removes.0 removes.1 (one removes.0 removes.2 removes.4 parts.0 removes.7) (rest removes.4 parts.1 removes.8))
+      (all_append May removes.0 removes.1 (one removes.0 removes.2 removes.4 parts.0 removes.7) (rest removes.4 removes.8 (λ h. removals_may places removes.1 removes.3 result parts.1 h)))
     where
       one : (here : List Call) (some : List (Unit {0})) (mid : Ended Fault) → test place ≡ true → Removal place here some mid → AllByRecursion May here
       one here some mid passes (none, inl memory) = subst (λ (cs : List Call). AllByRecursion May cs) (sym memory.0) tt
       one here some mid passes (none, inr called) = subst (λ (cs : List Call). AllByRecursion May cs) (sym called.1) (removes_may place called.0 passes, tt)
 
-      rest : (mid : Ended Fault) → list_all test places ≡ true → OrStops mid (Each Removal places removes.1 removes.3 result) removes.1 removes.3 result → AllByRecursion May removes.1
-      rest (Ok done) more h = removals_may places removes.1 removes.3 result more h
-      rest (Err fault) more h = subst (λ (cs : List Call). AllByRecursion May cs) (sym h.0) tt
+      rest : (mid : Ended Fault) → OrStops mid (Each Removal places removes.1 removes.3 result) removes.1 removes.3 result → (Each Removal places removes.1 removes.3 result → AllByRecursion May removes.1) → AllByRecursion May removes.1
+      rest (Ok done) h goes = goes h
+      rest (Err fault) h goes = subst (λ (cs : List Call). AllByRecursion May cs) (sym h.0) tt
 
   -- a listing changes nothing
   listings_may : (outputs : List Output) (calls : List Call) (places : List Place) (result : Ended Fault) → Each Listing outputs calls places result → AllByRecursion May calls
   listings_may [] calls places result lists = subst (λ (cs : List Call). AllByRecursion May cs) (sym lists.0) tt
   listings_may (output ∷ outputs) calls places result lists =
       subst (λ (cs : List Call). AllByRecursion May cs) (sym lists.5)
-      (all_append May lists.0 lists.1 (subst (λ (cs : List Call). AllByRecursion May cs) (sym lists.7.1) (tt, tt)) (rest lists.4 lists.8))
+      (all_append May lists.0 lists.1 (subst (λ (cs : List Call). AllByRecursion May cs) (sym lists.7.1) (tt, tt)) (rest lists.4 lists.8 (λ h. listings_may outputs lists.1 lists.3 result h)))
     where
-      rest : (mid : Ended Fault) → OrStops mid (Each Listing outputs lists.1 lists.3 result) lists.1 lists.3 result → AllByRecursion May lists.1
-      rest (Ok done) h = listings_may outputs lists.1 lists.3 result h
-      rest (Err fault) h = subst (λ (cs : List Call). AllByRecursion May cs) (sym h.0) tt
+      rest : (mid : Ended Fault) → OrStops mid (Each Listing outputs lists.1 lists.3 result) lists.1 lists.3 result → (Each Listing outputs lists.1 lists.3 result → AllByRecursion May lists.1) → AllByRecursion May lists.1
+      rest (Ok done) h goes = goes h
+      rest (Err fault) h goes = subst (λ (cs : List Call). AllByRecursion May cs) (sym h.0) tt
 
 -- ---- what is listed is at the outputs
 
@@ -122,7 +124,7 @@ found_under {F = F} device (output ∷ outputs) calls places old new led lists =
     ap (list_all (is_at_output (output ∷ outputs))) lists.6 ∙ list_all-append (is_at_output (output ∷ outputs)) lists.2 lists.3
     ∙ and_from _ _
     (list_all_wider (λ place. is_under place output.place) (is_at_output (output ∷ outputs)) (λ place is. ap (λ b. b || is_at_output outputs place) is) lists.2 (here lists.4 lists.7 lists.8))
-    (list_all_wider (is_at_output outputs) (is_at_output (output ∷ outputs)) (λ place is. or_right (is_under place output.place) (is_at_output outputs place) is) lists.3 (rest lists.4 lists.8))
+    (list_all_wider (is_at_output outputs) (is_at_output (output ∷ outputs)) (λ place is. or_right (is_under place output.place) (is_at_output outputs place) is) lists.3 (rest lists.4 lists.8 (λ h. found_under device outputs lists.1 lists.3 parts.0 new parts.2 h)))
   where
     parts : (mid : F) × Leads device old lists.0 mid × Leads device mid lists.1 new
     parts = leads_split device lists.0 lists.1 old new (subst (λ (cs : List Call). Leads device old cs new) lists.5 led)
@@ -139,9 +141,10 @@ found_under {F = F} device (output ∷ outputs) calls places old new led lists =
     here (Ok done) listing h = elim (well listing.0 listing.1 (Ok done) listing.2) [ inl never ↦ absurd (never refl) | inr all ↦ all ]
     here (Err fault) listing h = absurd (let e = h.2 in (cc))
 
-    rest : (mid : Ended Fault) → OrStops mid (Each Listing outputs lists.1 lists.3 (Ok tt)) lists.1 lists.3 (Ok tt) → list_all (is_at_output outputs) lists.3 ≡ true
-    rest (Ok done) h = found_under device outputs lists.1 lists.3 parts.0 new parts.2 h
-    rest (Err fault) h = absurd (let e = h.2 in (cc))
+    rest : (mid : Ended Fault) → OrStops mid (Each Listing outputs lists.1 lists.3 (Ok tt)) lists.1 lists.3 (Ok tt) → (Each Listing outputs lists.1 lists.3 (Ok tt) → list_all (is_at_output outputs) lists.3 ≡ true)
+        → list_all (is_at_output outputs) lists.3 ≡ true
+    rest (Ok done) h goes = goes h
+    rest (Err fault) h goes = absurd (let e = h.2 in (cc))
 
 -- ---- the stages
 
@@ -180,7 +183,8 @@ module _ {F : Type 0} (failures : F → ℕ) (may_leave : F → Tearing) (asked 
 
   storing_at : (run : Record) (calls : List Call) (ended : Ended Unwritten) → Storing task.path run calls ended → At calls
   storing_at run calls ended (inl hindered) = none_at calls hindered.0
-  storing_at run calls ended (inr called) = one_at calls (Writes (record_place task.path) _ _ called.0) called.1 (writes_may (is_of_execution task) (record_place task.path) _ _ called.0 (at_record task))
+  storing_at run calls ended (inr called) = one_at calls (Writes (record_place task.path) (record_text task.path run) max_record called.0) called.1
+      (writes_may (is_of_execution task) (record_place task.path) (record_text task.path run) max_record called.0 (at_record task))
 
   stores_by : (none : Bool) (run : Record) (calls : List Call) (result : Ending) → StoresUnless none task.path run calls result → At calls
   stores_by true run calls result stores = none_at calls stores.0
@@ -212,11 +216,11 @@ module _ {F : Type 0} (failures : F → ℕ) (may_leave : F → Tearing) (asked 
 
   -- what is at an output is at a place of the execution
   outputs_at : (calls : List Call) → AreAtOutputs task calls → At calls
+  unfolding changes_at
   outputs_at [] all = tt
   outputs_at (call ∷ calls) all = (by call all.0, outputs_at calls all.1)
     where
       by : (c : Call) → May (is_output_of task) c → May (is_of_execution task) c
-      unfolding changes_at
       by (Lists root answer) may = tt
       by (Reads place limit answer) may = tt
       by (ReadsPart place at len answer) may = tt

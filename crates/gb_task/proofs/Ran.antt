@@ -1,15 +1,8 @@
 -- Calls that were answered, over any folder.
-use Rattle.std.specs.Prelude.{ℕ, ◌≡◌, Bool, true, false, List, [], ◌∷◌, Result, Ok, Err, OnOk, cond}
-use Rattle.std.proofs.Common.{refl, sym, subst}
-use Rattle.gb_folder.specs.Calls.{Call, Writes}
+use Rattle.std.specs.Prelude.{ℕ, Bool, false, List, [], ◌∷◌}
+use Rattle.gb_folder.specs.Calls.{Call}
 use Rattle.gb_folder.specs.Device.{Device, IsCalled, Leads, device_of}
-use Rattle.gb_folder.specs.Files.{Contents, Tearing, is_empty}
-use Rattle.gb_history.specs.Places.{record_place}
-use Rattle.gb_history.specs.Record.{Record}
-use Rattle.gb_history.specs.Text.{record_text}
-use Rattle.gb_plan.specs.declared.task.TaskDeclaration.{TaskDeclaration as Task}
-use Rattle.gb_report.specs.declared.fault.Fault.{Fault}
-use Rattle.gb_report.specs.declared.report.Outcome.TheVariants as outcomes
+use Rattle.gb_folder.specs.Files.{Contents, Tearing}
 use Rattle.gb_task.specs.Ran.{AreAnswered}
 
 module _ {F : Type 0} (failures : F → ℕ) (may_leave : F → Tearing) (asked : F → Call → F → Type 0) where

@@ -1,6 +1,6 @@
 -- Stages one after another: what was cleared, written and stored, as one run.
-use Rattle.std.specs.Prelude.{◌≡◌, ◌⊎◌, ◌++◌, Bool, true, false, List, [], Ok, Err}
-use Rattle.std.proofs.Common.{refl, sym, ap, subst, ◌∙◌, inl, inr}
+use Rattle.std.specs.Prelude.{◌≡◌, ◌++◌, Bool, true, false, List, [], Ok, Err}
+use Rattle.std.proofs.Common.{refl, sym, subst, inl, inr}
 use Rattle.std.proofs.lemmas.List.{append-nil}
 use Rattle.gb_action.specs.Changes.{Changes}
 use Rattle.gb_action.specs.Files.{Trees}
@@ -16,7 +16,6 @@ use Rattle.gb_plan.specs.Ready.{Rows}
 use Rattle.gb_plan.specs.Task.{Path, Text}
 use Rattle.gb_plan.specs.declared.task.TaskDeclaration.{TaskDeclaration as Task}
 use Rattle.gb_records.specs.Called.{Deletion, Storing}
-use Rattle.gb_records.specs.Faults.{reported_of}
 use Rattle.gb_records.specs.declared.fault.Unwritten.{Unwritten}
 use Rattle.gb_report.specs.declared.fault.Fault.{Fault}
 use Rattle.gb_report.specs.declared.fault.Fault.TheVariants as faults
@@ -83,7 +82,7 @@ module _ {F : Type 0} (device : Device F) where
   -- ---- actions, and then the record
 
   module _ (task : Task) (writes : Stage) (IsRight : Record → Type 0) where
-    after : Stage
+    abbrev after : Stage
     after = Then writes (Stores task IsRight)
 
     -- the run of the actions failed, or memory ran out for the record
@@ -104,7 +103,7 @@ module _ {F : Type 0} (device : Device F) where
     -- ---- a run in full
 
     module _ (was_read : Bool) where
-      rest : Stage
+      abbrev rest : Stage
       rest = Then (WritesAll meanings rows task trees) (Stores task (IsOfFullRun meanings rows task trees))
 
       -- memory ran out before it
@@ -125,7 +124,7 @@ module _ {F : Type 0} (device : Device F) where
     -- ---- a run by changes
 
     module _ (changes : List Changes) (seen : List OutputFiles) where
-      behind : Stage
+      abbrev behind : Stage
       behind = Then (WritesChanges meanings rows task trees changes seen) (Stores task (IsOfRunByChanges meanings rows task trees changes seen))
 
       pub changes_kept : (old new : F) (lines : List Text) (fault : Fault) → lines ≡ [] → QuietLed (DeletesRecord task.path true) old (Err fault) new → StageLed (RunByChanges meanings rows task trees changes seen) old lines (Err fault) new

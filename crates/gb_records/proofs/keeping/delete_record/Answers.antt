@@ -105,4 +105,4 @@ returns-in_err-place-clause-calls g c =
     let F = g.F.Folder in
     let p = err_from_is_err_and c.from_residual.result c.from_residual.ensures.1 in
     at_err (λ (r : Ended Unwritten). DeletionLed F.device c.args.path.now c.args.was_read c.args.folder.now r c.args.folder.now) c.from_residual.result p.0 c.in_err-place.field-0.0 p.1 p.2
-    (deletion_hindered F.device c.args.path.now c.args.was_read c.args.folder.now c.in_err-place.field-0.0 c.if-not-was_read.false c.in_err-place.ensures.shut)
+    (deletion_hindered F.device c.args.path.now c.args.was_read c.args.folder.now c.in_err-place.field-0.0 c.if-not-was_read.false (λ e. c.in_err-place.ensures.shut (ap Err e)))

@@ -1,8 +1,7 @@
-use Rattle.std.proofs.Common.{◌≡◌, ◌≤◌, length, Err, Ok, Some, refl, ap, subst, sym, ◌∙◌, arith}
+use Rattle.std.proofs.Common.{◌≡◌, ◌<◌, ◌≤◌, length, Err, Ok, Some, ap, subst, sym, ◌∙◌, arith}
 use Rattle.gb_folder.specs.Calls.{Writes}
 use Rattle.gb_folder.specs.Device.{IsCalled}
-use Rattle.gb_folder.specs.Files.{Bytes, Place, with_file}
-use Rattle.gb_folder.specs.Semantics.{Answer}
+use Rattle.gb_folder.specs.Files.{with_file}
 use Rattle.gb_folder.proofs.Exact.{change_failed, writes_well, wrote}
 use Rattle.gb_folder.specs.declared.folder.FolderFault.TheVariants as folders
 use Rattle.gb_meaning.specs.Events.{max_record}
@@ -15,6 +14,7 @@ use Rattle.gb_records.specs.declared.fault.Unwritten.TheVariants as unwritten
 use Rattle.gb_records.proofs.Called.{StoringLed, storing_called, storing_hindered, storing_too_long}
 use Rattle.gb_store.proofs.Machine.{at_err}
 use Rattle.std.proofs.lemmas.Result.{err_from_is_err_and}
+use Rattle.std.proofs.lemmas.Bool.{lt-ltb}
 use Rattle.gb_folder.specs.Each.{Ended}
 use Rattle.gb_records.specs.Standing.{StandsWith}
 use Rattle.gb_records.proofs.Calls.{LeftAt, put, stands_in, text_said}
@@ -113,12 +113,17 @@ returns-in_err-text-clause-calls g c =
     at_err (λ (r : Ended Unwritten). StoringLed F.device c.args.path.now c.args.run.now c.args.folder.now r c.args.folder.now) c.from_residual.result p.0 unwritten.OutOfMemory p.1 p.2
     (storing_hindered F.device c.args.path.now c.args.run.now c.args.folder.now unwritten.OutOfMemory (λ e. absurd (cc)))
 
-pub returns-then-clause-calls : goal.returns-then-clause-calls
-returns-then-clause-calls g c = ?
+pub returns-then-len-gt-MAX_RECORD-clause-calls : goal.returns-then-len-gt-MAX_RECORD-clause-calls
+returns-then-len-gt-MAX_RECORD-clause-calls g c =
+    let path = c.args.path.now in
+    let run = c.args.run.now in
+    let long : length c.in_ok-text.text.items ≡ length (record_text path run) = ap length c.in_ok-text.ensures.text in
+    let above : max_record < length (record_text path run) = omega arith in
+    storing_too_long g.F.Folder.device path run c.args.folder.now (lt-ltb max_record (length (record_text path run)) above)
 
 pub returns-in_err-place-clause-calls : goal.returns-in_err-place-clause-calls
 returns-in_err-place-clause-calls g c =
     let F = g.F.Folder in
     let p = err_from_is_err_and c.from_residual-in_err-place.result c.from_residual-in_err-place.ensures.1 in
     at_err (λ (r : Ended Unwritten). StoringLed F.device c.args.path.now c.args.run.now c.args.folder.now r c.args.folder.now) c.from_residual-in_err-place.result p.0 c.in_err-place.field-0.0 p.1 p.2
-    (storing_hindered F.device c.args.path.now c.args.run.now c.args.folder.now c.in_err-place.field-0.0 c.in_err-place.ensures.shut)
+    (storing_hindered F.device c.args.path.now c.args.run.now c.args.folder.now c.in_err-place.field-0.0 (λ e. c.in_err-place.ensures.shut (ap Err e)))

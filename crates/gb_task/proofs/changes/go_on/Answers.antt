@@ -1,4 +1,4 @@
-use Rattle.std.proofs.Common.{◌≡◌, ◌≤◌, ℕ, true, Result, Err, map, refl, sym, ap, subst, ◌∙◌, inl, inr}
+use Rattle.std.proofs.Common.{◌≡◌, ◌≤◌, ℕ, true, Result, Err, map, sym, ap, subst, ◌∙◌, inl, inr}
 use Rattle.std.proofs.lemmas.Result.{err_from_is_err_and}
 use Rattle.gb_folder.specs.Files.{Contents}
 use Rattle.gb_meaning.specs.Label.{Moment}
@@ -9,7 +9,6 @@ use Rattle.gb_label.specs.Reading.{seen_of}
 use Rattle.gb_task.specs.Recheck.{IsAsBefore, IsRecheck}
 use Rattle.gb_task.specs.Current.{WasReadRecheck}
 use Rattle.gb_task.specs.Executing.{HasExecuted, report_of, setting_with}
-use Rattle.gb_task.specs.declared.recheck.Recheck.TheVariants as recheck
 use Rattle.gb_task.proofs.ByChanges.{reading_failed}
 use Rattle.gb_task.proofs.Later.{comes_later, due_since, turned_before}
 use Rattle.gb_task.proofs.Recorded.{assumed_later}
@@ -44,7 +43,7 @@ returns-in-ByChanges-clause-execution g c = λ tells kinds registry_of plan mome
     let before = subst (IsAsBefore kinds c.args.options task (F.contents start).files moment.world) c.in-ByChanges.is (c.in_ok-inputs.ensures.as_before tells kinds moment.world at.folder read stood goes) in
     let report = report_of task c.go_by.result c.go_by.new.lines in
     turned_before kinds registry_of (F.may_leave start) (F.may_leave then) c.recheck_task.ensures.asks.tearing c.args.options plan task moment (F.failures then)
-    (subst (λ (n : ℕ). n ≤ F.failures then) (sym at.failures) c.recheck_task.ensures.asks.count) report (F.contents start) (F.failures now) (F.contents now) c.go_by.ensures.asks.count
+    (subst (λ (n : ℕ). n ≤ F.failures then) (sym at.failures) c.recheck_task.ensures.asks.count) report (F.contents start) (F.failures now) (F.contents now) c.go_by.ensures.count
     (subst (λ (folder : Contents). HasExecuted (setting_with kinds registry_of (F.may_leave then)) c.args.options plan task later report folder (F.failures now) (F.contents now)) same
     (c.go_by.ensures.execution tells kinds registry_of c.args.options plan later (assumed_later _ _ c.recheck_task.ensures.asks.tearing given) came
     (before.0 ∙ ap (λ (folder : Contents). trees_of task folder.files) (sym same))
@@ -77,9 +76,11 @@ returns-in-ByChanges-clause-ran g c = λ first before inputs outputs.
       then,
       record { asks = asks_then before c.recheck_task.ensures.asks; inputs = was.0; named = is_recheck.0.named },
       record { outputs = was.1; formed = is_recheck.1.formed; decided = is_recheck.2 },
-      ran.0,
-      all_answered F.failures F.may_leave F.asked F.tells F.contents F.device g.met.F.Folder.said ran.0 then c.go_by.new.folder ran.1,
-      ran.2,
+      (
+        ran.0,
+        all_answered F.failures F.may_leave F.asked F.tells F.contents F.device g.met.F.Folder.said ran.0 then c.go_by.new.folder ran.1,
+        ran.2,
+      ),
     ))
 
 pub returns-in-InFull-clause-ran : goal.returns-in-InFull-clause-ran
@@ -94,7 +95,9 @@ returns-in-InFull-clause-ran g c = λ first before inputs outputs.
       c.in-InFull.inputs.trees,
       then,
       record { asks = asks_then before c.recheck_task.ensures.asks; inputs = was; named = is_recheck.named },
-      ran.0,
-      all_answered F.failures F.may_leave F.asked F.tells F.contents F.device g.met.F.Folder.said ran.0 then c.run_on.new.folder ran.1,
-      ran.2,
+      (
+        ran.0,
+        all_answered F.failures F.may_leave F.asked F.tells F.contents F.device g.met.F.Folder.said ran.0 then c.run_on.new.folder ran.1,
+        ran.2,
+      ),
     ))

@@ -1,5 +1,5 @@
 use Rattle.std.specs.Prelude.{option_copied}
-use Rattle.std.proofs.Common.{◌≡◌, ◌≤◌, ℕ, Bool, sym, subst, ◌∙◌}
+use Rattle.std.proofs.Common.{◌≡◌, ◌≤◌, ℕ, Bool, List, sym, subst, ◌∙◌}
 use Rattle.gb_folder.specs.Files.{Contents}
 use Rattle.gb_label.specs.Preparing.{IsSeenFor}
 use Rattle.gb_meaning.specs.Label.{Moment}
@@ -102,10 +102,12 @@ returns-in-Sourceless-clause-asks g c =
       c.settle.new.folder,
       c.settle.ensures.asks,
       c.in-Sourceless.ensures.answered,
-      led.0,
-      all_answered F.failures F.may_leave F.asked F.tells F.contents F.device g.met.F.Folder.said led.0 c.settle.new.folder done.new.folder led.2,
-      subst (λ (b : Bool). Clears task b led.0 done.result.lines led.1) (c.is_some.ensures ∙ sym (copied_some c.args.last))
-          (subst (λ (ls : List Text). Clears task c.is_some.result led.0 ls led.1) (sym done.ensures.lines) led.3),
+      (
+        led.0,
+        all_answered F.failures F.may_leave F.asked F.tells F.contents F.device g.met.F.Folder.said led.0 c.settle.new.folder done.new.folder led.2,
+        subst (λ (b : Bool). Clears task b led.0 done.result.lines led.1) (c.is_some.ensures ∙ sym (copied_some c.args.last))
+            (subst (λ (ls : List Text). Clears task c.is_some.result led.0 ls led.1) (sym done.ensures.lines) led.3),
+      ),
     )
 
 pub returns-in-Due-clause-asks : goal.returns-in-Due-clause-asks

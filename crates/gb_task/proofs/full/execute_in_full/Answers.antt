@@ -1,4 +1,4 @@
-use Rattle.std.proofs.Common.{◌≡◌, not, refl, rules, sym, subst, ◌∙◌}
+use Rattle.std.proofs.Common.{◌≡◌, not, refl, rules, sym, subst}
 use Rattle.gb_folder.specs.Files.{is_empty}
 use Rattle.gb_report.specs.declared.report.TaskReport.{TaskReport}
 use Rattle.gb_task.specs.Executing.{HasExecuted, setting_with}

@@ -1,4 +1,4 @@
-use Rattle.std.proofs.Common.{◌≡◌, [], List, Some, Result, Ok, Err, IfErr, length, refl, rules, arith, sym, ap, subst, ◌∙◌, inl}
+use Rattle.std.proofs.Common.{◌≡◌, List, Some, Result, Err, IfErr, length, refl, rules, arith, sym, ap, subst, ◌∙◌, inl}
 use Rattle.std.proofs.lemmas.Result.{err_from_is_err_and}
 use Rattle.gb_action.specs.Changes.{Changes}
 use Rattle.gb_folder.specs.Files.{Contents, Files}
@@ -10,7 +10,6 @@ use Rattle.gb_records.specs.Said.{IsSaidOf}
 use Rattle.gb_report.specs.declared.fault.Fault.{Fault}
 use Rattle.gb_report.specs.declared.fault.Fault.TheVariants as faults
 use Rattle.gb_run.specs.Course.{EndsWell, course_of}
-use Rattle.gb_run.specs.Work.{RunsInFull}
 use Rattle.gb_run.proofs.Stood.{made_stands}
 use Rattle.gb_store.specs.Changes.{ChangesOnly}
 use Rattle.gb_store.proofs.Machine.{at_err, changes_chain}

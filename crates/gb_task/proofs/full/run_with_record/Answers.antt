@@ -38,7 +38,7 @@ returns-clause-execution g c = λ tells kinds registry_of options plan moment gi
     let later : Moment = record { world = moment.world; outcomes = moment.outcomes; failures = F.failures then } in
     let came = comes_later task c.args.was_read (F.contents start) (F.failures start) moment (F.contents then) (F.failures then) same at in
     turned_before kinds registry_of (F.may_leave start) (F.may_leave then) c.complete_inputs.ensures.asks.tearing options plan task moment (F.failures then)
-    (subst (λ (n : ℕ). n ≤ F.failures then) (sym at.failures) c.complete_inputs.ensures.asks.count) (report_of task c.run_on.result c.run_on.new.lines) (F.contents start) (F.failures now) (F.contents now) c.run_on.ensures.asks.count
+    (subst (λ (n : ℕ). n ≤ F.failures then) (sym at.failures) c.complete_inputs.ensures.asks.count) (report_of task c.run_on.result c.run_on.new.lines) (F.contents start) (F.failures now) (F.contents now) c.run_on.ensures.count
     (subst (λ (folder : Contents). HasExecuted (setting_with kinds registry_of (F.may_leave then)) options plan task later (report_of task c.run_on.result c.run_on.new.lines) folder (F.failures now) (F.contents now)) same
     (c.run_on.ensures.execution tells kinds registry_of options plan later (assumed_later _ _ c.complete_inputs.ensures.asks.tearing given) came
     (c.in_ok-inputs.ensures.trees tells read ∙ ap (λ (folder : Contents). trees_of task folder.files) (sym same)) due))
@@ -60,7 +60,9 @@ returns-clause-ran g c = λ first before inputs.
         inputs = c.in_ok-inputs.ensures.answered first before inputs;
         named = c.in_ok-inputs.ensures.named;
       },
-      ran.0,
-      all_answered F.failures F.may_leave F.asked F.tells F.contents F.device g.met.F.Folder.said ran.0 c.complete_inputs.new.folder c.run_on.new.folder ran.1,
-      ran.2,
+      (
+        ran.0,
+        all_answered F.failures F.may_leave F.asked F.tells F.contents F.device g.met.F.Folder.said ran.0 c.complete_inputs.new.folder c.run_on.new.folder ran.1,
+        ran.2,
+      ),
     )

@@ -1,5 +1,4 @@
-use Rattle.std.proofs.Common.{◌≡◌, ◌∷◌, [], false, true, Ok, Some, Err, rules, sym, subst}
-use Rattle.gb_folder.specs.Calls.{Writes}
+use Rattle.std.proofs.Common.{◌≡◌, false, true, Ok, Some, Err, rules, sym, subst}
 use Rattle.gb_folder.specs.Files.{is_empty}
 use Rattle.gb_history.specs.Places.{record_place}
 use Rattle.gb_history.specs.Text.{record_text}
