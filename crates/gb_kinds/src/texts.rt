@@ -3,14 +3,13 @@ ghost use Rattle.gb_action.specs.Replies.{Answers};
 ghost use Rattle.gb_action.specs.Shapes.{IsAsked};
 ghost use Rattle.gb_kinds.specs.Builtin.{builtin_shape, builtin_makes, builtin_prints};
 
-use crate::arguments::first_text;
+use crate::arguments::{copied_first_text, first_text};
 use crate::names::own_path;
 use crate::one_file::one_file;
 use crate::shapes::{FAIL, PRINT_LINE, WRITE_TEXT};
 use gb_action::reply::{ActionFault, Lines, Removals, Reply, Writes};
 use gb_action::request::Request;
 use gb_core::bytes::Bytes;
-use gb_core::text::Text;
 use std::alloc::Global;
 
 /// Prints the line.
@@ -19,7 +18,7 @@ pub fn print_line(alloc: Global, request: &Request) -> Result<Reply, ActionFault
     ensures { Answers (builtin_makes PRINT_LINE) (builtin_prints PRINT_LINE) request.now result }
 {
     let mut lines = Lines::new(alloc);
-    lines.push(Text::from_str(alloc, first_text(&request.args))?)?;
+    lines.push(copied_first_text(alloc, &request.args)?)?;
     Ok(Reply {
         removes: Removals::new(alloc),
         writes: Writes::new(alloc),
@@ -42,6 +41,6 @@ pub fn fail(alloc: Global, request: &Request) -> Result<Reply, ActionFault>
     requires { IsAsked (builtin_shape FAIL) request.now }
     ensures { Answers (builtin_makes FAIL) (builtin_prints FAIL) request.now result }
 {
-    let text = Text::from_str(alloc, first_text(&request.args))?;
+    let text = copied_first_text(alloc, &request.args)?;
     Err(ActionFault::ActionFailed(text))
 }
