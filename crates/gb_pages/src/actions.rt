@@ -35,7 +35,7 @@ pub fn page_actions(alloc: Global) -> Result<ActionTable<<Pages as Actions>::Sto
         ∷ (codes "htmlPages", Second (First 4))
         ∷ (codes "template", Second (Second (First (First 1))))
         ∷ (codes "sitePages", Second (Second (First (Second 2))))
-        ∷ (codes "index", Second (Second (Second (First 3))))
+        ∷ (codes "index", Second (Second (Second (First 4))))
         ∷ (codes "checkPages", Second (Second (Second (Second (First 2)))))
         ∷ (codes "checkLinks", Second (Second (Second (Second (Second 1))))) ∷ []) }
 {
@@ -49,12 +49,12 @@ pub fn page_actions(alloc: Global) -> Result<ActionTable<<Pages as Actions>::Sto
 /// The table of the kinds that work on all pages at once.
 fn at_once(alloc: Global) -> Result<ActionTable<<AtOnce as Actions>::Stored>, TableFault>
     ensures { IfOk result (λ table. table ≡ (codes "template", First (First 1))
-        ∷ (codes "sitePages", First (Second 2)) ∷ (codes "index", Second (First 3))
+        ∷ (codes "sitePages", First (Second 2)) ∷ (codes "index", Second (First 4))
         ∷ (codes "checkPages", Second (Second (First 2)))
         ∷ (codes "checkLinks", Second (Second (Second 1))) ∷ []) }
 {
     let check = checking(alloc)?;
-    let index = only::<OfTrees<Index>>(alloc, "index", 3)?;
+    let index = only::<OfTrees<Index>>(alloc, "index", 4)?;
     let others = beside(alloc, index, check)?;
     beside(alloc, laid(alloc)?, others)
 }
