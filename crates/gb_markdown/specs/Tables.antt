@@ -17,7 +17,7 @@ use Rattle.gb_markdown.specs.declared.page.Element.TheVariants as elements
 abbrev pub line_end : Piece
 line_end = Text (10 ∷ [])
 
--- how deep stressed words and labels may be nested
+-- how deep labels may be nested
 unfoldable pub words_depth : ℕ
 words_depth = 6
 

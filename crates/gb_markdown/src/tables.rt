@@ -17,7 +17,7 @@ use crate::target::is_hidden;
 use bstr::ByteSlice;
 use std::alloc::{AllocError, Global};
 
-/// How deep stressed words and labels may be nested.
+/// How deep labels may be nested.
 const WORDS: u8 = 6;
 
 /// Writes a text within a block.

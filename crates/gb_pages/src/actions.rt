@@ -31,8 +31,8 @@ pub type Pages = Both<ByFile<Markdown>, Both<OfTrees<Renamed<Markdown>>, AtOnce>
 
 /// The table of all kinds of pages, each in its version.
 pub fn page_actions(alloc: Global) -> Result<ActionTable<<Pages as Actions>::Stored>, TableFault>
-    ensures { IfOk result (λ table. table ≡ (codes "markdown", First 4)
-        ∷ (codes "htmlPages", Second (First 4))
+    ensures { IfOk result (λ table. table ≡ (codes "markdown", First 5)
+        ∷ (codes "htmlPages", Second (First 5))
         ∷ (codes "template", Second (Second (First (First 1))))
         ∷ (codes "sitePages", Second (Second (First (Second 2))))
         ∷ (codes "index", Second (Second (Second (First 4))))
@@ -40,9 +40,9 @@ pub fn page_actions(alloc: Global) -> Result<ActionTable<<Pages as Actions>::Sto
         ∷ (codes "checkLinks", Second (Second (Second (Second (Second 1))))) ∷ []) }
 {
     let others = at_once(alloc)?;
-    let pages = only::<OfTrees<Renamed<Markdown>>>(alloc, "htmlPages", 4)?;
+    let pages = only::<OfTrees<Renamed<Markdown>>>(alloc, "htmlPages", 5)?;
     let others = beside(alloc, pages, others)?;
-    let markdown = only::<ByFile<Markdown>>(alloc, "markdown", 4)?;
+    let markdown = only::<ByFile<Markdown>>(alloc, "markdown", 5)?;
     beside(alloc, markdown, others)
 }
 
