@@ -1,17 +1,15 @@
 -- The Atom feed: the pages that have a date, the latest first.
-use Rattle.std.specs.Prelude.{ℕ, List, [], ◌∷◌, ◌++◌, if◌then◌else◌, codes, take, length, ◌-◌}
+use Rattle.std.specs.Prelude.{ℕ, List, [], ◌∷◌, ◌++◌, codes, take, length, ◌-◌}
 use Rattle.std.specs.Prelude.{Option, None, Some, Result, Ok, Err}
 use Rattle.std.specs.List.{slice_get}
-use Rattle.std.specs.FinMap.Entries.{put}
-use Rattle.gb_core.specs.Lists.{byte_order}
 use Rattle.gb_core.specs.declared.value.Value.{Value}
 use Rattle.gb_action.specs.Files.{Tree, Trees, tree_at}
 use Rattle.gb_action.specs.Shapes.{source}
 use Rattle.gb_kinds.specs.Builtin.{first_text, second_text}
-use Rattle.gb_pages.specs.FrontMatter.{front_matter, title_of, value_of}
-use Rattle.gb_pages.specs.Listing.{latest_first, then_days}
-use Rattle.gb_pages.specs.Paths.{as_path, page_path, stem}
-use Rattle.gb_feed.specs.Dates.{is_date}
+use Rattle.gb_pages.specs.Dates.{and_next, date_of, day_path, with_entry}
+use Rattle.gb_pages.specs.FrontMatter.{title_of}
+use Rattle.gb_pages.specs.Listing.{latest_first}
+use Rattle.gb_pages.specs.Paths.{page_path, stem}
 use Rattle.gb_feed.specs.Sites.{for_site, xml, xml_address}
 
 -- ---- Entries
@@ -41,33 +39,25 @@ feed_entry base path title date =
     codes "<entry>\n" ++ (titled title ++ (at_address (xml_address base path)
     ++ (updated date ++ codes "</entry>\n")))
 
--- the sort path of an entry: its date, and then the path of its text
-abbrev pub dated_path : List ℕ → List ℕ → Option (List ℕ)
-dated_path date path = if is_date date then as_path (date ++ codes "/" ++ path) else None
-
-abbrev pub with_entry : Tree → List ℕ → List ℕ → Option (List ℕ) → Result Tree (List ℕ)
-with_entry days path made None = Err (path ++ codes ": date is not YYYY-MM-DD")
-with_entry days path made (Some day) = Ok (put byte_order day made days)
-
 -- a text without a date has no entry, and neither has a text that is no page
-abbrev pub with_page : List ℕ → Tree → List ℕ → List ℕ → Option (List ℕ) → Option (List ℕ) → Option (List ℕ)
-    → Result Tree (List ℕ)
-with_page base days path text (Some name) (Some page) (Some date) =
-    with_entry days path (feed_entry base page (title_of text name) date) (dated_path date path)
-with_page base days path text (Some name) (Some page) None = Ok days
+abbrev pub with_page : List ℕ → Tree → List ℕ → List ℕ → Option (List ℕ) → Option (List ℕ)
+    → Result (Option (List ℕ)) (List ℕ) → Result Tree (List ℕ)
+with_page base days path text (Some name) (Some page) (Ok (Some date)) =
+    with_entry days path (feed_entry base page (title_of text name) date) (day_path date path)
+with_page base days path text (Some name) (Some page) (Ok None) = Ok days
+with_page base days path text (Some name) (Some page) (Err message) = Err message
 with_page base days path text (Some name) None date = Ok days
 with_page base days path text None page date = Ok days
 
 abbrev pub with_file : List ℕ → Tree → List ℕ → List ℕ → Result Tree (List ℕ)
 with_file base days path text =
-    with_page base days path text (stem path) (page_path (stem path))
-    (value_of (codes "date") (front_matter text))
+    with_page base days path text (stem path) (page_path (stem path)) (date_of path text)
 
 -- the entries of all texts by their dates, added to others
 abbrev pub entries : List ℕ → Tree → Tree → Result Tree (List ℕ)
 entries base days [] = Ok days
 entries base days (file ∷ files) =
-    then_days (λ more. entries base more files) (with_file base days file.0 file.1)
+    and_next (λ more. entries base more files) (with_file base days file.0 file.1)
 
 -- ---- The feed
 

@@ -1,4 +1,3 @@
-pub mod Dates
 pub mod Feed
 pub mod Sites
 pub mod SiteMap

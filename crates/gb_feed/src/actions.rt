@@ -17,9 +17,9 @@ pub type Feeds = Both<OfTrees<SiteMap>, OfTrees<AtomFeed>>;
 /// The table of all kinds of feeds, each in its version.
 pub fn feed_actions(alloc: Global) -> Result<ActionTable<<Feeds as Actions>::Stored>, TableFault>
     ensures { IfOk result (λ table.
-        table ≡ (codes "siteMap", First 1) ∷ (codes "atomFeed", Second 1) ∷ []) }
+        table ≡ (codes "siteMap", First 2) ∷ (codes "atomFeed", Second 2) ∷ []) }
 {
-    let feed = only::<OfTrees<AtomFeed>>(alloc, "atomFeed", 1)?;
-    let map = only::<OfTrees<SiteMap>>(alloc, "siteMap", 1)?;
+    let feed = only::<OfTrees<AtomFeed>>(alloc, "atomFeed", 2)?;
+    let map = only::<OfTrees<SiteMap>>(alloc, "siteMap", 2)?;
     beside(alloc, map, feed)
 }

@@ -1,15 +1,14 @@
 //! An Atom feed of the pages that have a date: the kind `atomFeed`.
 ghost use Rattle.std.specs.Prelude.{◌≡◌, ◌++◌, ◌-◌, ◌∷◌, [], codes, length, take, Ok, IfOk, OnOk};
 ghost use Rattle.std.specs.Prelude.{MatchResult};
-ghost use Rattle.gb_feed.specs.Feed.{at_address, by_latest, dated_path, entries, feed_begun, feed_entry};
+ghost use Rattle.gb_feed.specs.Feed.{at_address, by_latest, entries, feed_begun, feed_entry};
 ghost use Rattle.gb_feed.specs.Feed.{author, feed_address, feed_head, id_at, link_at, quoted, self_begun};
 ghost use Rattle.gb_feed.specs.Feed.{self_link};
-ghost use Rattle.gb_feed.specs.Feed.{feed_text, titled, updated, with_entry, with_file};
+ghost use Rattle.gb_feed.specs.Feed.{feed_text, titled, updated, with_file};
 ghost use Rattle.gb_feed.specs.Sites.{xml};
 ghost use Rattle.std.specs.List.{slice_get};
 ghost use Rattle.gb_with.specs.TreeKinds.{IsFailure};
 
-use crate::date::is_date;
 use crate::site::{is_site, no_site, xml, xml_address};
 use gb_action::files::Files;
 use gb_action::reply::ActionFault;
@@ -21,16 +20,17 @@ use gb_core::place::RelPath;
 use gb_core::text::Text;
 use gb_kinds::arguments::first_text;
 use gb_kinds::names::{rel_path, source_name};
-use gb_pages::front_matter::{front_matter, title_of, value_of};
+use gb_pages::dates::{date_of, put_entry};
+use gb_pages::front_matter::title_of;
 use gb_pages::listing::{latest_first, second_text};
-use gb_pages::paths::{as_path, page_path, stem};
+use gb_pages::paths::{page_path, stem};
 use gb_with::tree_kind::{TreeKind, files_of};
 use std::alloc::{AllocError, Global};
 
 /// The kind `atomFeed(TITLE, ADDRESS)`: a file `feed.xml`, an Atom feed (RFC 4287) of the site at
 /// the address, with an entry for the page of each `.md` file of `src` whose front matter has a
-/// `date`, the latest first. It fails if a date does not have the form `2026-03-01`, and if no page
-/// has one.
+/// `date`, the latest first. It fails at a value of `date` that is no date as `2026-03-01`, and if
+/// no page has one.
 #[derive(Drop)]
 pub struct AtomFeed;
 
@@ -242,48 +242,15 @@ fn put_file(
     let Some(page) = page_path(alloc, Some(name))? else {
         return Ok(());
     };
-    let Some(date) = value_of(alloc, b"date", front_matter(text))? else {
-        return Ok(());
-    };
-    let title = title_of(alloc, text, name)?;
-    let made = entry(alloc, base, page.as_str().as_bytes(), title, date)?;
-    put_entry(alloc, days, path, made, date)
-}
-
-/// Stores the entry of a text at a date.
-fn put_entry(
-    alloc: Global,
-    days: &mut Files,
-    path: &RelPath,
-    made: Bytes,
-    date: &[u8],
-) -> Result<(), ActionFault>
-    ensures { let meant = with_entry days.old path.now made (dated_path date.now path.now) in
-        MatchResult result (λ _. meant ≡ Ok days.new) (λ fault. IsFailure fault meant) }
-{
-    match dated_path(alloc, date, path)? {
-        Some(day) => {
-            days.insert(day, made)?;
-            Ok(())
+    match date_of(alloc, path, text) {
+        Ok(Some(date)) => {
+            let title = title_of(alloc, text, name)?;
+            let made = entry(alloc, base, page.as_str().as_bytes(), title, date)?;
+            put_entry(alloc, days, path, date, made)
         }
-        None => {
-            let text = Text::new(format!(in alloc; "{path}: date is not YYYY-MM-DD")?)?;
-            Err(ActionFault::ActionFailed(text))
-        }
+        Ok(None) => Ok(()),
+        Err(fault) => Err(fault),
     }
-}
-
-/// The sort path of a text's entry.
-fn dated_path(alloc: Global, date: &[u8], path: &RelPath) -> Result<Option<RelPath>, AllocError>
-    ensures { IfOk result (λ day. day ≡ dated_path date.now path.now) }
-{
-    if !is_date(date) {
-        return Ok(None);
-    }
-    let mut day = date.to_vec(alloc)?;
-    day.push(b'/')?;
-    day.extend_from_slice(path.as_str().as_bytes())?;
-    as_path(alloc, day.as_slice())
 }
 
 /// The entry of a page.

@@ -6,7 +6,6 @@
 #![tactic(auto)]
 
 pub mod actions;
-mod date;
 mod feed;
 mod site;
 mod site_map;

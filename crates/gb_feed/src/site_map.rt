@@ -1,8 +1,11 @@
 //! The addresses of all pages, for search engines: the kind `siteMap`.
-ghost use Rattle.std.specs.Prelude.{◌≡◌, ◌++◌, ◌∷◌, [], codes, IfOk, OnOk};
+ghost use Rattle.std.specs.Prelude.{◌≡◌, ◌++◌, Ok, IfOk, OnOk, MatchResult};
 ghost use Rattle.std.specs.Option.{option_copied};
+ghost use Rattle.gb_pages.specs.Dates.{date_of};
 ghost use Rattle.gb_pages.specs.Paths.{page_path, stem};
-ghost use Rattle.gb_feed.specs.SiteMap.{lastmod, location, locations, site_map};
+ghost use Rattle.gb_feed.specs.SiteMap.{lastmod, location, locations, map_begun, map_of, site_map};
+ghost use Rattle.gb_feed.specs.SiteMap.{with_location};
+ghost use Rattle.gb_with.specs.TreeKinds.{IsFailure};
 
 use crate::site::{is_site, no_site, xml, xml_address};
 use gb_action::reply::ActionFault;
@@ -13,13 +16,14 @@ use gb_core::bytes::Bytes;
 use gb_core::place::RelPath;
 use gb_kinds::arguments::first_text;
 use gb_kinds::names::{rel_path, source_name};
-use gb_pages::front_matter::{front_matter, value_of};
+use gb_pages::dates::date_of;
 use gb_pages::paths::{page_path, stem};
 use gb_with::tree_kind::{TreeKind, files_of};
 use std::alloc::{AllocError, Global};
 
 /// The kind `siteMap(ADDRESS)`: a file `sitemap.xml` with the address of the page of each `.md` file of `src`
-/// on the site at the address, and with the `date` of its front matter, if it has one.
+/// on the site at the address, and with the `date` of its front matter, if it has one. It fails at a value of
+/// `date` that is no date.
 #[derive(Drop)]
 pub struct SiteMap;
 
@@ -47,51 +51,76 @@ impl TreeKind for SiteMap {
         if !is_site(base.as_bytes()) {
             return Err(no_site(alloc, base)?);
         }
-        Ok(mapped(
+        site_map(
             alloc,
             base.as_bytes(),
             files_of(trees, &source_name(alloc)?),
-        )?)
+        )
     }
 }
 
 /// The one file.
-fn mapped(alloc: Global, base: &[u8], files: &[(RelPath, Bytes)]) -> Result<Made, AllocError>
-    ensures { IfOk result (λ made.
-        made.items ≡ (codes "sitemap.xml", site_map base.now files.now) ∷ []) }
+fn site_map(alloc: Global, base: &[u8], files: &[(RelPath, Bytes)]) -> Result<Made, ActionFault>
+    ensures { let meant = site_map base.now files.now in
+        MatchResult result (λ made. meant ≡ Ok made.items) (λ fault. IsFailure fault meant) }
 {
-    let map = site_map(alloc, base, files)?;
+    match locations(alloc, base, files) {
+        Ok(map) => Ok(one_file(alloc, map)?),
+        Err(fault) => Err(fault),
+    }
+}
+
+/// The one file, after these locations.
+fn one_file(alloc: Global, mut map: Vec<u8>) -> Result<Made, AllocError>
+    ensures { IfOk result (λ made. map_of (Ok map.items) ≡ Ok made.items) }
+{
+    map.extend_from_slice(b"</urlset>\n")?;
     let mut made = Vec::new(alloc);
     made.push((rel_path(alloc, "sitemap.xml")?, Bytes::new(map)))?;
     Ok(made)
 }
 
-/// The text of the file.
-fn site_map(alloc: Global, base: &[u8], files: &[(RelPath, Bytes)]) -> Result<Vec<u8>, AllocError>
-    ensures { IfOk result (λ map. map.items ≡ site_map base.now files.now) }
+/// The file up to the addresses of all pages.
+fn locations(alloc: Global, base: &[u8], files: &[(RelPath, Bytes)]) -> Result<Vec<u8>, ActionFault>
+    ensures { let meant = locations base.now map_begun files.now in
+        MatchResult result (λ map. meant ≡ Ok map.items) (λ fault. IsFailure fault meant) }
 {
     let mut map = Vec::new(alloc);
-    map.extend_from_slice(b"<?xml version=\"1.0\" encoding=\"UTF-8\"?>\n")?;
-    map.extend_from_slice(b"<urlset xmlns=\"http://www.sitemaps.org/schemas/sitemap/0.9\">\n")?;
-    locations(alloc, &mut map, base, files)?;
-    map.extend_from_slice(b"</urlset>\n")?;
+    begin(&mut map)?;
+    for (path, text) in files {
+        put_location(alloc, &mut map, base, path, text.as_slice())?;
+    }
     Ok(map)
 }
 
-/// Writes the addresses of all pages.
-fn locations(
+/// Begins the file.
+fn begin(map: &mut Vec<u8>) -> Result<(), AllocError>
+    ensures { OnOk result (map.new.items ≡ map.old.items ++ map_begun) }
+{
+    map.extend_from_slice(b"<?xml version=\"1.0\" encoding=\"UTF-8\"?>\n")?;
+    map.extend_from_slice(b"<urlset xmlns=\"http://www.sitemaps.org/schemas/sitemap/0.9\">\n")?;
+    Ok(())
+}
+
+/// Writes the location of a text, if it is a page.
+fn put_location(
     alloc: Global,
     map: &mut Vec<u8>,
     base: &[u8],
-    files: &[(RelPath, Bytes)],
-) -> Result<(), AllocError>
-    ensures { OnOk result (map.new.items ≡ map.old.items ++ locations base.now files.now) }
+    path: &RelPath,
+    text: &[u8],
+) -> Result<(), ActionFault>
+    ensures { let meant = with_location base.now map.old.items (page_path (stem path.now))
+        (date_of path.now text.now) in
+        MatchResult result (λ _. meant ≡ Ok map.new.items) (λ fault. IsFailure fault meant) }
 {
-    for (path, bytes) in files {
-        let page = page_path(alloc, stem(path.as_str().as_bytes()))?;
-        location(alloc, map, base, bytes.as_slice(), page)?;
+    let Some(page) = page_path(alloc, stem(path.as_str().as_bytes()))? else {
+        return Ok(());
+    };
+    match date_of(alloc, path, text) {
+        Ok(date) => Ok(location(alloc, map, base, page.as_str().as_bytes(), date)?),
+        Err(fault) => Err(fault),
     }
-    Ok(())
 }
 
 /// Writes the address of a page, and its date.
@@ -99,18 +128,16 @@ fn location(
     alloc: Global,
     map: &mut Vec<u8>,
     base: &[u8],
-    bytes: &[u8],
-    page: Option<RelPath>,
+    path: &[u8],
+    date: Option<&[u8]>,
 ) -> Result<(), AllocError>
-    ensures { OnOk result (map.new.items ≡ map.old.items ++ location base.now bytes.now page) }
+    ensures { OnOk result (map.new.items ≡ map.old.items
+        ++ location base.now path.now (option_copied date.entry)) }
 {
-    let Some(path) = page else {
-        return Ok(());
-    };
     map.extend_from_slice(b"<url><loc>")?;
-    xml_address(alloc, map, base, path.as_str().as_bytes())?;
+    xml_address(alloc, map, base, path)?;
     map.extend_from_slice(b"</loc>")?;
-    lastmod(map, value_of(alloc, b"date", front_matter(bytes))?)?;
+    lastmod(map, date)?;
     map.extend_from_slice(b"</url>\n")?;
     Ok(())
 }

@@ -1,3 +1,4 @@
+pub mod Ends
 pub mod Opened
 pub mod Safety
 pub mod Signs

@@ -18,16 +18,16 @@ inline_none depth none refs text =
     ap (λ n. written (inline n refs text)) none ∙ ap written (inline_zero refs text) ∙ append-nil (escaped text)
 
 inline_suc : (depth : ℕ) (refs : Refs) (text : List ℕ)
-    → inline (suc depth) refs text ≡ tokens_of (inline depth) refs 0 10 text
+    → inline (suc depth) refs text ≡ tokens_of (inline depth) refs [] 0 10 text
 unfolding inline
 inline_suc depth refs text = refl
 
 pub inline_some : (depth : ℕ) → ¬ (depth ≡ 0) → (refs : Refs) (text : List ℕ)
-    → written (inline depth refs text) ≡ written (tokens_of (inline (depth - 1)) refs 0 10 text)
+    → written (inline depth refs text) ≡ written (tokens_of (inline (depth - 1)) refs [] 0 10 text)
 inline_some zero some refs text = absurd (some refl)
 inline_some (suc depth) some refs text =
     let less : depth ≡ suc depth - 1 = omega arith in
-    ap written (inline_suc depth refs text) ∙ ap (λ n. written (tokens_of (inline n) refs 0 10 text)) less
+    ap written (inline_suc depth refs text) ∙ ap (λ n. written (tokens_of (inline n) refs [] 0 10 text)) less
 
 pub blocks_none : (refs : Refs) (names : Names) (tight : Bool) (text : List ℕ)
     → blocks_of 0 refs names tight text ≡ (paragraph refs tight text, names)

@@ -130,41 +130,30 @@ same f g agree (x ∷ xs) =
     cons f x xs ∙ ap (λ n. n + sum_by f xs) (agree x) ∙ ap (λ n. g x + n) (same f g agree xs)
     ∙ sym (cons g x xs)
 
-less_free : (b : ℕ) → count 60 (escaped_byte b) ≡ 0
-less_free b = by (b == 60) (b == 62) (b == 38) (b == 34) refl
+-- no escaped byte is a sign that the escaped texts do not have, and that no other byte is
+sign_free : (sign : ℕ) → count sign (codes "&lt;") ≡ 0 → count sign (codes "&gt;") ≡ 0
+    → count sign (codes "&amp;") ≡ 0 → count sign (codes "&quot;") ≡ 0
+    → ((b : ℕ) → (b == 60) ≡ false → (b == 62) ≡ false → (b == 34) ≡ false → (b == sign) ≡ false)
+    → (b : ℕ) → count sign (escaped_byte b) ≡ 0
+sign_free sign less greater amp quote other b = by (b == 60) (b == 62) (b == 38) (b == 34) refl refl refl
   where
-    by : (t u v w : Bool) → (b == 60) ≡ t
-        → count 60 (if t then codes "&lt;" else if u then codes "&gt;" else if v then
+    by : (t u v w : Bool) → (b == 60) ≡ t → (b == 62) ≡ u → (b == 34) ≡ w
+        → count sign (if t then codes "&lt;" else if u then codes "&gt;" else if v then
         codes "&amp;" else if w then codes "&quot;" else b ∷ []) ≡ 0
-    by true u v w e = refl
-    by false true v w e = refl
-    by false false true w e = refl
-    by false false false true e = refl
-    by false false false false e = ap (λ t. 0 + cond t 1 0) e
+    by true u v w e f g = less
+    by false true v w e f g = greater
+    by false false true w e f g = amp
+    by false false false true e f g = quote
+    by false false false false e f g = ap (λ t. 0 + cond t 1 0) (other b e f g)
+
+less_free : (b : ℕ) → count 60 (escaped_byte b) ≡ 0
+less_free = sign_free 60 refl refl refl refl (λ b e f g. e)
 
 greater_free : (b : ℕ) → count 62 (escaped_byte b) ≡ 0
-greater_free b = by (b == 60) (b == 62) (b == 38) (b == 34) refl
-  where
-    by : (t u v w : Bool) → (b == 62) ≡ u
-        → count 62 (if t then codes "&lt;" else if u then codes "&gt;" else if v then
-        codes "&amp;" else if w then codes "&quot;" else b ∷ []) ≡ 0
-    by true u v w e = refl
-    by false true v w e = refl
-    by false false true w e = refl
-    by false false false true e = refl
-    by false false false false e = ap (λ t. 0 + cond t 1 0) e
+greater_free = sign_free 62 refl refl refl refl (λ b e f g. f)
 
 quote_free : (b : ℕ) → count 34 (escaped_byte b) ≡ 0
-quote_free b = by (b == 60) (b == 62) (b == 38) (b == 34) refl
-  where
-    by : (t u v w : Bool) → (b == 34) ≡ w
-        → count 34 (if t then codes "&lt;" else if u then codes "&gt;" else if v then
-        codes "&amp;" else if w then codes "&quot;" else b ∷ []) ≡ 0
-    by true u v w e = refl
-    by false true v w e = refl
-    by false false true w e = refl
-    by false false false true e = refl
-    by false false false false e = ap (λ t. 0 + cond t 1 0) e
+quote_free = sign_free 34 refl refl refl refl (λ b e f g. g)
 
 -- neither sign is in a name
 signs_of : (element : Element) → (count 60 (name_of element) ≡ 0) × (count 62 (name_of element) ≡ 0)

@@ -9,7 +9,8 @@ use Rattle.gb_markdown.specs.Pieces.{Piece, Open, Close, Listing, Coded, Named, 
 use Rattle.gb_markdown.specs.Lines.{Said, Nothing, Code, Heading, Rule, Quote, Item, Indented, Words}
 use Rattle.gb_markdown.specs.Lines.{has, said, words_of}
 use Rattle.gb_markdown.specs.References.{Refs, defined}
-use Rattle.gb_markdown.specs.Tables.{inline_of, is_divider, line_end, lines_in, rows_of, table}
+use Rattle.gb_markdown.specs.Tables.{both_ended, inline_of, is_divider, line_end, lines_in, rows_of, table}
+use Rattle.gb_markdown.specs.Tables.{words_in}
 use Rattle.gb_markdown.specs.declared.page.Element.{Element}
 use Rattle.gb_markdown.specs.declared.page.Element.TheVariants as elements
 use Rattle.gb_markdown.specs.declared.line.Fence.{Fence}
@@ -268,7 +269,7 @@ begun_block ended (Words text) = blocks.Paragraph
 abbrev pub paragraph : Refs → Bool → List ℕ → List Piece
 paragraph refs true text = inline_of refs (trimmed text) ++ line_end ∷ []
 paragraph refs false text =
-    Open elements.Paragraph ∷ inline_of refs (trimmed text) ++ Close elements.Paragraph ∷ line_end ∷ []
+    words_in refs elements.Paragraph (trimmed text) ++ line_end ∷ []
 
 abbrev pub table_or : Refs → Bool → List ℕ → Option (List ℕ × List ℕ × List ℕ) → List Piece
 table_or refs tight text None = paragraph refs tight text
@@ -335,8 +336,8 @@ items inner names tight width taken (line ∷ others) =
     (item_width (said line)) (item_words line (said line) ++ 10 ∷ []) others)
     else items inner names tight width (taken ++ (inside width line ++ 10 ∷ [])) others
 
-unfoldable pub code_ended : List Piece
-code_ended = Close elements.Code ∷ Close elements.Block ∷ line_end ∷ []
+abbrev pub code_ended : List Piece
+code_ended = both_ended elements.Code elements.Block
 
 abbrev pub indented : List ℕ → List Piece
 indented taken =

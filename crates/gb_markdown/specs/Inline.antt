@@ -1,7 +1,8 @@
 -- How a text within a block is parsed.
-use Rattle.std.specs.Prelude.{ℕ, zero, suc, ◌+◌, ◌-◌, ◌==◌, nat_le, nat_lt, Bool, true, false, not, ◌&&◌}
+use Rattle.std.specs.Prelude.{ℕ, zero, suc, ◌+◌, ◌-◌, ◌%◌, ◌==◌, nat_le, nat_lt, Bool, true, false, not, ◌&&◌}
 use Rattle.std.specs.Prelude.{◌||◌}
 use Rattle.std.specs.Prelude.{List, [], ◌∷◌, ◌++◌, if◌then◌else◌, length, take, drop, slice_index}
+use Rattle.std.specs.Prelude.{map, reverse}
 use Rattle.std.specs.Prelude.{Option, None, Some}
 use Rattle.std.specs.List.{prefix_len}
 use Rattle.std.specs.Option.{option_map}
@@ -17,16 +18,15 @@ use Rattle.gb_markdown.specs.declared.inline.Token.{Token}
 use Rattle.gb_markdown.specs.declared.inline.Token.TheVariants as tokens
 use Rattle.gb_markdown.specs.declared.inline.Nested.{Nested}
 use Rattle.gb_markdown.specs.declared.inline.Nested.TheVariants as nested
-use Rattle.gb_markdown.specs.declared.inline.Side.{Side}
-use Rattle.gb_markdown.specs.declared.inline.Side.TheVariants as sides
+use Rattle.gb_markdown.specs.declared.stress.Ending.{Ending}
+use Rattle.gb_markdown.specs.declared.stress.Signs.{Signs}
 
--- the token at the beginning of a text: words; the end of a line; code; stressed words; a link with a label,
--- an address and a title; a picture with these; or an address that is a link
+-- the token at the beginning of a text: words; the end of a line; code; a link with a label, an address and a
+-- title; a picture with these; or an address that is a link
 pub data Meant : Type 0 where
   Words : List ℕ → Meant
   Break : Meant
   Code : List ℕ → Meant
-  Stressed : Element → List ℕ → Meant
   Linked : List ℕ → List ℕ → List ℕ → Meant
   Pictured : List ℕ → List ℕ → List ℕ → Meant
   Led : List ℕ → Meant
@@ -35,7 +35,6 @@ abbrev pub meant_by : Token → Meant
 meant_by (tokens.Words text) = Words text.now
 meant_by tokens.Break = Break
 meant_by (tokens.Code text) = Code text.now
-meant_by (tokens.Stressed element text) = Stressed element text.now
 meant_by (tokens.Linked label target) = Linked label.now target.address.now target.title.now
 meant_by (tokens.Pictured label target) = Pictured label.now target.address.now target.title.now
 meant_by (tokens.Led address) = Led address.now
@@ -227,72 +226,179 @@ abbrev pub closes : ℕ → ℕ → ℕ → Bool
 closes sign before after =
     is_left after before && (sign == 42 || not (is_left before after) || is_ascii_punctuation after)
 
--- what signs do whose number is that of the opening signs, or three, given the bytes before and after them
-abbrev pub side_at : ℕ → ℕ → ℕ → ℕ → ℕ → Side
-side_at sign wide before length after =
-    if not (length == wide || length == 3) then sides.Neither
-    else if closes sign before after then sides.Right
-    else if opens sign before after then sides.Left else sides.Neither
+-- signs in a row between two bytes, how many they are, and how many of them are left; more than sixteen neither
+-- begin nor end stressed words
+abbrev pub signs_by : ℕ → ℕ → ℕ → ℕ → Signs
+signs_by sign before count after =
+    record {
+      sign = sign;
+      count = count;
+      left = count;
+      opens = nat_le count 16 && opens sign before after;
+      closes = nat_le count 16 && closes sign before after;
+    }
 
-abbrev pub side_of : ℕ → ℕ → ℕ → List ℕ → Side
-side_of sign wide before line =
-    if first_is sign line
-    then side_at sign wide before (run sign line) (byte_behind (drop (run sign line) line))
-    else sides.Neither
+abbrev pub signs_at : ℕ → ℕ → List ℕ → Signs
+signs_at sign before line =
+    signs_by sign before (run sign line) (byte_behind (drop (run sign line) line))
 
--- stressed words that begin within others end within them, and are nested in at most two others
-abbrev pub ends_words : Side → ℕ → Bool
-ends_words sides.Left deep = false
-ends_words sides.Right deep = deep == 0
-ends_words sides.Neither deep = false
+abbrev pub with_left : ℕ → Signs → Signs
+with_left left signs =
+    record {
+      sign = signs.sign;
+      count = signs.count;
+      left = left;
+      opens = signs.opens;
+      closes = signs.closes;
+    }
 
-abbrev pub is_too_deep : Side → ℕ → Bool
-is_too_deep sides.Left deep = deep == 2
-is_too_deep sides.Right deep = false
-is_too_deep sides.Neither deep = false
+-- Whether signs may end what others begin. Where either could do both, the sum of their numbers is not a
+-- multiple of three, unless both numbers are.
+abbrev pub fits : Signs → Signs → Bool
+fits first second =
+    first.sign == second.sign
+    && (not (second.opens || first.closes) || (not ((first.count % 3 + second.count % 3) % 3 == 0)
+    || first.count % 3 == 0))
 
-abbrev pub deeper : Side → ℕ → ℕ
-deeper sides.Left deep = deep + 1
-deeper sides.Right deep = deep - 1
-deeper sides.Neither deep = deep
+-- the last of the open signs that fit, and its index
+abbrev pub last_fit : Signs → Option (ℕ × Signs) → ℕ → List Signs → Option (ℕ × Signs)
+last_fit second best index [] = best
+last_fit second best index (first ∷ others) =
+    last_fit second (if fits first second then Some (index, first) else best) (index + 1) others
 
--- how many bytes after the first are passed over: those of the same sign, a link, or whatever hides others
-abbrev pub passed : Refs → ℕ → List ℕ → ℕ
-passed refs sign [] = 0
-passed refs sign (b ∷ rest) =
-    if b == sign then run sign (b ∷ rest) - 1 else if b == 91 then (linked refs rest).1
-    else hidden (b ∷ rest)
-
--- where the signs that end stressed words begin, and how many they are
-abbrev pub closer : Refs → ℕ → ℕ → ℕ → ℕ → ℕ → ℕ → List ℕ → Option (ℕ × ℕ)
-closer refs sign wide deep skip before at [] = None
-closer refs sign wide deep skip before at (b ∷ rest) =
-    if not (skip == 0) then closer refs sign wide deep (skip - 1) b (at + 1) rest
-    else let side = side_of sign wide before (b ∷ rest) in
-    if ends_words side deep then Some (at, run sign (b ∷ rest))
-    else if is_too_deep side deep then None
-    else closer refs sign wide (deeper side deep) (passed refs sign (b ∷ rest)) b (at + 1) rest
-
--- two signs are `strong`; one is `em`, and so is the first of three
-abbrev pub wide_of : ℕ → ℕ
-wide_of length = if length == 2 then 2 else 1
+-- two signs are `strong` where both sides have two; one is `em`
+abbrev pub wide_of : ℕ → ℕ → ℕ
+wide_of first second = if nat_le 2 first && nat_le 2 second then 2 else 1
 
 abbrev pub stress_of : ℕ → Element
 stress_of wide = if wide == 2 then elements.Strong else elements.Emphasis
 
-abbrev pub stressed_to : ℕ → List ℕ → Option (ℕ × ℕ) → Meant × ℕ
-stressed_to length line None = plain length line
-stressed_to length line (Some end) =
-    let wide = wide_of length in
-    let behind = length + end.0 + end.1 in
-    (Stressed (stress_of wide) (drop wide (take (behind - wide) line)), behind - 1)
+-- the open signs with those at an index used, and without those after it
+abbrev pub used : ℕ → Signs → ℕ → List Signs → List Signs
+used index first wide stack =
+    take index stack
+    ++ (if nat_le first.left wide then [] else with_left (first.left - wide) first ∷ [])
 
-abbrev pub stressed : Refs → ℕ → ℕ → List ℕ → Meant × ℕ
-stressed refs sign before line =
-    let length = run sign line in
-    let rest = drop length line in
-    if length == 0 || nat_lt 3 length || not (opens sign before (byte_behind rest)) then plain length line
-    else stressed_to length line (closer refs sign (wide_of length) 0 0 sign 0 rest)
+-- the words that the first of the open signs begin end where so much of the text is left, with so many signs
+abbrev pub with_end : ℕ → ℕ → ℕ → List Ending → List Ending
+with_end index rest wide ends =
+    if index == 0 then ends ++ record { rest = rest; wide = wide } ∷ [] else ends
+
+-- the open signs, the ends of the words that the first of them begin, and how many signs are left
+abbrev pub Matched : Type 0
+Matched = List Signs × List Ending × ℕ
+
+abbrev pub matched_by : ℕ → Matched → Option (ℕ × Signs) → Matched
+matched_by rest state None = state
+matched_by rest state (Some found) =
+    let wide = wide_of found.1.left state.2 in
+    (used found.0 found.1 wide state.0, with_end found.0 rest wide state.1, state.2 - wide)
+
+-- signs end the words of the last open signs that fit, if some are left
+abbrev pub matched_once : Signs → ℕ → Matched → Matched
+matched_once second rest state =
+    if state.2 == 0 then state else matched_by rest state (last_fit second None 0 state.0)
+
+-- again and again, so many times
+abbrev pub matched : ℕ → Signs → ℕ → Matched → Matched
+matched zero second rest state = state
+matched (suc steps) second rest state = matched_once second rest (matched steps second rest state)
+
+abbrev pub ended : Signs → ℕ → List Signs → List Ending → Matched
+ended second rest stack ends =
+    matched (if second.closes then second.count else 0) second rest (stack, ends, second.count)
+
+-- those that are left begin words
+abbrev pub with_signs : Signs → ℕ → List Signs → List Signs
+with_signs signs left stack =
+    if signs.opens && not (left == 0) then stack ++ with_left left signs ∷ [] else stack
+
+-- how many bytes after the first are skipped: a link, or whatever hides others
+abbrev pub passed : Refs → List ℕ → ℕ
+passed refs [] = 0
+passed refs (b ∷ rest) =
+    if b == 91 then (linked refs rest).1 else if b == 60 then (angled rest).1 else hidden (b ∷ rest)
+
+abbrev pub is_sign : ℕ → Bool
+is_sign b = b == 42 || b == 95
+
+-- the search for ends is over at the end of the words around these, when the first signs are used up, and
+-- with more than six open ones
+abbrev pub is_over : ℕ → ℕ → List Signs → Bool
+is_over stop rest stack = nat_le rest stop || (length stack == 0 || nat_lt 6 (length stack))
+
+-- the open signs and the ends found after a byte, and how many bytes after it are skipped, or that the search
+-- for ends is over
+abbrev pub Step : Type 0
+Step = List Signs × List Ending × Option ℕ
+
+abbrev pub signs_step : ℕ → ℕ → Signs → Matched → Step
+signs_step stop rest signs state = (
+  with_signs signs state.2 state.0,
+  state.1,
+  if is_over stop rest state.0 then None else Some (signs.count - 1),
+)
+
+abbrev pub byte_step : Refs → ℕ → List Signs → List Ending → ℕ → List ℕ → Step
+byte_step refs stop stack ends before [] = (stack, ends, None)
+byte_step refs stop stack ends before (b ∷ rest) =
+    if is_sign b
+    then signs_step stop (length (b ∷ rest)) (signs_at b before (b ∷ rest))
+    (ended (signs_at b before (b ∷ rest)) (length (b ∷ rest)) stack ends)
+    else (stack, ends, Some (passed refs (b ∷ rest)))
+
+abbrev pub ends_after : (List Signs → List Ending → ℕ → List Ending) → List Signs → List Ending → Option ℕ
+    → List Ending
+ends_after more stack ends None = ends
+ends_after more stack ends (Some skip) = more stack ends skip
+
+-- the ends of the words that the first of the open signs begin
+abbrev pub ends_from : Refs → ℕ → List Signs → List Ending → ℕ → ℕ → List ℕ → List Ending
+ends_from refs stop stack ends skip before [] = ends
+ends_from refs stop stack ends skip before (b ∷ rest) =
+    if not (skip == 0) then ends_from refs stop stack ends (skip - 1) b rest
+    else let step = byte_step refs stop stack ends before (b ∷ rest) in
+    ends_after (λ next found more. ends_from refs stop next found more b rest) step.0 step.1 step.2
+
+-- how many of the expected ends are here
+abbrev pub here : ℕ → List Ending → ℕ
+here rest ends = prefix_len (λ end. end.rest == rest) ends
+
+-- how many signs are left without those of these ends
+abbrev pub left_after : ℕ → List Ending → ℕ
+left_after left [] = left
+left_after left (end ∷ ends) = left_after (left - end.wide) ends
+
+abbrev pub stop_of : List Ending → ℕ
+stop_of [] = 0
+stop_of (end ∷ ends) = end.rest
+
+-- the ends of the words that signs begin, of which so many are left
+abbrev pub begun : Refs → ℕ → Signs → ℕ → List ℕ → List Ending
+begun refs stop signs left line =
+    if signs.opens && not (left == 0)
+    then ends_from refs stop (with_left left signs ∷ []) [] 0 signs.sign (drop signs.count line) else []
+
+-- what signs do, given the ends that are expected: they end words, stay as they are, and begin words
+abbrev pub Done : Type 0
+Done = List Piece × List Ending
+
+abbrev pub closing : List Ending → List Piece
+closing ends = map (λ end. Close (stress_of end.wide)) ends
+
+abbrev pub opening : List Ending → List Piece
+opening ends = map (λ end. Open (stress_of end.wide)) (reverse ends)
+
+abbrev pub done_by : List Ending → List Ending → ℕ → List Ending → List ℕ → Done
+done_by ended later left found line =
+    (closing ended ++ (Text (take (left_after left found) line) ∷ opening found), found ++ later)
+
+abbrev pub done : Refs → List Ending → Signs → List ℕ → Done
+done refs ends signs line =
+    let ended = take (here (length line) ends) ends in
+    let later = drop (here (length line) ends) ends in
+    let left = left_after signs.count ended in
+    done_by ended later left (begun refs (stop_of later) signs left line) line
 
 -- ---- Texts
 
@@ -301,13 +407,12 @@ abbrev pub is_plain : ℕ → Bool
 is_plain b =
     not (b == 92 || b == 96 || b == 42 || b == 95 || b == 91 || b == 33 || b == 32 || b == 60)
 
--- the token at the beginning of a text that follows this byte
-unfoldable pub token : Refs → ℕ → List ℕ → Meant × ℕ
-token refs before [] = (Words [], 0)
-token refs before (b ∷ rest) =
+-- the token at the beginning of a text
+unfoldable pub token : Refs → List ℕ → Meant × ℕ
+token refs [] = (Words [], 0)
+token refs (b ∷ rest) =
     if b == 92 then escaped_in rest
     else if b == 96 then coded (b ∷ rest)
-    else if b == 42 || b == 95 then stressed refs b before (b ∷ rest)
     else if b == 91 then linked refs rest
     else if b == 33 then pictured refs rest
     else if b == 32 then spaced (b ∷ rest)
@@ -319,7 +424,6 @@ abbrev pub shown : (Refs → List ℕ → List Piece) → Refs → Meant → Lis
 shown inner refs (Words text) = Text text ∷ []
 shown inner refs Break = Open elements.Break ∷ Text (10 ∷ []) ∷ []
 shown inner refs (Code text) = Open elements.Code ∷ Text text ∷ Close elements.Code ∷ []
-shown inner refs (Stressed element text) = Open element ∷ inner refs text ++ Close element ∷ []
 shown inner refs (Linked label address title) =
     Link (link_address (page_address (unescaped false address))) (unescaped false title)
     ∷ inner [] label ++ Close elements.Anchor ∷ []
@@ -327,16 +431,19 @@ shown inner refs (Pictured label address title) =
     Picture (link_address (unescaped false address)) label (unescaped false title) ∷ []
 shown inner refs (Led address) = Link address [] ∷ Text address ∷ Close elements.Anchor ∷ []
 
--- the tokens of a text, one after the other
-abbrev pub tokens_of : (Refs → List ℕ → List Piece) → Refs → ℕ → ℕ → List ℕ → List Piece
-tokens_of inner refs skip before [] = []
-tokens_of inner refs skip before (b ∷ rest) =
-    if skip == 0
-    then shown inner refs (token refs before (b ∷ rest)).0
-    ++ tokens_of inner refs (token refs before (b ∷ rest)).1 b rest
-    else tokens_of inner refs (skip - 1) b rest
+-- the tokens of a text, one after the other, given the ends of stressed words that are expected
+abbrev pub tokens_of : (Refs → List ℕ → List Piece) → Refs → List Ending → ℕ → ℕ → List ℕ → List Piece
+tokens_of inner refs ends skip before [] = []
+tokens_of inner refs ends skip before (b ∷ rest) =
+    if not (skip == 0) then tokens_of inner refs ends (skip - 1) b rest
+    else if is_sign b
+    then (done refs ends (signs_at b before (b ∷ rest)) (b ∷ rest)).0
+    ++ tokens_of inner refs (done refs ends (signs_at b before (b ∷ rest)) (b ∷ rest)).1
+    (run b (b ∷ rest) - 1) b rest
+    else shown inner refs (token refs (b ∷ rest)).0
+    ++ tokens_of inner refs ends (token refs (b ∷ rest)).1 b rest
 
--- a text as pieces, with stressed words and labels nested at most this deep; deeper ones stay text
+-- a text as pieces, with labels nested at most this deep; deeper ones stay text
 unfoldable pub inline : ℕ → Refs → List ℕ → List Piece
 inline zero refs text = Text text ∷ []
-inline (suc depth) refs text = tokens_of (inline depth) refs 0 10 text
+inline (suc depth) refs text = tokens_of (inline depth) refs [] 0 10 text

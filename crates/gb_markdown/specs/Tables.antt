@@ -17,12 +17,20 @@ use Rattle.gb_markdown.specs.declared.page.Element.TheVariants as elements
 abbrev pub line_end : Piece
 line_end = Text (10 ∷ [])
 
--- how deep stressed words and labels may be nested
+-- how deep labels may be nested
 unfoldable pub words_depth : ℕ
 words_depth = 6
 
 abbrev pub inline_of : Refs → List ℕ → List Piece
 inline_of refs text = inline words_depth refs text
+
+-- a text in an element
+abbrev pub words_in : Refs → Element → List ℕ → List Piece
+words_in refs element text = Open element ∷ inline_of refs text ++ Close element ∷ []
+
+-- two elements end, and the line with them
+unfoldable pub both_ended : Element → Element → List Piece
+both_ended inner outer = Close inner ∷ Close outer ∷ line_end ∷ []
 
 abbrev pub lines_in : List ℕ → List (List ℕ)
 lines_in text = map without_terminator (lines_of text)
@@ -47,7 +55,7 @@ is_divider dash bar (b ∷ rest) =
 -- ---- Rows
 
 abbrev pub cell : Refs → Element → List ℕ → List Piece
-cell refs element text = Open element ∷ inline_of refs (trimmed (words_of text)) ++ Close element ∷ []
+cell refs element text = words_in refs element (trimmed (words_of text))
 
 -- a `|` ends a cell, unless a backslash hides it
 abbrev pub cells : Refs → Element → Bool → List ℕ → List ℕ → List Piece
@@ -77,10 +85,7 @@ table_begun = Open elements.Table ∷ Open elements.Head ∷ []
 unfoldable pub head_ended : List Piece
 head_ended = Close elements.Head ∷ Open elements.Body ∷ []
 
-unfoldable pub table_ended : List Piece
-table_ended = Close elements.Body ∷ Close elements.Table ∷ line_end ∷ []
-
 abbrev pub table : Refs → List ℕ → List ℕ → List Piece
 table refs head others =
     table_begun ++ (row refs elements.HeadCell head ++ (head_ended
-    ++ (rows refs (lines_in others) ++ table_ended)))
+    ++ (rows refs (lines_in others) ++ both_ended elements.Body elements.Table)))

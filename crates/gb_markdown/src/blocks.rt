@@ -12,7 +12,7 @@ ghost use Rattle.gb_markdown.specs.Blocks.{begun_block, paragraph};
 ghost use Rattle.gb_markdown.specs.References.{meanings};
 ghost use Rattle.gb_markdown.specs.Tables.{lines_in, rows_of};
 ghost use Rattle.gb_markdown.specs.Blocks.{starts, is_item, item_width, item_words, item_of};
-ghost use Rattle.gb_markdown.specs.Blocks.{items, indented, code_ended, quote_begun, quote_ended, table_or};
+ghost use Rattle.gb_markdown.specs.Blocks.{items, indented, quote_begun, quote_ended, table_or};
 ghost use Rattle.gb_markdown.specs.Blocks.{begun_names, finished, id_of, slug, blocks_of, html, with_name};
 
 use crate::gathered::taken_apart;
@@ -21,7 +21,7 @@ use crate::page::{Element, close, code, named, numbered, open, text};
 use crate::references::Reference;
 use crate::runs::{is_blank, run, trimmed};
 use crate::slug::{Names, add_name, id_of, slug};
-use crate::tables::{is_divider, rows_of, table, words};
+use crate::tables::{end_both, is_divider, rows_of, table, words, words_in};
 use bstr::ByteSlice;
 use std::alloc::{AllocError, Global};
 
@@ -511,7 +511,7 @@ fn finish(
     match block {
         Block::Nothing => {}
         Block::Paragraph => table_or(alloc, page, refs, tight, taken)?,
-        Block::Code(_) => end_code(page)?,
+        Block::Code(_) => end_both(page, Element::Code, Element::Block)?,
         Block::Indented => indented(page, taken)?,
         Block::Quote(_) => {
             begin_quote(page)?;
@@ -535,7 +535,7 @@ fn indented(page: &mut Vec<u8>, taken: &[u8]) -> Result<(), AllocError>
     open(page, Element::Code)?;
     text(page, trimmed(taken))?;
     text(page, b"\n")?;
-    end_code(page)
+    end_both(page, Element::Code, Element::Block)
 }
 
 /// Begins a quote.
@@ -552,16 +552,6 @@ fn end_quote(page: &mut Vec<u8>) -> Result<(), AllocError>
     ensures { OnOk result (page.new.items ≡ page.old.items ++ written quote_ended) }
 {
     close(page, Element::Quote)?;
-    text(page, b"\n")
-}
-
-/// Ends code.
-#[tactic(auto, unfolding(crate::specs::Blocks::code_ended))]
-fn end_code(page: &mut Vec<u8>) -> Result<(), AllocError>
-    ensures { OnOk result (page.new.items ≡ page.old.items ++ written code_ended) }
-{
-    close(page, Element::Code)?;
-    close(page, Element::Block)?;
     text(page, b"\n")
 }
 
@@ -612,9 +602,7 @@ fn paragraph(
         words(alloc, page, refs, trimmed(line))?;
         return text(page, b"\n");
     }
-    open(page, Element::Paragraph)?;
-    words(alloc, page, refs, trimmed(line))?;
-    close(page, Element::Paragraph)?;
+    words_in(alloc, page, refs, Element::Paragraph, trimmed(line))?;
     text(page, b"\n")
 }
 

@@ -1,5 +1,5 @@
 //! Texts within a block: code, stressed words, links, pictures and line breaks.
-ghost use Rattle.std.specs.Prelude.{◌≡◌, ◌++◌, ◌+◌, ◌<◌, ◌≤◌, OnOk, IfSome, length, drop, false};
+ghost use Rattle.std.specs.Prelude.{◌≡◌, ◌++◌, ◌+◌, ◌<◌, ◌≤◌, [], OnOk, IfSome, length, drop, false};
 ghost use Rattle.std.specs.List.{prefix_len};
 ghost use Rattle.std.specs.Option.{option_map};
 ghost use Rattle.gb_markdown.specs.Addresses.{link_address, page_address};
@@ -11,8 +11,6 @@ ghost use Rattle.gb_markdown.specs.Inline.{code_end};
 ghost use Rattle.gb_markdown.specs.Inline.{is_edge, stripped, code_of, coded, hidden, label_end};
 ghost use Rattle.gb_markdown.specs.Inline.{ends_label, is_no_label, brackets, aimed, linked};
 ghost use Rattle.gb_markdown.specs.Inline.{named_by, pictured, referring};
-ghost use Rattle.gb_markdown.specs.Inline.{is_left, opens, closes, side_at, side_of, ends_words, is_too_deep};
-ghost use Rattle.gb_markdown.specs.Inline.{deeper, passed, closer, wide_of, stress_of, stressed};
 ghost use Rattle.gb_markdown.specs.Inline.{token, tokens_of, shown, inline, behind_label, is_plain};
 ghost use Rattle.gb_markdown.specs.Inline.{angled, led};
 ghost use Rattle.gb_markdown.specs.declared.inline.Nested.TheVariants as nested;
@@ -20,7 +18,8 @@ ghost use Rattle.gb_markdown.specs.declared.inline.Nested.TheVariants as nested;
 use crate::address::{has_scheme, is_safe, link_address, page_address};
 use crate::page::{Element, close, link, open, picture, text};
 use crate::references::{Reference, referred};
-use crate::runs::{is_blank, is_space, run};
+use crate::runs::{is_blank, run};
+use crate::stress::{is_sign, signs_at, write_signs};
 use crate::target::{Target, angle_end, quote_end, read_target, unescaped};
 use std::alloc::{AllocError, Global};
 
@@ -33,8 +32,6 @@ pub enum Token<'a> {
     Break,
     /// Code.
     Code(&'a [u8]),
-    /// Stressed words, in `em` or in `strong`.
-    Stressed(Element, &'a [u8]),
     /// A link: its label, and where it leads.
     Linked(&'a [u8], Target<'a>),
     /// A picture: what it shows, and where it is.
@@ -54,18 +51,7 @@ pub enum Nested {
     Picture,
 }
 
-/// The side of words where signs are.
-#[derive(Clone, Copy)]
-pub enum Side {
-    /// They begin stressed words.
-    Left,
-    /// They end stressed words.
-    Right,
-    /// They are words.
-    Neither,
-}
-
-/// Writes a text, with stressed words and labels nested at most this deep.
+/// Writes a text, with labels nested at most this deep.
 #[cycle(texts)]
 pub fn inline<'a>(
     alloc: Global,
@@ -93,17 +79,23 @@ fn tokens<'a>(
     line: &'a [u8],
 ) -> Result<(), AllocError>
     ensures { OnOk result (page.new.items ≡ page.old.items ++ written
-        (tokens_of (inline depth) (meanings refs.now) 0 10 line.now)) }
+        (tokens_of (inline depth) (meanings refs.now) [] 0 10 line.now)) }
 {
+    let mut ends = Vec::new(alloc);
     let mut before = b'\n';
     let mut skip: usize = 0;
     for (index, byte) in line.iter().enumerate() {
-        if skip == 0 {
-            let (token, more) = first_token(refs, before, &line[index..]);
+        let rest = &line[index..];
+        if skip != 0 {
+            skip -= 1;
+        } else if is_sign(*byte) {
+            let signs = signs_at(*byte, before, rest);
+            write_signs(alloc, page, refs, &mut ends, signs, rest)?;
+            skip = signs.count.saturating_sub(1);
+        } else {
+            let (token, more) = first_token(refs, rest);
             write(alloc, page, depth, refs, token)?;
             skip = more;
-        } else {
-            skip -= 1;
         }
         before = *byte;
     }
@@ -132,11 +124,6 @@ fn write<'a>(
             open(page, Element::Code)?;
             text(page, words)?;
             close(page, Element::Code)
-        }
-        Token::Stressed(element, words) => {
-            open(page, element)?;
-            inline(alloc, page, depth, refs, words)?;
-            close(page, element)
         }
         Token::Linked(label, target) => {
             link_to(alloc, page, target.address, target.title)?;
@@ -188,11 +175,10 @@ fn picture_of(
     picture(page, address.as_slice(), label, title.as_slice())
 }
 
-/// The token at the beginning of a text that follows a byte, and how many bytes after its first
-/// belong to it.
+/// The token at the beginning of a text, and how many bytes after its first belong to it.
 #[tactic(auto, unfolding(crate::specs::Inline::token))]
-fn first_token<'a>(refs: &'a [Reference<'a>], before: u8, line: &'a [u8]) -> (Token<'a>, usize)
-    ensures { (meant_by result.0, result.1) ≡ token (meanings refs.now) before line.now }
+fn first_token<'a>(refs: &'a [Reference<'a>], line: &'a [u8]) -> (Token<'a>, usize)
+    ensures { (meant_by result.0, result.1) ≡ token (meanings refs.now) line.now }
 {
     let Some((first, rest)) = line.split_first() else {
         return (Token::Words(b""), 0);
@@ -200,7 +186,6 @@ fn first_token<'a>(refs: &'a [Reference<'a>], before: u8, line: &'a [u8]) -> (To
     match first {
         b'\\' => escaped_in(rest),
         b'`' => coded(line),
-        b'*' | b'_' => stressed(refs, *first, before, line),
         b'[' => linked(refs, rest),
         b'!' => pictured(refs, rest),
         b' ' => spaced(line),
@@ -273,7 +258,7 @@ fn first_is(sign: u8, line: &[u8]) -> bool
 }
 
 /// The first byte of a text, or the end of a line.
-fn byte_behind(line: &[u8]) -> u8
+pub(crate) fn byte_behind(line: &[u8]) -> u8
     ensures { result ≡ byte_behind line.now }
 {
     match line.first() {
@@ -354,7 +339,7 @@ fn is_edge(byte: u8) -> bool
 }
 
 /// How many bytes after the first hide other signs: the byte after a backslash, or code.
-fn hidden(line: &[u8]) -> usize
+pub(crate) fn hidden(line: &[u8]) -> usize
     ensures { result ≡ hidden line.now }
 {
     match line.first() {
@@ -366,7 +351,7 @@ fn hidden(line: &[u8]) -> usize
 }
 
 /// A link after its bracket, or the bracket itself.
-fn linked<'a>(refs: &'a [Reference<'a>], rest: &'a [u8]) -> (Token<'a>, usize)
+pub(crate) fn linked<'a>(refs: &'a [Reference<'a>], rest: &'a [u8]) -> (Token<'a>, usize)
     ensures { (meant_by result.0, result.1) ≡ linked (meanings refs.now) rest.now }
 {
     match aimed(refs, rest) {
@@ -517,7 +502,7 @@ fn brackets(inside: Nested, before: u8, byte: u8) -> Nested
 }
 
 /// An address after a `<`, or the `<` itself.
-fn angled(rest: &[u8]) -> (Token<'_>, usize)
+pub(crate) fn angled(rest: &[u8]) -> (Token<'_>, usize)
     ensures { (meant_by result.0, result.1) ≡ angled rest.now }
 {
     match angle_end(rest) {
@@ -534,172 +519,5 @@ fn led(address: &[u8], more: usize) -> (Token<'_>, usize)
         (Token::Led(address), more)
     } else {
         (Token::Words(b"<"), 0)
-    }
-}
-
-/// Words between stars or underscores.
-fn stressed<'a>(refs: &[Reference<'_>], sign: u8, before: u8, line: &'a [u8]) -> (Token<'a>, usize)
-    ensures { (meant_by result.0, result.1) ≡ stressed (meanings refs.now) sign before line.now }
-{
-    let length = run(sign, line);
-    let rest = &line[length..];
-    if length == 0 || length > 3 || !opens(sign, before, byte_behind(rest)) {
-        return plain(length, line);
-    }
-    let wide = wide_of(length);
-    match closer(refs, sign, wide, rest) {
-        None => plain(length, line),
-        Some((end, others)) => {
-            let behind = length + end + others;
-            let words = &line[..behind - wide];
-            (Token::Stressed(stress_of(wide), &words[wide..]), behind - 1)
-        }
-    }
-}
-
-fn wide_of(count: usize) -> usize
-    ensures value { result ≡ wide_of count }
-    ensures within { 0 < count → result ≤ count }
-    ensures low { result ≤ 2 }
-{
-    if count == 2 { 2 } else { 1 }
-}
-
-fn stress_of(wide: usize) -> Element
-    ensures { result ≡ stress_of wide }
-{
-    if wide == 2 {
-        Element::Strong
-    } else {
-        Element::Emphasis
-    }
-}
-
-/// Whether signs between two bytes begin stressed words.
-fn opens(sign: u8, before: u8, after: u8) -> bool
-    ensures { result ≡ opens sign before after }
-{
-    is_left(before, after)
-        && (sign == b'*' || !is_left(after, before) || before.is_ascii_punctuation())
-}
-
-/// Whether signs between two bytes end stressed words.
-fn closes(sign: u8, before: u8, after: u8) -> bool
-    ensures { result ≡ closes sign before after }
-{
-    is_left(after, before)
-        && (sign == b'*' || !is_left(before, after) || after.is_ascii_punctuation())
-}
-
-/// Whether signs between two bytes are at the left side of a word.
-fn is_left(before: u8, after: u8) -> bool
-    ensures { result ≡ is_left before after }
-{
-    !is_space(after)
-        && (!after.is_ascii_punctuation() || is_space(before) || before.is_ascii_punctuation())
-}
-
-/// Where the signs that end stressed words begin, and how many they are.
-fn closer(refs: &[Reference<'_>], sign: u8, wide: usize, rest: &[u8]) -> Option<(usize, usize)>
-    requires { wide ≤ 3 }
-    ensures value { result ≡ closer (meanings refs.now) sign wide 0 0 sign 0 rest.now }
-    ensures within { IfSome result (λ end. end.0 + end.1 ≤ length rest.now) }
-    ensures long { IfSome result (λ end. wide ≤ end.1) }
-{
-    let mut deep: usize = 0;
-    let mut before = sign;
-    let mut skip: usize = 0;
-    for (index, byte) in rest.iter().enumerate() {
-        if skip != 0 {
-            skip -= 1;
-        } else {
-            let line = &rest[index..];
-            let side = side_of(sign, wide, before, line);
-            if ends_words(side, deep) {
-                return Some((index, run(sign, line)));
-            }
-            if is_too_deep(side, deep) {
-                return None;
-            }
-            deep = deeper(side, deep);
-            skip = passed(refs, sign, line);
-        }
-        before = *byte;
-    }
-    None
-}
-
-/// What signs at the beginning of a text do.
-fn side_of(sign: u8, wide: usize, before: u8, line: &[u8]) -> Side
-    ensures { result ≡ side_of sign wide before line.now }
-{
-    if first_is(sign, line) {
-        let length = run(sign, line);
-        side_at(sign, wide, before, length, byte_behind(&line[length..]))
-    } else {
-        Side::Neither
-    }
-}
-
-/// What this many signs do between two bytes.
-fn side_at(sign: u8, wide: usize, before: u8, count: usize, after: u8) -> Side
-    ensures { result ≡ side_at sign wide before count after }
-{
-    if count != wide && count != 3 {
-        Side::Neither
-    } else if closes(sign, before, after) {
-        Side::Right
-    } else if opens(sign, before, after) {
-        Side::Left
-    } else {
-        Side::Neither
-    }
-}
-
-fn ends_words(side: Side, deep: usize) -> bool
-    ensures { result ≡ ends_words side deep }
-{
-    match side {
-        Side::Right => deep == 0,
-        Side::Left | Side::Neither => false,
-    }
-}
-
-fn is_too_deep(side: Side, deep: usize) -> bool
-    ensures { result ≡ is_too_deep side deep }
-{
-    match side {
-        Side::Left => deep == 2,
-        Side::Right | Side::Neither => false,
-    }
-}
-
-/// How deep words are nested after signs.
-fn deeper(side: Side, deep: usize) -> usize
-    requires low { deep ≤ 2 }
-    requires room { is_too_deep side deep ≡ false }
-    ensures value { result ≡ deeper side deep }
-    ensures low { result ≤ 2 }
-{
-    match side {
-        Side::Left => deep + 1,
-        Side::Right => deep.saturating_sub(1),
-        Side::Neither => deep,
-    }
-}
-
-/// How many bytes after the first are passed over.
-fn passed(refs: &[Reference<'_>], sign: u8, line: &[u8]) -> usize
-    ensures { result ≡ passed (meanings refs.now) sign line.now }
-{
-    let Some((first, rest)) = line.split_first() else {
-        return 0;
-    };
-    if *first == sign {
-        run(sign, line).saturating_sub(1)
-    } else if *first == b'[' {
-        linked(refs, rest).1
-    } else {
-        hidden(line)
     }
 }

@@ -11,5 +11,6 @@ pub mod page;
 pub mod references;
 mod runs;
 mod slug;
+mod stress;
 mod tables;
 mod target;

@@ -5,7 +5,8 @@ ghost use Rattle.gb_markdown.specs.Pieces.{written};
 ghost use Rattle.gb_markdown.specs.References.{meanings};
 ghost use Rattle.gb_markdown.specs.Tables.{rows_of, is_divider, cell, cells, without_bar, within_bars, row};
 ghost use Rattle.gb_markdown.specs.Tables.{rows};
-ghost use Rattle.gb_markdown.specs.Tables.{lines_in, table, table_begun, head_ended, table_ended, inline_of};
+ghost use Rattle.gb_markdown.specs.Tables.{lines_in, table, table_begun, head_ended, both_ended, inline_of};
+ghost use Rattle.gb_markdown.specs.Tables.{words_in};
 
 use crate::inline::inline;
 use crate::line::{without_signs, words_of};
@@ -16,7 +17,7 @@ use crate::target::is_hidden;
 use bstr::ByteSlice;
 use std::alloc::{AllocError, Global};
 
-/// How deep stressed words and labels may be nested.
+/// How deep labels may be nested.
 const WORDS: u8 = 6;
 
 /// Writes a text within a block.
@@ -31,6 +32,32 @@ pub(crate) fn words(
         ++ written (inline_of (meanings refs.now) line.now)) }
 {
     inline(alloc, page, WORDS, refs, line)
+}
+
+/// Writes a text in an element.
+pub(crate) fn words_in(
+    alloc: Global,
+    page: &mut Vec<u8>,
+    refs: &[Reference<'_>],
+    element: Element,
+    line: &[u8],
+) -> Result<(), AllocError>
+    ensures { OnOk result (page.new.items ≡ page.old.items
+        ++ written (words_in (meanings refs.now) element line.now)) }
+{
+    open(page, element)?;
+    words(alloc, page, refs, line)?;
+    close(page, element)
+}
+
+/// Ends an element and the one around it, and the line.
+#[tactic(auto, unfolding(crate::specs::Tables::both_ended))]
+pub(crate) fn end_both(page: &mut Vec<u8>, inner: Element, outer: Element) -> Result<(), AllocError>
+    ensures { OnOk result (page.new.items ≡ page.old.items ++ written (both_ended inner outer)) }
+{
+    close(page, inner)?;
+    close(page, outer)?;
+    text(page, b"\n")
 }
 
 /// The first line of a text, the second, and the others.
@@ -73,7 +100,7 @@ pub(crate) fn table(
     row(alloc, page, refs, Element::HeadCell, head)?;
     end_head(page)?;
     rows(alloc, page, refs, others)?;
-    end_table(page)
+    end_both(page, Element::Body, Element::Table)
 }
 
 /// Begins a table, and the part of it with the first row.
@@ -92,16 +119,6 @@ fn end_head(page: &mut Vec<u8>) -> Result<(), AllocError>
 {
     close(page, Element::Head)?;
     open(page, Element::Body)
-}
-
-/// Ends a table.
-#[tactic(auto, unfolding(crate::specs::Tables::table_ended))]
-fn end_table(page: &mut Vec<u8>) -> Result<(), AllocError>
-    ensures { OnOk result (page.new.items ≡ page.old.items ++ written table_ended) }
-{
-    close(page, Element::Body)?;
-    close(page, Element::Table)?;
-    text(page, b"\n")
 }
 
 /// Writes the rows of a table.
@@ -191,7 +208,5 @@ fn cell(
     ensures { OnOk result (page.new.items ≡ page.old.items
         ++ written (cell (meanings refs.now) element line.now)) }
 {
-    open(page, element)?;
-    words(alloc, page, refs, trimmed(words_of(line)))?;
-    close(page, element)
+    words_in(alloc, page, refs, element, trimmed(words_of(line)))
 }

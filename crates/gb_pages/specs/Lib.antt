@@ -1,5 +1,6 @@
 pub mod Checked
 pub mod Paths
+pub mod Dates
 pub mod FrontMatter
 pub mod Layouts
 pub mod Links

@@ -1,16 +1,15 @@
 -- The page that links to all pages.
 use Rattle.std.specs.Prelude.{ℕ, List, [], ◌∷◌, ◌++◌, if◌then◌else◌, codes, bytes_eq, Option, None, Some}
-use Rattle.std.specs.Prelude.{Result, Ok, Err, reverse, unwrap_or}
+use Rattle.std.specs.Prelude.{Result, Ok, Err, reverse}
 use Rattle.std.specs.List.{flat_map}
-use Rattle.std.specs.FinMap.Entries.{put}
-use Rattle.gb_core.specs.Lists.{byte_order}
 use Rattle.gb_core.specs.declared.value.Value.{Value}
 use Rattle.gb_action.specs.Files.{Tree, Trees, tree_at}
 use Rattle.gb_action.specs.Shapes.{source}
 use Rattle.gb_kinds.specs.Builtin.{first_text, second_text}
 use Rattle.gb_markdown.specs.Addresses.{address_of}
-use Rattle.gb_pages.specs.FrontMatter.{front_matter, title_of, value_of}
-use Rattle.gb_pages.specs.Paths.{as_path, page_path, stem}
+use Rattle.gb_pages.specs.Dates.{and_next, date_of, day_path, message_at, with_entry}
+use Rattle.gb_pages.specs.FrontMatter.{title_of}
+use Rattle.gb_pages.specs.Paths.{page_path, stem}
 use Rattle.gb_markdown.specs.Pieces.{Piece, Open, Close, Link, Text, written}
 use Rattle.gb_markdown.specs.declared.page.Element.TheVariants as elements
 
@@ -35,24 +34,21 @@ entry_of path text = written (entry text (stem path) (page_path (stem path)))
 abbrev pub by_name : Tree → List ℕ
 by_name files = flat_map (λ file. entry_of file.0 file.1) files
 
--- the sort path of a text: its date, or `0` before all dates, and then its path
-abbrev pub day_path : List ℕ → List ℕ → Option (List ℕ)
-day_path path text =
-    as_path (unwrap_or (value_of (codes "date") (front_matter text)) (codes "0") ++ codes "/" ++ path)
-
--- the links with these sort paths added to others, or an error with the path of a text whose date is invalid
-abbrev pub with_day : Tree → List ℕ → List ℕ → Option (List ℕ) → Result Tree (List ℕ)
-with_day days path text None = Err (path ++ codes ": no date")
-with_day days path text (Some day) = Ok (put byte_order day (entry_of path text) days)
-
-abbrev pub then_days : (Tree → Result Tree (List ℕ)) → Result Tree (List ℕ) → Result Tree (List ℕ)
-then_days others (Err text) = Err text
-then_days others (Ok days) = others days
+-- the links with that of one more text at its date; a file that is no page has no link, and each page needs
+-- a date
+abbrev pub with_day : Tree → List ℕ → List ℕ → Option (List ℕ) → Result (Option (List ℕ)) (List ℕ)
+    → Result Tree (List ℕ)
+with_day days path text None date = Ok days
+with_day days path text (Some name) (Err message) = Err message
+with_day days path text (Some name) (Ok None) = Err (message_at path 1 (codes "no date"))
+with_day days path text (Some name) (Ok (Some date)) =
+    with_entry days path (entry_of path text) (day_path date path)
 
 abbrev pub by_day : Tree → Tree → Result Tree (List ℕ)
 by_day days [] = Ok days
 by_day days (file ∷ files) =
-    then_days (λ more. by_day more files) (with_day days file.0 file.1 (day_path file.0 file.1))
+    and_next (λ more. by_day more files)
+    (with_day days file.0 file.1 (stem file.0) (date_of file.0 file.1))
 
 -- the latest first
 abbrev pub latest_first : Tree → List ℕ

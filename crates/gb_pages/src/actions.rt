@@ -31,30 +31,30 @@ pub type Pages = Both<ByFile<Markdown>, Both<OfTrees<Renamed<Markdown>>, AtOnce>
 
 /// The table of all kinds of pages, each in its version.
 pub fn page_actions(alloc: Global) -> Result<ActionTable<<Pages as Actions>::Stored>, TableFault>
-    ensures { IfOk result (λ table. table ≡ (codes "markdown", First 4)
-        ∷ (codes "htmlPages", Second (First 4))
+    ensures { IfOk result (λ table. table ≡ (codes "markdown", First 5)
+        ∷ (codes "htmlPages", Second (First 5))
         ∷ (codes "template", Second (Second (First (First 1))))
         ∷ (codes "sitePages", Second (Second (First (Second 2))))
-        ∷ (codes "index", Second (Second (Second (First 3))))
+        ∷ (codes "index", Second (Second (Second (First 4))))
         ∷ (codes "checkPages", Second (Second (Second (Second (First 2)))))
         ∷ (codes "checkLinks", Second (Second (Second (Second (Second 1))))) ∷ []) }
 {
     let others = at_once(alloc)?;
-    let pages = only::<OfTrees<Renamed<Markdown>>>(alloc, "htmlPages", 4)?;
+    let pages = only::<OfTrees<Renamed<Markdown>>>(alloc, "htmlPages", 5)?;
     let others = beside(alloc, pages, others)?;
-    let markdown = only::<ByFile<Markdown>>(alloc, "markdown", 4)?;
+    let markdown = only::<ByFile<Markdown>>(alloc, "markdown", 5)?;
     beside(alloc, markdown, others)
 }
 
 /// The table of the kinds that work on all pages at once.
 fn at_once(alloc: Global) -> Result<ActionTable<<AtOnce as Actions>::Stored>, TableFault>
     ensures { IfOk result (λ table. table ≡ (codes "template", First (First 1))
-        ∷ (codes "sitePages", First (Second 2)) ∷ (codes "index", Second (First 3))
+        ∷ (codes "sitePages", First (Second 2)) ∷ (codes "index", Second (First 4))
         ∷ (codes "checkPages", Second (Second (First 2)))
         ∷ (codes "checkLinks", Second (Second (Second 1))) ∷ []) }
 {
     let check = checking(alloc)?;
-    let index = only::<OfTrees<Index>>(alloc, "index", 3)?;
+    let index = only::<OfTrees<Index>>(alloc, "index", 4)?;
     let others = beside(alloc, index, check)?;
     beside(alloc, laid(alloc)?, others)
 }

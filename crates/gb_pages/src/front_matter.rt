@@ -50,7 +50,7 @@ pub(crate) fn up_to<'a>(text: &'a [u8], sign: &[u8]) -> &'a [u8]
 }
 
 /// The first line of a text, without its line end.
-fn first_line(text: &[u8]) -> &[u8]
+pub(crate) fn first_line(text: &[u8]) -> &[u8]
     ensures { result.now ≡ first_line text.now }
 {
     match text.split_once_str(b"\n") {

@@ -4,6 +4,7 @@
 pub mod actions;
 mod checked;
 mod contents;
+pub mod dates;
 pub mod front_matter;
 pub mod kinds;
 mod layout;

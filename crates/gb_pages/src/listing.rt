@@ -2,14 +2,16 @@
 ghost use Rattle.std.specs.Prelude.{◌≡◌, ◌++◌, ◌∷◌, [], codes, Ok, OnOk, IfOk, MatchResult};
 ghost use Rattle.std.specs.Option.{option_copied};
 ghost use Rattle.gb_kinds.specs.Builtin.{second_text};
-ghost use Rattle.gb_pages.specs.Listing.{begun, by_day, by_name, day_path, ended_list, entry, entry_of};
+ghost use Rattle.gb_pages.specs.Dates.{date_of};
+ghost use Rattle.gb_pages.specs.Listing.{begun, by_day, by_name, ended_list, entry, entry_of};
 ghost use Rattle.gb_pages.specs.Listing.{index_page, latest_first, linked, links_by, with_day};
 ghost use Rattle.gb_pages.specs.Paths.{page_path, stem};
 ghost use Rattle.gb_markdown.specs.Pieces.{written};
 ghost use Rattle.gb_with.specs.TreeKinds.{IsFailure};
 
-use crate::front_matter::{front_matter, title_of, value_of};
-use crate::paths::{as_path, page_path, stem};
+use crate::dates::{date_of, fault_at, put_entry};
+use crate::front_matter::title_of;
+use crate::paths::{page_path, stem};
 use gb_action::files::Files;
 use gb_action::reply::ActionFault;
 use gb_action::shape::{Arg, ArgList};
@@ -28,7 +30,7 @@ use std::alloc::{AllocError, Global};
 
 /// The kind `index(TITLE, ORDER)`: a page `index.html` with a link to the page of each text of
 /// `src`, under its title, in the order of their paths. If `ORDER` is `date`, the latest page comes
-/// first, by the dates of their front matters, and the pages without a date come last.
+/// first, by the dates of their front matters; it fails at a page without a date.
 #[derive(Drop)]
 pub struct Index;
 
@@ -168,29 +170,19 @@ fn by_day(alloc: Global, files: &[(RelPath, Bytes)]) -> Result<Files, ActionFaul
     Ok(days)
 }
 
-/// Stores the link of a text at its date.
+/// Stores the link of a page at its date.
 fn put_day(alloc: Global, days: &mut Files, path: &RelPath, bytes: &[u8]) -> Result<(), ActionFault>
-    ensures { let meant = with_day days.old path.now bytes.now (day_path path.now bytes.now) in
+    ensures { let meant = with_day days.old path.now bytes.now (stem path.now) (date_of path.now bytes.now) in
         MatchResult result (λ _. meant ≡ Ok days.new) (λ fault. IsFailure fault meant) }
 {
-    match day_path(alloc, path, bytes)? {
-        Some(day) => {
-            days.insert(day, entry_of(alloc, path, bytes)?)?;
-            Ok(())
-        }
-        None => Err(ActionFault::ActionFailed(Text::new(format!(in alloc; "{path}: no date")?)?)),
+    if stem(path.as_str().as_bytes()).is_none() {
+        return Ok(());
     }
-}
-
-/// The sort path of a text.
-fn day_path(alloc: Global, path: &RelPath, bytes: &[u8]) -> Result<Option<RelPath>, AllocError>
-    ensures { IfOk result (λ day. day ≡ day_path path.now bytes.now) }
-{
-    let date = value_of(alloc, b"date", front_matter(bytes))?.unwrap_or(b"0");
-    let mut day = date.to_vec(alloc)?;
-    day.push(b'/')?;
-    day.extend_from_slice(path.as_str().as_bytes())?;
-    as_path(alloc, day.as_slice())
+    match date_of(alloc, path, bytes) {
+        Ok(Some(date)) => put_entry(alloc, days, path, date, entry_of(alloc, path, bytes)?),
+        Ok(None) => Err(fault_at(alloc, path, 1, "no date")?),
+        Err(fault) => Err(fault),
+    }
 }
 
 /// The link to the page of a text.

@@ -9,7 +9,7 @@ use gb_registry::tables::Tables;
 use std::alloc::Global;
 use std::test::Fail;
 
-/// A site of three pages; one has no date and no title other than its heading.
+/// A site of three pages; one has no title other than its heading.
 const PAGES: [Step<'static>; 6] = [
     Step::Put(
         "build.gb",
@@ -34,7 +34,7 @@ outputDir out = dir(\"build/all\") }
         "pages/d/b.md",
         b"---\nauthor: \"You\"\ntitle: B\ndate: 2026-03-01\n---\nY\n",
     ),
-    Step::Put("pages/c.md", b"---\nauthor: I\n---\n# C\n"),
+    Step::Put("pages/c.md", b"---\nauthor: I\ndate: 2025-12-31\n---\n# C\n"),
     Step::Run(
         "site all",
         3,
