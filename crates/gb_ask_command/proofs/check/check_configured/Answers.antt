@@ -1,5 +1,4 @@
-use Rattle.std.proofs.Common.{◌≡◌, ◌⊎◌, ◌++◌, List, ap, inl, inr, subst, sym, ◌∙◌}
-use Rattle.std.specs.Prelude.{IfErr, IsTrue}
+use Rattle.std.proofs.Common.{◌⊎◌, ◌++◌, List, ap, inl, ◌∙◌}
 use Rattle.gb_check.specs.declared.findings.Finding.{Finding}
 use Rattle.gb_check.specs.Sites.{IsUnread}
 use Rattle.gb_declare.specs.Registered.{registry_said}

@@ -1,6 +1,5 @@
 use Rattle.std.proofs.Common.{◌≡◌, List, ap, subst, sym, ◌∙◌}
-use Rattle.std.specs.Prelude.{IfOk, IsTrue, map}
-use Rattle.std.proofs.lemmas.Result.{IfOk-weaker}
+use Rattle.std.specs.Prelude.{map}
 use Rattle.gb_declare.specs.Registered.{registry_said}
 use Rattle.gb_plan.specs.Graph.{paths_of}
 use Rattle.gb_plan.specs.Task.{Path}
