@@ -16,7 +16,7 @@ _gb() {
     gb_ask:graph)
         [[ $COMP_CWORD == 2 && $word == --* ]] &&
             COMPREPLY=($(compgen -W '--tree --mermaid --svg --json' -- "$word")) ;;
-    gb_ask:why | gb_ask:tasks | gb_ask:status)
+    gb_ask:why | gb_ask:tasks | gb_ask:check | gb_ask:status)
         [[ $COMP_CWORD == 2 && $word == --* ]] && COMPREPLY=($(compgen -W '--json' -- "$word")) ;;
     gb_ask:reads | gb_ask:makes)
         [[ $COMP_CWORD == 2 && $word == --* ]] && COMPREPLY=($(compgen -W '--json' -- "$word"))

@@ -12,7 +12,7 @@ complete -c gb_ask -n '__fish_seen_subcommand_from graph' -l tree -d 'As an outl
 complete -c gb_ask -n '__fish_seen_subcommand_from graph' -l mermaid -d 'For Mermaid'
 complete -c gb_ask -n '__fish_seen_subcommand_from graph' -l svg -d 'As a picture'
 complete -c gb_ask -n '__fish_seen_subcommand_from reads makes' -F
-complete -c gb_ask -n '__fish_seen_subcommand_from why tasks graph reads makes status' -l json -d 'As JSON'
+complete -c gb_ask -n '__fish_seen_subcommand_from why tasks check graph reads makes status' -l json -d 'As JSON'
 complete -c gb_ask -n '__fish_seen_subcommand_from fmt' -F
 complete -c gb_ask -n '__fish_seen_subcommand_from fmt' -l write -d 'Write the files that differ'
 complete -c gb_ask -n '__fish_seen_subcommand_from fmt' -l check -d 'Name the files that differ'

@@ -84,79 +84,76 @@ fn asked<A: Actions, T: Transforms, W: Printer>(
     let mut folder = DiskFolder::new(rt, String::new(alloc));
     let (question, words) = parted(words);
     match question {
-        Question::Why => predicted(alloc, &mut folder, words, page, tables),
-        Question::Tasks => listed(alloc, &mut folder, words, page, tables),
         Question::Graph => drawn(alloc, &mut folder, words, page, tables),
-        Question::Reads => related(alloc, &mut folder, Relation::Reads, words, page, tables),
-        Question::Makes => related(alloc, &mut folder, Relation::Makes, words, page, tables),
-        Question::Status => looked(alloc, &mut folder, activity(rt), words, page, tables),
         Question::Fmt => formatted(rt, &mut folder, words, page),
-        Question::Check => check::run(alloc, &mut folder, Ok(words), page, tables),
         Question::Help => helped(page),
         Question::Unknown => Some(2),
+        other => noted(rt, &mut folder, other, words, page, tables),
     }
 }
 
-/// The notation that the first argument names, if it names one, and the other arguments.
-fn noted(words: Vec<String>) -> (Notation, Vec<String>) {
-    let mut words = words;
-    match words.first().and_then(|word| notation_of(word.as_str())) {
-        Some(notation) => {
-            words.remove(0);
-            (notation, words)
+/// Runs a query, in the notation that the first argument names, if it names one.
+fn noted<A: Actions, T: Transforms, F: Folder, W: Printer>(
+    rt: &HostRuntime,
+    folder: &mut F,
+    question: Question,
+    words: Vec<String>,
+    page: &mut W,
+    tables: &Tables<A, T>,
+) -> Option<u8> {
+    let alloc = rt.alloc();
+    let (notation, words) = split_option(words, notation_of);
+    let notation = notation.unwrap_or(Notation::Lines);
+    let words = Ok(words);
+    match question {
+        Question::Why => why::run(alloc, folder, notation, words, page, tables),
+        Question::Tasks => tasks::run(alloc, folder, notation, words, page, tables),
+        Question::Check => check::run(alloc, folder, notation, words, page, tables),
+        Question::Reads => {
+            places::run(
+                alloc,
+                folder,
+                notation,
+                Relation::Reads,
+                words,
+                page,
+                tables,
+            )
         }
-        None => (Notation::Lines, words),
+        Question::Makes => {
+            places::run(
+                alloc,
+                folder,
+                notation,
+                Relation::Makes,
+                words,
+                page,
+                tables,
+            )
+        }
+        Question::Status => {
+            status::run(alloc, folder, notation, activity(rt), words, page, tables)
+        }
+        _ => Some(2),
     }
 }
 
-/// Prints the outcome of each task in a build.
-fn predicted<A: Actions, T: Transforms, F: Folder, W: Printer>(
-    alloc: Global,
-    folder: &mut F,
+/// What the first argument names as an option, if it names one, and the other arguments.
+fn split_option<O, R: Fn(&str) -> Option<O>>(
     words: Vec<String>,
-    page: &mut W,
-    tables: &Tables<A, T>,
-) -> Option<u8> {
-    let (notation, words) = noted(words);
-    why::run(alloc, folder, notation, Ok(words), page, tables)
-}
-
-/// Prints the registered tasks.
-fn listed<A: Actions, T: Transforms, F: Folder, W: Printer>(
-    alloc: Global,
-    folder: &mut F,
-    words: Vec<String>,
-    page: &mut W,
-    tables: &Tables<A, T>,
-) -> Option<u8> {
-    let (notation, words) = noted(words);
-    tasks::run(alloc, folder, notation, Ok(words), page, tables)
-}
-
-/// Prints the tasks that are related to a place.
-fn related<A: Actions, T: Transforms, F: Folder, W: Printer>(
-    alloc: Global,
-    folder: &mut F,
-    relation: Relation,
-    words: Vec<String>,
-    page: &mut W,
-    tables: &Tables<A, T>,
-) -> Option<u8> {
-    let (notation, words) = noted(words);
-    places::run(alloc, folder, notation, relation, Ok(words), page, tables)
-}
-
-/// Prints the entries of the folder other than its scripts.
-fn looked<A: Actions, T: Transforms, F: Folder, W: Printer>(
-    alloc: Global,
-    folder: &mut F,
-    activity: Activity,
-    words: Vec<String>,
-    page: &mut W,
-    tables: &Tables<A, T>,
-) -> Option<u8> {
-    let (notation, words) = noted(words);
-    status::run(alloc, folder, notation, activity, Ok(words), page, tables)
+    read: R,
+) -> (Option<O>, Vec<String>)
+    requires { R.IsAlwaysCallable read }
+{
+    let mut words = words;
+    let option = match words.first() {
+        Some(word) => read(word.as_str()),
+        None => None,
+    };
+    if option.is_some() {
+        words.remove(0);
+    }
+    (option, words)
 }
 
 /// Whether a build of the current folder runs: whether it holds the lock on the folder.
@@ -196,14 +193,8 @@ fn drawn<A: Actions, T: Transforms, F: Folder, W: Printer>(
     page: &mut W,
     tables: &Tables<A, T>,
 ) -> Option<u8> {
-    let mut words = words;
-    let style = match words.first().and_then(|word| style_of(word.as_str())) {
-        Some(style) => {
-            words.remove(0);
-            style
-        }
-        None => Style::Dot,
-    };
+    let (style, words) = split_option(words, style_of);
+    let style = style.unwrap_or(Style::Dot);
     graph::run(alloc, folder, style, Ok(words), page, tables)
 }
 
@@ -214,14 +205,8 @@ fn formatted<F: Folder, W: Printer>(
     words: Vec<String>,
     page: &mut W,
 ) -> Option<u8> {
-    let mut names = words;
-    let mode = match names.first().and_then(|word| mode_of(word.as_str())) {
-        Some(mode) => {
-            names.remove(0);
-            mode
-        }
-        None => Mode::Prints,
-    };
+    let (mode, names) = split_option(words, mode_of);
+    let mode = mode.unwrap_or(Mode::Prints);
     if names.is_empty() || names.iter().any(|name| is_option(name.as_str())) {
         return Some(2);
     }

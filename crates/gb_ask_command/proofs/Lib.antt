@@ -6,3 +6,4 @@ pub mod Quiet
 pub mod Again
 pub mod Replying
 pub mod WhyDepths
+pub mod CheckDepths

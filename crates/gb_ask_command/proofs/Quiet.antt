@@ -8,8 +8,9 @@ use Rattle.gb_build.specs.Scripts.{FolderSays}
 use Rattle.gb_check.specs.All.{AreFindings}
 use Rattle.gb_check.specs.Found.{IsSilent}
 use Rattle.gb_check.specs.Sites.{AreLinesAt, AreSites, script_of_project}
-use Rattle.gb_check.specs.Warnings.{bare_roots_text, declared_in}
-use Rattle.gb_check.specs.declared.finding.Findings.{Findings}
+use Rattle.gb_check.specs.Warnings.{bare_roots, declared_in}
+use Rattle.gb_check.specs.declared.findings.Finding.{Finding}
+use Rattle.gb_check.specs.declared.findings.Findings.{Findings}
 use Rattle.gb_check.specs.declared.marks.Mark.{Mark}
 use Rattle.gb_check.specs.declared.sites.Site.{Site}
 use Rattle.gb_declare.specs.Registered.{registry_said}
@@ -17,15 +18,16 @@ use Rattle.gb_folder.specs.Files.{Contents, Files, Place}
 use Rattle.gb_meaning.specs.Events.{IsDeviceFault, IsRefusedBy}
 use Rattle.gb_meaning.specs.TrueRecord.{outside}
 use Rattle.gb_meaning.specs.declared.events.Invocation.{Invocation}
-use Rattle.gb_plan.specs.Graph.{Plan, Registry}
+use Rattle.gb_plan.specs.Graph.{Plan, Registry, paths_of}
 use Rattle.gb_plan.specs.Refusal.{IsScheduleFault, request_of}
 use Rattle.gb_plan.specs.Task.{Path, Text}
+use Rattle.gb_query.specs.Inventory.{AreUnregistered}
 use Rattle.gb_registry.specs.Source.{Source}
 use Rattle.gb_registry.specs.Tables.{Tables}
 use Rattle.gb_report.specs.declared.fault.Fault.{Fault}
 use Rattle.gb_report.specs.declared.fault.Fault.TheVariants as faults
 use Rattle.gb_script.specs.declared.script.Statement.{Statement}
-use Rattle.gb_ask_command.specs.Check.{AreFindingsOf, IsNotForATask, IsQuiet}
+use Rattle.gb_ask_command.specs.Check.{AreFindingsOf, AreLeft, IsNotForATask, IsQuiet}
 
 -- ---- The same folder
 
@@ -53,10 +55,17 @@ found_of_same tells old new same registry scripts findings are = record {
   silent = are.silent;
   warnings = record {
     bare = are.warnings.bare;
-    are_bare = λ reported. subst (λ (contents : Contents). are.warnings.bare ≡ bare_roots_text are.sites contents (declared_in registry)) (same reported) (are.warnings.are_bare reported);
-    text_is = are.warnings.text_is;
+    are_bare = λ reported. subst (λ (contents : Contents). are.warnings.bare ≡ bare_roots are.sites contents (declared_in registry)) (same reported) (are.warnings.are_bare reported);
+    found_is = are.warnings.found_is;
   };
 }
+
+pub left_of_same : (tells : Bool) (old new : Contents) → (IsTrue tells → new ≡ old) → (registered : List Path) (found : List Finding) → AreLeft tells new registered found → AreLeft tells old registered found
+left_of_same tells old new same registered found (left, are, is) = (
+  left,
+  λ reported. subst (λ (contents : Contents). AreUnregistered contents registered left) (same reported) (are reported),
+  is,
+)
 
 module _ {M F Z S A : Type 0} (tables : Tables M F Z S A) where
   pub found_in_same : (tells : Bool) (old new : Contents) → (IsTrue tells → new ≡ old) → (source : Source) (findings : Findings)
@@ -66,6 +75,8 @@ module _ {M F Z S A : Type 0} (tables : Tables M F Z S A) where
     are_scripts = are.are_scripts;
     in_tasks = are.in_tasks;
     findings = found_of_same tells old new same (registry_said tables source) are.scripts are.in_tasks are.findings;
+    left = are.left;
+    are_left = left_of_same tells old new same (paths_of (registry_said tables source)) are.left are.are_left;
     faults = are.faults;
     warnings = are.warnings;
   }

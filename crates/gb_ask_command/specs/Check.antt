@@ -1,19 +1,26 @@
 -- The reply to `check`.
 use Rattle.std.specs.Prelude.{ℕ, ◌≡◌, ◌⊎◌, ◌++◌, Bool, IsTrue, MatchResult, List, [], Result, Ok, Err}
-use Rattle.std.specs.Prelude.{if◌then◌else◌, nat_eq, string_bytes}
+use Rattle.std.specs.Prelude.{if◌then◌else◌, map, nat_eq, string_bytes}
 use Rattle.gb_build.specs.Registering.{registers_in}
 use Rattle.gb_build.specs.Scripts.{FolderSays}
 use Rattle.gb_check.specs.All.{AreFindings}
-use Rattle.gb_check.specs.Found.{unread_text}
-use Rattle.gb_check.specs.declared.finding.Findings.{Findings}
+use Rattle.gb_check.specs.Found.{findings_text, unread_text}
+use Rattle.gb_check.specs.declared.findings.Cause.TheVariants as causes
+use Rattle.gb_check.specs.declared.findings.Finding.{Finding}
+use Rattle.gb_check.specs.declared.findings.Findings.{Findings}
+use Rattle.gb_check.specs.declared.findings.Spot.TheVariants as spots
 use Rattle.gb_command.specs.Answered.{AreRefused, AskFor, Given}
 use Rattle.gb_declare.specs.Registered.{registry_said}
 use Rattle.gb_folder.specs.Files.{Contents, Place, is_empty}
 use Rattle.gb_meaning.specs.Events.{IsDeviceFault, IsNotBuilt}
 use Rattle.gb_meaning.specs.declared.events.Invocation.{Invocation}
-use Rattle.gb_plan.specs.Graph.{Plan, Registry}
+use Rattle.gb_plan.specs.Graph.{Plan, Registry, paths_of}
 use Rattle.gb_plan.specs.Refusal.{IsScheduleFault, request_of}
 use Rattle.gb_plan.specs.Task.{Text}
+use Rattle.gb_query.specs.Inventory.{AreUnregistered}
+use Rattle.gb_query.specs.Objects.{IsJsonOf}
+use Rattle.gb_query.specs.declared.notation.Notation.{Notation}
+use Rattle.gb_query.specs.declared.notation.Notation.TheVariants as notations
 use Rattle.gb_registry.specs.Projects.{Path}
 use Rattle.gb_registry.specs.Read.{IsRead}
 use Rattle.gb_registry.specs.Source.{Source}
@@ -23,21 +30,54 @@ use Rattle.gb_report.specs.declared.fault.Fault.{Fault}
 use Rattle.gb_report.specs.declared.fault.Fault.TheVariants as faults
 use Rattle.gb_script.specs.declared.script.Statement.{Statement}
 use Rattle.gb_store.specs.Faults.{IsOfMachine}
-use Rattle.gb_ask_command.specs.Unread.{unread_values_text}
+use Rattle.gb_ask_command.specs.CheckJson.{check_data}
+use Rattle.gb_ask_command.specs.Reply.{Reply}
+use Rattle.gb_ask_command.specs.Unread.{unread_values}
 
 -- the findings, or why scripts or arguments cannot be read
 abbrev pub CheckReply : Type 0
 CheckReply = Result Findings Fault
 
+-- ---- The output
+
 -- faults, and then warnings
 abbrev pub check_text : CheckReply → List ℕ
-check_text (Ok found) = string_bytes found.faults ++ string_bytes found.warnings
+check_text (Ok found) = findings_text found.faults.items ++ findings_text found.warnings.items
 check_text (Err fault) = unread_text fault
+
+-- a line for each finding, or one value in JSON
+abbrev pub IsCheckText : Notation → CheckReply → List ℕ → Type 0
+IsCheckText notations.Lines reply text = text ≡ check_text reply
+IsCheckText notations.Json reply text = IsJsonOf (check_data reply) text
+
+-- the text, or that memory ran out for it
+abbrev pub IsCheckWritten : Notation → CheckReply → Reply → Type 0
+IsCheckWritten notation reply (Ok text) = IsCheckText notation reply (string_bytes text)
+IsCheckWritten notation reply (Err fault) = fault ≡ faults.OutOfMemory
 
 -- the exit status: 0 if there is no fault, 2 for arguments that request nothing known (96), and otherwise 1
 abbrev pub check_status : CheckReply → ℕ
-check_status (Ok found) = if is_empty (string_bytes found.faults) then 0 else 1
+check_status (Ok found) = if is_empty found.faults.items then 0 else 1
 check_status (Err fault) = if nat_eq (fault_number fault) 96 then 2 else 1
+
+-- this exit status, or 1 if memory ran out for the text
+abbrev pub written_status : ℕ → Reply → ℕ
+written_status status (Ok text) = status
+written_status status (Err fault) = 1
+
+-- ---- Records of tasks that are not registered
+
+abbrev pub left_of : Path → Finding
+left_of path = record { spot = spots.Unknown; cause = causes.Unregistered path }
+
+-- A warning for each of some tasks: if the contents of the folder are known, for exactly those that have
+-- records in it and are not registered.
+abbrev pub AreLeft : Bool → Contents → List Path → List Finding → Type 0
+AreLeft tells contents registered found =
+    (left : List Path) × (IsTrue tells → AreUnregistered contents registered left)
+    × (found ≡ map left_of left)
+
+-- ---- Silence
 
 -- a refusal for lack of memory, for a device that failed, for an argument, or for the plan (60 to 63)
 abbrev pub IsNotForATask : Registry → Invocation → ℕ → ℕ → Fault → Type 0
@@ -57,22 +97,24 @@ module _ {M F Z S A : Type 0} (tables : Tables M F Z S A) where
       → IsNotForATask (registry_said tables source) asked failures after fault
 
 module _ {M F Z S A : Type 0} (tables : Tables M F Z S A) (tells : Bool) where
-  -- The findings for the statements of scripts, one script for each project. A warning for each value that
-  -- nothing reads precedes those for tasks.
+  -- The findings for the statements of scripts, one script for each project. Warnings for values that nothing
+  -- reads precede those for tasks, and warnings for records of tasks that are not registered follow.
   pub record AreFindingsOf (source : Source) (contents : Contents) (found : Findings) : Type 0 where
     pub scripts : List (Path × List Statement)
     pub are_scripts : IsRead source scripts
     pub in_tasks : Findings
     pub findings : AreFindings tells contents (registry_said tables source) scripts in_tasks
-    pub faults : string_bytes found.faults ≡ string_bytes in_tasks.faults
-    pub warnings : string_bytes found.warnings
-        ≡ unread_values_text scripts source.given ++ string_bytes in_tasks.warnings
+    pub left : List Finding
+    pub are_left : AreLeft tells contents (paths_of (registry_said tables source)) left
+    pub faults : found.faults.items ≡ in_tasks.faults.items
+    pub warnings : found.warnings.items
+        ≡ unread_values scripts source.given ++ in_tasks.warnings.items ++ left
 
   pub record IsChecked (asked : Invocation) (contents : Contents) (found : Findings) : Type 0 where
     pub source : Source
     pub said : IsTrue tells → FolderSays tables contents.files asked.properties (Ok source)
     pub found_of : AreFindingsOf source contents found
-    pub quiet : IsTrue tells → string_bytes found.faults ≡ []
+    pub quiet : IsTrue tells → found.faults.items ≡ []
         → IsQuiet tables source contents asked.properties
 
   -- The findings; or if the contents of the folder are known, a fault of the machine between these counts of

@@ -7,4 +7,5 @@ pub mod Graph
 pub mod Replies
 pub mod Fmt
 pub mod Unread
+pub mod CheckJson
 pub mod Check

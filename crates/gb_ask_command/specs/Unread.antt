@@ -1,11 +1,13 @@
 -- Values of `-P` that nothing reads.
-use Rattle.std.specs.Prelude.{ℕ, ◌||◌, Bool, false, not, List, [], ◌∷◌, ◌++◌, Option, Some, None, bytes_eq}
-use Rattle.std.specs.Prelude.{codes, if◌then◌else◌}
+use Rattle.std.specs.Prelude.{◌||◌, Bool, false, not, List, [], ◌∷◌, Option, Some, None, bytes_eq}
+use Rattle.std.specs.Prelude.{if◌then◌else◌}
 use Rattle.std.specs.List.{flat_map, list_any}
+use Rattle.gb_check.specs.declared.findings.Cause.TheVariants as causes
+use Rattle.gb_check.specs.declared.findings.Finding.{Finding}
+use Rattle.gb_check.specs.declared.findings.Spot.TheVariants as spots
 use Rattle.gb_folder.specs.Files.{is_empty}
 use Rattle.gb_plan.specs.Task.{Path, Text}
 use Rattle.gb_registry.specs.Wrong.{found_in}
-use Rattle.gb_report.specs.Report.{line}
 use Rattle.gb_report.specs.declared.fault.Fault.{Fault}
 use Rattle.gb_report.specs.declared.fault.Fault.TheVariants as faults
 use Rattle.gb_script.specs.Tree.{GradlePropertyOf, Link, Root, Tree}
@@ -64,11 +66,12 @@ is_read_by name (statements.Named c) = list_any (is_read_by_clause name) c.block
 abbrev pub is_read : List (Path × List Statement) → Text → Bool
 is_read scripts name = list_any (λ script. list_any (is_read_by name) script.1) scripts
 
-abbrev pub unread_value_text : List (Path × List Statement) → Text × Text → List ℕ
-unread_value_text scripts given =
-    if is_read scripts given.0 then []
-    else line (codes "-P" ++ given.0 ++ codes ": warning: nothing reads it")
+abbrev pub unread : Text → Finding
+unread name = record { spot = spots.Value name; cause = causes.Unread }
+
+abbrev pub unread_value : List (Path × List Statement) → Text × Text → List Finding
+unread_value scripts given = if is_read scripts given.0 then [] else unread given.0 ∷ []
 
 -- the values that nothing reads, in the order in which they are given
-abbrev pub unread_values_text : List (Path × List Statement) → List (Text × Text) → List ℕ
-unread_values_text scripts given = flat_map (unread_value_text scripts) given
+abbrev pub unread_values : List (Path × List Statement) → List (Text × Text) → List Finding
+unread_values scripts given = flat_map (unread_value scripts) given

@@ -6,6 +6,7 @@ ghost use Rattle.gb_command.specs.Answered.{given_of};
 ghost use Rattle.gb_declare.specs.Registered.{registry_said};
 ghost use Rattle.gb_folder.specs.Calls.{Asks, no_change};
 ghost use Rattle.gb_folder.specs.Files.{is_empty};
+ghost use Rattle.gb_plan.specs.Graph.{paths_of};
 ghost use Rattle.gb_printer.specs.Printing.{Prints};
 ghost use Rattle.gb_registry.specs.Projects.{Path};
 ghost use Rattle.gb_registry.specs.Read.{IsRead};
@@ -14,34 +15,44 @@ ghost use Rattle.gb_registry.specs.Tables.{tables_of};
 ghost use Rattle.gb_script.specs.declared.script.Statement.{Statement};
 ghost use Rattle.gb_store.specs.Faults.{IsOfMachine};
 ghost use Rattle.gb_check.specs.All.{AreFindings};
+ghost use Rattle.gb_check.specs.Found.{findings_text};
 ghost use Rattle.gb_check.specs.Sites.{IsUnread};
-ghost use Rattle.gb_ask_command.specs.Check.{AreFindingsOf, CheckReply, IsCheckReply, RepliesCheck};
-ghost use Rattle.gb_ask_command.specs.Check.{check_status, check_text};
+ghost use Rattle.gb_ask_command.specs.Check.{AreFindingsOf, AreLeft, CheckReply, IsCheckReply, IsCheckText};
+ghost use Rattle.gb_ask_command.specs.Check.{IsCheckWritten, RepliesCheck, check_status, check_text, left_of};
+ghost use Rattle.gb_ask_command.specs.Check.{written_status};
+ghost use Rattle.gb_ask_command.specs.Reply.{Reply as Replied, reply_text};
 
+use crate::check_json::check_json;
+use crate::reply::{Reply, push_reply};
 use crate::unread::warn_unread;
 use gb_action::actions::Actions;
 use gb_build::reading::read_registry;
-use gb_check::finding::{Findings, find};
-use gb_check::found::unread_text;
+use gb_check::finding::find;
+use gb_check::findings::{Cause, Finding, Findings, Spot};
+use gb_check::found::{push_findings, unread_text};
 use gb_command::run::asked_by;
+use gb_core::path::TaskPath;
 use gb_folder::folder::Folder;
 use gb_meaning::events::Invocation;
 use gb_printer::printer::Printer;
 use gb_project::script_tasks::ScriptTasks;
 use gb_provider::transforms::Transforms;
+use gb_query::inventory::unregistered;
+use gb_query::notation::Notation;
 use gb_registry::checking::Scripted;
 use gb_registry::configured::Configured;
 use gb_registry::tables::Tables;
 use gb_report::fault::Fault;
 use std::alloc::{AllocError, Global};
 
-/// Prints the findings for all registered tasks, a line each: their faults or that of the plan of
-/// all, each with its script and the line that registers the task, and then warnings. Only the
+/// Prints the findings for all registered tasks, as lines or in JSON: their faults or that of the plan
+/// of all, each with its script and the line that registers the task, and then warnings. Only the
 /// values of properties count among the arguments. The exit status is 0 if there is no fault, and 1
-/// if there is one.
+/// if there is one or memory ran out.
 pub fn run<A: Actions, T: Transforms, F: Folder, W: Printer>(
     alloc: Global,
     folder: &mut F,
+    notation: Notation,
     words: Result<Vec<String>, Fault>,
     writer: &mut W,
     tables: &Tables<A, T>,
@@ -53,15 +64,42 @@ pub fn run<A: Actions, T: Transforms, F: Folder, W: Printer>(
         × RepliesCheck (tables_of T.meanings A.meanings tables.now) F.tells
         (given_of (λ words. map string_bytes words.items) words) (F.contents folder.old)
         (F.failures folder.old) (F.failures folder.new) reply
-        × Prints W.contents W.whole (check_text reply) writer.old writer.new
+        × (written : Replied) × IsCheckWritten notation reply written
+        × Prints W.contents W.whole (reply_text written) writer.old writer.new
         × IfSome result (λ status.
-        Appends (W.contents writer.old) (W.contents writer.new) (check_text reply)
-        × (status ≡ check_status reply)) }
+        Appends (W.contents writer.old) (W.contents writer.new) (reply_text written)
+        × (status ≡ written_status (check_status reply) written)) }
 {
     let reply = replied(alloc, folder, words, tables);
-    let status = print_checked(alloc, writer, &reply);
+    let status = check_status(&reply);
+    let written = write_checked(alloc, notation, &reply);
     drop(reply);
-    status
+    let printed = print_checked(alloc, writer, status, &written);
+    drop(written);
+    printed
+}
+
+/// The text of the findings, or that memory ran out for it.
+fn write_checked(alloc: Global, notation: Notation, reply: &Result<Findings, Fault>) -> Reply
+    ensures { IsCheckWritten notation reply.now result }
+{
+    match checked_text(alloc, notation, reply) {
+        Ok(text) => Ok(text),
+        Err(_) => Err(Fault::OutOfMemory),
+    }
+}
+
+fn checked_text(
+    alloc: Global,
+    notation: Notation,
+    reply: &Result<Findings, Fault>,
+) -> Result<String, AllocError>
+    ensures { IfOk result (λ text. IsCheckText notation reply.now (string_bytes text)) }
+{
+    match notation {
+        Notation::Lines => check_text(alloc, reply),
+        Notation::Json => check_json(alloc, reply),
+    }
 }
 
 /// Prints the findings, and returns the exit status. If not all of them can be printed, there is
@@ -69,15 +107,16 @@ pub fn run<A: Actions, T: Transforms, F: Folder, W: Printer>(
 fn print_checked<W: Printer>(
     alloc: Global,
     writer: &mut W,
-    reply: &Result<Findings, Fault>,
+    status: u8,
+    written: &Reply,
 ) -> Option<u8>
-    ensures prints { Prints W.contents W.whole (check_text reply.now) writer.old writer.new }
-    ensures status { IfSome result (λ status.
-        Appends (W.contents writer.old) (W.contents writer.new) (check_text reply.now)
-        × (status ≡ check_status reply.now)) }
+    ensures prints { Prints W.contents W.whole (reply_text written.now) writer.old writer.new }
+    ensures status { IfSome result (λ printed.
+        Appends (W.contents writer.old) (W.contents writer.new) (reply_text written.now)
+        × (printed ≡ written_status status written.now)) }
 {
-    push_checked(alloc, writer, reply);
-    let status = check_status(reply);
+    push_reply(alloc, writer, written);
+    let status = written_status(status, written);
     if writer.is_whole() {
         Some(status)
     } else {
@@ -85,12 +124,13 @@ fn print_checked<W: Printer>(
     }
 }
 
-fn push_checked<W: Printer>(alloc: Global, writer: &mut W, reply: &Result<Findings, Fault>)
-    ensures { Prints W.contents W.whole (check_text reply.now) writer.old writer.new }
+/// This exit status, or 1 if memory ran out for the text.
+fn written_status(status: u8, written: &Reply) -> u8
+    ensures { result ≡ written_status status written.now }
 {
-    match check_text(alloc, reply) {
-        Ok(text) => writer.print(text.as_bytes()),
-        Err(_) => writer.give_up(),
+    match written {
+        Ok(_) => status,
+        Err(_) => 1,
     }
 }
 
@@ -106,10 +146,11 @@ fn check_text(alloc: Global, reply: &Result<Findings, Fault>) -> Result<String, 
 
 fn found_text(alloc: Global, found: &Findings) -> Result<String, AllocError>
     ensures { IfOk result (λ text. string_bytes text
-        ≡ string_bytes found.now.faults ++ string_bytes found.now.warnings) }
+        ≡ findings_text found.now.faults.items ++ findings_text found.now.warnings.items) }
 {
-    let mut text = String::from_str(alloc, found.faults.as_str())?;
-    text.push_str(found.warnings.as_str())?;
+    let mut text = String::new(alloc);
+    push_findings(&mut text, found.faults.as_slice())?;
+    push_findings(&mut text, found.warnings.as_slice())?;
     Ok(text)
 }
 
@@ -119,20 +160,16 @@ fn check_status(reply: &Result<Findings, Fault>) -> u8
     ensures { result ≡ check_status reply.now }
 {
     match reply {
-        Ok(found) => found_status(found.faults.as_str()),
+        Ok(found) => found_status(found.faults.as_slice()),
         Err(Fault::Usage) => 2,
         Err(_) => 1,
     }
 }
 
-fn found_status(faults: &str) -> u8
+fn found_status(faults: &[Finding]) -> u8
     ensures { result ≡ (if is_empty faults.now then 0 else 1) }
 {
-    if faults.as_bytes().first().is_none() {
-        0
-    } else {
-        1
-    }
+    if faults.first().is_none() { 0 } else { 1 }
 }
 
 fn replied<A: Actions, T: Transforms, F: Folder>(
@@ -189,22 +226,62 @@ fn check_configured<A: Actions, T: Transforms, F: Folder>(
 {
     let registry = &configured.registry;
     let scripts = registry.scripts();
-    let warnings = warn_unread(alloc, scripts, registry.given())?;
+    let unread = warn_unread(alloc, scripts, registry.given())?;
     let found = check_tasks(alloc, folder, configured, scripts)?;
-    Ok(with_warnings(warnings, found)?)
+    let left = warn_left(alloc, folder, configured)?;
+    Ok(with_warnings(unread, found, left)?)
 }
 
-/// The findings, with these warnings before the others.
-fn with_warnings(warnings: String, found: Findings) -> Result<Findings, AllocError>
-    ensures { IfOk result (λ all. (string_bytes all.faults ≡ string_bytes found.faults)
-        × (string_bytes all.warnings ≡ string_bytes warnings ++ string_bytes found.warnings)) }
+/// The findings, with the first warnings before the others and the last ones after them.
+fn with_warnings(
+    first: Vec<Finding>,
+    found: Findings,
+    last: Vec<Finding>,
+) -> Result<Findings, AllocError>
+    ensures { IfOk result (λ all. (all.faults.items ≡ found.faults.items)
+        × (all.warnings.items ≡ first.items ++ found.warnings.items ++ last.items)) }
 {
-    let mut warnings = warnings;
-    warnings.push_str(found.warnings.as_str())?;
+    let mut warnings = first;
+    let mut found = found;
+    let mut last = last;
+    warnings.append(&mut found.warnings)?;
+    warnings.append(&mut last)?;
     Ok(Findings {
         faults: found.faults,
         warnings,
     })
+}
+
+/// A warning for each task that has a record, but is not registered.
+fn warn_left<A: Actions, T: Transforms, F: Folder>(
+    alloc: Global,
+    folder: &mut F,
+    configured: &Configured<'_, A, T>,
+) -> Result<Vec<Finding>, Fault>
+    ensures asks { Asks F.failures F.may_leave F.asked no_change folder.old folder.new }
+    ensures same { IsTrue F.tells → F.contents folder.new ≡ F.contents folder.old }
+    ensures found { let tables = tables_of T.meanings A.meanings configured.now.tables.now in
+        IfOk result (λ found. AreLeft F.tells (F.contents folder.old)
+        (paths_of (registry_said tables configured.now.registry)) found.items) }
+    ensures err { IsTrue F.tells
+        → IfErr result (IsOfMachine (F.failures folder.old) (F.failures folder.new)) }
+{
+    let _registered = configured.registry.tasks();
+    let names = configured.registry.names(alloc)?;
+    let left = unregistered(alloc, folder, names.as_slice())?;
+    Ok(left_found(alloc, left.as_slice())?)
+}
+
+fn left_found(alloc: Global, paths: &[TaskPath]) -> Result<Vec<Finding>, AllocError>
+    ensures { IfOk result (λ found. found.items ≡ map left_of paths.now) }
+{
+    let mut found = Vec::new(alloc);
+    for path in paths {
+        let spot = Spot::Unknown;
+        let cause = Cause::Unregistered(path.copy()?);
+        found.push(Finding { spot, cause })?;
+    }
+    Ok(found)
 }
 
 /// The findings for registered tasks.

@@ -5,6 +5,7 @@
 
 mod answer;
 pub mod check;
+mod check_json;
 mod drawing;
 pub mod fmt;
 pub mod graph;

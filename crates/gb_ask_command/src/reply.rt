@@ -29,7 +29,7 @@ pub(crate) fn print_reply<W: Printer>(alloc: Global, writer: &mut W, reply: &Rep
     }
 }
 
-fn push_reply<W: Printer>(alloc: Global, writer: &mut W, reply: &Reply)
+pub(crate) fn push_reply<W: Printer>(alloc: Global, writer: &mut W, reply: &Reply)
     ensures { Prints W.contents W.whole (reply_text reply.now) writer.old writer.new }
 {
     match reply {

@@ -1,12 +1,12 @@
 //! Values of `-P` that nothing reads.
-ghost use Rattle.std.specs.Prelude.{◌≡◌, ◌≢◌, ◌++◌, IfErr, IfOk, OnOk, false, string_bytes, true};
+ghost use Rattle.std.specs.Prelude.{◌≡◌, ◌≢◌, ◌∷◌, ◌++◌, [], IfErr, IfOk, OnOk, false, true};
 ghost use Rattle.std.specs.List.{list_any};
 ghost use Rattle.std.specs.Option.{option_copied};
 ghost use Rattle.gb_registry.specs.Seen.{scripts_in};
 ghost use Rattle.gb_ask_command.specs.Unread.{is_read, is_read_by, is_read_by_call, is_read_by_clause};
-ghost use Rattle.gb_ask_command.specs.Unread.{is_read_in};
-ghost use Rattle.gb_ask_command.specs.Unread.{unread_value_text, unread_values_text};
+ghost use Rattle.gb_ask_command.specs.Unread.{is_read_in, unread, unread_value, unread_values};
 
+use gb_check::findings::{Cause, Finding, Spot};
 use gb_core::name::Name;
 use gb_core::text::Text;
 use gb_registry::checking::Scripted;
@@ -15,7 +15,6 @@ use gb_report::fault::Fault;
 use gb_script::expression::{Expression, Source, Step};
 use gb_script::script::{Call, Clause, Statement};
 use std::alloc::{AllocError, Global};
-use std::fmt::Write;
 
 /// Looks for reads of the value of a name. For one that it finds, it returns a fault as a mark.
 #[derive(Drop)]
@@ -49,33 +48,40 @@ pub(crate) fn warn_unread(
     alloc: Global,
     scripts: &[Scripted],
     given: &[(Name, Text)],
-) -> Result<String, Fault>
-    ensures text { IfOk result (λ text.
-        string_bytes text ≡ unread_values_text (scripts_in scripts.now) given.now) }
+) -> Result<Vec<Finding>, Fault>
+    ensures found { IfOk result (λ found.
+        found.items ≡ unread_values (scripts_in scripts.now) given.now) }
     ensures err { IfErr result (λ fault. fault ≡ Fault.OutOfMemory) }
 {
-    let mut text = String::new(alloc);
+    let mut found = Vec::new(alloc);
     for value in given {
-        push_value(alloc, &mut text, scripts, value)?;
+        push_value(alloc, &mut found, scripts, value)?;
     }
-    Ok(text)
+    Ok(found)
 }
 
 fn push_value(
     alloc: Global,
-    text: &mut String,
+    found: &mut Vec<Finding>,
     scripts: &[Scripted],
     given: &(Name, Text),
 ) -> Result<(), Fault>
-    ensures text { OnOk result (string_bytes text.new
-        ≡ string_bytes text.old ++ unread_value_text (scripts_in scripts.now) given.now) }
+    ensures found { OnOk result (found.new.items
+        ≡ found.old.items ++ unread_value (scripts_in scripts.now) given.now) }
     ensures err { IfErr result (λ fault. fault ≡ Fault.OutOfMemory) }
 {
-    let name = &given.0;
-    if is_read(alloc, scripts, name)? {
+    if is_read(alloc, scripts, &given.0)? {
         return Ok(());
     }
-    writeln!(text, "-P{name}: warning: nothing reads it")?;
+    Ok(push_unread(found, &given.0)?)
+}
+
+fn push_unread(found: &mut Vec<Finding>, name: &Name) -> Result<(), AllocError>
+    ensures { OnOk result (found.new.items ≡ found.old.items ++ unread name.now ∷ []) }
+{
+    let spot = Spot::Value(name.copy()?);
+    let cause = Cause::Unread;
+    found.push(Finding { spot, cause })?;
     Ok(())
 }
 

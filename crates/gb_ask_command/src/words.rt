@@ -121,7 +121,8 @@ gb_ask makes [--json] PLACE [WORD ..]
                            every task that makes the place, with the output
 gb_ask status [--json] [WORD ..]
                            whether a build runs, and what each file of `.gb` is
-gb_ask check [WORD ..]     every fault of every task with its line, and warnings
+gb_ask check [--json] [WORD ..]
+                           every fault of every task with its line, and warnings
 gb_ask fmt [--write | --check] FILE ..
                            the files in one layout; `-` is standard input
 gb_ask help                this text

@@ -7,6 +7,7 @@ use gb_folder::memory::MemoryFolder;
 use gb_kinds::builtin::Builtin;
 use gb_printer::page::Page;
 use gb_provider::transforms::Transforms;
+use gb_query::notation::Notation;
 use gb_registry::tables::Tables;
 use std::alloc::Global;
 use std::test::Fail;
@@ -37,17 +38,23 @@ const STALE: &str = "register a:writeText(\"x\"){enabled true\noutputFile out=fi
      outputDir out=dir(\"build/b\")}\nregister c:copyFiles{mustRunAfter \"a\"\n\
      inputFiles src from dir(\"build/a\")\noutputDir out=dir(\"build/c\")}";
 
-const SKIPPED: &str =
-    "build.gb:6: warning: build/a overlaps an output of :a, which is not needed directly\n\
-     build.gb:1: warning: where :a is skipped, :b reads its old output\n\
+const SKIPPED: &str = "build.gb:1: warning: where :a is skipped, :b reads its old output\n\
+     build.gb:6: warning: build/a overlaps an output of :a, which is not needed directly\n\
      build.gb:1: warning: where :a is skipped, :c reads its old output\n";
 
 const BROKEN: &str = "register a {}\nregister {}\n";
+
+const UNREAD: &str = "[{\"file\":\"build.gb\",\"kind\":\"fault\",\"line\":2,\"number\":20,\
+     \"text\":\"20 syntax build.gb:2\"}]\n";
+
+const VALUE: &str = "[{\"file\":null,\"kind\":\"warning\",\"line\":null,\"number\":null,\
+     \"text\":\"-Pv: nothing reads it\"}]\n";
 
 /// Fails if something else is printed for a script, or the exit status differs.
 fn is_checked<A: Actions, T: Transforms>(
     alloc: Global,
     tables: &Tables<A, T>,
+    notation: Notation,
     script: &str,
     words: &str,
     text: &str,
@@ -61,6 +68,7 @@ fn is_checked<A: Actions, T: Transforms>(
     let got = check::run(
         alloc,
         &mut folder,
+        notation,
         Ok(words),
         &mut Page::new(&mut out),
         tables,
@@ -75,14 +83,22 @@ fn is_checked<A: Actions, T: Transforms>(
 
 fn all_hold<A: Actions, T: Transforms>(alloc: Global, tables: &Tables<A, T>) -> Result<(), Fail> {
     let rows = [
-        (WRONG, "-Pversion=2", FAULTS, 1),
-        (RIGHT, "", BARE, 0),
-        (MET, "", MEETING, 1),
-        (STALE, "", SKIPPED, 0),
-        (BROKEN, "", "build.gb:2: 20 syntax build.gb:2\n", 1),
+        (Notation::Lines, WRONG, "-Pversion=2", FAULTS, 1),
+        (Notation::Lines, RIGHT, "", BARE, 0),
+        (Notation::Lines, MET, "", MEETING, 1),
+        (Notation::Lines, STALE, "", SKIPPED, 0),
+        (
+            Notation::Lines,
+            BROKEN,
+            "",
+            "build.gb:2: 20 syntax build.gb:2\n",
+            1,
+        ),
+        (Notation::Json, BROKEN, "", UNREAD, 1),
+        (Notation::Json, "", "-Pv=1", VALUE, 0),
     ];
-    for (script, words, text, status) in rows {
-        is_checked(alloc, tables, script, words, text, status)?;
+    for (notation, script, words, text, status) in rows {
+        is_checked(alloc, tables, notation, script, words, text, status)?;
     }
     Ok(())
 }

@@ -1,4 +1,3 @@
 pub mod Refused
 pub mod Rows
 pub mod Silence
-pub mod Warned

@@ -59,7 +59,15 @@ around : {X : Type 0} (xs : List X) (i : ℕ) (x : X) → i < length xs → x �
 around xs i x low at = take_more xs i x low ∙ ap (λ z. take i xs ++ z ∷ []) (sym at)
 
 -- what is made of those so far, and of one more
-pub one_more : {X : Type 0} (f : X → List ℕ) (xs : List X) (i : ℕ) (x : X) → i < length xs → x ≡ get_or xs i x
+pub one_more : {X Y : Type 0} (f : X → List Y) (xs : List X) (i : ℕ) (x : X) → i < length xs → x ≡ get_or xs i x
     → flat_map f (take i xs) ++ f x ≡ flat_map f (take (i + 1) xs)
 one_more f xs i x low at =
     sym (ap (flat_map f) (around xs i x low at) ∙ flat_map-append f (take i xs) (x ∷ []) ∙ ap (λ t. flat_map f (take i xs) ++ t) (append-nil (f x)))
+
+-- ---- Texts of several parts
+
+pub four_parts : (old a b c d now : List ℕ) → now ≡ old ++ (a ++ (b ++ (c ++ d))) → now ≡ old ++ (a ++ b ++ c ++ d)
+four_parts old a b c d now is = is ∙ simp append_assoc
+
+pub five_parts : (old a b c d e now : List ℕ) → now ≡ old ++ (a ++ (b ++ (c ++ (d ++ e)))) → now ≡ old ++ (a ++ b ++ c ++ d ++ e)
+five_parts old a b c d e now is = is ∙ simp append_assoc

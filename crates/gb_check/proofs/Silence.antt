@@ -1,5 +1,5 @@
 -- Where no task has a fault, nothing is refused for one.
-use Rattle.std.proofs.Common.{ℕ, ◌≡◌, ◌≢◌, true, false, cond, ◌||◌, List, [], ◌∷◌, ◌++◌, Some, None, Result, Ok, Err, IfOk, map, refl, ap, sym, subst, ◌∙◌, inl, inr}
+use Rattle.std.proofs.Common.{◌≡◌, ◌≢◌, true, false, cond, ◌||◌, List, [], ◌∷◌, ◌++◌, Some, None, Result, Ok, Err, IfOk, map, refl, ap, sym, subst, ◌∙◌, inl, inr}
 use Rattle.std.specs.Prelude.{bytes_eq}
 use Rattle.std.specs.List.{flat_map}
 use Rattle.std.specs.FinMap.Entries.{find}
@@ -14,30 +14,26 @@ use Rattle.gb_plan.specs.Graph.{Registry, Request, declaration_at, paths_of, sel
 use Rattle.gb_plan.specs.Refusal.{request_of, word_faults}
 use Rattle.gb_plan.specs.Task.{Path, Text, has_path}
 use Rattle.gb_plan.proofs.Tests.{not_true, or_right}
-use Rattle.gb_report.specs.Report.{line}
 use Rattle.gb_report.specs.declared.fault.Fault.{Fault}
 use Rattle.gb_report.specs.declared.fault.Fault.TheVariants as faults
-use Rattle.gb_check.specs.Found.{IsFound, IsSilent, faults_of, found_text, in_plan, in_tasks, task_text, tasks_text}
+use Rattle.gb_check.specs.Found.{IsFound, IsSilent, faults_of, found_of, in_plan, in_tasks, task_found, tasks_found}
+use Rattle.gb_check.specs.declared.findings.Finding.{Finding}
 use Rattle.gb_check.specs.declared.marks.Mark.{Mark}
 use Rattle.gb_check.specs.declared.sites.Site.{Site}
 
--- ---- Texts
+-- ---- Findings
 
-front_empty : (xs ys : List ℕ) → xs ++ ys ≡ [] → xs ≡ []
+front_empty : {X : Type 0} (xs ys : List X) → xs ++ ys ≡ [] → xs ≡ []
 front_empty [] ys e = refl
 front_empty (x ∷ xs) ys e = absurd (cc)
 
-back_empty : (xs ys : List ℕ) → xs ++ ys ≡ [] → ys ≡ []
+back_empty : {X : Type 0} (xs ys : List X) → xs ++ ys ≡ [] → ys ≡ []
 back_empty [] ys e = e
 back_empty (x ∷ xs) ys e = absurd (cc)
 
-line_full : (text : List ℕ) → line text ≢ []
-line_full [] e = cc
-line_full (x ∷ text) e = cc
-
-nothing_in : (f : Path → List ℕ) (paths : List Path) (path : Path) → flat_map f paths ≡ [] → has_path paths path ≡ true → f path ≡ []
+nothing_in : {X : Type 0} (f : Path → List X) (paths : List Path) (path : Path) → flat_map f paths ≡ [] → has_path paths path ≡ true → f path ≡ []
 nothing_in f [] path none is = not_true is
-nothing_in f (p ∷ paths) path none is =
+nothing_in {X} f (p ∷ paths) path none is =
     let both : f p ++ flat_map f paths ≡ [] = sym (flat_map-cons f p paths) ∙ none in
     elim (bytes_eq path p) as (λ b. bytes_eq path p ≡ b → (b || has_path paths path) ≡ true → f path ≡ []) [
       | true ↦ λ same _. ap f ((bytes_decides path p).0 same) ∙ front_empty (f p) (flat_map f paths) both
@@ -83,12 +79,12 @@ module _ (registry : Registry) where
 
 -- ---- Silence
 
-module _ (sites : List Site) (marks : List Mark) (registry : Registry) (none : tasks_text sites marks registry ≡ []) where
+module _ (sites : List Site) (marks : List Mark) (registry : Registry) (none : tasks_found sites marks registry ≡ []) where
   not_at_fault : (path : Path) (fault : Fault) → declaration_at registry path ≢ Some (Err fault)
   not_at_fault path fault is =
-      let empty = nothing_in (task_text sites marks registry) (paths_of registry) path none (registered registry.tasks path (Err fault) is) in
-      let one : flat_map (found_text sites marks path) (fault ∷ []) ≡ [] = sym (ap (λ d. flat_map (found_text sites marks path) (faults_of d)) is) ∙ empty in
-      line_full _ (front_empty (found_text sites marks path fault) [] one)
+      let empty = nothing_in (task_found sites marks registry) (paths_of registry) path none (registered registry.tasks path (Err fault) is) in
+      let one : map (found_of sites marks path) (fault ∷ []) ≡ [] = sym (ap (λ d. map (found_of sites marks path) (faults_of d)) is) ∙ empty in
+      cc
 
   pub silent_of : IsSilent registry
   silent_of requested excluded fault (inl memory) = inl memory
@@ -97,6 +93,6 @@ module _ (sites : List Site) (marks : List Mark) (registry : Registry) (none : t
       absurd (not_at_fault task.path fault (ap (λ r. declaration_at r task.path) (sym (request_registry registry requested excluded request asked)) ∙ task.at_fault))
   silent_of requested excluded fault (inr (inr (request, asked, inr (plan, schedule, bad)))) = inr (inr (plan, bad))
 
-pub silence : (sites : List Site) (marks : List Mark) (registry : Registry) (text : List ℕ) → IsFound sites marks registry text → text ≡ [] → IsSilent registry
-silence sites marks registry text (in_tasks full is) empty = absurd (full empty)
-silence sites marks registry text (in_plan none found) empty = silent_of sites marks registry none
+pub silence : (sites : List Site) (marks : List Mark) (registry : Registry) (found : List Finding) → IsFound sites marks registry found → found ≡ [] → IsSilent registry
+silence sites marks registry found (in_tasks full is) empty = absurd (full empty)
+silence sites marks registry found (in_plan none is) empty = silent_of sites marks registry none

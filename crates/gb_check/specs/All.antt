@@ -1,5 +1,5 @@
 -- All findings: faults and warnings.
-use Rattle.std.specs.Prelude.{◌≡◌, Bool, List, [], string_bytes}
+use Rattle.std.specs.Prelude.{◌≡◌, Bool, List, []}
 use Rattle.gb_folder.specs.Files.{Contents}
 use Rattle.gb_plan.specs.Graph.{Registry}
 use Rattle.gb_plan.specs.Task.{Path}
@@ -7,7 +7,7 @@ use Rattle.gb_script.specs.declared.script.Statement.{Statement}
 use Rattle.gb_check.specs.Found.{IsFound, IsSilent}
 use Rattle.gb_check.specs.Sites.{AreSites}
 use Rattle.gb_check.specs.Warnings.{AreWarnings}
-use Rattle.gb_check.specs.declared.finding.Findings.{Findings}
+use Rattle.gb_check.specs.declared.findings.Findings.{Findings}
 use Rattle.gb_check.specs.declared.marks.Mark.{Mark}
 use Rattle.gb_check.specs.declared.sites.Site.{Site}
 
@@ -17,7 +17,7 @@ pub record AreFindings (tells : Bool) (contents : Contents) (registry : Registry
   pub sites : List Site
   pub marks : List Mark
   pub are_sites : AreSites tells contents.files scripts sites marks
-  pub faults : IsFound sites marks registry (string_bytes findings.faults)
+  pub faults : IsFound sites marks registry findings.faults.items
   -- The theorem of silence.
-  pub silent : string_bytes findings.faults ≡ [] → IsSilent registry
-  pub warnings : AreWarnings tells sites scripts contents registry (string_bytes findings.warnings)
+  pub silent : findings.faults.items ≡ [] → IsSilent registry
+  pub warnings : AreWarnings tells sites scripts contents registry findings.warnings.items

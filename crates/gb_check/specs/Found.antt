@@ -1,6 +1,6 @@
 -- The findings for registered tasks, and what follows if there are none.
 use Rattle.std.specs.Prelude.{ℕ, ◌≡◌, ◌≢◌, ◌⊎◌, List, [], ◌∷◌, ◌++◌, Option, Some, None, Result, Ok, Err}
-use Rattle.std.specs.Prelude.{bytes_eq, codes, decimal, find}
+use Rattle.std.specs.Prelude.{bytes_eq, codes, decimal, find, map}
 use Rattle.std.specs.List.{flat_map}
 use Rattle.std.specs.Option.{option_map_or}
 use Rattle.gb_folder.specs.Files.{Place}
@@ -13,7 +13,13 @@ use Rattle.gb_report.specs.Fault.{fault_text}
 use Rattle.gb_report.specs.Report.{line}
 use Rattle.gb_report.specs.declared.fault.Fault.{Fault}
 use Rattle.gb_report.specs.declared.fault.Fault.TheVariants as faults
+use Rattle.gb_check.specs.Findings.{spot_at, unread_spot}
 use Rattle.gb_check.specs.Marks.{line_for}
+use Rattle.gb_check.specs.declared.findings.Cause.{Cause}
+use Rattle.gb_check.specs.declared.findings.Cause.TheVariants as causes
+use Rattle.gb_check.specs.declared.findings.Finding.{Finding}
+use Rattle.gb_check.specs.declared.findings.Spot.{Spot}
+use Rattle.gb_check.specs.declared.findings.Spot.TheVariants as spots
 use Rattle.gb_check.specs.declared.marks.Mark.{Mark}
 use Rattle.gb_check.specs.declared.sites.Site.{Site}
 
@@ -23,26 +29,75 @@ use Rattle.gb_check.specs.declared.sites.Site.{Site}
 abbrev pub line_text : Place → ℕ → List ℕ
 line_text script line = script ++ codes ":" ++ decimal line ++ codes ": "
 
-abbrev pub site_text : Site → List ℕ
-site_text site = line_text site.script site.line
+abbrev pub spot_text : Spot → List ℕ
+spot_text (spots.Line script line) = line_text script line
+spot_text (spots.Value name) = codes "-P" ++ name ++ codes ": "
+spot_text spots.Unknown = []
 
--- where the task at a path is registered; empty if that is not known
-abbrev pub where_text : List Site → Path → List ℕ
-where_text sites path = option_map_or site_text (find (λ site. bytes_eq site.path path) sites) []
+abbrev pub kind_text : Cause → List ℕ
+kind_text (causes.Fault fault) = []
+kind_text other = codes "warning: "
+
+-- a fault with its number, or the words of a warning
+abbrev pub cause_text : Cause → List ℕ
+cause_text (causes.Fault fault) = fault_text fault
+cause_text (causes.Shared first second) = first ++ codes " and " ++ second ++ codes " read one folder"
+cause_text (causes.Unneeded root maker) =
+    root ++ codes " overlaps an output of " ++ maker ++ codes ", which is not needed directly"
+cause_text (causes.Stale maker reader) =
+    codes "where " ++ maker ++ codes " is skipped, " ++ reader ++ codes " reads its old output"
+cause_text (causes.Bare root) = codes "no file is at " ++ root
+cause_text causes.Unread = codes "nothing reads it"
+cause_text (causes.Unregistered path) =
+    codes "a record of " ++ path ++ codes " is kept, which no script registers"
+
+abbrev pub finding_text : Finding → List ℕ
+finding_text finding = line (spot_text finding.spot ++ kind_text finding.cause ++ cause_text finding.cause)
+
+abbrev pub findings_text : List Finding → List ℕ
+findings_text found = flat_map finding_text found
+
+-- ---- Scripts or arguments that cannot be read
+
+abbrev pub unread_where : Spot → List ℕ
+unread_where spots.Unknown = codes "REFUSED "
+unread_where (spots.Line script line) = line_text script line
+unread_where (spots.Value name) = codes "-P" ++ name ++ codes ": "
+
+abbrev pub unread_text : Fault → List ℕ
+unread_text fault = line (unread_where (unread_spot fault) ++ fault_text fault)
+
+-- ---- The findings
 
 -- the line of the clause that the fault of a registered task names, or else of the registration
-abbrev pub fault_site_text : List Mark → Path → Fault → Site → List ℕ
-fault_site_text marks path fault site = line_text site.script (line_for marks path fault site.line)
+abbrev pub line_spot : List Mark → Path → Fault → Site → Spot
+line_spot marks path fault site = spots.Line site.script (line_for marks path fault site.line)
 
--- the same for the task at a path; empty if it is not known where the task is registered
-abbrev pub fault_where : List Site → List Mark → Path → Fault → List ℕ
-fault_where sites marks path fault =
-    option_map_or (fault_site_text marks path fault) (find (λ site. bytes_eq site.path path) sites) []
+-- the same for the task at a path
+abbrev pub fault_spot : List Site → List Mark → Path → Fault → Spot
+fault_spot sites marks path fault =
+    option_map_or (line_spot marks path fault) (find (λ site. bytes_eq site.path path) sites) spots.Unknown
 
-abbrev pub found_text : List Site → List Mark → Path → Fault → List ℕ
-found_text sites marks path fault = line (fault_where sites marks path fault ++ fault_text fault)
+-- a fault of the task at a path
+abbrev pub found_of : List Site → List Mark → Path → Fault → Finding
+found_of sites marks path fault =
+    record { spot = fault_spot sites marks path fault; cause = causes.Fault fault }
 
--- the task whose line is printed for the fault of a plan: the first that the fault names
+abbrev pub faults_of : Option (Result TaskDeclaration Fault) → List Fault
+faults_of (Some (Err fault)) = fault ∷ []
+faults_of (Some (Ok task)) = []
+faults_of None = []
+
+-- the fault of the task at a path, if it has one
+abbrev pub task_found : List Site → List Mark → Registry → Path → List Finding
+task_found sites marks registry path =
+    map (found_of sites marks path) (faults_of (declaration_at registry path))
+
+-- the fault of each task that has one, in the order of registration
+abbrev pub tasks_found : List Site → List Mark → Registry → List Finding
+tasks_found sites marks registry = flat_map (task_found sites marks registry) (paths_of registry)
+
+-- the task whose line is named for the fault of a plan: the first that the fault names
 abbrev pub first_path : List Path → Option Path
 first_path [] = None
 first_path (path ∷ paths) = Some path
@@ -54,55 +109,29 @@ named_by (faults.UndeclaredDependency task other place) = Some task
 named_by (faults.OwnOutputAsInput task place) = Some task
 named_by other = None
 
-abbrev pub plan_text : List Site → Fault → List ℕ
-plan_text sites fault = line (option_map_or (where_text sites) (named_by fault) [] ++ fault_text fault)
-
--- ---- Scripts or arguments that cannot be read
-
--- the script and the line that the fault of a text names; its first line if it names none
-abbrev pub unread_where : Fault → List ℕ
-unread_where (faults.Syntax script line) = line_text script line
-unread_where (faults.TooDeep script line) = line_text script line
-unread_where (faults.TooLong script) = line_text script 1
-unread_where (faults.NotUtf8 script) = line_text script 1
-unread_where other = codes "REFUSED "
-
-abbrev pub unread_text : Fault → List ℕ
-unread_text fault = line (unread_where fault ++ fault_text fault)
-
--- ---- The findings
-
-abbrev pub faults_of : Option (Result TaskDeclaration Fault) → List Fault
-faults_of (Some (Err fault)) = fault ∷ []
-faults_of (Some (Ok task)) = []
-faults_of None = []
-
--- the fault of the task at a path, if it has one
-abbrev pub task_text : List Site → List Mark → Registry → Path → List ℕ
-task_text sites marks registry path =
-    flat_map (found_text sites marks path) (faults_of (declaration_at registry path))
-
--- the fault of each task that has one, in the order of registration
-abbrev pub tasks_text : List Site → List Mark → Registry → List ℕ
-tasks_text sites marks registry = flat_map (task_text sites marks registry) (paths_of registry)
+-- the fault of a plan
+abbrev pub plan_found : List Site → Fault → Finding
+plan_found sites fault =
+    record { spot = option_map_or (spot_at sites) (named_by fault) spots.Unknown; cause = causes.Fault fault }
 
 -- the findings for the plan of these words: none, or why there is no plan
-abbrev pub IsFoundInPlan : List Site → Registry → List Text → List ℕ → Type 0
-IsFoundInPlan sites registry words text =
-    ((plan : Plan) × IsPlanOf registry words [] plan × (text ≡ []))
+abbrev pub IsFoundInPlan : List Site → Registry → List Text → List Finding → Type 0
+IsFoundInPlan sites registry words found =
+    ((plan : Plan) × IsPlanOf registry words [] plan × (found ≡ []))
     ⊎ ((fault : Fault) × IsRefusalOf registry words [] fault × (fault ≢ faults.OutOfMemory)
-    × (text ≡ plan_text sites fault))
+    × (found ≡ plan_found sites fault ∷ []))
 
 -- the findings for the plan of all tasks, if there are any tasks
-abbrev pub IsFoundInAll : List Site → Registry → List Path → List ℕ → Type 0
-IsFoundInAll sites registry paths text =
-    ((paths ≡ []) × (text ≡ [])) ⊎ ((paths ≢ []) × IsFoundInPlan sites registry paths text)
+abbrev pub IsFoundInAll : List Site → Registry → List Path → List Finding → Type 0
+IsFoundInAll sites registry paths found =
+    ((paths ≡ []) × (found ≡ [])) ⊎ ((paths ≢ []) × IsFoundInPlan sites registry paths found)
 
 -- The faults of all tasks; or if no task has one, the findings for the plan of all.
-pub data IsFound (sites : List Site) (marks : List Mark) (registry : Registry) (text : List ℕ) : Type 0 where
-  in_tasks : text ≢ [] → text ≡ tasks_text sites marks registry → IsFound sites marks registry text
-  in_plan : tasks_text sites marks registry ≡ [] → IsFoundInAll sites registry (paths_of registry) text
-      → IsFound sites marks registry text
+pub data IsFound (sites : List Site) (marks : List Mark) (registry : Registry) (found : List Finding) : Type 0
+  where
+    in_tasks : found ≢ [] → found ≡ tasks_found sites marks registry → IsFound sites marks registry found
+    in_plan : tasks_found sites marks registry ≡ [] → IsFoundInAll sites registry (paths_of registry) found
+        → IsFound sites marks registry found
 
 -- ---- If nothing is found
 

@@ -1,5 +1,6 @@
 pub mod Marks
 pub mod Sites
+pub mod Findings
 pub mod Found
 pub mod Warnings
 pub mod All

@@ -16,14 +16,9 @@ use Rattle.gb_script.specs.declared.fault.ScriptFault.TheVariants as texts
 use Rattle.gb_script.specs.declared.script.Statement.{Statement}
 use Rattle.gb_script.specs.declared.script.Statement.TheVariants as statements
 use Rattle.gb_store.specs.Faults.{reported_at}
-use Rattle.gb_check.specs.Marks.{Lines, marks_of, other_lines}
+use Rattle.gb_check.specs.Marks.{Lines, first_lines, marks_of, other_lines}
 use Rattle.gb_check.specs.declared.marks.Mark.{Mark}
 use Rattle.gb_check.specs.declared.sites.Site.{Site}
-
--- the line of the first statement; 1 if there is none
-abbrev pub first_line : List Lines → ℕ
-first_line [] = 1
-first_line (lines ∷ others) = lines.0
 
 -- the task that a statement in this line registers, if it registers one
 abbrev pub registered_at : Path → Place → ℕ → Statement → List Site
@@ -41,7 +36,7 @@ registered_at project script line (statements.Named x) = []
 abbrev pub sites_of : Path → Place → List Statement → List Lines → List Site
 sites_of project script [] lines = []
 sites_of project script (statement ∷ statements) lines =
-    registered_at project script (first_line lines) statement
+    registered_at project script (first_lines lines).0 statement
     ++ sites_of project script statements (other_lines lines)
 
 abbrev pub script_of_project : Path → Place

@@ -1,13 +1,14 @@
 //! Roots of file properties that have no files.
-ghost use Rattle.std.specs.Prelude.{◌≡◌, ◌++◌, ◌&&◌, IfErr, IfOk, IsTrue, OnOk, codes, not, string_bytes};
+ghost use Rattle.std.specs.Prelude.{◌≡◌, ◌∷◌, ◌++◌, ◌&&◌, [], IfErr, IfOk, IsTrue, OnOk, not};
 ghost use Rattle.std.specs.List.{flat_map, list_any};
 ghost use Rattle.gb_core.specs.Place.{overlaps};
 ghost use Rattle.gb_folder.specs.Calls.{Asks, no_change};
 ghost use Rattle.gb_folder.specs.Files.{is_empty, is_odd_under, places_under};
 ghost use Rattle.gb_store.specs.Faults.{IsOfMachine};
-ghost use Rattle.gb_check.specs.Warnings.{bare_roots_text, bare_text, is_bare, warning_text};
+ghost use Rattle.gb_check.specs.Findings.{warning};
+ghost use Rattle.gb_check.specs.Warnings.{bare_root, bare_roots, is_bare};
 
-use crate::found::push_where;
+use crate::findings::{Cause, Finding, push_warning};
 use crate::places::{Rooted, all_outputs, all_roots};
 use crate::sites::Site;
 use gb_core::place::Place;
@@ -16,7 +17,6 @@ use gb_plan::task::TaskDeclaration;
 use gb_report::fault::Fault;
 use gb_store::faults::fault_at;
 use std::alloc::{AllocError, Global};
-use std::fmt::Write;
 
 /// A warning for each root of a file property with nothing at it and under it, unless a task makes
 /// something there.
@@ -25,11 +25,11 @@ pub(crate) fn warn_bare<F: Folder>(
     folder: &mut F,
     tasks: &[TaskDeclaration],
     sites: &[Site],
-) -> Result<String, Fault>
+) -> Result<Vec<Finding>, Fault>
     ensures asks { Asks F.failures F.may_leave F.asked no_change folder.old folder.new }
     ensures same { IsTrue F.tells → F.contents folder.new ≡ F.contents folder.old }
-    ensures text { IsTrue F.tells → IfOk result (λ text. string_bytes text
-        ≡ bare_roots_text sites.now (F.contents folder.old) tasks.now) }
+    ensures found { IsTrue F.tells → IfOk result (λ found. found.items
+        ≡ bare_roots sites.now (F.contents folder.old) tasks.now) }
     ensures err { IsTrue F.tells
         → IfErr result (IsOfMachine (F.failures folder.old) (F.failures folder.new)) }
 {
@@ -45,49 +45,47 @@ fn warn_each<F: Folder>(
     sites: &[Site],
     outputs: &[Place],
     roots: &[Rooted],
-) -> Result<String, Fault>
+) -> Result<Vec<Finding>, Fault>
     ensures asks { Asks F.failures F.may_leave F.asked no_change folder.old folder.new }
     ensures same { IsTrue F.tells → F.contents folder.new ≡ F.contents folder.old }
-    ensures text { IsTrue F.tells → IfOk result (λ text. string_bytes text
-        ≡ flat_map (bare_text sites.now (F.contents folder.old) outputs.now) roots.now) }
+    ensures found { IsTrue F.tells → IfOk result (λ found. found.items
+        ≡ flat_map (bare_root sites.now (F.contents folder.old) outputs.now) roots.now) }
     ensures err { IsTrue F.tells
         → IfErr result (IsOfMachine (F.failures folder.old) (F.failures folder.new)) }
 {
-    let mut text = String::new(alloc);
+    let mut found = Vec::new(alloc);
     for rooted in roots {
-        push_rooted(alloc, folder, &mut text, sites, outputs, rooted)?;
+        push_rooted(alloc, folder, &mut found, sites, outputs, rooted)?;
     }
-    Ok(text)
+    Ok(found)
 }
 
 fn push_rooted<F: Folder>(
     alloc: Global,
     folder: &mut F,
-    text: &mut String,
+    found: &mut Vec<Finding>,
     sites: &[Site],
     outputs: &[Place],
     rooted: &Rooted,
 ) -> Result<(), Fault>
     ensures asks { Asks F.failures F.may_leave F.asked no_change folder.old folder.new }
     ensures same { IsTrue F.tells → F.contents folder.new ≡ F.contents folder.old }
-    ensures text { IsTrue F.tells → OnOk result (string_bytes text.new
-        ≡ string_bytes text.old ++ bare_text sites.now (F.contents folder.old) outputs.now rooted.now) }
+    ensures found { IsTrue F.tells → OnOk result (found.new.items
+        ≡ found.old.items ++ bare_root sites.now (F.contents folder.old) outputs.now rooted.now) }
     ensures err { IsTrue F.tells
         → IfErr result (IsOfMachine (F.failures folder.old) (F.failures folder.new)) }
 {
     if is_bare(alloc, folder, outputs, &rooted.root)? {
-        push_bare(text, sites, rooted)?;
+        push_bare(found, sites, rooted)?;
     }
     Ok(())
 }
 
-fn push_bare(text: &mut String, sites: &[Site], rooted: &Rooted) -> Result<(), AllocError>
-    ensures { OnOk result (string_bytes text.new ≡ string_bytes text.old
-        ++ warning_text sites.now rooted.now.path (codes "no file is at " ++ rooted.now.root)) }
+fn push_bare(found: &mut Vec<Finding>, sites: &[Site], rooted: &Rooted) -> Result<(), AllocError>
+    ensures { OnOk result (found.new.items
+        ≡ found.old.items ++ warning sites.now rooted.now.path (Cause.Bare rooted.now.root) ∷ []) }
 {
-    push_where(text, sites, &rooted.path)?;
-    let root = &rooted.root;
-    writeln!(text, "warning: no file is at {root}")
+    push_warning(found, sites, &rooted.path, Cause::Bare(rooted.root.copy()?))
 }
 
 /// Whether nothing is at a root or under it, and no task makes anything there.

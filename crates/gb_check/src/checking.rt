@@ -1,69 +1,71 @@
 //! The faults of all registered tasks.
-ghost use Rattle.std.specs.Prelude.{◌≡◌, ◌≢◌, ◌++◌, [], IfErr, IfOk, IsTrue, OnOk, string_bytes};
+ghost use Rattle.std.specs.Prelude.{◌≡◌, ◌≢◌, ◌∷◌, ◌++◌, [], IfErr, IfOk, IsTrue, OnOk};
+ghost use Rattle.std.specs.Option.{option_copied, option_map_or};
 ghost use Rattle.gb_plan.specs.Graph.{declaration_at, paths_of};
 ghost use Rattle.gb_plan.specs.Task.{has_path};
-ghost use Rattle.gb_check.specs.Found.{IsFound, IsSilent, found_text, task_text, tasks_text};
+ghost use Rattle.gb_check.specs.Found.{IsFound, IsSilent, fault_spot, found_of, line_spot, task_found};
+ghost use Rattle.gb_check.specs.Found.{tasks_found};
 
-use crate::found::push_found;
+use crate::findings::{Cause, Finding, Spot, site_of};
 use crate::marks::Mark;
+use crate::naming::line_for;
 use crate::planning::{check_all, is_out_of_memory};
 use crate::sites::Site;
 use gb_core::path::TaskPath;
 use gb_graph::tasks::Tasks;
 use gb_report::fault::Fault;
-use std::alloc::Global;
+use std::alloc::{AllocError, Global};
 
-/// A line for the fault of each task that has one, in the order of registration. If no task has
-/// one, a line for the reason why there is no plan of all tasks, if there is none. `names` are the
-/// paths of all tasks.
+/// The fault of each task that has one, in the order of registration. If no task has one, the
+/// reason why there is no plan of all tasks, if there is none. `names` are the paths of all tasks.
 pub(crate) fn check<Ts: Tasks>(
     alloc: Global,
     tasks: &mut Ts,
     names: &[TaskPath],
     sites: &[Site],
     marks: &[Mark],
-) -> Result<String, Fault>
+) -> Result<Vec<Finding>, Fault>
     requires { names.now ≡ paths_of (Ts.registry tasks.old) }
     ensures kept { Ts.registry tasks.new ≡ Ts.registry tasks.old }
-    ensures found { IfOk result (λ text.
-        IsFound sites.now marks.now (Ts.registry tasks.old) (string_bytes text)) }
+    ensures found { IfOk result (λ found.
+        IsFound sites.now marks.now (Ts.registry tasks.old) found.items) }
     // The theorem of silence.
-    ensures silent { IfOk result (λ text. string_bytes text ≡ [] → IsSilent (Ts.registry tasks.old)) }
+    ensures silent { IfOk result (λ found. found.items ≡ [] → IsSilent (Ts.registry tasks.old)) }
     ensures err { IfErr result (λ fault. fault ≡ Fault.OutOfMemory) }
 {
-    let text = check_each(alloc, tasks, names, sites, marks)?;
-    if text.as_str().is_empty() {
+    let found = check_each(alloc, tasks, names, sites, marks)?;
+    if found.as_slice().is_empty() {
         check_all(alloc, tasks, names, sites)
     } else {
-        Ok(text)
+        Ok(found)
     }
 }
 
-/// A line for the fault of each task that has one.
+/// The fault of each task that has one.
 fn check_each<Ts: Tasks>(
     alloc: Global,
     tasks: &mut Ts,
     names: &[TaskPath],
     sites: &[Site],
     marks: &[Mark],
-) -> Result<String, Fault>
+) -> Result<Vec<Finding>, Fault>
     requires { names.now ≡ paths_of (Ts.registry tasks.old) }
     ensures kept { Ts.registry tasks.new ≡ Ts.registry tasks.old }
-    ensures text { IfOk result (λ text.
-        string_bytes text ≡ tasks_text sites.now marks.now (Ts.registry tasks.old)) }
+    ensures found { IfOk result (λ found.
+        found.items ≡ tasks_found sites.now marks.now (Ts.registry tasks.old)) }
     ensures err { IfErr result (λ fault. fault ≡ Fault.OutOfMemory) }
 {
-    let mut text = String::new(alloc);
+    let mut found = Vec::new(alloc);
     for path in names {
-        push_task(alloc, &mut text, tasks, path, sites, marks)?;
+        push_task(alloc, &mut found, tasks, path, sites, marks)?;
     }
-    Ok(text)
+    Ok(found)
 }
 
-/// Adds the line of a task's fault, if it has one.
+/// Adds the fault of a task, if it has one.
 fn push_task<Ts: Tasks>(
     alloc: Global,
-    text: &mut String,
+    found: &mut Vec<Finding>,
     tasks: &mut Ts,
     path: &TaskPath,
     sites: &[Site],
@@ -71,8 +73,8 @@ fn push_task<Ts: Tasks>(
 ) -> Result<(), Fault>
     requires { IsTrue (has_path (paths_of (Ts.registry tasks.old)) path.now) }
     ensures kept { Ts.registry tasks.new ≡ Ts.registry tasks.old }
-    ensures line { OnOk result (string_bytes text.new
-        ≡ string_bytes text.old ++ task_text sites.now marks.now (Ts.registry tasks.old) path.now) }
+    ensures found { OnOk result (found.new.items
+        ≡ found.old.items ++ task_found sites.now marks.now (Ts.registry tasks.old) path.now) }
     ensures err { IfErr result (λ fault. fault ≡ Fault.OutOfMemory) }
 {
     match tasks.realise(alloc, path) {
@@ -80,28 +82,56 @@ fn push_task<Ts: Tasks>(
             drop(task);
             Ok(())
         }
-        Err(fault) => push_fault(alloc, text, sites, marks, path, fault),
+        Err(fault) => push_fault(alloc, found, sites, marks, path, fault),
     }
 }
 
-/// Adds the line of a fault. A fault for lack of memory is returned instead.
+/// Adds a fault. A fault for lack of memory is returned instead.
 fn push_fault(
     alloc: Global,
-    text: &mut String,
+    found: &mut Vec<Finding>,
     sites: &[Site],
     marks: &[Mark],
     path: &TaskPath,
     fault: Fault,
 ) -> Result<(), Fault>
     ensures fault { OnOk result (fault ≢ Fault.OutOfMemory) }
-    ensures line { OnOk result
-        (string_bytes text.new ≡ string_bytes text.old ++ found_text sites.now marks.now path.now fault) }
+    ensures found { OnOk result
+        (found.new.items ≡ found.old.items ++ found_of sites.now marks.now path.now fault ∷ []) }
     ensures err { IfErr result (λ fault. fault ≡ Fault.OutOfMemory) }
 {
     if is_out_of_memory(&fault) {
         return Err(fault);
     }
-    let pushed = push_found(alloc, text, sites, marks, path, &fault);
-    drop(fault);
-    Ok(pushed?)
+    match fault_spot(alloc, marks, path, &fault, site_of(sites, path)) {
+        Ok(spot) => {
+            let cause = Cause::Fault(fault);
+            found.push(Finding { spot, cause })?;
+            Ok(())
+        }
+        Err(_) => {
+            drop(fault);
+            Err(Fault::OutOfMemory)
+        }
+    }
+}
+
+/// The line of the clause that the fault of a task names, or else of its registration.
+fn fault_spot(
+    alloc: Global,
+    marks: &[Mark],
+    path: &TaskPath,
+    fault: &Fault,
+    site: Option<&Site>,
+) -> Result<Spot, AllocError>
+    ensures { IfOk result (λ spot. spot
+        ≡ option_map_or (line_spot marks.now path.now fault.now) (option_copied site.entry) Spot.Unknown) }
+{
+    match site {
+        Some(site) => {
+            let line = line_for(alloc, marks, path, fault, site.line)?;
+            Ok(Spot::Line(site.script.copy()?, line))
+        }
+        None => Ok(Spot::Unknown),
+    }
 }

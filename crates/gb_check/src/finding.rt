@@ -8,6 +8,7 @@ ghost use Rattle.gb_check.specs.All.{AreFindings};
 ghost use Rattle.gb_check.specs.Sites.{IsUnread};
 
 use crate::checking::check;
+use crate::findings::Findings;
 use crate::sites::read_sites;
 use crate::warning::warn;
 use gb_core::path::TaskPath;
@@ -17,15 +18,6 @@ use gb_registry::checking::Scripted;
 use gb_report::fault::Fault;
 use std::alloc::Global;
 
-/// The findings, a line each.
-#[derive(Drop)]
-pub struct Findings {
-    /// Faults that keep builds from starting.
-    pub faults: String,
-    /// Warnings: they keep no build from starting, but may not be intended.
-    pub warnings: String,
-}
-
 /// Finds the faults and warnings of the tasks that these scripts of a folder register. `names` are
 /// the paths of all tasks, in the order of registration.
 ///
@@ -34,9 +26,9 @@ pub struct Findings {
 /// has a fault, the reason why there is no plan of all tasks, after the line of the first task that
 /// it names.
 ///
-/// Warnings: for each two file properties of a task that have a root in common; for each root of a
-/// task that overlaps an output of another task which the first does not need; for each task that
-/// reads an output of one which a test may skip; and for each root without files.
+/// Warnings: for each two file properties of a task that have a root in common; for each two tasks,
+/// for each root of the first that overlaps an output of the second, if the first does not need it,
+/// and if a test may skip the second; and for each root without files.
 ///
 /// Refused if memory runs out or the device fails, or if a script, which is read once more for its
 /// lines, cannot be read as one (2, 12, 20 to 23).

@@ -4,16 +4,17 @@
 #![tactic(auto)]
 
 mod bare;
+mod between;
 mod checking;
 mod declared;
 pub mod finding;
+pub mod findings;
 pub mod found;
+mod guarded;
 pub mod marks;
 mod naming;
 mod places;
 mod planning;
 mod shared;
 pub mod sites;
-mod skipped;
-mod unneeded;
 mod warning;

@@ -2,8 +2,8 @@
 ghost use Rattle.std.specs.Prelude.{◌≡◌, ◌∷◌, ◌++◌, [], IfErr, OnOk, map};
 ghost use Rattle.std.specs.Option.{option_copied};
 ghost use Rattle.gb_core.specs.Path.{task_in};
-ghost use Rattle.gb_check.specs.Marks.{action_marks, all_of, clause_marks, first_lines, first_number, mark};
-ghost use Rattle.gb_check.specs.Marks.{marks_of, other_lines, other_numbers, statement_marks, words_of};
+ghost use Rattle.gb_check.specs.Marks.{action_marks, all_of, clause_marks, first_number, mark};
+ghost use Rattle.gb_check.specs.Marks.{other_numbers, statement_marks, words_of};
 
 use crate::sites::task_path;
 use gb_core::name::Name;
@@ -11,7 +11,6 @@ use gb_core::path::TaskPath;
 use gb_core::text::Text;
 use gb_registry::project::Project;
 use gb_report::fault::Fault;
-use gb_script::StatementLines;
 use gb_script::script::{Call, Clause, InputFiles, Registration, Statement};
 use std::alloc::{AllocError, Global};
 
@@ -41,48 +40,8 @@ pub struct Mark {
     pub line: u64,
 }
 
-/// Adds the words of the tasks of a script.
-pub(crate) fn push_marks(
-    alloc: Global,
-    marks: &mut Vec<Mark>,
-    project: &Project,
-    statements: &[Statement],
-    lines: &[StatementLines],
-) -> Result<(), Fault>
-    ensures marks { OnOk result (marks.new.items
-        ≡ marks.old.items ++ marks_of project.now statements.now lines.now) }
-    ensures err { IfErr result (λ fault. fault ≡ Fault.OutOfMemory) }
-{
-    let mut rest = lines;
-    for statement in statements {
-        let (line, clauses) = first_lines(rest);
-        push_statement(alloc, marks, project, statement, line, clauses)?;
-        rest = other_lines(rest);
-    }
-    Ok(())
-}
-
-/// The lines of the first statement.
-fn first_lines(lines: &[StatementLines]) -> (u64, &[u64])
-    ensures { (result.0, result.1.now) ≡ first_lines lines.now }
-{
-    match lines.first() {
-        Some(first) => (first.statement(), first.clauses()),
-        None => (1, &[]),
-    }
-}
-
-fn other_lines(lines: &[StatementLines]) -> &[StatementLines]
-    ensures { result.now ≡ other_lines lines.now }
-{
-    match lines.split_first() {
-        Some((_, others)) => others,
-        None => lines,
-    }
-}
-
 /// Adds the words of a statement in this line, with clauses in these lines.
-fn push_statement(
+pub(crate) fn push_words(
     alloc: Global,
     marks: &mut Vec<Mark>,
     project: &Project,

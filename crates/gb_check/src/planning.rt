@@ -1,8 +1,10 @@
 //! The plan of all registered tasks.
-ghost use Rattle.std.specs.Prelude.{◌≡◌, ◌≢◌, IfErr, IfOk, OnOk, false, string_bytes, true};
-ghost use Rattle.gb_check.specs.Found.{IsFoundInAll, IsFoundInPlan, plan_text};
+ghost use Rattle.std.specs.Prelude.{◌≡◌, ◌≢◌, ◌∷◌, [], IfErr, IfOk, OnOk, false, true};
+ghost use Rattle.std.specs.Option.{option_copied, option_map_or};
+ghost use Rattle.gb_check.specs.Findings.{spot_at};
+ghost use Rattle.gb_check.specs.Found.{IsFoundInAll, IsFoundInPlan, named_by, plan_found};
 
-use crate::found::push_planned;
+use crate::findings::{Cause, Finding, Spot, spot_at};
 use crate::sites::Site;
 use gb_core::path::TaskPath;
 use gb_core::text::Text;
@@ -17,14 +19,14 @@ pub(crate) fn check_all<Ts: Tasks>(
     tasks: &mut Ts,
     names: &[TaskPath],
     sites: &[Site],
-) -> Result<String, Fault>
+) -> Result<Vec<Finding>, Fault>
     ensures kept { Ts.registry tasks.new ≡ Ts.registry tasks.old }
-    ensures found { IfOk result (λ text.
-        IsFoundInAll sites.now (Ts.registry tasks.old) names.now (string_bytes text)) }
+    ensures found { IfOk result (λ found.
+        IsFoundInAll sites.now (Ts.registry tasks.old) names.now found.items) }
     ensures err { IfErr result (λ fault. fault ≡ Fault.OutOfMemory) }
 {
     if names.is_empty() {
-        return Ok(String::new(alloc));
+        return Ok(Vec::new(alloc));
     }
     let words = words_of(alloc, names)?;
     check_plan(alloc, tasks, words.as_slice(), sites)
@@ -47,33 +49,42 @@ fn check_plan<Ts: Tasks>(
     tasks: &mut Ts,
     words: &[Text],
     sites: &[Site],
-) -> Result<String, Fault>
+) -> Result<Vec<Finding>, Fault>
     ensures kept { Ts.registry tasks.new ≡ Ts.registry tasks.old }
-    ensures found { IfOk result (λ text.
-        IsFoundInPlan sites.now (Ts.registry tasks.old) words.now (string_bytes text)) }
+    ensures found { IfOk result (λ found.
+        IsFoundInPlan sites.now (Ts.registry tasks.old) words.now found.items) }
     ensures err { IfErr result (λ fault. fault ≡ Fault.OutOfMemory) }
 {
     match plan(alloc, tasks, words, &[]) {
         Ok(plan) => {
             drop(plan);
-            Ok(String::new(alloc))
+            Ok(Vec::new(alloc))
         }
-        Err(fault) => planned_text(alloc, sites, fault),
+        Err(fault) => plan_found(alloc, sites, fault),
     }
 }
 
-/// The line of the fault of a plan. A fault for lack of memory is returned instead.
-fn planned_text(alloc: Global, sites: &[Site], fault: Fault) -> Result<String, Fault>
+/// The fault of a plan. A fault for lack of memory is returned instead.
+fn plan_found(alloc: Global, sites: &[Site], fault: Fault) -> Result<Vec<Finding>, Fault>
     ensures fault { OnOk result (fault ≢ Fault.OutOfMemory) }
-    ensures text { IfOk result (λ text. string_bytes text ≡ plan_text sites.now fault) }
+    ensures found { IfOk result (λ found. found.items ≡ plan_found sites.now fault ∷ []) }
     ensures err { IfErr result (λ fault. fault ≡ Fault.OutOfMemory) }
 {
     if is_out_of_memory(&fault) {
         return Err(fault);
     }
-    let text = text_of(alloc, sites, &fault);
-    drop(fault);
-    Ok(text?)
+    match named_spot(sites, named_by(&fault)) {
+        Ok(spot) => {
+            let cause = Cause::Fault(fault);
+            let mut found = Vec::new(alloc);
+            found.push(Finding { spot, cause })?;
+            Ok(found)
+        }
+        Err(_) => {
+            drop(fault);
+            Err(Fault::OutOfMemory)
+        }
+    }
 }
 
 /// Whether memory ran out.
@@ -84,10 +95,26 @@ pub(crate) fn is_out_of_memory(fault: &Fault) -> bool
     matches!(fault, Fault::OutOfMemory)
 }
 
-fn text_of(alloc: Global, sites: &[Site], fault: &Fault) -> Result<String, AllocError>
-    ensures { IfOk result (λ text. string_bytes text ≡ plan_text sites.now fault.now) }
+/// The first task that the fault of a plan names.
+fn named_by(fault: &Fault) -> Option<&TaskPath>
+    ensures { option_copied result ≡ named_by fault.now }
 {
-    let mut text = String::new(alloc);
-    push_planned(&mut text, sites, fault)?;
-    Ok(text)
+    match fault {
+        Fault::Cycle(paths) => paths.as_slice().first(),
+        Fault::OverlappingOutputs(task, _, _) => Some(task),
+        Fault::UndeclaredDependency(task, _, _) => Some(task),
+        Fault::OwnOutputAsInput(task, _) => Some(task),
+        _ => None,
+    }
+}
+
+/// Where the task is registered, if one is named.
+fn named_spot(sites: &[Site], path: Option<&TaskPath>) -> Result<Spot, AllocError>
+    ensures { IfOk result (λ spot.
+        spot ≡ option_map_or (spot_at sites.now) (option_copied path.entry) Spot.Unknown) }
+{
+    match path {
+        Some(path) => spot_at(sites, path),
+        None => Ok(Spot::Unknown),
+    }
 }

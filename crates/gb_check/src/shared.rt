@@ -1,46 +1,44 @@
 //! File properties of one task that have a root in common.
-ghost use Rattle.std.specs.Prelude.{◌≡◌, ◌++◌, IfOk, OnOk, codes, string_bytes};
+ghost use Rattle.std.specs.Prelude.{◌≡◌, ◌++◌, IfOk, OnOk};
 ghost use Rattle.std.specs.List.{flat_map};
 ghost use Rattle.gb_plan.specs.Task.{has_path};
-ghost use Rattle.gb_check.specs.Warnings.{pair_text, pairs_text, share_root, shared_text, warning_text};
+ghost use Rattle.gb_check.specs.Warnings.{pair_of, pairs_in, share_root, shared_in};
 
-use crate::found::push_where;
+use crate::findings::{Cause, Finding, push_warning};
 use crate::sites::Site;
 use gb_core::name::Name;
 use gb_core::path::TaskPath;
 use gb_core::place::Place;
 use gb_plan::task::{FileProperty, TaskDeclaration};
-use std::alloc::{AllocError, Global};
-use std::fmt::Write;
+use std::alloc::AllocError;
 
-/// A warning for each two file properties of a task that have a root in common.
-pub(crate) fn warn_shared(
-    alloc: Global,
+/// Adds a warning for each two file properties of a task that have a root in common.
+pub(crate) fn push_shared(
+    found: &mut Vec<Finding>,
     tasks: &[TaskDeclaration],
     sites: &[Site],
-) -> Result<String, AllocError>
-    ensures { IfOk result (λ text. string_bytes text ≡ shared_text sites.now tasks.now) }
+) -> Result<(), AllocError>
+    ensures { OnOk result (found.new.items ≡ found.old.items ++ shared_in sites.now tasks.now) }
 {
-    let mut text = String::new(alloc);
     for task in tasks {
-        push_pairs(&mut text, sites, &task.path, task.files.as_slice())?;
+        push_pairs(found, sites, &task.path, task.files.as_slice())?;
     }
-    Ok(text)
+    Ok(())
 }
 
 /// Adds a warning for each two of these that have a root in common.
 fn push_pairs(
-    text: &mut String,
+    found: &mut Vec<Finding>,
     sites: &[Site],
     path: &TaskPath,
     files: &[FileProperty],
 ) -> Result<(), AllocError>
-    ensures { OnOk result (string_bytes text.new
-        ≡ string_bytes text.old ++ pairs_text sites.now path.now files.now) }
+    ensures { OnOk result (found.new.items
+        ≡ found.old.items ++ pairs_in sites.now path.now files.now) }
 {
     let mut rest = files;
     'properties: while let Some((first, others)) = rest.split_first() {
-        push_with(text, sites, path, first, others)?;
+        push_with(found, sites, path, first, others)?;
         rest = others;
     }
     Ok(())
@@ -48,50 +46,45 @@ fn push_pairs(
 
 /// Adds a warning for each of the others that has a root in common with the first.
 fn push_with(
-    text: &mut String,
+    found: &mut Vec<Finding>,
     sites: &[Site],
     path: &TaskPath,
     first: &FileProperty,
     others: &[FileProperty],
 ) -> Result<(), AllocError>
-    ensures { OnOk result (string_bytes text.new ≡ string_bytes text.old
-        ++ flat_map (pair_text sites.now path.now first.now) others.now) }
+    ensures { OnOk result (found.new.items ≡ found.old.items
+        ++ flat_map (pair_of sites.now path.now first.now) others.now) }
 {
     for second in others {
-        push_pair(text, sites, path, first, second)?;
+        push_pair(found, sites, path, first, second)?;
     }
     Ok(())
 }
 
 fn push_pair(
-    text: &mut String,
+    found: &mut Vec<Finding>,
     sites: &[Site],
     path: &TaskPath,
     first: &FileProperty,
     second: &FileProperty,
 ) -> Result<(), AllocError>
-    ensures { OnOk result (string_bytes text.new
-        ≡ string_bytes text.old ++ pair_text sites.now path.now first.now second.now) }
+    ensures { OnOk result (found.new.items
+        ≡ found.old.items ++ pair_of sites.now path.now first.now second.now) }
 {
     if share_root(first, second) {
-        push_both(text, sites, path, &first.name, &second.name)
+        let cause = shared_by(&first.name, &second.name)?;
+        push_warning(found, sites, path, cause)
     } else {
         Ok(())
     }
 }
 
-fn push_both(
-    text: &mut String,
-    sites: &[Site],
-    path: &TaskPath,
-    first: &Name,
-    second: &Name,
-) -> Result<(), AllocError>
-    ensures { OnOk result (string_bytes text.new ≡ string_bytes text.old ++ warning_text sites.now path.now
-        (first.now ++ codes " and " ++ second.now ++ codes " read one folder")) }
+fn shared_by(first: &Name, second: &Name) -> Result<Cause, AllocError>
+    ensures { IfOk result (λ cause. cause ≡ Cause.Shared first.now second.now) }
 {
-    push_where(text, sites, path)?;
-    writeln!(text, "warning: {first} and {second} read one folder")
+    let first = first.copy()?;
+    let second = second.copy()?;
+    Ok(Cause::Shared(first, second))
 }
 
 /// Whether the two have a root in common.

@@ -11,11 +11,11 @@ ghost use Rattle.gb_script.specs.Lines.{AreLinesOf};
 ghost use Rattle.gb_script.specs.Script.{Says};
 ghost use Rattle.gb_script.specs.declared.fault.ScriptFault.{ScriptFault};
 ghost use Rattle.gb_store.specs.Faults.{IsOfMachine};
-ghost use Rattle.gb_check.specs.Marks.{Lines, marks_of, other_lines};
-ghost use Rattle.gb_check.specs.Sites.{AreLinesAt, AreSites, HasTextFault, IsUnread, first_line, in_file};
+ghost use Rattle.gb_check.specs.Marks.{Lines, first_lines, marks_of, other_lines};
+ghost use Rattle.gb_check.specs.Sites.{AreLinesAt, AreSites, HasTextFault, IsUnread, in_file};
 ghost use Rattle.gb_check.specs.Sites.{registered_at, script_of_project, sites_of, unread_at};
 
-use crate::marks::{Mark, push_marks};
+use crate::marks::{Mark, push_words};
 use gb_core::name::{Name, NameFault};
 use gb_core::path::{ProjectPath, TaskPath};
 use gb_core::place::{Place, PlaceFault};
@@ -87,20 +87,13 @@ fn push_script<F: Folder>(
 {
     let script = script_of_project(alloc, &scripted.project)?;
     let lines = lines_at(alloc, folder, &script)?;
-    let statements = scripted.script.statements();
-    push_marks(
-        alloc,
-        marks,
-        &scripted.project,
-        statements,
-        lines.as_slice(),
-    )?;
-    push_registered(
+    push_statements(
         alloc,
         sites,
+        marks,
         &scripted.project,
         &script,
-        statements,
+        scripted.script.statements(),
         lines.as_slice(),
     )
 }
@@ -186,10 +179,11 @@ fn in_file(fault: ScriptFault, place: Place) -> Fault
     }
 }
 
-/// Adds the tasks that these statements register, by their lines.
-fn push_registered(
+/// Adds the tasks that these statements register, by their lines, and the words of their clauses.
+fn push_statements(
     alloc: Global,
     sites: &mut Vec<Site>,
+    marks: &mut Vec<Mark>,
     project: &Project,
     script: &Place,
     statements: &[Statement],
@@ -197,25 +191,36 @@ fn push_registered(
 ) -> Result<(), Fault>
     ensures sites { OnOk result (sites.new.items
         ≡ sites.old.items ++ sites_of project.now script.now statements.now lines.now) }
+    ensures marks { OnOk result
+        (marks.new.items ≡ marks.old.items ++ marks_of project.now statements.now lines.now) }
     ensures err { IfErr result (λ fault. fault ≡ OutOfMemory) }
 {
     let mut rest = lines;
     for statement in statements {
-        let (line, others) = first_line(rest);
+        let (line, clauses) = first_lines(rest);
         push_statement(alloc, sites, project, script, statement, line)?;
-        rest = others;
+        push_words(alloc, marks, project, statement, line, clauses)?;
+        rest = other_lines(rest);
     }
     Ok(())
 }
 
-/// The line of the first statement, and the lines of the others.
-fn first_line(lines: &[StatementLines]) -> (u64, &[StatementLines])
-    ensures line { result.0 ≡ first_line lines.now }
-    ensures others { result.1.now ≡ other_lines lines.now }
+/// The lines of the first statement.
+fn first_lines(lines: &[StatementLines]) -> (u64, &[u64])
+    ensures { (result.0, result.1.now) ≡ first_lines lines.now }
+{
+    match lines.first() {
+        Some(first) => (first.statement(), first.clauses()),
+        None => (1, &[]),
+    }
+}
+
+fn other_lines(lines: &[StatementLines]) -> &[StatementLines]
+    ensures { result.now ≡ other_lines lines.now }
 {
     match lines.split_first() {
-        Some((first, others)) => (first.statement(), others),
-        None => (1, lines),
+        Some((_, others)) => others,
+        None => lines,
     }
 }
 

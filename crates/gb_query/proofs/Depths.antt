@@ -58,7 +58,7 @@ tasks_shallow registry =
 
 -- ---- Graphs
 
-more_low : (n : ℕ) (xs ys : List Data) → items_depth (items_of xs) ≤ n → items_depth (items_of ys) ≤ n → items_depth (items_of (xs ++ ys)) ≤ n
+pub more_low : (n : ℕ) (xs ys : List Data) → items_depth (items_of xs) ≤ n → items_depth (items_of ys) ≤ n → items_depth (items_of (xs ++ ys)) ≤ n
 more_low n [] ys first later = later
 more_low n (x ∷ xs) ys first later = let rest = more_low n xs ys (omega (arith, first)) later in omega (arith, first)
 

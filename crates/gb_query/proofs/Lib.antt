@@ -3,3 +3,4 @@ mod Members
 mod Owners
 pub mod Depths
 mod Listed
+mod Left

@@ -1,13 +1,15 @@
 //! What each file of `.gb` is.
-ghost use Rattle.std.specs.Prelude.{◌≡◌, Option, Some, IfErr, IfOk, IsTrue, codes, if◌then◌else◌};
-ghost use Rattle.std.specs.Prelude.{is_some, not};
+ghost use Rattle.std.specs.Prelude.{◌≡◌, ◌++◌, List, Option, Some, IfErr, IfOk, IsTrue, OnOk, codes};
+ghost use Rattle.std.specs.Prelude.{if◌then◌else◌, is_some, not};
 ghost use Rattle.std.specs.List.{AllZip};
 ghost use Rattle.gb_folder.specs.Calls.{Asks, no_change};
+ghost use Rattle.gb_folder.specs.Files.{Place as PlaceOf};
 ghost use Rattle.gb_history.specs.Record.{Record};
-ghost use Rattle.gb_plan.specs.Task.{has_path};
+ghost use Rattle.gb_plan.specs.Task.{Path, has_path};
 ghost use Rattle.gb_records.specs.Said.{IsReadAt};
 ghost use Rattle.gb_store.specs.Faults.{IsOfMachine};
-ghost use Rattle.gb_query.specs.Inventory.{AreEntriesOf, IsEntryOf, IsUnlisted};
+ghost use Rattle.gb_query.specs.Inventory.{AreEntriesOf, AreLeftAt, AreUnregistered, IsEntryOf, IsLeftAt};
+ghost use Rattle.gb_query.specs.Inventory.{IsUnlisted, row_if};
 ghost use Rattle.gb_query.specs.Owner.{IsOwner};
 
 use crate::owner::owner_of;
@@ -50,6 +52,120 @@ pub fn inventory<F: Folder>(
     let own = own_folder(alloc)?;
     let places = listed_at(alloc, folder, &own)?;
     entries_of(alloc, folder, registered, places.as_slice())
+}
+
+/// The tasks that are not registered but have records in `.gb`, in the order of the places of the
+/// records. If `.gb` has a file whose name is no place's, none is found.
+pub fn unregistered<F: Folder>(
+    alloc: Global,
+    folder: &mut F,
+    registered: &[TaskPath],
+) -> Result<Vec<TaskPath>, Fault>
+    ensures asks { Asks F.failures F.may_leave F.asked no_change folder.old folder.new }
+    ensures same { IsTrue F.tells → F.contents folder.new ≡ F.contents folder.old }
+    ensures left { IsTrue F.tells → IfOk result
+        (λ left. AreUnregistered (F.contents folder.old) registered.now left.items) }
+    ensures err { IsTrue F.tells
+        → IfErr result (IsOfMachine (F.failures folder.old) (F.failures folder.new)) }
+{
+    let own = own_folder(alloc)?;
+    match listed_at(alloc, folder, &own) {
+        Ok(places) => left_at(alloc, folder, registered, places.as_slice()),
+        Err(Fault::BadFileName(_)) => Ok(Vec::new(alloc)),
+        Err(fault) => Err(fault),
+    }
+}
+
+/// The tasks that are not registered and whose records are at these places.
+fn left_at<F: Folder>(
+    alloc: Global,
+    folder: &mut F,
+    registered: &[TaskPath],
+    places: &[Place],
+) -> Result<Vec<TaskPath>, Fault>
+    ensures asks { Asks F.failures F.may_leave F.asked no_change folder.old folder.new }
+    ensures same { IsTrue F.tells → F.contents folder.new ≡ F.contents folder.old }
+    ensures left { IsTrue F.tells → IfOk result (λ left.
+        AreLeftAt (F.contents folder.old).files registered.now places.now left.items) }
+    ensures err { IfErr result (IsOfMachine (F.failures folder.old) (F.failures folder.new)) }
+{
+    let mut left = Vec::new(alloc);
+    for place in places {
+        push_left(alloc, folder, &mut left, registered, place)?;
+    }
+    Ok(left)
+}
+
+/// Adds the task whose record is at a place, if it is not registered.
+fn push_left<F: Folder>(
+    alloc: Global,
+    folder: &mut F,
+    left: &mut Vec<TaskPath>,
+    registered: &[TaskPath],
+    place: &Place,
+) -> Result<(), Fault>
+    ensures asks { Asks F.failures F.may_leave F.asked no_change folder.old folder.new }
+    ensures same { IsTrue F.tells → F.contents folder.new ≡ F.contents folder.old }
+    ensures left { IsTrue F.tells → OnOk result ((row : List Path)
+        × IsLeftAt (F.contents folder.old).files registered.now place.now row
+        × (left.new.items ≡ left.old.items ++ row)) }
+    ensures err { IfErr result (IsOfMachine (F.failures folder.old) (F.failures folder.new)) }
+{
+    match owner_of(alloc, place)? {
+        Some(path) => push_owner(alloc, folder, left, registered, place, &path),
+        None => Ok(()),
+    }
+}
+
+/// Adds the task whose record belongs at this place, if there is one and the task is not registered.
+fn push_owner<F: Folder>(
+    alloc: Global,
+    folder: &mut F,
+    left: &mut Vec<TaskPath>,
+    registered: &[TaskPath],
+    place: &Place,
+    path: &TaskPath,
+) -> Result<(), Fault>
+    requires { IsOwner place.now (Some path.now) }
+    ensures asks { Asks F.failures F.may_leave F.asked no_change folder.old folder.new }
+    ensures same { IsTrue F.tells → F.contents folder.new ≡ F.contents folder.old }
+    ensures left { IsTrue F.tells → OnOk result ((row : List Path)
+        × IsLeftAt (F.contents folder.old).files registered.now place.now row
+        × (left.new.items ≡ left.old.items ++ row)) }
+    ensures err { IfErr result (IsOfMachine (F.failures folder.old) (F.failures folder.new)) }
+{
+    let is_left = is_left(alloc, folder, registered, path)?;
+    push_if(left, is_left, path)?;
+    Ok(())
+}
+
+/// Whether the task is not registered, but has a record.
+fn is_left<F: Folder>(
+    alloc: Global,
+    folder: &mut F,
+    registered: &[TaskPath],
+    path: &TaskPath,
+) -> Result<bool, Fault>
+    ensures asks { Asks F.failures F.may_leave F.asked no_change folder.old folder.new }
+    ensures same { IsTrue F.tells → F.contents folder.new ≡ F.contents folder.old }
+    ensures left { IsTrue F.tells → IfOk result (λ is. (place : PlaceOf) → IsOwner place (Some path.now)
+        → IsLeftAt (F.contents folder.old).files registered.now place (row_if is path.now)) }
+    ensures err { IfErr result (IsOfMachine (F.failures folder.old) (F.failures folder.new)) }
+{
+    if is_among(registered, path) {
+        Ok(false)
+    } else {
+        has_record(alloc, folder, path)
+    }
+}
+
+fn push_if(left: &mut Vec<TaskPath>, is_left: bool, path: &TaskPath) -> Result<(), AllocError>
+    ensures { OnOk result (left.new.items ≡ left.old.items ++ row_if is_left path.now) }
+{
+    if is_left {
+        left.push(path.copy()?)?;
+    }
+    Ok(())
 }
 
 /// The place `.gb`.

@@ -1,8 +1,8 @@
-use Rattle.std.proofs.Common.{◌≡◌, string_bytes, take}
+use Rattle.std.proofs.Common.{◌≡◌, take}
 use Rattle.std.specs.List.{flat_map}
 use Rattle.gb_registry.specs.Seen.{scripts_in}
-use Rattle.gb_ask_command.specs.Unread.{unread_value_text}
+use Rattle.gb_ask_command.specs.Unread.{unread_value}
 use Rattle.gb_ask_command.proofs.unread.warn_unread.Given as goal
 
 abbrev pub invariant-loop-value : goal.invariant-loop-value
-invariant-loop-value l = string_bytes l.text ≡ flat_map (unread_value_text (scripts_in l.scripts)) (take l.value-index l.given)
+invariant-loop-value l = l.found.items ≡ flat_map (unread_value (scripts_in l.scripts)) (take l.value-index l.given)

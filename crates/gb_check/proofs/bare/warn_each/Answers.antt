@@ -1,7 +1,8 @@
-use Rattle.std.proofs.Common.{◌++◌, List, ℕ, ap, string_bytes, ◌∙◌}
+use Rattle.std.proofs.Common.{◌++◌, List, ap, ◌∙◌}
 use Rattle.gb_folder.specs.Files.{Contents}
 use Rattle.gb_folder.proofs.Asked.{asks_then}
-use Rattle.gb_check.specs.Warnings.{bare_text}
+use Rattle.gb_check.specs.Warnings.{bare_root}
+use Rattle.gb_check.specs.declared.findings.Finding.{Finding}
 use Rattle.gb_store.proofs.Machine.{machine_before}
 use Rattle.gb_store.specs.Faults.{IsOfMachine}
 use Rattle.gb_check.proofs.Refused.{handed}
@@ -14,15 +15,15 @@ loop-rooted-preserved g c =
     let sites = c.args.sites.now in
     let outputs = c.args.outputs.now in
     let rooted = c.rooted-item.result in
-    let before = string_bytes c.loop-rooted.text in
-    let of = bare_text sites (F.contents c.args.folder.now) outputs in
+    let before = c.loop-rooted.found.items in
+    let of = bare_root sites (F.contents c.args.folder.now) outputs in
     record {
       asks = asks_then c.loop-rooted.invariant.asks c.push_rooted.ensures.asks;
       same = λ tells. c.push_rooted.ensures.same tells ∙ c.loop-rooted.invariant.same tells;
-      text = λ tells.
-          c.in_ok-push_rooted.ensures.text tells
-          ∙ ap (λ (contents : Contents). before ++ bare_text sites contents outputs rooted) (c.loop-rooted.invariant.same tells)
-          ∙ ap (λ (text : List ℕ). text ++ of rooted) (c.loop-rooted.invariant.text tells)
+      found = λ tells.
+          c.in_ok-push_rooted.ensures.found tells
+          ∙ ap (λ (contents : Contents). before ++ bare_root sites contents outputs rooted) (c.loop-rooted.invariant.same tells)
+          ∙ ap (λ (found : List Finding). found ++ of rooted) (c.loop-rooted.invariant.found tells)
           ∙ one_more of c.args.roots.now c.loop-rooted.rooted-index rooted c.loop-rooted-test.true c.rooted-item.is;
     }
 

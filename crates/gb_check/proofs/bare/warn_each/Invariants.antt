@@ -1,7 +1,7 @@
-use Rattle.std.proofs.Common.{◌≡◌, IsTrue, string_bytes, take}
+use Rattle.std.proofs.Common.{◌≡◌, IsTrue, take}
 use Rattle.std.specs.List.{flat_map}
 use Rattle.gb_folder.specs.Calls.{Asks, no_change}
-use Rattle.gb_check.specs.Warnings.{bare_text}
+use Rattle.gb_check.specs.Warnings.{bare_root}
 use Rattle.gb_check.proofs.bare.warn_each.Given as goal
 
 abbrev pub invariant-loop-rooted : goal.invariant-loop-rooted
@@ -10,5 +10,5 @@ invariant-loop-rooted g l =
     record {
       asks : Asks g.F.Folder.failures g.F.Folder.may_leave g.F.Folder.asked no_change l.fn.folder l.folder;
       same : IsTrue g.F.Folder.tells → contents l.folder ≡ contents l.fn.folder;
-      text : IsTrue g.F.Folder.tells → string_bytes l.text ≡ flat_map (bare_text l.sites (contents l.fn.folder) l.outputs) (take l.rooted-index l.roots);
+      found : IsTrue g.F.Folder.tells → l.found.items ≡ flat_map (bare_root l.sites (contents l.fn.folder) l.outputs) (take l.rooted-index l.roots);
     }

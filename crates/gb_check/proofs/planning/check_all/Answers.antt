@@ -1,5 +1,4 @@
 use Rattle.std.proofs.Common.{List, inr, subst, ◌∙◌}
-use Rattle.std.specs.Prelude.{string_bytes}
 use Rattle.std.proofs.lemmas.Result.{IfOk-weaker}
 use Rattle.gb_plan.specs.Task.{Text}
 use Rattle.gb_check.specs.Found.{IsFoundInPlan}
@@ -9,8 +8,8 @@ use Rattle.gb_check.proofs.planning.check_all.Goals as goal
 pub returns-clause-found : goal.returns-clause-found
 returns-clause-found g c =
     IfOk-weaker c.check_plan.result _ _
-    (λ text found. inr (
+    (λ found is. inr (
       full_if c.args.names.now c.if-is_empty.ensures,
-      subst (λ (words : List Text). IsFoundInPlan c.args.sites.now (g.Ts.Tasks.registry c.args.tasks.now) words (string_bytes text)) (c.as_slice.ensures.value ∙ c.in_ok-words.ensures) found,
+      subst (λ (words : List Text). IsFoundInPlan c.args.sites.now (g.Ts.Tasks.registry c.args.tasks.now) words found.items) (c.as_slice.ensures.value ∙ c.in_ok-words.ensures) is,
     ))
     c.check_plan.ensures.found

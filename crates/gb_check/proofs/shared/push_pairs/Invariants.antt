@@ -1,9 +1,9 @@
-use Rattle.std.proofs.Common.{◌≡◌, ◌++◌, length, string_bytes}
-use Rattle.gb_check.specs.Warnings.{pairs_text}
+use Rattle.std.proofs.Common.{◌≡◌, ◌++◌, length}
+use Rattle.gb_check.specs.Warnings.{pairs_in}
 use Rattle.gb_check.proofs.shared.push_pairs.Given as goal
 
 abbrev pub invariant-properties : goal.invariant-properties
-invariant-properties l = string_bytes l.text ++ pairs_text l.sites l.path l.rest ≡ string_bytes l.fn.text ++ pairs_text l.sites l.path l.files
+invariant-properties l = l.found.items ++ pairs_in l.sites l.path l.rest ≡ l.fn.found.items ++ pairs_in l.sites l.path l.files
 
 abbrev pub decreases-properties : goal.decreases-properties
 decreases-properties l = length l.rest

@@ -1,6 +1,0 @@
-use Rattle.std.proofs.Common.{◌≡◌}
-use Rattle.gb_plan.specs.Task.{has_path}
-use Rattle.gb_check.proofs.unneeded.is_among.Given as goal
-
-abbrev pub invariant-loop-other : goal.invariant-loop-other
-invariant-loop-other l = has_path l.paths l.path ≡ has_path l.other-iterator l.path
