@@ -33,7 +33,8 @@ use Rattle.gb_task.proofs.Recorded.{assumed_later}
 use Rattle.gb_exec.specs.Asking.{ExecutionsAsk}
 use Rattle.gb_exec.specs.Building.{is_of_executions}
 use Rattle.gb_task.specs.Buildable.{IsBuildable}
-use Rattle.gb_exec.proofs.Asking.{execution_places, executions_more, executions_places}
+use Rattle.gb_exec.proofs.Asking.{executions_more, executions_places}
+use Rattle.gb_task.proofs.ByOutcome.{execution_places}
 use Rattle.gb_meaning.specs.Headline.{HasFailed}
 use Rattle.gb_exec.specs.Failing.{times_blamed}
 use Rattle.gb_exec.specs.Reports.{IsOf}
@@ -125,7 +126,7 @@ loop-path-preserved g c =
     let of_task = c.take_one-taken.ensures.of_task planned is in
     let way = executions_places F.failures F.may_leave F.asked g.A.Actions.meanings build.table.now build.options (take i tasks) (take i build.records.now) reports start now inv.asks in
     let taken = c.take_one-taken.ensures.asks planned is in
-    let count = (execution_places F.failures F.may_leave F.asked g.A.Actions.meanings build.table.now build.options planned.task (slice_index_or build.records.now i None) report.outcome report.lines now next taken).count in
+    let count = (execution_places F.failures F.may_leave F.asked g.A.Actions.meanings build.table.now build.options planned.task (slice_index_or build.records.now i None) report.lines now next report.outcome taken).count in
     let read = take_more build.records.now i None (omega (arith, c.requires.each, less)) in
     let can = each_at (λ (p : Planned). IsBuildable g.A.Actions.meanings build.table.now p.task) tasks i planned is c.requires.can.tasks in
     let is_path : IsTrue (is_task_path planned.task.path) = subst (λ (p : Path). IsTrue (is_task_path p)) along.0 c.as_str-path.ensures.path in
