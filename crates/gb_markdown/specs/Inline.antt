@@ -226,8 +226,8 @@ abbrev pub closes : ℕ → ℕ → ℕ → Bool
 closes sign before after =
     is_left after before && (sign == 42 || not (is_left before after) || is_ascii_punctuation after)
 
--- signs in a row between two bytes, how many they are, and how many of them are left; more than sixteen neither
--- begin nor end stressed words
+-- signs in a row between two bytes, how many they are, and how many of them are left; more than sixteen
+-- neither begin nor end stressed words
 abbrev pub signs_by : ℕ → ℕ → ℕ → ℕ → Signs
 signs_by sign before count after =
     record {

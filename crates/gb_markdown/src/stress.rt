@@ -4,9 +4,9 @@ ghost use Rattle.gb_markdown.specs.Pieces.{written};
 ghost use Rattle.gb_markdown.specs.References.{meanings};
 ghost use Rattle.gb_markdown.specs.Inline.{begun, byte_step, closes, closing, done, done_by, ended};
 ghost use Rattle.gb_markdown.specs.Inline.{ends_from, fits, here, is_left, is_over, is_sign, last_fit};
-ghost use Rattle.gb_markdown.specs.Inline.{left_after, matched_once, opening, opens, passed, signs_at, signs_by};
-ghost use Rattle.gb_markdown.specs.Inline.{signs_step, stop_of, stress_of, used, wide_of, with_end, with_left};
-ghost use Rattle.gb_markdown.specs.Inline.{with_signs};
+ghost use Rattle.gb_markdown.specs.Inline.{left_after, matched_once, opening, opens, passed, signs_at};
+ghost use Rattle.gb_markdown.specs.Inline.{signs_by, signs_step, stop_of, stress_of, used, wide_of, with_end};
+ghost use Rattle.gb_markdown.specs.Inline.{with_left, with_signs};
 
 use crate::inline::{angled, byte_behind, hidden, linked};
 use crate::page::{Element, close, open, text};

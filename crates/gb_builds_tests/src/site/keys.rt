@@ -34,7 +34,10 @@ outputDir out = dir(\"build/all\") }
         "pages/d/b.md",
         b"---\nauthor: \"You\"\ntitle: B\ndate: 2026-03-01\n---\nY\n",
     ),
-    Step::Put("pages/c.md", b"---\nauthor: I\ndate: 2025-12-31\n---\n# C\n"),
+    Step::Put(
+        "pages/c.md",
+        b"---\nauthor: I\ndate: 2025-12-31\n---\n# C\n",
+    ),
     Step::Run(
         "site all",
         3,
