@@ -16,9 +16,9 @@ from lib.measured import SUMS, chain, files, keep, lay_out, least, parts, rounde
 COPIED = ["sh", "-c", "cp -r src copied; find src copied -type f -print0 | xargs -0 sha256sum"]
 # The layouts by name: what makes them, in which sizes, and in how many rounds they are measured.
 LAYOUTS = {
-    "tasks": (tasks, [500, 1000, 2000, 3000, 4000], 7),
-    "chain": (chain, [500, 1000, 2000, 3000, 4000], 7),
-    "files": (files, [10000], 7),
+    "tasks": (tasks, [500, 1000, 2000, 3000, 4000], 21),
+    "chain": (chain, [500, 1000, 2000, 3000, 4000], 21),
+    "files": (files, [10000], 11),
     "parts": (parts, [10000], 3),
 }
 FIRST_BUILD = ("tasks", 1000)
