@@ -4,7 +4,7 @@ use Rattle.std.specs.Option.{option_or}
 use Rattle.gb_action.specs.Files.{Tree}
 use Rattle.gb_action.specs.Changes.{changes_between, IsChange}
 use Rattle.gb_action.specs.Meanings.{Making, Printing}
-use Rattle.gb_action.specs.Outputs.{written_at, stands_at, left_at}
+use Rattle.gb_action.specs.Outputs.{written_at, exists_at, left_at}
 use Rattle.gb_action.specs.Replies.{Answers, made_for}
 use Rattle.gb_action.specs.declared.change.Change.{Change}
 use Rattle.gb_action.specs.declared.output.OutputFiles.{OutputFiles}
@@ -19,7 +19,7 @@ FullRepliesPutOver =
     → Answers makes prints request (Ok reply) → request.changes.incremental ≡ false
     → made_for makes request ≡ Ok made
     → (old : List OutputFiles) (output path : List ℕ)
-    → left_at reply old output path ≡ option_or (written_at made output path) (stands_at old output path)
+    → left_at reply old output path ≡ option_or (written_at made output path) (exists_at old output path)
 
 -- the changes between two trees are each change of the tree, and no other
 abbrev pub ChangesAreExact : Type 0

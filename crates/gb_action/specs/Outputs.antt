@@ -23,8 +23,8 @@ files_of (output ∷ outputs) name =
     if bytes_eq output.name name then Some output.files else files_of outputs name
 
 -- what exists at a path of an output
-abbrev pub stands_at : List OutputFiles → List ℕ → List ℕ → Option (List ℕ)
-stands_at outputs output path = option_and_then (λ files. file_at files path) (files_of outputs output)
+abbrev pub exists_at : List OutputFiles → List ℕ → List ℕ → Option (List ℕ)
+exists_at outputs output path = option_and_then (λ files. file_at files path) (files_of outputs output)
 
 abbrev pub is_removed : List OutputPath → List ℕ → List ℕ → Bool
 is_removed removes output path =
@@ -34,7 +34,7 @@ is_removed removes output path =
 abbrev pub left_at : Reply → List OutputFiles → List ℕ → List ℕ → Option (List ℕ)
 left_at reply old output path =
     option_or (written_at reply.writes output path)
-    (if is_removed reply.removes output path then None else stands_at old output path)
+    (if is_removed reply.removes output path then None else exists_at old output path)
 
 -- the reply names the path
 abbrev pub is_named : Reply → List ℕ → List ℕ → Bool

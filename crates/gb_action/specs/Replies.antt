@@ -5,7 +5,7 @@ use Rattle.std.specs.FinMap.Entries.{find, is_sorted}
 use Rattle.gb_core.specs.Lists.{byte_order}
 use Rattle.gb_action.specs.Files.{Trees, tree_at}
 use Rattle.gb_action.specs.Changes.{AreChanges}
-use Rattle.gb_action.specs.Outputs.{written_at, stands_at, left_at, is_named, names_only}
+use Rattle.gb_action.specs.Outputs.{written_at, exists_at, left_at, is_named, names_only}
 use Rattle.gb_action.specs.Meanings.{Making, Printing}
 use Rattle.gb_action.specs.declared.change.Change.{Change}
 use Rattle.gb_action.specs.declared.reply.Written.{Written}
@@ -20,7 +20,7 @@ made_for makes request = makes request.args request.values request.files
 
 -- The request describes how its trees differ from these old ones: the properties are the same, each has the
 -- changes of its list, and one without a list is unchanged.
-pub record TellsChangesFrom (old : Trees) (request : Request) : Type 0 where
+pub record DescribesChangesFrom (old : Trees) (request : Request) : Type 0 where
   pub ordered : list_all (λ tree. is_sorted byte_order tree.1) old ≡ true
   pub same_names : map (λ tree. tree.0) old ≡ map (λ tree. tree.0) request.files
   pub same_others : (name : List ℕ) → find byte_order name request.changes.lists ≡ None
@@ -31,10 +31,10 @@ pub record TellsChangesFrom (old : Trees) (request : Request) : Type 0 where
 -- The request's arguments and values made these files of old trees: the request describes the changes from
 -- those trees, and its outputs have what was made.
 pub record FollowsOn (makes : Making) (request : Request) (old : Trees) : Type 0 where
-  pub tells : TellsChangesFrom old request
+  pub shows : DescribesChangesFrom old request
   pub before : List Written
   pub was_made : makes request.args request.values old ≡ Ok before
-  pub stands : (output path : List ℕ) → stands_at request.outputs output path ≡ written_at before output path
+  pub exists : (output path : List ℕ) → exists_at request.outputs output path ≡ written_at before output path
 
 -- Over what was made of old trees, the reply leaves what is made of the new ones, and it names only paths
 -- at which the two differ.
@@ -45,7 +45,7 @@ pub record CarriesOver (makes : Making) (request : Request) (reply : Reply) : Ty
   pub frugal : (old : Trees) → FollowsOn makes request old → (after : List Written)
       → made_for makes request ≡ Ok after
       → (output path : List ℕ) → is_named reply output path ≡ true
-      → stands_at request.outputs output path ≢ written_at after output path
+      → exists_at request.outputs output path ≢ written_at after output path
 
 -- The answer is right: a reply that makes what is to be made and prints what is to be printed, or the
 -- expected failure. Running out of memory is not covered.

@@ -59,7 +59,7 @@ impl Model for OutputSnapshots {
 }
 
 impl OutputSnapshots {
-    ghost use Rattle.gb_action.specs.Outputs.{files_of, stands_at};
+    ghost use Rattle.gb_action.specs.Outputs.{files_of, exists_at};
 
     /// No output yet.
     pub fn new(alloc: Global) -> OutputSnapshots
@@ -93,7 +93,7 @@ impl OutputSnapshots {
 
     /// The bytes at a path of an output.
     pub fn file_at(&self, output: &Name, path: &RelPath) -> Option<&Bytes>
-        ensures { option_copied result ≡ stands_at self.now output.now path.now }
+        ensures { option_copied result ≡ exists_at self.now output.now path.now }
     {
         let files = self.get(output)?;
         files.get(path)

@@ -37,8 +37,8 @@ module _ (files : Files) where
 
   no_fault : (place : Place) (text : List Statement) (fault : Fault) → is_place place ≡ true → TextSays Says files place (Ok text) → HasTextFault files place fault → ⊥
   no_fault place text fault good says (no_place bad is) = false≢true (sym bad ∙ good)
-  no_fault place text fault good (inl (in_way, wrong)) (blocked stands is) = cc
-  no_fault place text fault good (inr (free, says)) (blocked stands is) = false≢true (sym free ∙ stands)
+  no_fault place text fault good (inl (in_way, wrong)) (blocked exists is) = cc
+  no_fault place text fault good (inr (free, says)) (blocked exists is) = false≢true (sym free ∙ exists)
   no_fault place text fault good (inl (in_way, wrong)) (no_script bytes of at bad is) = cc
   no_fault place text fault good (inr (free, says)) (no_script bytes of at bad is) =
       let here : FileSays Says place (Some bytes) (Ok text) = subst (λ (file : Option Bytes). FileSays Says place file (Ok text)) at says in
@@ -64,7 +64,7 @@ handed Good Bad (Ok x) fault is bad = absurd is
 handed Good Bad (Err reported) fault is bad = subst Bad (sym is) bad
 
 -- what holds of a result and what holds of an error, as one
-pub match_of : {T : Type 0} (result : Result T Fault) (Good Better : T → Type 0) (tells : Bool) (Bad Worse : Fault → Type 0) → ((x : T) → Good x → Better x)
-    → ((fault : Fault) → IsTrue tells → Bad fault → Worse fault) → IfOk result Good → (IsTrue tells → IfErr result Bad) → MatchResult result Better (λ fault. IsTrue tells → Worse fault)
-match_of (Ok x) Good Better tells Bad Worse better worse good bad = better x good
-match_of (Err fault) Good Better tells Bad Worse better worse good bad = λ reported. worse fault reported (bad reported)
+pub match_of : {T : Type 0} (result : Result T Fault) (Good Better : T → Type 0) (faithful : Bool) (Bad Worse : Fault → Type 0) → ((x : T) → Good x → Better x)
+    → ((fault : Fault) → IsTrue faithful → Bad fault → Worse fault) → IfOk result Good → (IsTrue faithful → IfErr result Bad) → MatchResult result Better (λ fault. IsTrue faithful → Worse fault)
+match_of (Ok x) Good Better faithful Bad Worse better worse good bad = better x good
+match_of (Err fault) Good Better faithful Bad Worse better worse good bad = λ reported. worse fault reported (bad reported)

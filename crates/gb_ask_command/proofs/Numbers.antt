@@ -3,7 +3,7 @@ use Rattle.std.proofs.Common.{ℕ, zero, suc, ◌≡◌, ◌<◌, Bool, true, fa
 use Rattle.std.specs.Prelude.{bytes_eq, slice_get, slice_index_or, unwrap_or}
 use Rattle.std.specs.List.{cons_option, filter, list_any}
 use Rattle.std.specs.Cmp.Lexicographic.{bytes_decides}
-use Rattle.gb_graph.specs.Ranked.{Numbers, TellNumbers, number_at, numbers_in}
+use Rattle.gb_graph.specs.Ranked.{Numbers, GiveNumbers, number_at, numbers_in}
 use Rattle.gb_plan.proofs.Tests.{or_right}
 use Rattle.gb_plan.specs.Graph.{Plan, is_scheduled_in, order}
 use Rattle.gb_plan.specs.Task.{Path, has_path}
@@ -31,16 +31,16 @@ has_index (first ∷ paths) path e = by (has_index paths path) (bytes_eq path fi
     by rest false other e = let found = rest e in (suc found.0, omega (arith, found.1), found.2)
 
 -- the paths of the numbers of some tasks are those that are in the plan
-pub scheduled_numbers : (plan : Plan) (numbers : Numbers) → TellNumbers (order plan) numbers → (paths : List Path)
+pub scheduled_numbers : (plan : Plan) (numbers : Numbers) → GiveNumbers (order plan) numbers → (paths : List Path)
     → map (path_at plan) (numbers_in numbers paths) ≡ filter (is_scheduled_in plan) paths
-scheduled_numbers plan numbers tell [] = refl
-scheduled_numbers plan numbers tell (path ∷ paths) = by (scheduled_numbers plan numbers tell paths) (number_at numbers path) refl
+scheduled_numbers plan numbers predict_build [] = refl
+scheduled_numbers plan numbers predict_build (path ∷ paths) = by (scheduled_numbers plan numbers predict_build paths) (number_at numbers path) refl
   where
     in_plan : (number : ℕ) → number_at numbers path ≡ Some number → slice_get (order plan) number ≡ Some path
-    in_plan number e = let found = (tell path number).0 e in at_index (order plan) number path found.0 found.1
+    in_plan number e = let found = (predict_build path number).0 e in at_index (order plan) number path found.0 found.1
 
     not_there : number_at numbers path ≡ None → (b : Bool) → is_scheduled_in plan path ≡ b → b ≡ false
-    not_there none true is = let found = has_index (order plan) path is in let e : None ≡ Some found.0 = sym none ∙ (tell path found.0).1 (found.1, found.2) in absurd (cc)
+    not_there none true is = let found = has_index (order plan) path is in let e : None ≡ Some found.0 = sym none ∙ (predict_build path found.0).1 (found.1, found.2) in absurd (cc)
     not_there none false is = refl
 
     by : map (path_at plan) (numbers_in numbers paths) ≡ filter (is_scheduled_in plan) paths → (o : Option ℕ) → number_at numbers path ≡ o

@@ -31,26 +31,26 @@ use Rattle.gb_ask_command.specs.Check.{AreFindingsOf, AreLeft, IsNotForATask, Is
 
 -- ---- The same folder
 
-sites_of_same : (tells : Bool) (old new : Files) → (IsTrue tells → new ≡ old) → (scripts : List (Path × List Statement)) (sites : List Site) (marks : List Mark)
-    → AreSites tells new scripts sites marks → AreSites tells old scripts sites marks
-sites_of_same tells old new same [] sites marks are = are
-sites_of_same tells old new same (script ∷ scripts) sites marks (lines, others, words, at, rest, is, of) = (
+sites_of_same : (faithful : Bool) (old new : Files) → (IsTrue faithful → new ≡ old) → (scripts : List (Path × List Statement)) (sites : List Site) (marks : List Mark)
+    → AreSites faithful new scripts sites marks → AreSites faithful old scripts sites marks
+sites_of_same faithful old new same [] sites marks are = are
+sites_of_same faithful old new same (script ∷ scripts) sites marks (lines, others, words, at, rest, is, of) = (
   lines,
   others,
   words,
   λ reported. subst (λ (files : Files). AreLinesAt files (script_of_project script.0) lines) (same reported) (at reported),
-  sites_of_same tells old new same scripts others words rest,
+  sites_of_same faithful old new same scripts others words rest,
   is,
   of,
 )
 
 -- findings for a folder are findings for one with the same contents
-pub found_of_same : (tells : Bool) (old new : Contents) → (IsTrue tells → new ≡ old) → (registry : Registry) (scripts : List (Path × List Statement)) (findings : Findings)
-    → AreFindings tells new registry scripts findings → AreFindings tells old registry scripts findings
-found_of_same tells old new same registry scripts findings are = record {
+pub found_of_same : (faithful : Bool) (old new : Contents) → (IsTrue faithful → new ≡ old) → (registry : Registry) (scripts : List (Path × List Statement)) (findings : Findings)
+    → AreFindings faithful new registry scripts findings → AreFindings faithful old registry scripts findings
+found_of_same faithful old new same registry scripts findings are = record {
   sites = are.sites;
   marks = are.marks;
-  are_sites = sites_of_same tells old.files new.files (λ reported. ap (λ (c : Contents). c.files) (same reported)) scripts are.sites are.marks are.are_sites;
+  are_sites = sites_of_same faithful old.files new.files (λ reported. ap (λ (c : Contents). c.files) (same reported)) scripts are.sites are.marks are.are_sites;
   faults = are.faults;
   silent = are.silent;
   warnings = record {
@@ -60,23 +60,23 @@ found_of_same tells old new same registry scripts findings are = record {
   };
 }
 
-pub left_of_same : (tells : Bool) (old new : Contents) → (IsTrue tells → new ≡ old) → (registered : List Path) (found : List Finding) → AreLeft tells new registered found → AreLeft tells old registered found
-left_of_same tells old new same registered found (left, are, is) = (
+pub left_of_same : (faithful : Bool) (old new : Contents) → (IsTrue faithful → new ≡ old) → (registered : List Path) (found : List Finding) → AreLeft faithful new registered found → AreLeft faithful old registered found
+left_of_same faithful old new same registered found (left, are, is) = (
   left,
   λ reported. subst (λ (contents : Contents). AreUnregistered contents registered left) (same reported) (are reported),
   is,
 )
 
 module _ {M F Z S A : Type 0} (tables : Tables M F Z S A) where
-  pub found_in_same : (tells : Bool) (old new : Contents) → (IsTrue tells → new ≡ old) → (source : Source) (findings : Findings)
-      → AreFindingsOf tables tells source new findings → AreFindingsOf tables tells source old findings
-  found_in_same tells old new same source findings are = record {
+  pub found_in_same : (faithful : Bool) (old new : Contents) → (IsTrue faithful → new ≡ old) → (source : Source) (findings : Findings)
+      → AreFindingsOf tables faithful source new findings → AreFindingsOf tables faithful source old findings
+  found_in_same faithful old new same source findings are = record {
     scripts = are.scripts;
     are_scripts = are.are_scripts;
     in_tasks = are.in_tasks;
-    findings = found_of_same tells old new same (registry_said tables source) are.scripts are.in_tasks are.findings;
+    findings = found_of_same faithful old new same (registry_said tables source) are.scripts are.in_tasks are.findings;
     left = are.left;
-    are_left = left_of_same tells old new same (paths_of (registry_said tables source)) are.left are.are_left;
+    are_left = left_of_same faithful old new same (paths_of (registry_said tables source)) are.left are.are_left;
     faults = are.faults;
     warnings = are.warnings;
   }
@@ -84,29 +84,29 @@ module _ {M F Z S A : Type 0} (tables : Tables M F Z S A) where
   -- ---- Builds of the folder
 
   module _ (source : Source) (contents : Contents) (given : List (Text × Text)) (says : FolderSays tables contents.files given (Ok source)) (silent : IsSilent (registry_said tables source)) where
-    there : (asked : Invocation) → asked.properties ≡ given → registers_in tables (outside contents).files asked.properties (Ok (registry_said tables source))
-    there asked same = registered tables contents given asked.properties (sym same) source says
+    there : (allowed : Invocation) → allowed.properties ≡ given → registers_in tables (outside contents).files allowed.properties (Ok (registry_said tables source))
+    there allowed same = registered tables contents given allowed.properties (sym same) source says
 
-    no_other : (asked : Invocation) → asked.properties ≡ given → (registry : Registry) → registers_in tables (outside contents).files asked.properties (Ok registry) → registry ≡ registry_said tables source
-    no_other asked same registry (other, says_other, is) =
-        let here = there asked same in
-        let one = folders_one tables (outside contents).files asked.properties (Ok other) (Ok here.0) says_other here.1 in
+    no_other : (allowed : Invocation) → allowed.properties ≡ given → (registry : Registry) → registers_in tables (outside contents).files allowed.properties (Ok registry) → registry ≡ registry_said tables source
+    no_other allowed same registry (other, says_other, is) =
+        let here = there allowed same in
+        let one = folders_one tables (outside contents).files allowed.properties (Ok other) (Ok here.0) says_other here.1 in
         let same_source : other ≡ here.0 = cc in
         is ∙ ap (registry_said tables) same_source ∙ sym here.2
 
-    of_refusal : (asked : Invocation) (fault : Fault) → IsRefusedBy (registry_said tables source) asked fault
-        → (fault ≡ faults.OutOfMemory) ⊎ ((request_of (registry_said tables source) asked.requested asked.excluded ≡ Err fault) ⊎ ((plan : Plan) × IsScheduleFault plan fault))
-    of_refusal asked fault refused = silent asked.requested asked.excluded fault (inr refused)
+    of_refusal : (allowed : Invocation) (fault : Fault) → IsRefusedBy (registry_said tables source) allowed fault
+        → (fault ≡ faults.OutOfMemory) ⊎ ((request_of (registry_said tables source) allowed.requested allowed.excluded ≡ Err fault) ⊎ ((plan : Plan) × IsScheduleFault plan fault))
+    of_refusal allowed fault refused = silent allowed.requested allowed.excluded fault (inr refused)
 
     pub quiet : IsQuiet tables source contents given
-    quiet asked failures after fault same (inl scripts) =
-        let here = there asked same in
-        let two = folders_one tables (outside contents).files asked.properties (Ok here.0) (Err fault) here.1 scripts in
+    quiet allowed failures after fault same (inl scripts) =
+        let here = there allowed same in
+        let two = folders_one tables (outside contents).files allowed.properties (Ok here.0) (Err fault) here.1 scripts in
         absurd (cc)
-    quiet asked failures after fault same (inr (inl (registry, scripts, refused))) =
-        elim (of_refusal asked fault (subst (λ (r : Registry). IsRefusedBy r asked fault) (no_other asked same registry scripts) refused)) as (λ _. IsNotForATask (registry_said tables source) asked failures after fault) [
+    quiet allowed failures after fault same (inr (inl (registry, scripts, refused))) =
+        elim (of_refusal allowed fault (subst (λ (r : Registry). IsRefusedBy r allowed fault) (no_other allowed same registry scripts) refused)) as (λ _. IsNotForATask (registry_said tables source) allowed failures after fault) [
           | inl memory ↦ inl memory
           | inr rest ↦ inr (inr rest)
         ]
-    quiet asked failures after fault same (inr (inr (inl memory))) = inl memory
-    quiet asked failures after fault same (inr (inr (inr (place, first, device)))) = inr (inl (place, device))
+    quiet allowed failures after fault same (inr (inr (inl memory))) = inl memory
+    quiet allowed failures after fault same (inr (inr (inr (place, first, device)))) = inr (inl (place, device))

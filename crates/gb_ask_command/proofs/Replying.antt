@@ -2,7 +2,7 @@
 use Rattle.std.specs.Prelude.{ℕ, ◌≡◌, ◌≤◌, ◌⊎◌, Bool, IsTrue, List, Result, Ok, Err, IfErr, IfOk, MatchResult, codes, string_bytes}
 use Rattle.std.proofs.Common.{ap, inl, inr, subst}
 use Rattle.gb_declare.specs.Registered.{registry_said}
-use Rattle.gb_folder.specs.Files.{Contents, Place, is_odd_under}
+use Rattle.gb_folder.specs.Files.{Contents, Place, is_special_under}
 use Rattle.gb_graph.specs.Answer.{IsRefusalOf}
 use Rattle.gb_meaning.specs.Edits.{Shown}
 use Rattle.gb_meaning.specs.declared.events.Invocation.{Invocation}
@@ -22,36 +22,36 @@ use Rattle.gb_ask_command.specs.Replies.{AreRead, IsGraphReply, IsReplyAbout, Is
 use Rattle.gb_ask_command.specs.Reply.{Reply}
 use Rattle.gb_ask_command.specs.declared.words.Style.{Style}
 
-module _ {M F Z S A : Type 0} (tables : Tables M F Z S A) (tells : Bool) (old : Shown) (after : ℕ) (asked : Invocation) where
+module _ {M F Z S A : Type 0} (tables : Tables M F Z S A) (faithful : Bool) (old : Shown) (after : ℕ) (allowed : Invocation) where
   -- a text, or that memory ran out
-  pub of_text : (IsTextOf : Registry → List ℕ → Type 0) (source : Source) → AreRead tables tells old after asked (Ok source)
+  pub of_text : (IsTextOf : Registry → List ℕ → Type 0) (source : Source) → AreRead tables faithful old after allowed (Ok source)
       → (reply : Reply) → IfOk reply (λ text. IsTextOf (registry_said tables source) (string_bytes text)) → IfErr reply (λ fault. fault ≡ faults.OutOfMemory)
-      → IsReplyOf tables tells old after IsTextOf asked reply
+      → IsReplyOf tables faithful old after IsTextOf allowed reply
   of_text IsTextOf source read (Ok text) is out = (source, read, is)
   of_text IsTextOf source read (Err fault) is out = λ yes. inl (inl out)
 
   -- a graph, or why there is none
-  pub of_drawing : (style : Style) (source : Source) → AreRead tables tells old after asked (Ok source)
-      → (reply : Reply) → IfOk reply (λ text. IsDrawing style (registry_said tables source) asked.requested asked.excluded (string_bytes text))
-      → IfErr reply (IsRefusalOf (registry_said tables source) asked.requested asked.excluded)
-      → IsGraphReply tables tells old after style asked reply
+  pub of_drawing : (style : Style) (source : Source) → AreRead tables faithful old after allowed (Ok source)
+      → (reply : Reply) → IfOk reply (λ text. IsDrawing style (registry_said tables source) allowed.requested allowed.excluded (string_bytes text))
+      → IfErr reply (IsRefusalOf (registry_said tables source) allowed.requested allowed.excluded)
+      → IsGraphReply tables faithful old after style allowed reply
   of_drawing style source read (Ok text) is refused = (source, read, is)
   of_drawing style source read (Err fault) is refused = inr (source, read, refused)
 
   -- no place is requested
   pub of_no_place : (notation : Notation) (relation : Relation) (place found : Result Place Fault) (fault : Fault) → found ≡ Err fault
-      → (found ≡ place) ⊎ (found ≡ Err faults.OutOfMemory) → IsReplyAbout tables tells old after notation relation place asked (Err fault)
+      → (found ≡ place) ⊎ (found ≡ Err faults.OutOfMemory) → IsReplyAbout tables faithful old after notation relation place allowed (Err fault)
   of_no_place notation relation (Ok place) found fault err (inl is) = absurd (cc)
   of_no_place notation relation (Ok place) found fault err (inr is) = λ yes. inl (inl (cc))
   of_no_place notation relation (Err other) found fault err (inl is) = inl (cc)
   of_no_place notation relation (Err other) found fault err (inr is) = inr (cc)
 
   -- the entries of the folder, after the scripts are read
-  pub of_status : (notation : Notation) (activity : Activity) (source : Source) → AreRead tables tells old after asked (Ok source)
-      → (mid : Contents) (later : ℕ) → (IsTrue tells → mid ≡ old.contents) → old.failures ≤ later → later ≤ after
-      → (reply : Reply) → IfOk reply (λ text. IsStatusOf tells notation activity mid.files (paths_of (registry_said tables source)) (string_bytes text))
-      → (IsTrue tells → IfErr reply (IsUnlisted mid later after))
-      → IsStatusReply tables tells old after notation activity asked reply
+  pub of_status : (notation : Notation) (activity : Activity) (source : Source) → AreRead tables faithful old after allowed (Ok source)
+      → (mid : Contents) (later : ℕ) → (IsTrue faithful → mid ≡ old.contents) → old.failures ≤ later → later ≤ after
+      → (reply : Reply) → IfOk reply (λ text. IsStatusOf faithful notation activity mid.files (paths_of (registry_said tables source)) (string_bytes text))
+      → (IsTrue faithful → IfErr reply (IsUnlisted mid later after))
+      → IsStatusReply tables faithful old after notation activity allowed reply
   of_status notation activity source read mid later same earlier count (Ok text) is unlisted = (
     source,
     read,
@@ -59,7 +59,7 @@ module _ {M F Z S A : Type 0} (tables : Tables M F Z S A) (tells : Bool) (old : 
   )
   of_status notation activity source read mid later same earlier count (Err fault) is unlisted = inr (λ yes. elim (unlisted yes) as (λ _. IsUnlisted old.contents old.failures after fault) [
     | inl machine ↦ inl (machine_before old.failures later after fault earlier count machine)
-    | inr name ↦ inr (subst (λ (contents : Contents). IsTrue (is_odd_under contents (codes ".gb"))) (same yes) name.0, name.1)
+    | inr name ↦ inr (subst (λ (contents : Contents). IsTrue (is_special_under contents (codes ".gb"))) (same yes) name.0, name.1)
   ])
 
 -- what holds of a result where contents are known

@@ -6,7 +6,7 @@ use Rattle.gb_action.specs.Meanings.{Meanings}
 use Rattle.gb_folder.specs.Files.{Contents}
 use Rattle.gb_predict.specs.Prediction.{ArePredictedOf, IsPredictedOf}
 use Rattle.gb_predict.specs.declared.coming.Prediction.{Prediction}
-use Rattle.gb_predict.proofs.Telling.{all_related, prediction_wider}
+use Rattle.gb_predict.proofs.Predicting.{all_related, prediction_wider}
 use Rattle.gb_history.specs.Record.{Record}
 use Rattle.gb_build.proofs.Keeping.{begun_before}
 use Rattle.gb_build.specs.Registering.{registers_in}
@@ -58,9 +58,9 @@ module _ {S : Type 0} (meanings : Meanings S) (rows : Rows S) (options : Options
         (subst (λ (c : Contents). ArePredictedOf kinds options c later after plan on.records reported) same (on.prediction kinds agrees));
   }
 
-  pub reported_since : (tells : Bool) → (IsTrue tells → mid ≡ contents) → before ≤ later → later ≤ after → (plan : Plan) (reported : List Prediction)
-      → AreReported tells meanings rows options (shows mid later) after plan reported → AreReported tells meanings rows options (shows contents before) after plan reported
-  reported_since tells same earlier count plan reported is = record {
+  pub reported_since : (faithful : Bool) → (IsTrue faithful → mid ≡ contents) → before ≤ later → later ≤ after → (plan : Plan) (reported : List Prediction)
+      → AreReported faithful meanings rows options (shows mid later) after plan reported → AreReported faithful meanings rows options (shows contents before) after plan reported
+  reported_since faithful same earlier count plan reported is = record {
     paths = is.paths;
     reasoned = is.reasoned;
     marked = is.marked;
@@ -69,14 +69,14 @@ module _ {S : Type 0} (meanings : Meanings S) (rows : Rows S) (options : Options
 
 -- ---- The request
 
-module _ {M F Z S A : Type 0} (tables : Tables M F Z S A) (tells : Bool) (asked : Invocation) (contents mid : Contents) (before later after : ℕ)
-    (same : IsTrue tells → mid ≡ contents) (earlier : before ≤ later) (count : later ≤ after) (registry : Registry)
-    (scripts : IsTrue tells → registers_in tables (outside contents).files asked.properties (Ok registry)) where
+module _ {M F Z S A : Type 0} (tables : Tables M F Z S A) (faithful : Bool) (allowed : Invocation) (contents mid : Contents) (before later after : ℕ)
+    (same : IsTrue faithful → mid ≡ contents) (earlier : before ≤ later) (count : later ≤ after) (registry : Registry)
+    (scripts : IsTrue faithful → registers_in tables (outside contents).files allowed.properties (Ok registry)) where
   -- an answer since the scripts were read is the answer to the request
   pub answers_it : (answer : Answer) → IfOk answer (λ reported. IsRegistry registry)
-      → IfOk answer (λ reported. AreReportedOf tells tables.shapes tables.kinds registry asked.requested asked.excluded asked.options (shows mid later) after reported.items)
-      → IfErr answer (IsNotReported registry asked.requested asked.excluded later after)
-      → IsAnswerTo tables tells asked (shows contents before) answer after
+      → IfOk answer (λ reported. AreReportedOf faithful tables.shapes tables.kinds registry allowed.requested allowed.excluded allowed.options (shows mid later) after reported.items)
+      → IfErr answer (IsNotReported registry allowed.requested allowed.excluded later after)
+      → IsAnswerTo tables faithful allowed (shows contents before) answer after
   answers_it (Ok reported) sound is none = record {
     registry = registry;
     is_registry = sound;
@@ -84,9 +84,9 @@ module _ {M F Z S A : Type 0} (tables : Tables M F Z S A) (tells : Bool) (asked 
     reported_of = (
       is.0,
       is.1,
-      reported_since tables.shapes tables.kinds asked.options contents mid before later after tells same earlier count is.0 reported.items is.2,
+      reported_since tables.shapes tables.kinds allowed.options contents mid before later after faithful same earlier count is.0 reported.items is.2,
     );
   }
   answers_it (Err fault) sound none why = λ yes.
-      not_built (registers_in tables) registry (shows contents before) (in_earnest asked) fault after (scripts yes)
-      (begun_before registry (in_earnest asked) before later after earlier count fault why)
+      not_built (registers_in tables) registry (shows contents before) (in_earnest allowed) fault after (scripts yes)
+      (begun_before registry (in_earnest allowed) before later after earlier count fault why)

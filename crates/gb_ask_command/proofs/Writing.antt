@@ -118,9 +118,9 @@ treats_may mode headed input place calls printed (Err fault, first, later, are, 
 
 -- ---- all files
 
-behind : (permit : Permit) (mid : Ended Fault) (next : Type 0) (later : List Call) (more : List ℕ) (ended : Ended Fault) → (next → AllMay permit later) → OrStops mid next later more ended → AllMay permit later
-behind permit (Ok done) next later more ended may does = may does
-behind permit (Err fault) next later more ended may does = all_none permit later does.0
+following : (permit : Permit) (mid : Ended Fault) (next : Type 0) (later : List Call) (more : List ℕ) (ended : Ended Fault) → (next → AllMay permit later) → OrStops mid next later more ended → AllMay permit later
+following permit (Ok done) next later more ended may does = may does
+following permit (Err fault) next later more ended may does = all_none permit later does.0
 
 pub all_may : (mode : Mode) (headed : Bool) (input : List ℕ) (names : List (String Global)) (calls : List Call) (made : List ℕ) (ended : Ended Fault) → Each (IsTreated mode headed input) names calls made ended → AllMay (may_write mode (map string_bytes names)) calls
 all_may mode headed input [] calls made ended each = all_none (may_write mode []) calls each.0
@@ -130,7 +130,7 @@ all_may mode headed input (name ∷ names) calls made ended each =
     all_more (may_first mode (string_bytes name) (map string_bytes names)) each.0
     (treats_may mode headed input (string_bytes name) each.0 each.7.0 each.7.1) in
     let later : AllMay permit each.1 =
-    behind permit each.4 (Each (IsTreated mode headed input) names each.1 each.3 ended) each.1 each.3 ended
+    following permit each.4 (Each (IsTreated mode headed input) names each.1 each.3 ended) each.1 each.3 ended
     (λ next. all_more (may_others mode (string_bytes name) (map string_bytes names)) each.1 (all_may mode headed input names each.1 each.3 ended next))
     each.8 in
     subst (λ (cs : List Call). AllMay permit cs) (sym each.5) (all_both permit each.0 each.1 first later)

@@ -73,17 +73,17 @@ left_of path = record { spot = spots.Unknown; cause = causes.Unregistered path }
 -- A warning for each of some tasks: if the contents of the folder are known, for exactly those that have
 -- records in it and are not registered.
 abbrev pub AreLeft : Bool → Contents → List Path → List Finding → Type 0
-AreLeft tells contents registered found =
-    (left : List Path) × (IsTrue tells → AreUnregistered contents registered left)
+AreLeft faithful contents registered found =
+    (left : List Path) × (IsTrue faithful → AreUnregistered contents registered left)
     × (found ≡ map left_of left)
 
 -- ---- Silence
 
 -- a refusal for lack of memory, for a device that failed, for an argument, or for the plan (60 to 63)
 abbrev pub IsNotForATask : Registry → Invocation → ℕ → ℕ → Fault → Type 0
-IsNotForATask registry asked before after fault =
+IsNotForATask registry allowed before after fault =
     (fault ≡ faults.OutOfMemory) ⊎ (((place : Place) × IsDeviceFault before after place fault)
-    ⊎ ((request_of registry asked.requested asked.excluded ≡ Err fault)
+    ⊎ ((request_of registry allowed.requested allowed.excluded ≡ Err fault)
     ⊎ ((plan : Plan) × IsScheduleFault plan fault)))
 
 module _ {M F Z S A : Type 0} (tables : Tables M F Z S A) where
@@ -91,42 +91,42 @@ module _ {M F Z S A : Type 0} (tables : Tables M F Z S A) where
   -- causes a refusal.
   abbrev pub IsQuiet : Source → Contents → List (Text × Text) → Type 0
   IsQuiet source contents given =
-      (asked : Invocation) (failures after : ℕ) (fault : Fault) → asked.properties ≡ given
+      (allowed : Invocation) (failures after : ℕ) (fault : Fault) → allowed.properties ≡ given
       → IsNotBuilt (registers_in tables) (record { contents = contents; failures = failures })
-      asked fault after
-      → IsNotForATask (registry_said tables source) asked failures after fault
+      allowed fault after
+      → IsNotForATask (registry_said tables source) allowed failures after fault
 
-module _ {M F Z S A : Type 0} (tables : Tables M F Z S A) (tells : Bool) where
+module _ {M F Z S A : Type 0} (tables : Tables M F Z S A) (faithful : Bool) where
   -- The findings for the statements of scripts, one script for each project. Warnings for values that nothing
   -- reads precede those for tasks, and warnings for records of tasks that are not registered follow.
   pub record AreFindingsOf (source : Source) (contents : Contents) (found : Findings) : Type 0 where
     pub scripts : List (Path × List Statement)
     pub are_scripts : IsRead source scripts
     pub in_tasks : Findings
-    pub findings : AreFindings tells contents (registry_said tables source) scripts in_tasks
+    pub findings : AreFindings faithful contents (registry_said tables source) scripts in_tasks
     pub left : List Finding
-    pub are_left : AreLeft tells contents (paths_of (registry_said tables source)) left
+    pub are_left : AreLeft faithful contents (paths_of (registry_said tables source)) left
     pub faults : found.faults.items ≡ in_tasks.faults.items
     pub warnings : found.warnings.items
         ≡ unread_values scripts source.given ++ in_tasks.warnings.items ++ left
 
-  pub record IsChecked (asked : Invocation) (contents : Contents) (found : Findings) : Type 0 where
+  pub record IsChecked (allowed : Invocation) (contents : Contents) (found : Findings) : Type 0 where
     pub source : Source
-    pub said : IsTrue tells → FolderSays tables contents.files asked.properties (Ok source)
+    pub said : IsTrue faithful → FolderSays tables contents.files allowed.properties (Ok source)
     pub found_of : AreFindingsOf source contents found
-    pub quiet : IsTrue tells → found.faults.items ≡ []
-        → IsQuiet tables source contents asked.properties
+    pub quiet : IsTrue faithful → found.faults.items ≡ []
+        → IsQuiet tables source contents allowed.properties
 
   -- The findings; or if the contents of the folder are known, a fault of the machine between these counts of
   -- failures, or the fault of the folder's scripts.
   abbrev pub IsCheckReply : Invocation → Contents → ℕ → ℕ → CheckReply → Type 0
-  IsCheckReply asked contents before after reply =
-      MatchResult reply (IsChecked asked contents)
-      (λ fault. IsTrue tells
-      → IsOfMachine before after fault ⊎ FolderSays tables contents.files asked.properties (Err fault))
+  IsCheckReply allowed contents before after reply =
+      MatchResult reply (IsChecked allowed contents)
+      (λ fault. IsTrue faithful
+      → IsOfMachine before after fault ⊎ FolderSays tables contents.files allowed.properties (Err fault))
 
   -- the arguments are refused, or they make a request, and this is the reply to it
   abbrev pub RepliesCheck : Given → Contents → ℕ → ℕ → CheckReply → Type 0
   RepliesCheck given contents before after reply =
       ((fault : Fault) × AreRefused given fault × (reply ≡ Err fault))
-      ⊎ ((asked : Invocation) × AskFor given asked × IsCheckReply asked contents before after reply)
+      ⊎ ((allowed : Invocation) × AskFor given allowed × IsCheckReply allowed contents before after reply)

@@ -73,20 +73,20 @@ pub record AreReportedOn {S : Type 0} (meanings : Meanings S) (rows : Rows S) (o
 -- Over any folder: the tasks of the plan are reported in its order; a task that is executed for reasons has a
 -- reason; and each task is marked with the first one that may change what it reads. If contents are known,
 -- the reports are right.
-pub record AreReported {S : Type 0} (tells : Bool) (meanings : Meanings S) (rows : Rows S) (options : Options)
+pub record AreReported {S : Type 0} (faithful : Bool) (meanings : Meanings S) (rows : Rows S) (options : Options)
     (old : Shown) (after : ℕ) (plan : Plan) (reported : List Prediction) : Type 0 where
   pub paths : map (λ one. one.path) reported ≡ order plan
   pub reasoned : AllByRecursion (λ one. IsReasoned one.coming) reported
   pub marked : AreMarked plan reported
-  pub prediction : IsTrue tells → AreReportedOn meanings rows options old after plan reported
+  pub prediction : IsTrue faithful → AreReportedOn meanings rows options old after plan reported
 
 -- the reports of the plan of a request for a registry
 abbrev pub AreReportedOf : {S : Type 0} → Bool → Meanings S → Rows S → Registry → List Text → List Text
     → Options
     → Shown → ℕ → List Prediction → Type 0
-AreReportedOf tells meanings rows registry requested excluded options old after reported =
+AreReportedOf faithful meanings rows registry requested excluded options old after reported =
     (plan : Plan) × IsPlanOf registry requested excluded plan
-    × AreReported tells meanings rows options old after plan reported
+    × AreReported faithful meanings rows options old after plan reported
 
 -- ---- The answer
 
@@ -97,35 +97,35 @@ IsNotReported registry requested excluded before after fault =
 
 -- the same request without `--dry-run`
 abbrev pub in_earnest : Invocation → Invocation
-in_earnest asked = record {
-  requested = asked.requested;
-  excluded = asked.excluded;
-  properties = asked.properties;
+in_earnest allowed = record {
+  requested = allowed.requested;
+  excluded = allowed.excluded;
+  properties = allowed.properties;
   options = record {
-    keep_going = asked.options.keep_going;
-    rerun = asked.options.rerun;
+    keep_going = allowed.options.keep_going;
+    rerun = allowed.options.rerun;
     dry_run = false;
   };
 }
 
-module _ {M F Z S A : Type 0} (tables : Tables M F Z S A) (tells : Bool) where
+module _ {M F Z S A : Type 0} (tables : Tables M F Z S A) (faithful : Bool) where
   -- The tasks of the plan of the request for some registry are reported. If contents are known, it is the
   -- registry of the folder's scripts.
-  pub record IsReported (asked : Invocation) (old : Shown) (after : ℕ) (reported : List Prediction)
+  pub record IsReported (allowed : Invocation) (old : Shown) (after : ℕ) (reported : List Prediction)
       : Type 0 where
     pub registry : Registry
     pub is_registry : IsRegistry registry
-    pub scripts : IsTrue tells
-        → registers_in tables (outside old.contents).files asked.properties (Ok registry)
-    pub reported_of : AreReportedOf tells tables.shapes tables.kinds registry asked.requested asked.excluded
-        asked.options old after reported
+    pub scripts : IsTrue faithful
+        → registers_in tables (outside old.contents).files allowed.properties (Ok registry)
+    pub reported_of : AreReportedOf faithful tables.shapes tables.kinds registry allowed.requested allowed.excluded
+        allowed.options old after reported
 
   -- the request is reported; or if contents are known, a build of it is refused for this fault
   abbrev pub IsAnswerTo : Invocation → Shown → Answer → ℕ → Type 0
-  IsAnswerTo asked old (Ok reported) after = IsReported asked old after reported.items
-  IsAnswerTo asked old (Err fault) after =
-      IsTrue tells → IsNotBuilt (registers_in tables) old (in_earnest asked) fault after
+  IsAnswerTo allowed old (Ok reported) after = IsReported allowed old after reported.items
+  IsAnswerTo allowed old (Err fault) after =
+      IsTrue faithful → IsNotBuilt (registers_in tables) old (in_earnest allowed) fault after
 
   -- the arguments are refused, or they make a request, and this is the answer to it
   abbrev pub Answers : Given → Shown → Answer → ℕ → Type 0
-  Answers given old answer after = Replies (λ asked reply. IsAnswerTo asked old reply after) given answer
+  Answers given old answer after = Replies (λ allowed reply. IsAnswerTo allowed old reply after) given answer

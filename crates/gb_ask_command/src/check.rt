@@ -4,13 +4,13 @@ ghost use Rattle.std.specs.Prelude.{string_bytes};
 ghost use Rattle.std.specs.Io.KnownBytes.{Appends};
 ghost use Rattle.gb_command.specs.Answered.{given_of};
 ghost use Rattle.gb_declare.specs.Registered.{registry_said};
-ghost use Rattle.gb_folder.specs.Calls.{Asks, no_change};
+ghost use Rattle.gb_folder.specs.Calls.{Requests, no_change};
 ghost use Rattle.gb_folder.specs.Files.{is_empty};
 ghost use Rattle.gb_plan.specs.Graph.{paths_of};
 ghost use Rattle.gb_printer.specs.Printing.{Prints};
 ghost use Rattle.gb_registry.specs.Projects.{Path};
 ghost use Rattle.gb_registry.specs.Read.{IsRead};
-ghost use Rattle.gb_registry.specs.Seen.{scripts_in};
+ghost use Rattle.gb_registry.specs.SoFar.{scripts_in};
 ghost use Rattle.gb_registry.specs.Tables.{tables_of};
 ghost use Rattle.gb_script.specs.declared.script.Statement.{Statement};
 ghost use Rattle.gb_store.specs.Faults.{IsOfMachine};
@@ -58,10 +58,10 @@ pub fn run<A: Actions, T: Transforms, F: Folder, W: Printer>(
     tables: &Tables<A, T>,
 ) -> Option<u8>
     // Over any folder: no change is requested.
-    ensures asks { Asks F.failures F.may_leave F.asked no_change folder.old folder.new }
-    ensures same { IsTrue F.tells → F.contents folder.new ≡ F.contents folder.old }
+    ensures requests { Requests F.failures F.may_leave F.allowed no_change folder.old folder.new }
+    ensures same { IsTrue F.faithful → F.contents folder.new ≡ F.contents folder.old }
     ensures reported { (reply : CheckReply)
-        × RepliesCheck (tables_of T.meanings A.meanings tables.now) F.tells
+        × RepliesCheck (tables_of T.meanings A.meanings tables.now) F.faithful
         (given_of (λ words. map string_bytes words.items) words) (F.contents folder.old)
         (F.failures folder.old) (F.failures folder.new) reply
         × (written : Replied) × IsCheckWritten notation reply written
@@ -178,14 +178,14 @@ fn replied<A: Actions, T: Transforms, F: Folder>(
     words: Result<Vec<String>, Fault>,
     tables: &Tables<A, T>,
 ) -> Result<Findings, Fault>
-    ensures asks { Asks F.failures F.may_leave F.asked no_change folder.old folder.new }
-    ensures same { IsTrue F.tells → F.contents folder.new ≡ F.contents folder.old }
-    ensures replies { RepliesCheck (tables_of T.meanings A.meanings tables.now) F.tells
+    ensures requests { Requests F.failures F.may_leave F.allowed no_change folder.old folder.new }
+    ensures same { IsTrue F.faithful → F.contents folder.new ≡ F.contents folder.old }
+    ensures replies { RepliesCheck (tables_of T.meanings A.meanings tables.now) F.faithful
         (given_of (λ words. map string_bytes words.items) words) (F.contents folder.old)
         (F.failures folder.old) (F.failures folder.new) result }
 {
     match asked_by(alloc, words) {
-        Ok(asked) => check_asked(alloc, folder, tables, &asked),
+        Ok(allowed) => check_asked(alloc, folder, tables, &allowed),
         Err(fault) => Err(fault),
     }
 }
@@ -195,14 +195,14 @@ fn check_asked<A: Actions, T: Transforms, F: Folder>(
     alloc: Global,
     folder: &mut F,
     tables: &Tables<A, T>,
-    asked: &Invocation,
+    allowed: &Invocation,
 ) -> Result<Findings, Fault>
-    ensures asks { Asks F.failures F.may_leave F.asked no_change folder.old folder.new }
-    ensures same { IsTrue F.tells → F.contents folder.new ≡ F.contents folder.old }
-    ensures reply { IsCheckReply (tables_of T.meanings A.meanings tables.now) F.tells asked.now
+    ensures requests { Requests F.failures F.may_leave F.allowed no_change folder.old folder.new }
+    ensures same { IsTrue F.faithful → F.contents folder.new ≡ F.contents folder.old }
+    ensures reply { IsCheckReply (tables_of T.meanings A.meanings tables.now) F.faithful allowed.now
         (F.contents folder.old) (F.failures folder.old) (F.failures folder.new) result }
 {
-    let copied = asked.properties.copy(alloc)?;
+    let copied = allowed.properties.copy(alloc)?;
     let given = copied.into_vec();
     let configured = read_registry(alloc, folder, tables, given)?;
     check_configured(alloc, folder, &configured)
@@ -214,12 +214,12 @@ fn check_configured<A: Actions, T: Transforms, F: Folder>(
     folder: &mut F,
     configured: &Configured<'_, A, T>,
 ) -> Result<Findings, Fault>
-    ensures asks { Asks F.failures F.may_leave F.asked no_change folder.old folder.new }
-    ensures same { IsTrue F.tells → F.contents folder.new ≡ F.contents folder.old }
+    ensures requests { Requests F.failures F.may_leave F.allowed no_change folder.old folder.new }
+    ensures same { IsTrue F.faithful → F.contents folder.new ≡ F.contents folder.old }
     ensures found { IfOk result
-        (AreFindingsOf (tables_of T.meanings A.meanings configured.now.tables.now) F.tells
+        (AreFindingsOf (tables_of T.meanings A.meanings configured.now.tables.now) F.faithful
         configured.now.registry (F.contents folder.old)) }
-    ensures err { IsTrue F.tells → IfErr result (λ fault.
+    ensures err { IsTrue F.faithful → IfErr result (λ fault.
         IsOfMachine (F.failures folder.old) (F.failures folder.new) fault
         ⊎ ((scripts : List (Path × List Statement)) × IsRead configured.now.registry scripts
         × IsUnread (F.contents folder.old).files scripts fault)) }
@@ -258,12 +258,12 @@ fn warn_left<A: Actions, T: Transforms, F: Folder>(
     folder: &mut F,
     configured: &Configured<'_, A, T>,
 ) -> Result<Vec<Finding>, Fault>
-    ensures asks { Asks F.failures F.may_leave F.asked no_change folder.old folder.new }
-    ensures same { IsTrue F.tells → F.contents folder.new ≡ F.contents folder.old }
+    ensures requests { Requests F.failures F.may_leave F.allowed no_change folder.old folder.new }
+    ensures same { IsTrue F.faithful → F.contents folder.new ≡ F.contents folder.old }
     ensures found { let tables = tables_of T.meanings A.meanings configured.now.tables.now in
-        IfOk result (λ found. AreLeft F.tells (F.contents folder.old)
+        IfOk result (λ found. AreLeft F.faithful (F.contents folder.old)
         (paths_of (registry_said tables configured.now.registry)) found.items) }
-    ensures err { IsTrue F.tells
+    ensures err { IsTrue F.faithful
         → IfErr result (IsOfMachine (F.failures folder.old) (F.failures folder.new)) }
 {
     let _registered = configured.registry.tasks();
@@ -291,12 +291,12 @@ fn check_tasks<A: Actions, T: Transforms, F: Folder>(
     configured: &Configured<'_, A, T>,
     scripts: &[Scripted],
 ) -> Result<Findings, Fault>
-    ensures asks { Asks F.failures F.may_leave F.asked no_change folder.old folder.new }
-    ensures same { IsTrue F.tells → F.contents folder.new ≡ F.contents folder.old }
+    ensures requests { Requests F.failures F.may_leave F.allowed no_change folder.old folder.new }
+    ensures same { IsTrue F.faithful → F.contents folder.new ≡ F.contents folder.old }
     ensures found { let tables = tables_of T.meanings A.meanings configured.now.tables.now in
-        IfOk result (AreFindings F.tells (F.contents folder.old)
+        IfOk result (AreFindings F.faithful (F.contents folder.old)
         (registry_said tables configured.now.registry) (scripts_in scripts.now)) }
-    ensures err { IsTrue F.tells → IfErr result (λ fault.
+    ensures err { IsTrue F.faithful → IfErr result (λ fault.
         IsOfMachine (F.failures folder.old) (F.failures folder.new) fault
         ⊎ IsUnread (F.contents folder.old).files (scripts_in scripts.now) fault) }
 {

@@ -5,7 +5,7 @@ ghost use Rattle.std.specs.Prelude.{string_bytes, true};
 ghost use Rattle.std.specs.List.{ends_with};
 ghost use Rattle.std.specs.Io.KnownBytes.{Appends};
 ghost use Rattle.gb_core.specs.Place.{is_place};
-ghost use Rattle.gb_folder.specs.Calls.{Asks, Call, Reads, answered};
+ghost use Rattle.gb_folder.specs.Calls.{Requests, Call, Reads, answered};
 ghost use Rattle.gb_folder.specs.Device.{IsCalled, Leads};
 ghost use Rattle.gb_folder.specs.Each.{Each, Ended};
 ghost use Rattle.gb_folder.specs.Files.{is_empty};
@@ -45,7 +45,7 @@ pub fn run<F: Folder, W: Printer>(
     writer: &mut W,
 ) -> Option<u8>
     // The only requested changes write formatted texts at these places, if they are to be written.
-    ensures asks { Asks F.failures F.may_leave F.asked (may_write mode (map string_bytes names.now))
+    ensures requests { Requests F.failures F.may_leave F.allowed (may_write mode (map string_bytes names.now))
         folder.old folder.new }
     // Over any folder: these calls led from the old folder to the new one. With them the files were
     // processed in their order, up to the first fault; the output for them is printed, and then the

@@ -3,7 +3,7 @@ ghost use Rattle.std.specs.Prelude.{◌≡◌, IfErr, IfOk, IfSome, IsTrue, map,
 ghost use Rattle.std.specs.Io.KnownBytes.{Appends};
 ghost use Rattle.gb_command.specs.Answered.{given_of};
 ghost use Rattle.gb_declare.specs.Registered.{registry_said};
-ghost use Rattle.gb_folder.specs.Calls.{Asks, no_change};
+ghost use Rattle.gb_folder.specs.Calls.{Requests, no_change};
 ghost use Rattle.gb_graph.specs.Answer.{IsRefusalOf};
 ghost use Rattle.gb_printer.specs.Printing.{Prints};
 ghost use Rattle.gb_registry.specs.Tables.{tables_of};
@@ -38,10 +38,10 @@ pub fn run<A: Actions, T: Transforms, F: Folder, W: Printer>(
     tables: &Tables<A, T>,
 ) -> Option<u8>
     // Over any folder: no change is requested.
-    ensures asks { Asks F.failures F.may_leave F.asked no_change folder.old folder.new }
-    ensures same { IsTrue F.tells → F.contents folder.new ≡ F.contents folder.old }
+    ensures requests { Requests F.failures F.may_leave F.allowed no_change folder.old folder.new }
+    ensures same { IsTrue F.faithful → F.contents folder.new ≡ F.contents folder.old }
     ensures reported { (reply : Replied)
-        × Replies (IsGraphReply (tables_of T.meanings A.meanings tables.now) F.tells
+        × Replies (IsGraphReply (tables_of T.meanings A.meanings tables.now) F.faithful
         (record { contents = F.contents folder.old; failures = F.failures folder.old })
         (F.failures folder.new) style)
         (given_of (λ words. map string_bytes words.items) words) reply
@@ -63,15 +63,15 @@ fn replied<A: Actions, T: Transforms, F: Folder>(
     words: Result<Vec<String>, Fault>,
     tables: &Tables<A, T>,
 ) -> Reply
-    ensures asks { Asks F.failures F.may_leave F.asked no_change folder.old folder.new }
-    ensures same { IsTrue F.tells → F.contents folder.new ≡ F.contents folder.old }
-    ensures replies { Replies (IsGraphReply (tables_of T.meanings A.meanings tables.now) F.tells
+    ensures requests { Requests F.failures F.may_leave F.allowed no_change folder.old folder.new }
+    ensures same { IsTrue F.faithful → F.contents folder.new ≡ F.contents folder.old }
+    ensures replies { Replies (IsGraphReply (tables_of T.meanings A.meanings tables.now) F.faithful
         (record { contents = F.contents folder.old; failures = F.failures folder.old })
         (F.failures folder.new) style)
         (given_of (λ words. map string_bytes words.items) words) result }
 {
     match asked_by(alloc, words) {
-        Ok(asked) => draw(alloc, folder, style, tables, &asked),
+        Ok(allowed) => draw(alloc, folder, style, tables, &allowed),
         Err(fault) => Err(fault),
     }
 }
@@ -82,16 +82,16 @@ fn draw<A: Actions, T: Transforms, F: Folder>(
     folder: &mut F,
     style: Style,
     tables: &Tables<A, T>,
-    asked: &Invocation,
+    allowed: &Invocation,
 ) -> Reply
-    ensures asks { Asks F.failures F.may_leave F.asked no_change folder.old folder.new }
-    ensures same { IsTrue F.tells → F.contents folder.new ≡ F.contents folder.old }
-    ensures reply { IsGraphReply (tables_of T.meanings A.meanings tables.now) F.tells
+    ensures requests { Requests F.failures F.may_leave F.allowed no_change folder.old folder.new }
+    ensures same { IsTrue F.faithful → F.contents folder.new ≡ F.contents folder.old }
+    ensures reply { IsGraphReply (tables_of T.meanings A.meanings tables.now) F.faithful
         (record { contents = F.contents folder.old; failures = F.failures folder.old })
-        (F.failures folder.new) style asked.now result }
+        (F.failures folder.new) style allowed.now result }
 {
-    match read_asked(alloc, folder, tables, asked) {
-        Ok(configured) => draw_registered(alloc, style, &configured, asked),
+    match read_asked(alloc, folder, tables, allowed) {
+        Ok(configured) => draw_registered(alloc, style, &configured, allowed),
         Err(fault) => Err(fault),
     }
 }
@@ -100,17 +100,17 @@ fn draw_registered<A: Actions, T: Transforms>(
     alloc: Global,
     style: Style,
     configured: &Configured<'_, A, T>,
-    asked: &Invocation,
+    allowed: &Invocation,
 ) -> Reply
     ensures drawing { let tables = tables_of T.meanings A.meanings configured.now.tables.now in
         IfOk result (λ text. IsDrawing style (registry_said tables configured.now.registry)
-        asked.now.requested asked.now.excluded (string_bytes text)) }
+        allowed.now.requested allowed.now.excluded (string_bytes text)) }
     ensures fault { let tables = tables_of T.meanings A.meanings configured.now.tables.now in
         IfErr result (IsRefusalOf (registry_said tables configured.now.registry)
-        asked.now.requested asked.now.excluded) }
+        allowed.now.requested allowed.now.excluded) }
 {
     let mut tasks = ScriptTasks::declare(alloc, configured)?;
-    let requested = asked.requested.as_slice();
-    let excluded = asked.excluded.as_slice();
+    let requested = allowed.requested.as_slice();
+    let excluded = allowed.excluded.as_slice();
     draw_requested(alloc, style, &mut tasks, requested, excluded)
 }

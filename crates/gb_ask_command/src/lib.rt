@@ -16,7 +16,7 @@ mod reply;
 mod scripts;
 pub mod status;
 pub mod tasks;
-mod telling;
+mod predicting;
 mod unread;
 pub mod why;
 mod why_json;

@@ -1,6 +1,6 @@
 //! The tasks of a plan as the nodes of a graph.
 ghost use Rattle.std.specs.Prelude.{◌≡◌, IfOk, true};
-ghost use Rattle.gb_graph.specs.Ranked.{TellNumbers, numbers_in};
+ghost use Rattle.gb_graph.specs.Ranked.{GiveNumbers, numbers_in};
 ghost use Rattle.gb_plan.specs.Graph.{Plan, no_repeats, order};
 ghost use Rattle.gb_ask_command.specs.Graph.{AreNodesOf, IsNodeOf};
 
@@ -23,7 +23,7 @@ pub(crate) fn nodes_of(alloc: Global, plan: &[Planned]) -> Result<Vec<Node>, All
 
 /// The nodes of a plan with these numbers.
 fn numbered(alloc: Global, numbers: &Numbers<'_>, plan: &[Planned]) -> Result<Vec<Node>, AllocError>
-    requires { TellNumbers (order plan.now) numbers.now }
+    requires { GiveNumbers (order plan.now) numbers.now }
     ensures { IfOk result (λ nodes. AreNodesOf plan.now nodes.items) }
 {
     let mut nodes = Vec::new(alloc);
@@ -35,7 +35,7 @@ fn numbered(alloc: Global, numbers: &Numbers<'_>, plan: &[Planned]) -> Result<Ve
 
 /// The node of a task of the plan with these numbers.
 fn node_of(alloc: Global, numbers: &Numbers<'_>, planned: &Planned) -> Result<Node, AllocError>
-    ensures { (plan : Plan) → TellNumbers (order plan) numbers.now
+    ensures { (plan : Plan) → GiveNumbers (order plan) numbers.now
         → IfOk result (IsNodeOf plan planned.now) }
 {
     let needs = numbers_in(alloc, numbers, &planned.task.needs)?;

@@ -3,7 +3,7 @@ ghost use Rattle.std.specs.Prelude.{◌≡◌, IfErr, IfOk, IfSome, IsTrue, Ok, 
 ghost use Rattle.std.specs.Io.KnownBytes.{Appends};
 ghost use Rattle.gb_command.specs.Answered.{given_of};
 ghost use Rattle.gb_declare.specs.Registered.{registry_said};
-ghost use Rattle.gb_folder.specs.Calls.{Asks, no_change};
+ghost use Rattle.gb_folder.specs.Calls.{Requests, no_change};
 ghost use Rattle.gb_printer.specs.Printing.{Prints};
 ghost use Rattle.gb_query.specs.Notation.{IsFoundText};
 ghost use Rattle.gb_query.specs.Search.{found_in};
@@ -22,7 +22,7 @@ use gb_printer::printer::Printer;
 use gb_project::script_tasks::ScriptTasks;
 use gb_provider::transforms::Transforms;
 use gb_query::answers::search_text;
-use gb_query::asked::asked_place;
+use gb_query::requested::asked_place;
 use gb_query::notation::Notation;
 use gb_query::search::Relation;
 use gb_registry::configured::Configured;
@@ -45,10 +45,10 @@ pub fn run<A: Actions, T: Transforms, F: Folder, W: Printer>(
     tables: &Tables<A, T>,
 ) -> Option<u8>
     // Over any folder: no change is requested.
-    ensures asks { Asks F.failures F.may_leave F.asked no_change folder.old folder.new }
-    ensures same { IsTrue F.tells → F.contents folder.new ≡ F.contents folder.old }
+    ensures requests { Requests F.failures F.may_leave F.allowed no_change folder.old folder.new }
+    ensures same { IsTrue F.faithful → F.contents folder.new ≡ F.contents folder.old }
     ensures reported { (reply : Replied)
-        × Replies (IsPlaceReply (tables_of T.meanings A.meanings tables.now) F.tells
+        × Replies (IsPlaceReply (tables_of T.meanings A.meanings tables.now) F.faithful
         (record { contents = F.contents folder.old; failures = F.failures folder.old })
         (F.failures folder.new) notation relation)
         (given_of (λ words. map string_bytes words.items) words) reply
@@ -71,15 +71,15 @@ fn replied<A: Actions, T: Transforms, F: Folder>(
     words: Result<Vec<String>, Fault>,
     tables: &Tables<A, T>,
 ) -> Reply
-    ensures asks { Asks F.failures F.may_leave F.asked no_change folder.old folder.new }
-    ensures same { IsTrue F.tells → F.contents folder.new ≡ F.contents folder.old }
-    ensures replies { Replies (IsPlaceReply (tables_of T.meanings A.meanings tables.now) F.tells
+    ensures requests { Requests F.failures F.may_leave F.allowed no_change folder.old folder.new }
+    ensures same { IsTrue F.faithful → F.contents folder.new ≡ F.contents folder.old }
+    ensures replies { Replies (IsPlaceReply (tables_of T.meanings A.meanings tables.now) F.faithful
         (record { contents = F.contents folder.old; failures = F.failures folder.old })
         (F.failures folder.new) notation relation)
         (given_of (λ words. map string_bytes words.items) words) result }
 {
     match asked_by(alloc, words) {
-        Ok(asked) => answer(alloc, folder, notation, relation, tables, &asked),
+        Ok(allowed) => answer(alloc, folder, notation, relation, tables, &allowed),
         Err(fault) => Err(fault),
     }
 }
@@ -91,16 +91,16 @@ fn answer<A: Actions, T: Transforms, F: Folder>(
     notation: Notation,
     relation: Relation,
     tables: &Tables<A, T>,
-    asked: &Invocation,
+    allowed: &Invocation,
 ) -> Reply
-    ensures asks { Asks F.failures F.may_leave F.asked no_change folder.old folder.new }
-    ensures same { IsTrue F.tells → F.contents folder.new ≡ F.contents folder.old }
-    ensures reply { IsPlaceReply (tables_of T.meanings A.meanings tables.now) F.tells
+    ensures requests { Requests F.failures F.may_leave F.allowed no_change folder.old folder.new }
+    ensures same { IsTrue F.faithful → F.contents folder.new ≡ F.contents folder.old }
+    ensures reply { IsPlaceReply (tables_of T.meanings A.meanings tables.now) F.faithful
         (record { contents = F.contents folder.old; failures = F.failures folder.old })
-        (F.failures folder.new) notation relation asked.now result }
+        (F.failures folder.new) notation relation allowed.now result }
 {
-    match asked_place(alloc, asked.requested.as_slice()) {
-        Ok(place) => search_folder(alloc, folder, notation, relation, tables, asked, &place),
+    match asked_place(alloc, allowed.requested.as_slice()) {
+        Ok(place) => search_folder(alloc, folder, notation, relation, tables, allowed, &place),
         Err(fault) => Err(fault),
     }
 }
@@ -112,16 +112,16 @@ fn search_folder<A: Actions, T: Transforms, F: Folder>(
     notation: Notation,
     relation: Relation,
     tables: &Tables<A, T>,
-    asked: &Invocation,
+    allowed: &Invocation,
     place: &Place,
 ) -> Reply
-    ensures asks { Asks F.failures F.may_leave F.asked no_change folder.old folder.new }
-    ensures same { IsTrue F.tells → F.contents folder.new ≡ F.contents folder.old }
-    ensures reply { IsReplyAbout (tables_of T.meanings A.meanings tables.now) F.tells
+    ensures requests { Requests F.failures F.may_leave F.allowed no_change folder.old folder.new }
+    ensures same { IsTrue F.faithful → F.contents folder.new ≡ F.contents folder.old }
+    ensures reply { IsReplyAbout (tables_of T.meanings A.meanings tables.now) F.faithful
         (record { contents = F.contents folder.old; failures = F.failures folder.old })
-        (F.failures folder.new) notation relation (Ok place.now) asked.now result }
+        (F.failures folder.new) notation relation (Ok place.now) allowed.now result }
 {
-    match read_asked(alloc, folder, tables, asked) {
+    match read_asked(alloc, folder, tables, allowed) {
         Ok(configured) => search_registered(alloc, notation, relation, &configured, place),
         Err(fault) => Err(fault),
     }

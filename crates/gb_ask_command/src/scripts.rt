@@ -1,6 +1,6 @@
 //! The scripts of a folder, read with the values that an invocation gives.
 ghost use Rattle.std.specs.Prelude.{◌≡◌, IfOk, IsTrue, Err, MatchResult, Ok};
-ghost use Rattle.gb_folder.specs.Calls.{Asks, no_change};
+ghost use Rattle.gb_folder.specs.Calls.{Requests, no_change};
 ghost use Rattle.gb_registry.specs.Tables.{tables_of};
 ghost use Rattle.gb_ask_command.specs.Replies.{AreRead};
 
@@ -20,20 +20,20 @@ pub(crate) fn read_asked<'a, A: Actions, T: Transforms, F: Folder>(
     alloc: Global,
     folder: &mut F,
     tables: &'a Tables<A, T>,
-    asked: &Invocation,
+    allowed: &Invocation,
 ) -> Result<Configured<'a, A, T>, Fault>
-    ensures asks { Asks F.failures F.may_leave F.asked no_change folder.old folder.new }
-    ensures same { IsTrue F.tells → F.contents folder.new ≡ F.contents folder.old }
+    ensures requests { Requests F.failures F.may_leave F.allowed no_change folder.old folder.new }
+    ensures same { IsTrue F.faithful → F.contents folder.new ≡ F.contents folder.old }
     ensures tables { IfOk result (λ configured. configured.tables.now ≡ tables.now) }
     ensures read { let handed = tables_of T.meanings A.meanings tables.now in MatchResult result
-        (λ configured. AreRead handed F.tells
+        (λ configured. AreRead handed F.faithful
         (record { contents = F.contents folder.old; failures = F.failures folder.old })
-        (F.failures folder.new) asked.now (Ok configured.registry))
-        (λ fault. AreRead handed F.tells
+        (F.failures folder.new) allowed.now (Ok configured.registry))
+        (λ fault. AreRead handed F.faithful
         (record { contents = F.contents folder.old; failures = F.failures folder.old })
-        (F.failures folder.new) asked.now (Err fault)) }
+        (F.failures folder.new) allowed.now (Err fault)) }
 {
-    match asked.properties.copy(alloc) {
+    match allowed.properties.copy(alloc) {
         Ok(copied) => {
             let given = copied.into_vec();
             read_registry(alloc, folder, tables, given)

@@ -3,7 +3,7 @@ ghost use Rattle.std.specs.Prelude.{◌≡◌, IfErr, IfOk, IfSome, IsTrue, map,
 ghost use Rattle.std.specs.Io.KnownBytes.{Appends};
 ghost use Rattle.gb_command.specs.Answered.{given_of};
 ghost use Rattle.gb_declare.specs.Registered.{registry_said};
-ghost use Rattle.gb_folder.specs.Calls.{Asks, no_change};
+ghost use Rattle.gb_folder.specs.Calls.{Requests, no_change};
 ghost use Rattle.gb_printer.specs.Printing.{Prints};
 ghost use Rattle.gb_plan.specs.Graph.{paths_of};
 ghost use Rattle.gb_query.specs.Inventory.{IsUnlisted};
@@ -42,10 +42,10 @@ pub fn run<A: Actions, T: Transforms, F: Folder, W: Printer>(
     tables: &Tables<A, T>,
 ) -> Option<u8>
     // Over any folder: no change is requested.
-    ensures asks { Asks F.failures F.may_leave F.asked no_change folder.old folder.new }
-    ensures same { IsTrue F.tells → F.contents folder.new ≡ F.contents folder.old }
+    ensures requests { Requests F.failures F.may_leave F.allowed no_change folder.old folder.new }
+    ensures same { IsTrue F.faithful → F.contents folder.new ≡ F.contents folder.old }
     ensures reported { (reply : Replied)
-        × Replies (IsStatusReply (tables_of T.meanings A.meanings tables.now) F.tells
+        × Replies (IsStatusReply (tables_of T.meanings A.meanings tables.now) F.faithful
         (record { contents = F.contents folder.old; failures = F.failures folder.old })
         (F.failures folder.new) notation activity)
         (given_of (λ words. map string_bytes words.items) words) reply
@@ -68,15 +68,15 @@ fn replied<A: Actions, T: Transforms, F: Folder>(
     words: Result<Vec<String>, Fault>,
     tables: &Tables<A, T>,
 ) -> Reply
-    ensures asks { Asks F.failures F.may_leave F.asked no_change folder.old folder.new }
-    ensures same { IsTrue F.tells → F.contents folder.new ≡ F.contents folder.old }
-    ensures replies { Replies (IsStatusReply (tables_of T.meanings A.meanings tables.now) F.tells
+    ensures requests { Requests F.failures F.may_leave F.allowed no_change folder.old folder.new }
+    ensures same { IsTrue F.faithful → F.contents folder.new ≡ F.contents folder.old }
+    ensures replies { Replies (IsStatusReply (tables_of T.meanings A.meanings tables.now) F.faithful
         (record { contents = F.contents folder.old; failures = F.failures folder.old })
         (F.failures folder.new) notation activity)
         (given_of (λ words. map string_bytes words.items) words) result }
 {
     match asked_by(alloc, words) {
-        Ok(asked) => look(alloc, folder, notation, activity, tables, &asked),
+        Ok(allowed) => look(alloc, folder, notation, activity, tables, &allowed),
         Err(fault) => Err(fault),
     }
 }
@@ -89,15 +89,15 @@ fn look<A: Actions, T: Transforms, F: Folder>(
     notation: Notation,
     activity: Activity,
     tables: &Tables<A, T>,
-    asked: &Invocation,
+    allowed: &Invocation,
 ) -> Reply
-    ensures asks { Asks F.failures F.may_leave F.asked no_change folder.old folder.new }
-    ensures same { IsTrue F.tells → F.contents folder.new ≡ F.contents folder.old }
-    ensures reply { IsStatusReply (tables_of T.meanings A.meanings tables.now) F.tells
+    ensures requests { Requests F.failures F.may_leave F.allowed no_change folder.old folder.new }
+    ensures same { IsTrue F.faithful → F.contents folder.new ≡ F.contents folder.old }
+    ensures reply { IsStatusReply (tables_of T.meanings A.meanings tables.now) F.faithful
         (record { contents = F.contents folder.old; failures = F.failures folder.old })
-        (F.failures folder.new) notation activity asked.now result }
+        (F.failures folder.new) notation activity allowed.now result }
 {
-    match read_asked(alloc, folder, tables, asked) {
+    match read_asked(alloc, folder, tables, allowed) {
         Ok(configured) => look_beside(alloc, folder, notation, activity, &configured),
         Err(fault) => Err(fault),
     }
@@ -111,12 +111,12 @@ fn look_beside<A: Actions, T: Transforms, F: Folder>(
     activity: Activity,
     configured: &Configured<'_, A, T>,
 ) -> Reply
-    ensures asks { Asks F.failures F.may_leave F.asked no_change folder.old folder.new }
-    ensures same { IsTrue F.tells → F.contents folder.new ≡ F.contents folder.old }
+    ensures requests { Requests F.failures F.may_leave F.allowed no_change folder.old folder.new }
+    ensures same { IsTrue F.faithful → F.contents folder.new ≡ F.contents folder.old }
     ensures text { let tables = tables_of T.meanings A.meanings configured.now.tables.now in
-        IfOk result (λ text. IsStatusOf F.tells notation activity (F.contents folder.old).files
+        IfOk result (λ text. IsStatusOf F.faithful notation activity (F.contents folder.old).files
         (paths_of (registry_said tables configured.now.registry)) (string_bytes text)) }
-    ensures refused { IsTrue F.tells → IfErr result
+    ensures refused { IsTrue F.faithful → IfErr result
         (IsUnlisted (F.contents folder.old) (F.failures folder.old) (F.failures folder.new)) }
 {
     let _registered = configured.registry.tasks();

@@ -3,7 +3,7 @@ ghost use Rattle.std.specs.Prelude.{◌≡◌, IfErr, IfOk, IfSome, IsTrue, map,
 ghost use Rattle.std.specs.Io.KnownBytes.{Appends};
 ghost use Rattle.gb_command.specs.Answered.{given_of};
 ghost use Rattle.gb_declare.specs.Registered.{registry_said};
-ghost use Rattle.gb_folder.specs.Calls.{Asks, no_change};
+ghost use Rattle.gb_folder.specs.Calls.{Requests, no_change};
 ghost use Rattle.gb_printer.specs.Printing.{Prints};
 ghost use Rattle.gb_query.specs.Notation.{IsTasksText};
 ghost use Rattle.gb_registry.specs.Tables.{tables_of};
@@ -39,10 +39,10 @@ pub fn run<A: Actions, T: Transforms, F: Folder, W: Printer>(
     tables: &Tables<A, T>,
 ) -> Option<u8>
     // Over any folder: no change is requested.
-    ensures asks { Asks F.failures F.may_leave F.asked no_change folder.old folder.new }
-    ensures same { IsTrue F.tells → F.contents folder.new ≡ F.contents folder.old }
+    ensures requests { Requests F.failures F.may_leave F.allowed no_change folder.old folder.new }
+    ensures same { IsTrue F.faithful → F.contents folder.new ≡ F.contents folder.old }
     ensures reported { (reply : Replied)
-        × Replies (IsTasksReply (tables_of T.meanings A.meanings tables.now) F.tells
+        × Replies (IsTasksReply (tables_of T.meanings A.meanings tables.now) F.faithful
         (record { contents = F.contents folder.old; failures = F.failures folder.old })
         (F.failures folder.new) notation)
         (given_of (λ words. map string_bytes words.items) words) reply
@@ -64,15 +64,15 @@ fn replied<A: Actions, T: Transforms, F: Folder>(
     words: Result<Vec<String>, Fault>,
     tables: &Tables<A, T>,
 ) -> Reply
-    ensures asks { Asks F.failures F.may_leave F.asked no_change folder.old folder.new }
-    ensures same { IsTrue F.tells → F.contents folder.new ≡ F.contents folder.old }
-    ensures replies { Replies (IsTasksReply (tables_of T.meanings A.meanings tables.now) F.tells
+    ensures requests { Requests F.failures F.may_leave F.allowed no_change folder.old folder.new }
+    ensures same { IsTrue F.faithful → F.contents folder.new ≡ F.contents folder.old }
+    ensures replies { Replies (IsTasksReply (tables_of T.meanings A.meanings tables.now) F.faithful
         (record { contents = F.contents folder.old; failures = F.failures folder.old })
         (F.failures folder.new) notation)
         (given_of (λ words. map string_bytes words.items) words) result }
 {
     match asked_by(alloc, words) {
-        Ok(asked) => list(alloc, folder, notation, tables, &asked),
+        Ok(allowed) => list(alloc, folder, notation, tables, &allowed),
         Err(fault) => Err(fault),
     }
 }
@@ -83,15 +83,15 @@ fn list<A: Actions, T: Transforms, F: Folder>(
     folder: &mut F,
     notation: Notation,
     tables: &Tables<A, T>,
-    asked: &Invocation,
+    allowed: &Invocation,
 ) -> Reply
-    ensures asks { Asks F.failures F.may_leave F.asked no_change folder.old folder.new }
-    ensures same { IsTrue F.tells → F.contents folder.new ≡ F.contents folder.old }
-    ensures reply { IsTasksReply (tables_of T.meanings A.meanings tables.now) F.tells
+    ensures requests { Requests F.failures F.may_leave F.allowed no_change folder.old folder.new }
+    ensures same { IsTrue F.faithful → F.contents folder.new ≡ F.contents folder.old }
+    ensures reply { IsTasksReply (tables_of T.meanings A.meanings tables.now) F.faithful
         (record { contents = F.contents folder.old; failures = F.failures folder.old })
-        (F.failures folder.new) notation asked.now result }
+        (F.failures folder.new) notation allowed.now result }
 {
-    match read_asked(alloc, folder, tables, asked) {
+    match read_asked(alloc, folder, tables, allowed) {
         Ok(configured) => list_registered(alloc, notation, &configured),
         Err(fault) => Err(fault),
     }

@@ -2,7 +2,7 @@
 ghost use Rattle.std.specs.Prelude.{◌≡◌, ◌≢◌, ◌∷◌, ◌++◌, [], IfErr, IfOk, OnOk, false, true};
 ghost use Rattle.std.specs.List.{list_any};
 ghost use Rattle.std.specs.Option.{option_copied};
-ghost use Rattle.gb_registry.specs.Seen.{scripts_in};
+ghost use Rattle.gb_registry.specs.SoFar.{scripts_in};
 ghost use Rattle.gb_ask_command.specs.Unread.{is_read, is_read_by, is_read_by_call, is_read_by_clause};
 ghost use Rattle.gb_ask_command.specs.Unread.{is_read_in, unread, unread_value, unread_values};
 

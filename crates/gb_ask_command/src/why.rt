@@ -2,14 +2,14 @@
 ghost use Rattle.std.specs.Prelude.{◌≡◌, IfSome, IsTrue, MatchResult, map, string_bytes};
 ghost use Rattle.std.specs.Io.KnownBytes.{Appends};
 ghost use Rattle.gb_command.specs.Answered.{AreRefused, AskFor, given_of};
-ghost use Rattle.gb_folder.specs.Calls.{Asks, no_change};
+ghost use Rattle.gb_folder.specs.Calls.{Requests, no_change};
 ghost use Rattle.gb_printer.specs.Printing.{Prints};
 ghost use Rattle.gb_registry.specs.Tables.{tables_of};
 ghost use Rattle.gb_ask_command.specs.Reply.{Reply as Replied, reply_status};
 ghost use Rattle.gb_ask_command.specs.Reported.{Answer as Answered, Answers, IsWritten, why_text};
 
 use crate::answer::{Answer, print_answer, write_answer};
-use crate::telling::tell;
+use crate::predicting::predict_build;
 use gb_action::actions::Actions;
 use gb_command::run::asked_by;
 use gb_folder::folder::Folder;
@@ -35,12 +35,12 @@ pub fn run<A: Actions, T: Transforms, F: Folder, W: Printer>(
     tables: &Tables<A, T>,
 ) -> Option<u8>
     // Over any folder: no change is requested.
-    ensures asks { Asks F.failures F.may_leave F.asked no_change folder.old folder.new }
-    ensures same { IsTrue F.tells → F.contents folder.new ≡ F.contents folder.old }
+    ensures requests { Requests F.failures F.may_leave F.allowed no_change folder.old folder.new }
+    ensures same { IsTrue F.faithful → F.contents folder.new ≡ F.contents folder.old }
     // There is an answer, whether it could be printed or not. If it could, exactly its text is
     // printed, and the status is its own; if not, a beginning of its text is printed.
     ensures reported { (answer : Answered)
-        × Answers (tables_of T.meanings A.meanings tables.now) F.tells
+        × Answers (tables_of T.meanings A.meanings tables.now) F.faithful
         (given_of (λ words. map string_bytes words.items) words)
         (record { contents = F.contents folder.old; failures = F.failures folder.old })
         answer (F.failures folder.new)
@@ -64,15 +64,15 @@ fn answered<A: Actions, T: Transforms, F: Folder>(
     words: Result<Vec<String>, Fault>,
     tables: &Tables<A, T>,
 ) -> Answer
-    ensures asks { Asks F.failures F.may_leave F.asked no_change folder.old folder.new }
-    ensures same { IsTrue F.tells → F.contents folder.new ≡ F.contents folder.old }
-    ensures answers { Answers (tables_of T.meanings A.meanings tables.now) F.tells
+    ensures requests { Requests F.failures F.may_leave F.allowed no_change folder.old folder.new }
+    ensures same { IsTrue F.faithful → F.contents folder.new ≡ F.contents folder.old }
+    ensures answers { Answers (tables_of T.meanings A.meanings tables.now) F.faithful
         (given_of (λ words. map string_bytes words.items) words)
         (record { contents = F.contents folder.old; failures = F.failures folder.old })
         result (F.failures folder.new) }
 {
     match asked_by(alloc, words) {
-        Ok(asked) => tell(alloc, folder, tables, &asked),
+        Ok(allowed) => predict_build(alloc, folder, tables, &allowed),
         Err(fault) => Err(fault),
     }
 }

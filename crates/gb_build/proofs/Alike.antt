@@ -7,11 +7,11 @@ use Rattle.gb_meaning.specs.declared.events.Answer.TheVariants as answers
 use Rattle.gb_meaning.specs.declared.events.Event.{Event}
 use Rattle.gb_meaning.specs.declared.events.Event.TheVariants as events
 use Rattle.gb_meaning.specs.Edits.{IsStopped, LossStep, PutStep, RemoveStep, Shown, own_place}
-use Rattle.gb_meaning.specs.Events.{State, Step, may_come, own_files, shown_in, world_in}
+use Rattle.gb_meaning.specs.Events.{State, Step, may_occur, own_files, shown_in, world_in}
 use Rattle.gb_meaning.specs.Headline.{Registering}
 use Rattle.gb_meaning.specs.Kinds.{Kinds}
 use Rattle.gb_meaning.specs.Label.{Moment}
-use Rattle.gb_meaning.specs.Execution.{Guard, Standing}
+use Rattle.gb_meaning.specs.Execution.{Guard, WorldState}
 use Rattle.gb_meaning.proofs.Lemmas.Weaker.{builds_weaker}
 use Rattle.gb_plan.specs.declared.task.TaskDeclaration.{TaskDeclaration as Task}
 use Rattle.gb_report.specs.declared.fault.Fault.{Fault}
@@ -54,55 +54,55 @@ module _ (first second : Tearing) (same : SameTearing first second) where
   loss_before old new (answers.NotBuilt fault) step = step
 
   module _ (kinds : Kinds) (registers : Registering) where
-    may_alike : (own : Files) (options : Options) (task : Task) (moment : Moment) (new : Standing) (fault : Fault)
-        → may_come (setting_by kinds registers second) own options task moment new fault → may_come (setting_by kinds registers first) own options task moment new fault
+    may_alike : (own : Files) (options : Options) (task : Task) (moment : Moment) (new : WorldState) (fault : Fault)
+        → may_occur (setting_by kinds registers second) own options task moment new fault → may_occur (setting_by kinds registers first) own options task moment new fault
     may_alike own options task moment new faults.OutOfMemory may = may
     may_alike own options task moment new (faults.Device place) may = (
       may.0,
       may.1,
       elim may.2 [
-        | inl stands ↦ inl stands
+        | inl exists ↦ inl exists
         | inr torn ↦ inr (torn.0, torn.1, torn.2, torn.3, (same place torn.0 torn.1 _).0 torn.4)
       ],
     )
     may_alike own options task moment new faults.HistoryNotWritten may = may
     may_alike own options task moment new other may = absurd may
 
-    step_alike : (assumed : Guard) (seen : List Bytes) (old : State) (event : Event) (answer : Answer) (new : State)
-        → Step (setting_by kinds registers second) assumed seen old event answer new → Step (setting_by kinds registers first) assumed seen old event answer new
-    step_alike assumed seen old (events.Put place bytes) answer new step = (put_before place bytes (shown_in old) (shown_in new) answer step.0, step.1)
-    step_alike assumed seen old (events.Remove place) answer new step = (remove_before place (shown_in old) (shown_in new) answer step.0, step.1)
-    step_alike assumed seen old events.Lost answers.Edited new step = (loss_before (shown_in old) (shown_in new) answers.Edited step.0, step.1)
-    step_alike assumed seen old events.Lost (answers.Refused fault) new step = (loss_before (shown_in old) (shown_in new) (answers.Refused fault) step.0, step.1)
-    step_alike assumed seen old events.Lost (answers.Built report) new step = absurd step.0
-    step_alike assumed seen old events.Lost (answers.NotBuilt fault) new step = absurd step.0
-    step_alike assumed seen old (events.Invoke invocation) (answers.Built report) new step = record {
+    step_alike : (assumed : Guard) (observed : List Bytes) (old : State) (event : Event) (answer : Answer) (new : State)
+        → Step (setting_by kinds registers second) assumed observed old event answer new → Step (setting_by kinds registers first) assumed observed old event answer new
+    step_alike assumed observed old (events.Put place bytes) answer new step = (put_before place bytes (shown_in old) (shown_in new) answer step.0, step.1)
+    step_alike assumed observed old (events.Remove place) answer new step = (remove_before place (shown_in old) (shown_in new) answer step.0, step.1)
+    step_alike assumed observed old events.Lost answers.Edited new step = (loss_before (shown_in old) (shown_in new) answers.Edited step.0, step.1)
+    step_alike assumed observed old events.Lost (answers.Refused fault) new step = (loss_before (shown_in old) (shown_in new) (answers.Refused fault) step.0, step.1)
+    step_alike assumed observed old events.Lost (answers.Built report) new step = absurd step.0
+    step_alike assumed observed old events.Lost (answers.NotBuilt fault) new step = absurd step.0
+    step_alike assumed observed old (events.Invoke invocation) (answers.Built report) new step = record {
       plan = step.plan;
       planned = record {
         registry = step.planned.registry;
         scripts = step.planned.scripts;
         request = step.planned.request;
-        asked = step.planned.asked;
+        allowed = step.planned.allowed;
         planned = step.planned.planned;
       };
       dry_run = step.dry_run;
       elsewhere = step.elsewhere;
       dry_keeps = step.dry_keeps;
-      builds = builds_weaker kinds invocation.options step.plan (may_come (setting_by kinds registers second) (own_files old.contents) invocation.options)
-          (may_come (setting_by kinds registers first) (own_files old.contents) invocation.options) (may_alike (own_files old.contents) invocation.options)
-          assumed assumed (λ contents given. given) seen old.failures new.failures (world_in old) (world_in new) report.tasks step.builds;
+      builds = builds_weaker kinds invocation.options step.plan (may_occur (setting_by kinds registers second) (own_files old.contents) invocation.options)
+          (may_occur (setting_by kinds registers first) (own_files old.contents) invocation.options) (may_alike (own_files old.contents) invocation.options)
+          assumed assumed (λ contents given. given) observed old.failures new.failures (world_in old) (world_in new) report.tasks step.builds;
       success = step.success;
     }
-    step_alike assumed seen old (events.Invoke invocation) (answers.NotBuilt fault) new step = step
-    step_alike assumed seen old (events.Invoke invocation) answers.Edited new step = absurd step
-    step_alike assumed seen old (events.Invoke invocation) (answers.Refused fault) new step = absurd step
+    step_alike assumed observed old (events.Invoke invocation) (answers.NotBuilt fault) new step = step
+    step_alike assumed observed old (events.Invoke invocation) answers.Edited new step = absurd step
+    step_alike assumed observed old (events.Invoke invocation) (answers.Refused fault) new step = absurd step
 
     pub leads_alike : (old : Shown) (event : Event) (answer : Answer) (new : Shown) → Leads (setting_by kinds registers second) old event answer new
         → Leads (setting_by kinds registers first) old event answer new
-    leads_alike old event answer new leads remembered clear seen worth =
-        let led = leads remembered clear seen worth in
+    leads_alike old event answer new leads remembered clear observed worth =
+        let led = leads remembered clear observed worth in
         record {
           remembered = led.remembered;
-          step = step_alike _ seen _ event answer _ led.step;
-          stands = led.stands;
+          step = step_alike _ observed _ event answer _ led.step;
+          exists = led.exists;
         }

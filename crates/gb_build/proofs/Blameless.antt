@@ -8,7 +8,7 @@ use Rattle.gb_folder.specs.Files.{Place}
 use Rattle.gb_meaning.specs.Headline.{is_of_device}
 use Rattle.gb_provider.specs.Table.{map_named, flat_map_named, zip_named, test_named}
 use Rattle.gb_registry.specs.Configure.{change_faults, configure_faults, each_after, finalizes, missing_at_link, missing_at_root, missing_tasks, statement_faults, statement_scope, values_of}
-use Rattle.gb_registry.specs.Faults.{TellsFirst, first_of}
+use Rattle.gb_registry.specs.Faults.{ReportsFirst, first_of}
 use Rattle.gb_registry.specs.Projects.{Path, absolute, folder_of, is_among}
 use Rattle.gb_registry.specs.References.{Names, lookup_faults, name_faults, reference_faults}
 use Rattle.gb_registry.specs.Said.{Said, declared_property, paths_of, properties_of, script_of}
@@ -57,7 +57,7 @@ first_blameless [] fault all is = cc
 first_blameless (x ∷ xs) fault all is = subst (λ f. is_of_device f ≡ false) (cc) all.0
 
 -- a result with the first of such faults attributes none to the device
-pub none_blamed : {T : Type 0} (xs : List Fault) (result : Result T Fault) (place : Place) → AreBlameless xs → TellsFirst xs result → result ≡ Err (faults.Device place) → ⊥
+pub none_blamed : {T : Type 0} (xs : List Fault) (result : Result T Fault) (place : Place) → AreBlameless xs → ReportsFirst xs result → result ≡ Err (faults.Device place) → ⊥
 none_blamed xs (Ok x) place all reported is = cc
 none_blamed xs (Err fault) place all (inl memory) is = let e : faults.OutOfMemory ≡ faults.Device place = cc in cc
 none_blamed xs (Err fault) place all (inr first) is =

@@ -3,10 +3,10 @@ use Rattle.std.specs.Prelude.{ℕ, ◌≤◌, List, [], ◌∷◌}
 use Rattle.std.proofs.Common.{inl, inr, arith}
 use Rattle.gb_folder.specs.Files.{Bytes, Files}
 use Rattle.gb_folder.proofs.Changes.{HasRisen-before}
-use Rattle.gb_meaning.specs.Events.{Setting, may_come, rules_in}
+use Rattle.gb_meaning.specs.Events.{Setting, may_occur, rules_in}
 use Rattle.gb_meaning.specs.Label.{Moment}
 use Rattle.gb_meaning.specs.Memory.{World}
-use Rattle.gb_meaning.specs.Execution.{Builds, DoesStart, Guard, Standing, Execution, Executions, first_moment}
+use Rattle.gb_meaning.specs.Execution.{Builds, DoesStart, Guard, WorldState, Execution, Executions, first_moment}
 use Rattle.gb_plan.specs.Graph.{Plan}
 use Rattle.gb_plan.specs.declared.plan.Planned.{Planned}
 use Rattle.gb_plan.specs.declared.task.TaskDeclaration.{TaskDeclaration as Task}
@@ -19,8 +19,8 @@ module _ (setting : Setting) (own : Files) (options : Options) (plan : Plan) (lo
   abbrev lowered : Moment → Moment
   lowered moment = record { world = moment.world; outcomes = moment.outcomes; failures = lower }
 
-  may_since : (task : Task) (moment : Moment) (new : Standing) (fault : Fault) → lower ≤ moment.failures → moment.failures ≤ new.failures
-      → may_come setting own options task moment new fault → may_come setting own options task (lowered moment) new fault
+  may_since : (task : Task) (moment : Moment) (new : WorldState) (fault : Fault) → lower ≤ moment.failures → moment.failures ≤ new.failures
+      → may_occur setting own options task moment new fault → may_occur setting own options task (lowered moment) new fault
   may_since task moment new faults.OutOfMemory earlier count may = may
   may_since task moment new (faults.Device place) earlier count may = (HasRisen-before lower moment.failures new.failures earlier count may.0, may.1, may.2)
   may_since task moment new faults.HistoryNotWritten earlier count may = (
@@ -35,7 +35,7 @@ module _ (setting : Setting) (own : Files) (options : Options) (plan : Plan) (lo
   started_before : (moment : Moment) (planned : Planned) → DoesStart options plan (lowered moment) planned → DoesStart options plan moment planned
   started_before moment planned starts = record { needs_ended_well = starts.needs_ended_well; is_called = starts.is_called; goes_on = starts.goes_on }
 
-  execution_since : (moment : Moment) (planned : Planned) (report : TaskReport) (new : Standing) → lower ≤ moment.failures → moment.failures ≤ new.failures
+  execution_since : (moment : Moment) (planned : Planned) (report : TaskReport) (new : WorldState) → lower ≤ moment.failures → moment.failures ≤ new.failures
       → Execution (rules_in setting own options plan) moment planned report new → Execution (rules_in setting own options plan) (lowered moment) planned report new
   execution_since moment planned report new earlier count execution = (
     execution.0,
@@ -55,17 +55,17 @@ module _ (setting : Setting) (own : Files) (options : Options) (plan : Plan) (lo
     ],
   )
 
-  executions_since : (assumed : Guard) (seen : List Bytes) (rest : List Planned) (moment : Moment) (reports : List TaskReport) (new : Standing) → lower ≤ moment.failures
-      → Executions (rules_in setting own options plan) assumed seen rest moment reports new → Executions (rules_in setting own options plan) assumed seen rest (lowered moment) reports new
-  executions_since assumed seen [] moment [] new earlier executions = (executions.0, omega (arith, earlier, executions.1))
-  executions_since assumed seen [] moment (report ∷ reports) new earlier executions = absurd executions
-  executions_since assumed seen (planned ∷ rest) moment [] new earlier executions = absurd executions
-  executions_since assumed seen (planned ∷ rest) moment (report ∷ reports) new earlier executions = (
+  executions_since : (assumed : Guard) (observed : List Bytes) (rest : List Planned) (moment : Moment) (reports : List TaskReport) (new : WorldState) → lower ≤ moment.failures
+      → Executions (rules_in setting own options plan) assumed observed rest moment reports new → Executions (rules_in setting own options plan) assumed observed rest (lowered moment) reports new
+  executions_since assumed observed [] moment [] new earlier executions = (executions.0, omega (arith, earlier, executions.1))
+  executions_since assumed observed [] moment (report ∷ reports) new earlier executions = absurd executions
+  executions_since assumed observed (planned ∷ rest) moment [] new earlier executions = absurd executions
+  executions_since assumed observed (planned ∷ rest) moment (report ∷ reports) new earlier executions = (
     executions.0,
     record {
       folder = executions.1.folder;
       files = executions.1.files;
-      odd = executions.1.odd;
+      special = executions.1.special;
       count = omega (arith, earlier, executions.1.count);
       execution = λ given. execution_since moment planned report executions.0 earlier executions.1.count (executions.1.execution given);
     },
@@ -73,10 +73,10 @@ module _ (setting : Setting) (own : Files) (options : Options) (plan : Plan) (lo
   )
 
   -- a build that began when the device had failed more often
-  pub builds_since : (assumed : Guard) (seen : List Bytes) (world : World) (later : ℕ) (reports : List TaskReport) (new : Standing) → lower ≤ later
-      → Builds (rules_in setting own options plan) assumed seen (record { world = world; failures = later }) reports new
-      → Builds (rules_in setting own options plan) assumed seen (record { world = world; failures = lower }) reports new
-  builds_since assumed seen world later reports new earlier builds = elim builds [
+  pub builds_since : (assumed : Guard) (observed : List Bytes) (world : World) (later : ℕ) (reports : List TaskReport) (new : WorldState) → lower ≤ later
+      → Builds (rules_in setting own options plan) assumed observed (record { world = world; failures = later }) reports new
+      → Builds (rules_in setting own options plan) assumed observed (record { world = world; failures = lower }) reports new
+  builds_since assumed observed world later reports new earlier builds = elim builds [
     | inl dry ↦ inl dry
-    | inr run ↦ inr (run.0, executions_since assumed seen plan (first_moment (record { world = world; failures = later })) reports new earlier run.1)
+    | inr run ↦ inr (run.0, executions_since assumed observed plan (first_moment (record { world = world; failures = later })) reports new earlier run.1)
   ]

@@ -1,7 +1,7 @@
 -- Edits, by the folder's answers.
 use Rattle.std.proofs.Common.{◌≡◌, ◌≢◌, ◌≤◌, ◌<◌, ◌⊎◌, ℕ, true, false, List, None, Some, Ok, Err, OnOk, IfErr, IsTrue, length, refl, ap, subst, ◌∙◌, inl, inr}
 use Rattle.std.specs.Cmp.Lexicographic.{bytes_decides}
-use Rattle.gb_folder.specs.Files.{Place, Contents, IsFolder, HasRisen, SameTearing, Tearing, file_at, is_blocked, is_odd_under, is_own, places_under, IsTorn}
+use Rattle.gb_folder.specs.Files.{Place, Contents, IsFolder, HasRisen, SameTearing, Tearing, file_at, is_blocked, is_special_under, is_own, places_under, IsTorn}
 use Rattle.gb_folder.specs.declared.folder.FolderFault.{FolderFault}
 use Rattle.gb_folder.specs.declared.folder.FolderFault.TheVariants as folders
 use Rattle.gb_folder.specs.Limits.{max_file}
@@ -53,10 +53,10 @@ remove_failed may_leave place before after old new folders.BadFileName reported 
 
 -- the files of `.gb` could not be listed
 pub not_listed : (before after : ℕ) (old : Contents) (own : Place) (fault : Fault) → own ≡ own_place → ((place : Place) → fault ≡ faults.Device place → IsTrue (is_at own place))
-    → IsOfMachine before after fault ⊎ (IsTrue (is_odd_under old own) × (fault ≡ faults.BadFileName own)) → IsNoListing (shows old before) fault after
+    → IsOfMachine before after fault ⊎ (IsTrue (is_special_under old own) × (fault ≡ faults.BadFileName own)) → IsNoListing (shows old before) fault after
 not_listed before after old own fault at blamed (inl (inl memory)) = inl memory
 not_listed before after old own fault at blamed (inl (inr device)) = inr (inl (device.1 ∙ ap faults.Device ((bytes_decides device.0 own).0 (blamed device.0 device.1) ∙ at), device.2))
-not_listed before after old own fault at blamed (inr odd) = inr (inr (subst (λ place. IsTrue (is_odd_under old place)) at odd.0, odd.1 ∙ ap faults.BadFileName at))
+not_listed before after old own fault at blamed (inr special) = inr (inr (subst (λ place. IsTrue (is_special_under old place)) at special.0, special.1 ∙ ap faults.BadFileName at))
 
 pub cut_before : (first second : Tearing) (places : List Place) (old new : Contents) (fault : Fault) → SameTearing first second → IsCutShort second places old fault new → IsCutShort first places old fault new
 cut_before first second places old new fault same cut = record {

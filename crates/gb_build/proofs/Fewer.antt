@@ -5,10 +5,10 @@ use Rattle.std.proofs.Common.{sym, ap, inl, inr, arith}
 use Rattle.gb_folder.specs.Files.{Bytes}
 use Rattle.gb_meaning.specs.Label.{Moment}
 use Rattle.gb_meaning.specs.Memory.{folder_contents}
-use Rattle.gb_meaning.specs.Execution.{Builds, Guard, Rules, Standing, Executions, first_moment, moment_after}
+use Rattle.gb_meaning.specs.Execution.{Builds, Guard, Rules, WorldState, Executions, first_moment, moment_after}
 use Rattle.gb_meaning.proofs.Lemmas.Clear.{Among, found, in_left, in_one, in_right, listed}
 use Rattle.gb_meaning.proofs.Lemmas.Plain.{Spreads}
-use Rattle.gb_meaning.proofs.Standing.{with_execution}
+use Rattle.gb_meaning.proofs.Existing.{with_execution}
 use Rattle.gb_plan.specs.Task.{has_path}
 use Rattle.gb_plan.specs.declared.plan.Planned.{Planned}
 use Rattle.gb_report.specs.declared.report.TaskReport.{TaskReport}
@@ -22,38 +22,38 @@ pub are_among : (some all : List Bytes) → Among some all → AreAmong some all
 are_among some all h c within = listed all c (h c (found some c within))
 
 -- the contents of the folder were counted
-pub here_again : (seen here : List Bytes) → Among (seen ++ here ++ here) (seen ++ here)
-here_again seen here c h = elim (in_one c (seen ++ here) here h) [ inl before ↦ before | inr stands ↦ in_right c seen here stands ]
+pub here_again : (observed here : List Bytes) → Among (observed ++ here ++ here) (observed ++ here)
+here_again observed here c h = elim (in_one c (observed ++ here) here h) [ inl before ↦ before | inr exists ↦ in_right c observed here exists ]
 
 pub both_more : (some all more : List Bytes) → Among some all → Among (some ++ more) (all ++ more)
 both_more some all more among c h = elim (in_one c some more h) [ inl a ↦ in_left c all more (among c a) | inr b ↦ in_right c all more b ]
 
-pub once_more : (seen here more : List Bytes) → Among (seen ++ here ++ here ++ more) (seen ++ here ++ more)
-once_more seen here more = both_more (seen ++ here ++ here) (seen ++ here) more (here_again seen here)
+pub once_more : (observed here more : List Bytes) → Among (observed ++ here ++ here ++ more) (observed ++ here ++ more)
+once_more observed here more = both_more (observed ++ here ++ here) (observed ++ here) more (here_again observed here)
 
 module _ (rules : Rules) (assumed : Guard) (spreads : Spreads assumed) where
   -- executions that count more of the contents read are executions that count fewer, if both are the same
   -- together with those in the folder
-  executions_fewer : (more seen : List Bytes) (rest : List Planned) (moment : Moment) (reports : List TaskReport) (new : Standing)
-      → Among (more ++ folder_contents moment.world) (seen ++ folder_contents moment.world)
-      → Executions rules assumed more rest moment reports new → Executions rules assumed seen rest moment reports new
-  executions_fewer more seen [] moment [] new among executions = executions
-  executions_fewer more seen [] moment (report ∷ reports) new among executions = executions
-  executions_fewer more seen (planned ∷ rest) moment [] new among executions = executions
-  executions_fewer more seen (planned ∷ rest) moment (report ∷ reports) new among executions = (
+  executions_fewer : (more observed : List Bytes) (rest : List Planned) (moment : Moment) (reports : List TaskReport) (new : WorldState)
+      → Among (more ++ folder_contents moment.world) (observed ++ folder_contents moment.world)
+      → Executions rules assumed more rest moment reports new → Executions rules assumed observed rest moment reports new
+  executions_fewer more observed [] moment [] new among executions = executions
+  executions_fewer more observed [] moment (report ∷ reports) new among executions = executions
+  executions_fewer more observed (planned ∷ rest) moment [] new among executions = executions
+  executions_fewer more observed (planned ∷ rest) moment (report ∷ reports) new among executions = (
     executions.0,
-    with_execution executions.1 (λ given. executions.1.execution (spreads (seen ++ folder_contents moment.world) (more ++ folder_contents moment.world) among given)),
-    executions_fewer (more ++ folder_contents moment.world) (seen ++ folder_contents moment.world) rest (moment_after moment report executions.0) reports new
-        (both_more (more ++ folder_contents moment.world) (seen ++ folder_contents moment.world) (folder_contents executions.0.world) among) executions.2,
+    with_execution executions.1 (λ given. executions.1.execution (spreads (observed ++ folder_contents moment.world) (more ++ folder_contents moment.world) among given)),
+    executions_fewer (more ++ folder_contents moment.world) (observed ++ folder_contents moment.world) rest (moment_after moment report executions.0) reports new
+        (both_more (more ++ folder_contents moment.world) (observed ++ folder_contents moment.world) (folder_contents executions.0.world) among) executions.2,
   )
 
   -- a build that counts the contents in the folder before it among those read is one that does not
-  pub builds_fewer : (seen : List Bytes) (old : Standing) (reports : List TaskReport) (new : Standing)
-      → Builds rules assumed (seen ++ folder_contents old.world) old reports new → Builds rules assumed seen old reports new
-  builds_fewer seen old reports new builds = elim builds [
+  pub builds_fewer : (observed : List Bytes) (old : WorldState) (reports : List TaskReport) (new : WorldState)
+      → Builds rules assumed (observed ++ folder_contents old.world) old reports new → Builds rules assumed observed old reports new
+  builds_fewer observed old reports new builds = elim builds [
     | inl dry ↦ inl dry
     | inr run ↦ inr (
       run.0,
-      executions_fewer (seen ++ folder_contents old.world) seen rules.plan (first_moment old) reports new (here_again seen (folder_contents old.world)) run.1,
+      executions_fewer (observed ++ folder_contents old.world) observed rules.plan (first_moment old) reports new (here_again observed (folder_contents old.world)) run.1,
     )
   ]

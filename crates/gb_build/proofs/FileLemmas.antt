@@ -10,22 +10,22 @@ use Rattle.gb_script.specs.declared.fault.ScriptFault.{ScriptFault}
 use Rattle.gb_script.specs.declared.fault.ScriptFault.TheVariants as scripts
 use Rattle.gb_store.specs.Faults.{IsOfMachine}
 use Rattle.gb_folder.proofs.Free.{free_at}
-use Rattle.gb_build.specs.Texts.{FileSays, Tells, TextSays, unread_at}
+use Rattle.gb_build.specs.Texts.{FileSays, Reports, TextSays, unread_at}
 
 module _ {X : Type 0} (SaysAs : Bytes → Result (List X) ScriptFault → Type 0) (files : Files) (place : Place) where
   -- the file exists, and its bytes declare this
   said_there : (bytes : Bytes) (said : Result (List X) Fault) → IsFolder files → file_at files place ≡ Some bytes → FileSays SaysAs place (Some bytes) said
       → TextSays SaysAs files place said
-  said_there bytes said sound stands says =
-      inr (free_at files place bytes sound stands, subst (λ o. FileSays SaysAs place o said) (sym stands) says)
+  said_there bytes said sound exists says =
+      inr (free_at files place bytes sound exists, subst (λ o. FileSays SaysAs place o said) (sym exists) says)
 
   -- the file exists, and what its bytes declare is returned
   pub reported_there : (before after : ℕ) (bytes : Bytes) (result : Result (List X) Fault) → IsFolder files → file_at files place ≡ Some bytes
       → MatchResult result (λ said. SaysAs bytes (Ok said)) (λ fault. (fault ≡ faults.OutOfMemory) ⊎ FileSays SaysAs place (Some bytes) (Err fault))
-      → Tells (TextSays SaysAs files place) before after result
-  reported_there before after bytes (Ok said) sound stands says = said_there bytes (Ok said) sound stands says
-  reported_there before after bytes (Err fault) sound stands (inl memory) = inl (inl memory)
-  reported_there before after bytes (Err fault) sound stands (inr reported) = inr (said_there bytes (Err fault) sound stands reported)
+      → Reports (TextSays SaysAs files place) before after result
+  reported_there before after bytes (Ok said) sound exists says = said_there bytes (Ok said) sound exists says
+  reported_there before after bytes (Err fault) sound exists (inl memory) = inl (inl memory)
+  reported_there before after bytes (Err fault) sound exists (inr reported) = inr (said_there bytes (Err fault) sound exists reported)
 
   -- no file exists there, and none is in the way of one
   pub nothing_there : (said : List X) → said ≡ [] → file_at files place ≡ None → is_blocked files place ≡ false → TextSays SaysAs files place (Ok said)

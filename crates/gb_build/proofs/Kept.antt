@@ -15,12 +15,12 @@ use Rattle.gb_build.proofs.Outside.{itself, same_either_way}
 
 -- a refusal that changed nothing
 nothing : (place : Place) (fault : Fault) (old new : Contents) → new ≡ old → RefusedEditKeeps place fault old new
-nothing place (faults.Device at) old new same = let changes = changes_none (bytes_eq place) old new same in (changes.elsewhere, changes.odd)
+nothing place (faults.Device at) old new same = let changes = changes_none (bytes_eq place) old new same in (changes.elsewhere, changes.special)
 nothing place fault old new same = same
 
 -- the device stopped the edit
 torn : (place : Place) (fault : Fault) (old new : Contents) → fault ≡ faults.Device place → ChangesOnly (bytes_eq place) old new → RefusedEditKeeps place fault old new
-torn place (faults.Device at) old new is changes = (changes.elsewhere, changes.odd)
+torn place (faults.Device at) old new is changes = (changes.elsewhere, changes.special)
 torn place fault old new is changes = absurd (cc)
 
 module _ (registers : Registering) (may_leave : Tearing) (place : Place) where

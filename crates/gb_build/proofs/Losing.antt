@@ -13,8 +13,8 @@ use Rattle.gb_meaning.specs.declared.events.Answer.{Answer}
 use Rattle.gb_meaning.specs.declared.events.Answer.TheVariants as answers
 use Rattle.gb_meaning.specs.declared.events.Event.TheVariants as events
 use Rattle.gb_meaning.specs.Edits.{LossStep, Shown, own_place}
-use Rattle.gb_meaning.specs.Events.{KeepsWhatStands, RemembersAfter, Setting}
-use Rattle.gb_meaning.specs.Headline.{Registering, TearsAreSeen, contents_outside, state_of}
+use Rattle.gb_meaning.specs.Events.{KeepsWhatExists, RemembersAfter, Setting}
+use Rattle.gb_meaning.specs.Headline.{Registering, TornWritesAreDetected, contents_outside, state_of}
 use Rattle.gb_meaning.specs.Kinds.{Kinds}
 use Rattle.gb_meaning.specs.Memory.{Entry, Memory, recalled}
 use Rattle.gb_meaning.specs.TrueRecord.{IsMade, SaysNoRecord, Stores, contents_of}
@@ -23,25 +23,25 @@ use Rattle.gb_meaning.proofs.Lemmas.Files.{of_T, T_of}
 use Rattle.gb_meaning.proofs.Lemmas.Clear.{Among, in_left, in_one, in_right}
 use Rattle.sha2.specs.Sha256.{sha256}
 use Rattle.gb_records.specs.Said.{IsText}
-use Rattle.gb_records.proofs.Standing.{at_left}
-use Rattle.gb_records.proofs.Reported.{stands_for_memory, texts_are_records}
+use Rattle.gb_records.proofs.Holding.{at_left}
+use Rattle.gb_records.proofs.Reported.{holds_for_memory, texts_are_records}
 use Rattle.gb_report.specs.declared.fault.Fault.{Fault}
 use Rattle.gb_store.specs.Changes.{IsCutShort, without_all}
 use Rattle.gb_plan.specs.Task.{Path, has_path}
 use Rattle.gb_build.specs.Leading.{Leads}
 use Rattle.gb_build.proofs.Fewer.{are_among}
-use Rattle.gb_build.proofs.Leading.{seen_more}
+use Rattle.gb_build.proofs.Leading.{observed_more}
 use Rattle.gb_records.specs.Setting.{setting_by}
 
 -- ---- What is at a place after a removal that was cut short
 
 -- the file that was there, or none
 abbrev IsOrGone : Option Bytes → Option Bytes → Type 0
-IsOrGone now stood = (now ≡ stood) ⊎ (now ≡ None)
+IsOrGone now existed = (now ≡ existed) ⊎ (now ≡ None)
 
-gone_or_not : (b : Bool) (stood : Option Bytes) → IsOrGone (cond b stood None) stood
-gone_or_not true stood = inl refl
-gone_or_not false stood = inr refl
+gone_or_not : (b : Bool) (existed : Option Bytes) → IsOrGone (cond b existed None) existed
+gone_or_not true existed = inl refl
+gone_or_not false existed = inr refl
 
 after_all : (places : List Place) (files : Files) (q : Place) → IsOrGone (file_at (fold without files places) q) (file_at files q)
 after_all [] files q = inl refl
@@ -58,16 +58,16 @@ left_elsewhere files place q (Some bytes) other = file_at-with_file files place 
 
 -- what is left is the same, or is no record
 abbrev IsSameOrNone : Path → Option Bytes → Option Bytes → Type 0
-IsSameOrNone path now stood = (now ≡ stood) ⊎ SaysNoRecord IsText path now
+IsSameOrNone path now existed = (now ≡ existed) ⊎ SaysNoRecord IsText path now
 
-none_or_same : (path : Path) (now stood : Option Bytes) → IsOrGone now stood → IsSameOrNone path now stood
-none_or_same path now stood (inl same) = inl same
-none_or_same path now stood (inr gone) = inr (subst (SaysNoRecord IsText path) (sym gone) tt)
+none_or_same : (path : Path) (now existed : Option Bytes) → IsOrGone now existed → IsSameOrNone path now existed
+none_or_same path now existed (inl same) = inl same
+none_or_same path now existed (inr gone) = inr (subst (SaysNoRecord IsText path) (sym gone) tt)
 
-module _ (may_leave : Tearing) (seen : TearsAreSeen IsText record_place may_leave) (old new : Contents) where
-  torn_at : (path : Path) (stood left : Option Bytes) → IsTrue (is_task_path path) → may_leave (record_place path) stood None left
-      → IsOrGone stood (file_at old.files (record_place path)) → IsSameOrNone path left (file_at old.files (record_place path))
-  torn_at path stood left good may was = elim (seen path stood None left good tt may) [
+module _ (may_leave : Tearing) (observed : TornWritesAreDetected IsText record_place may_leave) (old new : Contents) where
+  torn_at : (path : Path) (existed left : Option Bytes) → IsTrue (is_task_path path) → may_leave (record_place path) existed None left
+      → IsOrGone existed (file_at old.files (record_place path)) → IsSameOrNone path left (file_at old.files (record_place path))
+  torn_at path existed left good may was = elim (observed path existed None left good tt may) [
     | inl same ↦ none_or_same path left (file_at old.files (record_place path)) (subst (λ (now : Option Bytes). IsOrGone now (file_at old.files (record_place path))) (sym same) was)
     | inr (inl gone) ↦ inr (subst (SaysNoRecord IsText path) (sym gone) tt)
     | inr (inr none) ↦ inr none
@@ -157,7 +157,7 @@ none_within bytes (k, less, e) = omega arith
 
 -- ---- The loss
 
-module _ (kinds : Kinds) (registers : Registering) (may_leave : Tearing) (seen_tears : TearsAreSeen IsText record_place may_leave)
+module _ (kinds : Kinds) (registers : Registering) (may_leave : Tearing) (observed_tears : TornWritesAreDetected IsText record_place may_leave)
     (old end : Shown) (is_folder : IsFolder end.contents.files) where
   abbrev setting : Setting
   setting = setting_by kinds registers may_leave
@@ -171,18 +171,18 @@ module _ (kinds : Kinds) (registers : Registering) (may_leave : Tearing) (seen_t
       → ((remembered : Memory) → RemembersAfter setting (state_of old remembered) answer (state_of end (where_key byte_order still remembered)))
       → ((path : Path) → IsTrue (is_task_path path) → IsSameOrNone path (file_at end.contents.files (record_place path)) (file_at old.contents.files (record_place path)))
       → Leads setting old events.Lost answer end
-  lost_leads answer step after left remembered clear seen worth = record {
+  lost_leads answer step after left remembered clear observed worth = record {
     remembered = kept;
     step = (step, after remembered);
-    stands = λ given. let stood = worth given.0 in (
-      stands_for_memory kinds end.contents kept is_folder (all_where (λ entry. IsMade kinds entry.1) still remembered stood.0.made)
+    exists = λ given. let existed = worth given.0 in (
+      holds_for_memory kinds end.contents kept is_folder (all_where (λ entry. IsMade kinds entry.1) still remembered existed.0.made)
           (record {
-            in_order = of_T _ (is_sorted-where_key byte_order still remembered (T_of _ stood.0.in_order));
-            of_tasks = all_where (λ entry. IsTrue (is_task_path entry.0)) still remembered stood.0.of_tasks;
-            records = λ path good. stored path good (stood.0.records path good) (still path) refl;
+            in_order = of_T _ (is_sorted-where_key byte_order still remembered (T_of _ existed.0.in_order));
+            of_tasks = all_where (λ entry. IsTrue (is_task_path entry.0)) still remembered existed.0.of_tasks;
+            records = λ path good. stored path good (existed.0.records path good) (still path) refl;
           }),
-      seen_more (all_contents kept) (seen ++ contents_outside old.contents) (contents_outside end.contents)
-          (λ bytes within. stood.1 bytes (are_among (all_contents kept) (all_contents remembered) (fewer_contents still remembered) bytes within)),
+      observed_more (all_contents kept) (observed ++ contents_outside old.contents) (contents_outside end.contents)
+          (λ bytes within. existed.1 bytes (are_among (all_contents kept) (all_contents remembered) (fewer_contents still remembered) bytes within)),
     );
   }
     where
@@ -201,8 +201,8 @@ module _ (kinds : Kinds) (registers : Registering) (may_leave : Tearing) (seen_t
           (elim (left path good) [ inl same ↦ absurd (other_file _ _ is same) | inr none ↦ none ])
 
   -- a record that is where it was is remembered, and nothing else
-  keeps_standing : (remembered : Memory) → KeepsWhatStands setting (state_of old remembered) (state_of end (where_key byte_order still remembered))
-  keeps_standing remembered path good = by (still path) refl
+  keeps_existing : (remembered : Memory) → KeepsWhatExists setting (state_of old remembered) (state_of end (where_key byte_order still remembered))
+  keeps_existing remembered path good = by (still path) refl
     where
       by : (b : Bool) → still path ≡ b
           → ((file_at end.contents.files (record_place path) ≡ file_at old.contents.files (record_place path)) × (recalled (where_key byte_order still remembered) path ≡ recalled remembered path))
@@ -219,11 +219,11 @@ module _ (kinds : Kinds) (registers : Registering) (may_leave : Tearing) (seen_t
 
   -- all that was remembered is gone
   none_leads : LossStep may_leave old answers.Edited end → Leads setting old events.Lost answers.Edited end
-  none_leads step remembered clear seen worth = record {
+  none_leads step remembered clear observed worth = record {
     remembered = [];
     step = (step, refl);
-    stands = λ given. (
-      stands_for_memory kinds end.contents [] is_folder tt
+    exists = λ given. (
+      holds_for_memory kinds end.contents [] is_folder tt
           (record {
             in_order = refl;
             of_tasks = tt;
@@ -236,9 +236,9 @@ module _ (kinds : Kinds) (registers : Registering) (may_leave : Tearing) (seen_t
   pub loss_leads : (answer : Answer) → LossStep may_leave old answer end → Leads setting old events.Lost answer end
   loss_leads answers.Edited step = none_leads step
   loss_leads (answers.Refused fault) (inl unlisted) =
-      lost_leads (answers.Refused fault) (inl unlisted) keeps_standing
+      lost_leads (answers.Refused fault) (inl unlisted) keeps_existing
       (λ path good. inl (ap (λ (c : Contents). file_at c.files (record_place path)) unlisted.0))
   loss_leads (answers.Refused fault) (inr cut) =
-      lost_leads (answers.Refused fault) (inr cut) keeps_standing (cut_leaves may_leave seen_tears old.contents end.contents (places_under old.contents.files own_place) fault cut.1)
+      lost_leads (answers.Refused fault) (inr cut) keeps_existing (cut_leaves may_leave observed_tears old.contents end.contents (places_under old.contents.files own_place) fault cut.1)
   loss_leads (answers.Built report) step = absurd step
   loss_leads (answers.NotBuilt fault) step = absurd step

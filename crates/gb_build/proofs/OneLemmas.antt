@@ -55,20 +55,20 @@ module _ {P T : Type 0} (S : P → Result T Fault → Type 0) (one : (p : P) →
   all_one (p ∷ ps) (t ∷ ts) (u ∷ us) a b = ap (λ x. x ∷ ts) (same_text p t u a.0 b.0) ∙ ap (λ xs. u ∷ xs) (all_one ps ts us a.1 b.1)
 
   -- where all declare something none has a fault
-  none_bad : (ps : List P) (ts : List T) (front back : List P) (p : P) (fault : Fault) → All ps ts → ps ≡ front ++ p ∷ back → S p (Err fault) → ⊥
-  none_bad [] ts front back p fault a is bad = nothing front is
+  none_bad : (ps : List P) (ts : List T) (prefix back : List P) (p : P) (fault : Fault) → All ps ts → ps ≡ prefix ++ p ∷ back → S p (Err fault) → ⊥
+  none_bad [] ts prefix back p fault a is bad = nothing prefix is
     where
-      nothing : (front : List P) → let none : List P = [] in none ≡ front ++ p ∷ back → ⊥
+      nothing : (prefix : List P) → let none : List P = [] in none ≡ prefix ++ p ∷ back → ⊥
       nothing [] e = cc
-      nothing (q ∷ front) e = cc
-  none_bad (q ∷ ps) [] front back p fault a is bad = absurd a
+      nothing (q ∷ prefix) e = cc
+  none_bad (q ∷ ps) [] prefix back p fault a is bad = absurd a
   none_bad (q ∷ ps) (t ∷ ts) [] back p fault a is bad =
       let e : q ≡ p = cc in no_both q t fault a.0 (subst (λ r. S r (Err fault)) (sym e) bad)
-  none_bad (q ∷ ps) (t ∷ ts) (r ∷ front) back p fault a is bad =
-      let e : ps ≡ front ++ p ∷ back = cc in none_bad ps ts front back p fault a.1 e bad
+  none_bad (q ∷ ps) (t ∷ ts) (r ∷ prefix) back p fault a is bad =
+      let e : ps ≡ prefix ++ p ∷ back = cc in none_bad ps ts prefix back p fault a.1 e bad
 
   -- the first fault is one
-  first_one : (front other back rest : List P) (ts us : List T) (p q : P) (e f : Fault) → front ++ p ∷ back ≡ other ++ q ∷ rest → All front ts → All other us
+  first_one : (prefix other back rest : List P) (ts us : List T) (p q : P) (e f : Fault) → prefix ++ p ∷ back ≡ other ++ q ∷ rest → All prefix ts → All other us
       → S p (Err e) → S q (Err f) → e ≡ f
   first_one [] [] back rest ts us p q e f is a b bad worse =
       let h : p ≡ q = cc in
@@ -77,24 +77,24 @@ module _ {P T : Type 0} (S : P → Result T Fault → Type 0) (one : (p : P) →
   first_one [] (r ∷ other) back rest ts [] p q e f is a b bad worse = absurd b
   first_one [] (r ∷ other) back rest ts (u ∷ us) p q e f is a b bad worse =
       let h : p ≡ r = cc in absurd (no_both r u e b.0 (subst (λ s. S s (Err e)) h bad))
-  first_one (r ∷ front) [] back rest [] us p q e f is a b bad worse = absurd a
-  first_one (r ∷ front) [] back rest (t ∷ ts) us p q e f is a b bad worse =
+  first_one (r ∷ prefix) [] back rest [] us p q e f is a b bad worse = absurd a
+  first_one (r ∷ prefix) [] back rest (t ∷ ts) us p q e f is a b bad worse =
       let h : r ≡ q = cc in absurd (no_both r t f a.0 (subst (λ s. S s (Err f)) (sym h) worse))
-  first_one (r ∷ front) (s ∷ other) back rest [] us p q e f is a b bad worse = absurd a
-  first_one (r ∷ front) (s ∷ other) back rest (t ∷ ts) [] p q e f is a b bad worse = absurd b
-  first_one (r ∷ front) (s ∷ other) back rest (t ∷ ts) (u ∷ us) p q e f is a b bad worse =
-      let h : front ++ p ∷ back ≡ other ++ q ∷ rest = cc in first_one front other back rest ts us p q e f h a.1 b.1 bad worse
+  first_one (r ∷ prefix) (s ∷ other) back rest [] us p q e f is a b bad worse = absurd a
+  first_one (r ∷ prefix) (s ∷ other) back rest (t ∷ ts) [] p q e f is a b bad worse = absurd b
+  first_one (r ∷ prefix) (s ∷ other) back rest (t ∷ ts) (u ∷ us) p q e f is a b bad worse =
+      let h : prefix ++ p ∷ back ≡ other ++ q ∷ rest = cc in first_one prefix other back rest ts us p q e f h a.1 b.1 bad worse
 
 script_one : (files : Files) (place : Place) → IsOne (TextSays Says files place)
 script_one files place = text_one Says (one_said Reads-script script_ends_text) place files
 
 scripts_one : (files : Files) (places : List Place) → IsOne (ScriptsSay files places)
 scripts_one files places (Ok a) (Ok b) is also = ap Ok (all_one (TextSays Says files) (script_one files) places a b is also)
-scripts_one files places (Ok a) (Err f) is also = absurd (none_bad (TextSays Says files) (script_one files) places a also.front also.back also.place f is also.all also.here)
-scripts_one files places (Err e) (Ok b) is also = absurd (none_bad (TextSays Says files) (script_one files) places b is.front is.back is.place e also is.all is.here)
+scripts_one files places (Ok a) (Err f) is also = absurd (none_bad (TextSays Says files) (script_one files) places a also.prefix also.back also.place f is also.all also.here)
+scripts_one files places (Err e) (Ok b) is also = absurd (none_bad (TextSays Says files) (script_one files) places b is.prefix is.back is.place e also is.all is.here)
 scripts_one files places (Err e) (Err f) is also =
     ap Err (
-    first_one (TextSays Says files) (script_one files) is.front also.front is.back also.back is.texts also.texts is.place also.place e f (sym is.all ∙ also.all)
+    first_one (TextSays Says files) (script_one files) is.prefix also.prefix is.back also.back is.texts also.texts is.place also.place e f (sym is.all ∙ also.all)
     is.before also.before is.here also.here
     )
 

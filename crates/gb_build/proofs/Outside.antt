@@ -14,11 +14,11 @@ use Rattle.gb_meaning.specs.Headline.{Registering, StillClear, contents_outside,
 use Rattle.gb_meaning.specs.Kinds.{Kinds}
 use Rattle.gb_meaning.specs.Memory.{Memory}
 use Rattle.gb_meaning.specs.TrueRecord.{memory_contents}
-use Rattle.gb_records.proofs.Reported.{stands_elsewhere, stands_for_memory}
+use Rattle.gb_records.proofs.Reported.{holds_elsewhere, holds_for_memory}
 use Rattle.gb_store.specs.Changes.{ChangesOnly}
 use Rattle.gb_store.proofs.Machine.{changes_left, changes_none, changes_with, changes_without}
 use Rattle.gb_build.specs.Leading.{Leads}
-use Rattle.gb_build.proofs.Leading.{seen_more}
+use Rattle.gb_build.proofs.Leading.{observed_more}
 use Rattle.gb_records.specs.Setting.{setting_by}
 
 -- a place that is not the tool's own
@@ -63,24 +63,24 @@ module _ (kinds : Kinds) (registers : Registering) (may_leave : Tearing) (old en
 
   -- an event that changes nothing of the tool's own, and after which the same is remembered
   outside_leads : (event : Event) (answer : Answer) → ChangesOnly is_outside old.contents end.contents
-      → ((remembered : Memory) (clear : Bool) (seen : List Bytes) → Step setting (StillClear setting (IsTrue clear) (state_of old remembered)) seen (state_of old remembered) event answer (state_of end remembered))
+      → ((remembered : Memory) (clear : Bool) (observed : List Bytes) → Step setting (StillClear setting (IsTrue clear) (state_of old remembered)) observed (state_of old remembered) event answer (state_of end remembered))
       → Leads setting old event answer end
-  outside_leads event answer changes step remembered clear seen worth = record {
+  outside_leads event answer changes step remembered clear observed worth = record {
     remembered = remembered;
-    step = step remembered clear seen;
-    stands = λ given.
-        let stood = worth given.0 in (
-          stands_for_memory kinds end.contents remembered is_folder stood.0.made
-              (stands_elsewhere old.contents.files end.contents.files remembered changes.elsewhere
-              (record { in_order = stood.0.in_order; of_tasks = stood.0.of_tasks; records = stood.0.records })),
-          seen_more (memory_contents (world_in (state_of old remembered))) (seen ++ contents_outside old.contents) (contents_outside end.contents) stood.1,
+    step = step remembered clear observed;
+    exists = λ given.
+        let existed = worth given.0 in (
+          holds_for_memory kinds end.contents remembered is_folder existed.0.made
+              (holds_elsewhere old.contents.files end.contents.files remembered changes.elsewhere
+              (record { in_order = existed.0.in_order; of_tasks = existed.0.of_tasks; records = existed.0.records })),
+          observed_more (memory_contents (world_in (state_of old remembered))) (observed ++ contents_outside old.contents) (contents_outside end.contents) existed.1,
         );
   }
 
   pub put_leads : (place : Place) (bytes : Bytes) (answer : Answer) → PutStep may_leave place bytes old answer end → Leads setting old (events.Put place bytes) answer end
   put_leads place bytes answer step =
-      outside_leads (events.Put place bytes) answer (put_outside registers may_leave place bytes old end answer step) (λ remembered clear seen. (step, refl))
+      outside_leads (events.Put place bytes) answer (put_outside registers may_leave place bytes old end answer step) (λ remembered clear observed. (step, refl))
 
   pub remove_leads : (place : Place) (answer : Answer) → RemoveStep may_leave place old answer end → Leads setting old (events.Remove place) answer end
   remove_leads place answer step =
-      outside_leads (events.Remove place) answer (remove_outside registers may_leave place old end answer step) (λ remembered clear seen. (step, refl))
+      outside_leads (events.Remove place) answer (remove_outside registers may_leave place old end answer step) (λ remembered clear observed. (step, refl))

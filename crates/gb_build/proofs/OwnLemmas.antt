@@ -68,10 +68,10 @@ own_is_dotted (c ∷ q) own = go (nat_eq 46 c) refl
     go false is = absurd (true≢false (sym own ∙ plain_not_own (c ∷ q) (ap not is)))
 
 -- the two are in no way of each other
-apart : (place q : Place) → is_plain place ≡ true → is_dotted q ≡ true → (is_beneath place q || is_beneath q place) ≡ false
-apart [] q plain dotted = absurd (true≢false (sym plain))
-apart (c ∷ place) [] plain dotted = absurd (true≢false (sym dotted))
-apart (c ∷ place) (d ∷ q) plain dotted =
+separate : (place q : Place) → is_plain place ≡ true → is_dotted q ≡ true → (is_beneath place q || is_beneath q place) ≡ false
+separate [] q plain dotted = absurd (true≢false (sym plain))
+separate (c ∷ place) [] plain dotted = absurd (true≢false (sym dotted))
+separate (c ∷ place) (d ∷ q) plain dotted =
     ap (λ b. b && starts_with nat_eq place (q ++ 47 ∷ []) || is_beneath (d ∷ q) (c ∷ place)) (other_byte c plain d dotted)
     ∙ ap (λ b. b && starts_with nat_eq q (place ++ 47 ∷ [])) (other_byte_back c plain d dotted)
 
@@ -80,7 +80,7 @@ blocked_same : (files : Files) (place : Place) → is_plain place ≡ true → i
 blocked_same [] place plain = refl
 blocked_same (file ∷ files) place plain =
     elim (is_own file.0) as (λ b. is_own file.0 ≡ b → is_blocked (cond (not b) (file ∷ others files) (others files)) place ≡ is_blocked (file ∷ files) place) [
-      | true ↦ λ own. blocked_same files place plain ∙ ap (λ b. b || is_blocked files place) (sym (apart place file.0 plain (own_is_dotted file.0 own)))
+      | true ↦ λ own. blocked_same files place plain ∙ ap (λ b. b || is_blocked files place) (sym (separate place file.0 plain (own_is_dotted file.0 own)))
       | false ↦ λ _. ap (λ b. (is_beneath place file.0 || is_beneath file.0 place) || b) (blocked_same files place plain)
     ] refl
 
@@ -112,17 +112,17 @@ module _ (files other : Files) (alike : (place : Place) → is_plain place ≡ t
   scripts_stay : (places : List Place) → list_all is_plain places ≡ true → (said : Result (List (List Statement)) Fault) → ScriptsSay files places said → ScriptsSay other places said
   scripts_stay places plain (Ok texts) all = texts_stay places texts plain all
   scripts_stay places plain (Err fault) first =
-      let parts : (list_all is_plain first.front && list_all is_plain (first.place ∷ first.back)) ≡ true =
-      sym (list_all-append is_plain first.front (first.place ∷ first.back)) ∙ ap (list_all is_plain) (sym first.all) ∙ plain in
-      let fronts = left_of (list_all is_plain first.front) (list_all is_plain (first.place ∷ first.back)) parts in
-      let here = left_of (is_plain first.place) (list_all is_plain first.back) (right_of (list_all is_plain first.front) (list_all is_plain (first.place ∷ first.back)) parts) in
+      let parts : (list_all is_plain first.prefix && list_all is_plain (first.place ∷ first.back)) ≡ true =
+      sym (list_all-append is_plain first.prefix (first.place ∷ first.back)) ∙ ap (list_all is_plain) (sym first.all) ∙ plain in
+      let prefixes = left_of (list_all is_plain first.prefix) (list_all is_plain (first.place ∷ first.back)) parts in
+      let here = left_of (is_plain first.place) (list_all is_plain first.back) (right_of (list_all is_plain first.prefix) (list_all is_plain (first.place ∷ first.back)) parts) in
       record {
-        front = first.front;
+        prefix = first.prefix;
         place = first.place;
         back = first.back;
         texts = first.texts;
         all = first.all;
-        before = texts_stay first.front first.texts fronts first.before;
+        before = texts_stay first.prefix first.texts prefixes first.before;
         here = text_stays Says files other first.place (alike first.place here) (Err fault) first.here;
       }
 

@@ -7,13 +7,13 @@ use Rattle.gb_meaning.specs.declared.events.Answer.TheVariants as answers
 use Rattle.gb_meaning.specs.declared.events.Event.TheVariants as events
 use Rattle.gb_meaning.specs.declared.events.Invocation.{Invocation}
 use Rattle.gb_meaning.specs.Edits.{Shown}
-use Rattle.gb_meaning.specs.Events.{HasPlan, IsBuild, IsNotBuilt, Setting, State, Step, may_come, own_files, world_in}
+use Rattle.gb_meaning.specs.Events.{HasPlan, IsBuild, IsNotBuilt, Setting, State, Step, may_occur, own_files, world_in}
 use Rattle.gb_meaning.specs.Headline.{Registering, StillClear, answer_of, state_of}
 use Rattle.gb_meaning.specs.Kinds.{Kinds}
 use Rattle.gb_meaning.specs.Label.{Moment}
 use Rattle.gb_meaning.specs.Memory.{Memory}
 use Rattle.gb_meaning.specs.TrueRecord.{outside}
-use Rattle.gb_meaning.specs.Execution.{Guard, Standing as At}
+use Rattle.gb_meaning.specs.Execution.{Guard, WorldState as At}
 use Rattle.gb_meaning.proofs.Lemmas.Weaker.{builds_weaker}
 use Rattle.gb_build.specs.Leading.{Leads, LeadsTo}
 use Rattle.gb_build.proofs.Earlier.{builds_since}
@@ -51,13 +51,13 @@ module _ (kinds : Kinds) (registry : Registry) (registers : Registering) (may_le
 
   -- a fault that is possible there with the torn writes of a folder is possible with those of an equal one
   may_alike : (own : Files) (options : Options) (task : Task) (moment : Moment) (new : At) (fault : Fault)
-      → may_come one own options task moment new fault → may_come two own options task moment new fault
+      → may_occur one own options task moment new fault → may_occur two own options task moment new fault
   may_alike own options task moment new faults.OutOfMemory may = may
   may_alike own options task moment new (faults.Device place) may = (
     may.0,
     may.1,
     elim may.2 [
-      | inl stands ↦ inl stands
+      | inl exists ↦ inl exists
       | inr torn ↦ inr (torn.0, torn.1, torn.2, torn.3, (alike place torn.0 torn.1 _).0 torn.4)
     ],
   )
@@ -69,15 +69,15 @@ module _ (kinds : Kinds) (registry : Registry) (registers : Registering) (may_le
     registry = is.registry;
     scripts = subst (registers (outside contents).files invocation.properties) is.scripts says;
     request = is.request;
-    asked = is.asked;
+    allowed = is.allowed;
     planned = is.planned;
   }
 
-  module _ (remembered : Memory) (clear : Bool) (seen : List (List ℕ)) where
+  module _ (remembered : Memory) (clear : Bool) (observed : List (List ℕ)) where
     abbrev assumed : Guard
     assumed = StillClear two (IsTrue clear) (from_before remembered)
 
-    build_too : (report : Report) (new : State) → IsBuild one assumed seen (from_later remembered) invocation report new → IsBuild two assumed seen (from_before remembered) invocation report new
+    build_too : (report : Report) (new : State) → IsBuild one assumed observed (from_later remembered) invocation report new → IsBuild two assumed observed (from_before remembered) invocation report new
     build_too report new is = record {
       plan = is.plan;
       planned = planned_too is.plan is.planned;
@@ -85,11 +85,11 @@ module _ (kinds : Kinds) (registry : Registry) (registers : Registering) (may_le
       elsewhere = is.elsewhere;
       dry_keeps = is.dry_keeps;
       builds =
-          builds_since two (own_files contents) invocation.options is.plan before assumed seen (world_in (from_before remembered)) later report.tasks
+          builds_since two (own_files contents) invocation.options is.plan before assumed observed (world_in (from_before remembered)) later report.tasks
           (record { world = world_in new; failures = new.failures }) earlier
-          (builds_weaker kinds invocation.options is.plan (may_come one (own_files contents) invocation.options) (may_come two (own_files contents) invocation.options)
+          (builds_weaker kinds invocation.options is.plan (may_occur one (own_files contents) invocation.options) (may_occur two (own_files contents) invocation.options)
           (may_alike (own_files contents) invocation.options) assumed assumed (λ contents given. given)
-          seen later new.failures (world_in (from_before remembered)) (world_in new) report.tasks is.builds);
+          observed later new.failures (world_in (from_before remembered)) (world_in new) report.tasks is.builds);
       success = is.success;
     }
 
@@ -101,26 +101,26 @@ module _ (kinds : Kinds) (registry : Registry) (registers : Registering) (may_le
     refusal_too fault after count (inr (inr (inr (place, first, (risen, is))))) = inr (inr (inr (place, first, (HasRisen-before before later after earlier count risen, is))))
 
     step_too : (result : Result Report Fault) (next : State) → later ≤ next.failures
-        → Step one assumed seen (from_later remembered) (events.Invoke invocation) (answer_of result) next
-        → Step two assumed seen (from_before remembered) (events.Invoke invocation) (answer_of result) next
+        → Step one assumed observed (from_later remembered) (events.Invoke invocation) (answer_of result) next
+        → Step two assumed observed (from_before remembered) (events.Invoke invocation) (answer_of result) next
     step_too (Ok report) next count is = build_too report next is
     step_too (Err fault) next count (why, same, kept) = (refusal_too fault next.failures count why, same, kept)
 
     led_too : (result : Result Report Fault) (end : Shown) → later ≤ end.failures
-        → LeadsTo one clear seen (from_later remembered) (events.Invoke invocation) (answer_of result) end
-        → LeadsTo two clear seen (from_before remembered) (events.Invoke invocation) (answer_of result) end
+        → LeadsTo one clear observed (from_later remembered) (events.Invoke invocation) (answer_of result) end
+        → LeadsTo two clear observed (from_before remembered) (events.Invoke invocation) (answer_of result) end
     led_too result end count led = record {
       remembered = led.remembered;
       step = step_too result (state_of end led.remembered) count led.step;
-      stands = led.stands;
+      exists = led.exists;
     }
 
   -- an invocation after the scripts were read continues a run like one from before
   pub since_read : (result : Result Report Fault) (end : Shown) → later ≤ end.failures
       → Leads one (shows contents later) (events.Invoke invocation) (answer_of result) end
       → Leads two (shows contents before) (events.Invoke invocation) (answer_of result) end
-  since_read result end count leads remembered clear seen worth =
-      led_too remembered clear seen result end count (leads remembered clear seen worth)
+  since_read result end count leads remembered clear observed worth =
+      led_too remembered clear observed result end count (leads remembered clear observed worth)
 
 -- ---- Refusals
 
@@ -130,7 +130,7 @@ pub refused_leads : (setting : Setting) (old end : Shown) (invocation : Invocati
     → end.contents ≡ old.contents → (result : Result Report Fault) → result ≡ Err fault → Leads setting old (events.Invoke invocation) (answer_of result) end
 refused_leads setting old end invocation fault why same result is =
     subst (λ (r : Result Report Fault). Leads setting old (events.Invoke invocation) (answer_of r) end) (sym is)
-    (λ remembered clear seen worth. nothing_leads setting old end (events.Invoke invocation) (answers.NotBuilt fault) same remembered clear seen worth
+    (λ remembered clear observed worth. nothing_leads setting old end (events.Invoke invocation) (answers.NotBuilt fault) same remembered clear observed worth
     (why, same, refl))
 
 -- memory ran out

@@ -15,7 +15,7 @@ use Rattle.gb_core.specs.Place.{is_place, is_printable, is_segment, segments}
 use Rattle.gb_folder.specs.Files.{Place}
 use Rattle.gb_report.specs.declared.fault.Fault.{Fault}
 use Rattle.gb_report.specs.declared.fault.Fault.TheVariants as faults
-use Rattle.gb_registry.proofs.Fine.{AreFine, both_true, fits, is_fine, nil_back, nil_front, projects_fine, short_enough}
+use Rattle.gb_registry.proofs.Fine.{AreFine, both_true, fits, is_fine, nil_back, nil_prefix, projects_fine, short_enough}
 use Rattle.gb_registry.proofs.Folders.{folder_is_place, lineage_is_good}
 use Rattle.gb_registry.specs.Projects.{Path, absolute, crowd_faults, folder_of, folder_text, included, is_among, lineage_of, path_faults, paths_faults, place_faults, project_paths, projects_of, root_path, settings_faults, text_faults, texts_faults, with_folders, with_path, with_paths}
 use Rattle.gb_store.specs.Changes.{is_at}
@@ -32,31 +32,31 @@ name = codes "build.gb"
 no_slash : (k : ℕ) → k < 8 → not (is_slash (get_or name k 0)) ≡ true
 no_slash k low = grind (arith, nat_tests)
 
-module _ (front : List ℕ) where
-  behind : (k : ℕ) → length front + 1 ≤ k → k < length (front ++ 47 ∷ name) → not (is_slash (get_or (front ++ 47 ∷ name) k 0)) ≡ true
-  behind k from below =
-      let index : k - length front ≡ suc (k - length front - 1) = omega (arith, from) in
-      let short : k - length front - 1 < 8 = omega (arith, from, below, length-append front (47 ∷ name)) in
-      ap (λ b. not (is_slash b)) (get_or-append_right front (47 ∷ name) (length front) k 0 refl (omega (arith, from)) ∙ ap (λ n. get_or (47 ∷ name) n 0) index)
-      ∙ no_slash (k - length front - 1) short
+module _ (prefix : List ℕ) where
+  following : (k : ℕ) → length prefix + 1 ≤ k → k < length (prefix ++ 47 ∷ name) → not (is_slash (get_or (prefix ++ 47 ∷ name) k 0)) ≡ true
+  following k from below =
+      let index : k - length prefix ≡ suc (k - length prefix - 1) = omega (arith, from) in
+      let short : k - length prefix - 1 < 8 = omega (arith, from, below, length-append prefix (47 ∷ name)) in
+      ap (λ b. not (is_slash b)) (get_or-append_right prefix (47 ∷ name) (length prefix) k 0 refl (omega (arith, from)) ∙ ap (λ n. get_or (47 ∷ name) n 0) index)
+      ∙ no_slash (k - length prefix - 1) short
 
-  suffix : suffix_len (λ b. not (is_slash b)) (front ++ 47 ∷ name) ≡ length (front ++ 47 ∷ name) - (length front + 1)
+  suffix : suffix_len (λ b. not (is_slash b)) (prefix ++ 47 ∷ name) ≡ length (prefix ++ 47 ∷ name) - (length prefix + 1)
   suffix =
-      suffix_len_is (λ b. not (is_slash b)) (front ++ 47 ∷ name) (length front + 1) 0 (omega (arith, length-append front (47 ∷ name))) behind
-      (λ p. ap (λ n. not (is_slash (get_or (front ++ 47 ∷ name) n 0))) (let e : (length front + 1) - 1 ≡ length front = omega arith in e) ∙ ap (λ b. not (is_slash b)) (get_or-append_seam front 47 name 0))
+      suffix_len_is (λ b. not (is_slash b)) (prefix ++ 47 ∷ name) (length prefix + 1) 0 (omega (arith, length-append prefix (47 ∷ name))) following
+      (λ p. ap (λ n. not (is_slash (get_or (prefix ++ 47 ∷ name) n 0))) (let e : (length prefix + 1) - 1 ≡ length prefix = omega arith in e) ∙ ap (λ b. not (is_slash b)) (get_or-append_seam prefix 47 name 0))
 
-  after : after_last is_slash (front ++ 47 ∷ name) ≡ name
+  after : after_last is_slash (prefix ++ 47 ∷ name) ≡ name
   after =
-      let count : length (front ++ 47 ∷ name) - suffix_len (λ b. not (is_slash b)) (front ++ 47 ∷ name) ≡ length front + 1 = omega (arith, suffix, length-append front (47 ∷ name)) in
-      ap (λ n. drop n (front ++ 47 ∷ name)) count ∙ drop-append-add front (47 ∷ name) 1
+      let count : length (prefix ++ 47 ∷ name) - suffix_len (λ b. not (is_slash b)) (prefix ++ 47 ∷ name) ≡ length prefix + 1 = omega (arith, suffix, length-append prefix (47 ∷ name)) in
+      ap (λ n. drop n (prefix ++ 47 ∷ name)) count ∙ drop-append-add prefix (47 ∷ name) 1
 
 or_right : (a b : Bool) → b ≡ true → (a || b) ≡ true
 or_right true b h = refl
 or_right false b h = h
 
-pub script_stands : (folder : Option Place) → is_script_place (script_place folder) ≡ true
-script_stands None = refl
-script_stands (Some folder) =
+pub script_exists : (folder : Option Place) → is_script_place (script_place folder) ≡ true
+script_exists None = refl
+script_exists (Some folder) =
     or_right (bytes_eq (folder ++ 47 ∷ name) (codes "settings.gb")) (bytes_eq (after_last is_slash (folder ++ 47 ∷ name)) name)
     (ap (λ last. bytes_eq last name) (after folder))
 
@@ -65,8 +65,8 @@ script_stands (Some folder) =
 -- a script in a folder
 in_folder : (folder : List ℕ) → is_place folder ≡ true → length folder ≤ 896 → is_place (folder ++ 47 ∷ name) ≡ true
 in_folder folder good short =
-    let front = left_of (nat_le (length folder) 1024 && list_all is_printable folder) (list_all is_segment (segments folder)) good in
-    let shown = right_of (nat_le (length folder) 1024) (list_all is_printable folder) front in
+    let prefix = left_of (nat_le (length folder) 1024 && list_all is_printable folder) (list_all is_segment (segments folder)) good in
+    let shown = right_of (nat_le (length folder) 1024) (list_all is_printable folder) prefix in
     let parts = right_of (nat_le (length folder) 1024 && list_all is_printable folder) (list_all is_segment (segments folder)) good in
     let long : length (folder ++ 47 ∷ name) ≡ length folder + 9 = length-append folder (47 ∷ name) in
     both_true (nat_le (length (folder ++ 47 ∷ name)) 1024 && list_all is_printable (folder ++ 47 ∷ name)) (list_all is_segment (segments (folder ++ 47 ∷ name)))
@@ -96,4 +96,4 @@ places_good settings none = fine_places (project_paths settings) (projects_fine 
 
 -- a fault that is attributed to the place of a script is attributed to such a place
 pub blamed_at : (folder : Option Place) (at place : Place) → at ≡ script_place folder → is_at at place ≡ true → is_script_place place ≡ true
-blamed_at folder at place is blamed = ap is_script_place ((bytes_decides place at).0 blamed ∙ is) ∙ script_stands folder
+blamed_at folder at place is blamed = ap is_script_place ((bytes_decides place at).0 blamed ∙ is) ∙ script_exists folder

@@ -64,7 +64,7 @@ pub refused_leads : (setting : Setting) (registry : Registry) (old end : Shown) 
     → end.contents ≡ old.contents → (result : Result Report Fault) → result ≡ Err fault → Leads setting old (events.Invoke invocation) (answer_of result) end
 refused_leads setting registry old end invocation fault scripts why same result is =
     subst (λ (r : Result Report Fault). Leads setting old (events.Invoke invocation) (answer_of r) end) (sym is)
-    (λ remembered clear seen worth. nothing_leads setting old end (events.Invoke invocation) (answers.NotBuilt fault) same remembered clear seen worth
+    (λ remembered clear observed worth. nothing_leads setting old end (events.Invoke invocation) (answers.NotBuilt fault) same remembered clear observed worth
     (not_built setting.registers registry old invocation fault end.failures scripts why, same, refl))
 
 -- ---- The device

@@ -41,7 +41,7 @@ planned_all P request plan all schedule =
 module _ (registry : Registry) where
   -- a request is of the registry, and the fault of refused arguments is not attributed to the device
   abbrev IsAsked : Result Request Fault → Type 0
-  IsAsked asked = IfOk asked (λ request. request.registry ≡ registry) × IfErr asked (λ fault. is_of_device fault ≡ false)
+  IsAsked allowed = IfOk allowed (λ request. request.registry ≡ registry) × IfErr allowed (λ fault. is_of_device fault ≡ false)
 
   word_blames : (word : Text) → AllByRecursion (λ fault. is_of_device fault ≡ false) (word_faults registry word)
   word_blames word =

@@ -47,7 +47,7 @@ pub first_fault : (files : Files) (projects : Projects) (i : ℕ) (project : Pat
     → i < length projects → project ≡ get_or projects i project → AreTexts files (script_places (take i projects)) texts
     → TextSays Says files (script_place project.1) (Err fault) → IsFirstFault files (script_places projects) fault
 first_fault files projects i project texts fault low at before here = record {
-  front = script_places (take i projects);
+  prefix = script_places (take i projects);
   place = script_place project.1;
   back = script_places (drop (i + 1) projects);
   texts = texts;

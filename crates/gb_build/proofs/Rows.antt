@@ -30,7 +30,7 @@ module _ {M F Z S A : Type 0} (tables : Tables M F Z S A) where
         [],
         ([], inr (refl, refl), (refl, refl)),
         inl (record {
-          front = [];
+          prefix = [];
           place = codes "build.gb";
           back = [];
           texts = [];

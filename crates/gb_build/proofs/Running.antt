@@ -12,7 +12,7 @@ use Rattle.gb_meaning.specs.declared.events.Event.TheVariants as events
 use Rattle.gb_meaning.specs.declared.events.Invocation.{Invocation}
 use Rattle.gb_meaning.specs.Edits.{Shown}
 use Rattle.gb_meaning.specs.Events.{Setting, State, world_in}
-use Rattle.gb_meaning.specs.Headline.{AllKeepElsewhere, Ear, EventKeeps, EventsHold, GoesThrough, HaveHeardAll, Registering, RunHolds, StillClear, answer_of, contents_outside, seen_with, state_of}
+use Rattle.gb_meaning.specs.Headline.{AllKeepElsewhere, Ear, EventKeeps, EventsHold, GoesThrough, HaveHeardAll, Registering, RunHolds, StillClear, answer_of, contents_outside, observed_with, state_of}
 use Rattle.gb_meaning.specs.Memory.{Memory}
 use Rattle.gb_meaning.specs.Outline.{IsOutlined}
 use Rattle.gb_report.specs.declared.fault.Fault.{Fault}
@@ -20,39 +20,39 @@ use Rattle.gb_report.specs.declared.report.Report.{Report}
 use Rattle.gb_meaning.specs.TrueRecord.{memory_contents}
 use Rattle.gb_exec.proofs.Clearly.{clear_or_not}
 use Rattle.gb_plan.proofs.Tests.{not_true}
-use Rattle.gb_build.specs.Leading.{Leads, StandsSeen}
-use Rattle.gb_build.proofs.Leading.{seen_more, step_weaker}
+use Rattle.gb_build.specs.Leading.{Leads, HoldsObserved}
+use Rattle.gb_build.proofs.Leading.{observed_more, step_weaker}
 use Rattle.gb_build.specs.Answers.{AnswerIsOutlined, Edit, edit_answer}
 
 -- ---- Runs
 
 -- a run went through the same states where less is clear
-goes_weaker : (setting : Setting) (one other : Type 0) → (other → one) → (seen : List Bytes) (old : State) (states : List State) (all : List Event) (reported : List Answer) (end : Shown)
-    → GoesThrough setting one seen old states all reported end → GoesThrough setting other seen old states all reported end
-goes_weaker setting one other weaker seen old [] [] [] end run = run
-goes_weaker setting one other weaker seen old (next ∷ states) (event ∷ rest) (answer ∷ others) end run = (
+goes_weaker : (setting : Setting) (one other : Type 0) → (other → one) → (observed : List Bytes) (old : State) (states : List State) (all : List Event) (reported : List Answer) (end : Shown)
+    → GoesThrough setting one observed old states all reported end → GoesThrough setting other observed old states all reported end
+goes_weaker setting one other weaker observed old [] [] [] end run = run
+goes_weaker setting one other weaker observed old (next ∷ states) (event ∷ rest) (answer ∷ others) end run = (
   run.0,
-  step_weaker setting (StillClear setting one old) (StillClear setting other old) (λ contents given. (weaker given.0, given.1)) seen old event answer next run.1,
+  step_weaker setting (StillClear setting one old) (StillClear setting other old) (λ contents given. (weaker given.0, given.1)) observed old event answer next run.1,
   λ given. run.2 (weaker given.0, given.1),
-  goes_weaker setting (StillClear setting one old (seen_with seen old next)) (StillClear setting other old (seen_with seen old next))
-      (λ given. (weaker given.0, given.1)) (seen ++ contents_outside old.contents) next states rest others end run.3,
+  goes_weaker setting (StillClear setting one old (observed_with observed old next)) (StillClear setting other old (observed_with observed old next))
+      (λ given. (weaker given.0, given.1)) (observed ++ contents_outside old.contents) next states rest others end run.3,
 )
-goes_weaker setting one other weaker seen old [] [] (answer ∷ others) end run = absurd run
-goes_weaker setting one other weaker seen old [] (event ∷ rest) [] end run = absurd run
-goes_weaker setting one other weaker seen old [] (event ∷ rest) (answer ∷ others) end run = absurd run
-goes_weaker setting one other weaker seen old (next ∷ states) [] [] end run = absurd run
-goes_weaker setting one other weaker seen old (next ∷ states) [] (answer ∷ others) end run = absurd run
-goes_weaker setting one other weaker seen old (next ∷ states) (event ∷ rest) [] end run = absurd run
+goes_weaker setting one other weaker observed old [] [] (answer ∷ others) end run = absurd run
+goes_weaker setting one other weaker observed old [] (event ∷ rest) [] end run = absurd run
+goes_weaker setting one other weaker observed old [] (event ∷ rest) (answer ∷ others) end run = absurd run
+goes_weaker setting one other weaker observed old (next ∷ states) [] [] end run = absurd run
+goes_weaker setting one other weaker observed old (next ∷ states) [] (answer ∷ others) end run = absurd run
+goes_weaker setting one other weaker observed old (next ∷ states) (event ∷ rest) [] end run = absurd run
 
-run_weaker : (setting : Setting) (one other : Type 0) → (other → one) → (seen : List Bytes) (old : State) (all : List Event) (reported : List Answer) (end : Shown)
-    → RunHolds setting one seen old all reported end → RunHolds setting other seen old all reported end
-run_weaker setting one other weaker seen old all reported end run = (run.0, goes_weaker setting one other weaker seen old run.0 all reported end run.1)
+run_weaker : (setting : Setting) (one other : Type 0) → (other → one) → (observed : List Bytes) (old : State) (all : List Event) (reported : List Answer) (end : Shown)
+    → RunHolds setting one observed old all reported end → RunHolds setting other observed old all reported end
+run_weaker setting one other weaker observed old all reported end run = (run.0, goes_weaker setting one other weaker observed old run.0 all reported end run.1)
 
 -- a run of these events from what a folder shows, whatever is remembered
 pub RunsFrom : Setting → Shown → List Event → List Answer → Shown → Type 0
 RunsFrom setting old all reported end =
-    (remembered : Memory) (clear : Bool) (seen : List Bytes) → (IsTrue clear → StandsSeen setting seen (state_of old remembered))
-    → RunHolds setting (IsTrue clear) seen (state_of old remembered) all reported end
+    (remembered : Memory) (clear : Bool) (observed : List Bytes) → (IsTrue clear → HoldsObserved setting observed (state_of old remembered))
+    → RunHolds setting (IsTrue clear) observed (state_of old remembered) all reported end
 
 yes_of : {X : Type 0} → X ⊎ (¬ X) → Bool
 yes_of (inl is) = true
@@ -72,30 +72,30 @@ is_yes (inr is_not) x = absurd (is_not x)
 pub runs_on : (setting : Setting) (old mid end : Shown) (event : Event) (answer : Answer) (rest : List Event) (others : List Answer) → old.failures ≤ mid.failures
     → Leads setting old event answer mid → RunsFrom setting mid rest others end → RunsFrom setting old (event ∷ rest) (answer ∷ others) end
 unfolding RunsFrom
-runs_on setting old mid end event answer rest others count leads runs remembered clear seen worth =
+runs_on setting old mid end event answer rest others count leads runs remembered clear observed worth =
     let start : State = state_of old remembered in
-    let led = leads remembered clear seen worth in
+    let led = leads remembered clear observed worth in
     let next : State = state_of mid led.remembered in
-    let decided = clear_or_not setting start clear (seen_with seen start next) in
+    let decided = clear_or_not setting start clear (observed_with observed start next) in
     let later =
-    run_weaker setting (IsTrue (yes_of decided)) (StillClear setting (IsTrue clear) start (seen_with seen start next)) (is_yes decided)
-    (seen ++ contents_outside old.contents) next rest others end
-    (runs led.remembered (yes_of decided) (seen ++ contents_outside old.contents) (λ yes. led.stands (is_so decided yes))) in (
+    run_weaker setting (IsTrue (yes_of decided)) (StillClear setting (IsTrue clear) start (observed_with observed start next)) (is_yes decided)
+    (observed ++ contents_outside old.contents) next rest others end
+    (runs led.remembered (yes_of decided) (observed ++ contents_outside old.contents) (λ yes. led.exists (is_so decided yes))) in (
       next ∷ later.0,
-      (count, led.step, λ given. (led.stands given).0, later.1),
+      (count, led.step, λ given. (led.exists given).0, later.1),
     )
 
 pub runs_nowhere : (setting : Setting) (old : Shown) → RunsFrom setting old [] [] old
 unfolding RunsFrom
-runs_nowhere setting old remembered clear seen worth = ([], (omega arith, refl))
+runs_nowhere setting old remembered clear observed worth = ([], (omega arith, refl))
 
 -- a run, starting from any true records that exist
 pub runs_hold : (setting : Setting) (old end : Shown) (all : List Event) (reported : List Answer) → RunsFrom setting old all reported end → EventsHold setting old all reported end
 unfolding RunsFrom
-runs_hold setting old end all reported runs remembered stands =
-    let seen : List Bytes = memory_contents (world_in (state_of old remembered)) in
-    run_weaker setting (IsTrue true) ⊤ (λ _. refl) seen (state_of old remembered) all reported end
-    (runs remembered true seen (λ _. (stands, seen_more seen seen (contents_outside old.contents) (λ bytes within. within))))
+runs_hold setting old end all reported runs remembered exists =
+    let observed : List Bytes = memory_contents (world_in (state_of old remembered)) in
+    run_weaker setting (IsTrue true) ⊤ (λ _. refl) observed (state_of old remembered) all reported end
+    (runs remembered true observed (λ _. (exists, observed_more observed observed (contents_outside old.contents) (λ bytes within. within))))
 
 -- ---- What changes
 

@@ -5,7 +5,7 @@ use Rattle.std.specs.Result.{IsErrAnd}
 use Rattle.gb_folder.specs.Files.{Contents, Files, Place}
 use Rattle.gb_report.specs.declared.fault.Fault.{Fault}
 use Rattle.gb_registry.specs.Configure.{configure_faults}
-use Rattle.gb_registry.specs.Faults.{TellsFirst}
+use Rattle.gb_registry.specs.Faults.{ReportsFirst}
 use Rattle.gb_registry.specs.Projects.{Path, projects_of, settings_faults}
 use Rattle.gb_registry.specs.Source.{Source, source_of}
 use Rattle.gb_registry.specs.Tables.{Tables}
@@ -35,7 +35,7 @@ module _ {M F Z S A : Type 0} (tables : Tables M F Z S A) (files : Files) (given
 
   -- the scripts are put together, or a statement has a fault
   pub put_together : {X : Type 0} (texts : List (List Statement)) (before after : ℕ) (result : Result X Fault) (registry : X → Source) → ScriptsSay files (script_places (projects_of settings)) (Ok texts)
-      → IfOk result (λ x. registry x ≡ source_of settings texts given) → TellsFirst (configure_faults tables (source_of settings texts given)) result
+      → IfOk result (λ x. registry x ≡ source_of settings texts given) → ReportsFirst (configure_faults tables (source_of settings texts given)) result
       → MatchResult result (λ x. FolderSays tables files given (Ok (registry x))) (λ fault. IsOfMachine before after fault ⊎ FolderSays tables files given (Err fault))
   put_together texts before after (Ok x) registry scripts same reported = (settings, (settings, text, (none, refl)), (texts, scripts, (reported, same)))
   put_together texts before after (Err fault) registry scripts same (inl memory) = inl (inl memory)

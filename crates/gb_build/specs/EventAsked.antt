@@ -1,7 +1,7 @@
 -- The calls that events make, over any folder.
 use Rattle.std.specs.Prelude.{ℕ, ◌≡◌, ◌⊎◌, List, [], ◌∷◌, Result, Ok, Err}
 use Rattle.gb_action.specs.Meanings.{Meanings}
-use Rattle.gb_folder.specs.Calls.{Asks, Call, Removes, Writes, no_change, takes_at}
+use Rattle.gb_folder.specs.Calls.{Requests, Call, Removes, Writes, no_change, takes_at}
 use Rattle.gb_folder.specs.Files.{Bytes, Place, Tearing, is_own}
 use Rattle.gb_folder.specs.Limits.{max_file}
 use Rattle.gb_folder.specs.declared.folder.FolderFault.{FolderFault}
@@ -10,35 +10,35 @@ use Rattle.gb_meaning.specs.declared.events.Answer.TheVariants as answers
 use Rattle.gb_meaning.specs.declared.events.Event.{Event}
 use Rattle.gb_meaning.specs.declared.events.Event.TheVariants as events
 use Rattle.gb_plan.specs.Ready.{Rows}
-use Rattle.gb_build.specs.InvocationAsked.{InvocationAsks}
+use Rattle.gb_build.specs.InvocationAsked.{InvocationRequests}
 
 -- no call, or one call and no other
-abbrev pub AsksOnce : {F : Type 0} → (F → Call → F → Type 0) → (Result (Unit {0}) FolderFault → Call) → F → F
+abbrev pub RequestsOnce : {F : Type 0} → (F → Call → F → Type 0) → (Result (Unit {0}) FolderFault → Call) → F → F
     → Type 0
-AsksOnce asked call old new =
-    (new ≡ old) ⊎ ((answer : Result (Unit {0}) FolderFault) × asked old (call answer) new)
+RequestsOnce allowed call old new =
+    (new ≡ old) ⊎ ((answer : Result (Unit {0}) FolderFault) × allowed old (call answer) new)
 
 -- An edit makes at most one call, at its own place; a loss removes only in `.gb`; and an invocation makes the
 -- calls that its answer permits.
-abbrev pub EventAsks : {F S : Type 0} → (F → ℕ) → (F → Tearing) → (F → Call → F → Type 0) → Meanings S
+abbrev pub EventRequests : {F S : Type 0} → (F → ℕ) → (F → Tearing) → (F → Call → F → Type 0) → Meanings S
     → Rows S
     → Event → Answer → F → F → Type 0
-EventAsks failures may_leave asked meanings rows (events.Put place bytes) answer old new =
-    AsksOnce asked (Writes place bytes max_file) old new
-EventAsks failures may_leave asked meanings rows (events.Remove place) answer old new =
-    AsksOnce asked (Removes place) old new
-EventAsks failures may_leave asked meanings rows events.Lost answer old new =
-    Asks failures may_leave asked (takes_at is_own) old new
-EventAsks failures may_leave asked meanings rows (events.Invoke invocation) (answers.Built report) old new =
-    InvocationAsks failures may_leave asked meanings rows invocation (Ok report) old new
-EventAsks failures may_leave asked meanings rows (events.Invoke invocation) answer old new =
-    Asks failures may_leave asked no_change old new
+EventRequests failures may_leave allowed meanings rows (events.Put place bytes) answer old new =
+    RequestsOnce allowed (Writes place bytes max_file) old new
+EventRequests failures may_leave allowed meanings rows (events.Remove place) answer old new =
+    RequestsOnce allowed (Removes place) old new
+EventRequests failures may_leave allowed meanings rows events.Lost answer old new =
+    Requests failures may_leave allowed (takes_at is_own) old new
+EventRequests failures may_leave allowed meanings rows (events.Invoke invocation) (answers.Built report) old new =
+    InvocationRequests failures may_leave allowed meanings rows invocation (Ok report) old new
+EventRequests failures may_leave allowed meanings rows (events.Invoke invocation) answer old new =
+    Requests failures may_leave allowed no_change old new
 
 -- one event after another
 abbrev pub EventsAsk : {F S : Type 0} → (F → ℕ) → (F → Tearing) → (F → Call → F → Type 0) → Meanings S
     → Rows S
     → List Event → List Answer → F → F → Type 0
-EventsAsk failures may_leave asked meanings rows (event ∷ rest) (answer ∷ others) old new =
-    (mid : _) × EventAsks failures may_leave asked meanings rows event answer old mid
-    × EventsAsk failures may_leave asked meanings rows rest others mid new
-EventsAsk failures may_leave asked meanings rows all reported old new = new ≡ old
+EventsAsk failures may_leave allowed meanings rows (event ∷ rest) (answer ∷ others) old new =
+    (mid : _) × EventRequests failures may_leave allowed meanings rows event answer old mid
+    × EventsAsk failures may_leave allowed meanings rows rest others mid new
+EventsAsk failures may_leave allowed meanings rows all reported old new = new ≡ old

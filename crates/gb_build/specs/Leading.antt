@@ -5,7 +5,7 @@ use Rattle.gb_meaning.specs.declared.events.Answer.{Answer}
 use Rattle.gb_meaning.specs.declared.events.Event.{Event}
 use Rattle.gb_meaning.specs.Edits.{Shown}
 use Rattle.gb_meaning.specs.Events.{Setting, State, Step, world_in}
-use Rattle.gb_meaning.specs.Headline.{Stands, StillClear, contents_outside, seen_with, state_of}
+use Rattle.gb_meaning.specs.Headline.{HoldsMemory, StillClear, contents_outside, observed_with, state_of}
 use Rattle.gb_meaning.specs.Memory.{Memory}
 use Rattle.gb_meaning.specs.TrueRecord.{memory_contents}
 
@@ -15,25 +15,25 @@ AreAmong some all = (bytes : Bytes) → Contains some bytes → Contains all byt
 
 -- The folder holds the records of what is remembered, which is true. Each content that this memory mentions
 -- was read before, or is in the folder.
-abbrev pub StandsSeen : Setting → List Bytes → State → Type 0
-StandsSeen setting seen state =
-    Stands setting state.contents state.remembered
-    × AreAmong (memory_contents (world_in state)) (seen ++ contents_outside state.contents)
+abbrev pub HoldsObserved : Setting → List Bytes → State → Type 0
+HoldsObserved setting observed state =
+    HoldsMemory setting state.contents state.remembered
+    × AreAmong (memory_contents (world_in state)) (observed ++ contents_outside state.contents)
 
 -- The event is a step of a run, where the contents that were read are collision-free. If all of these are,
 -- true records of what is remembered exist after it.
-pub record LeadsTo (setting : Setting) (clear : Bool) (seen : List Bytes) (old : State) (event : Event)
+pub record LeadsTo (setting : Setting) (clear : Bool) (observed : List Bytes) (old : State) (event : Event)
     (answer : Answer) (new : Shown) : Type 0 where
   pub remembered : Memory
   pub step : Step setting (StillClear setting (IsTrue clear) old)
-      seen old event answer (state_of new remembered)
-  pub stands : StillClear setting (IsTrue clear) old (seen_with seen old (state_of new remembered))
-      → StandsSeen setting (seen ++ contents_outside old.contents) (state_of new remembered)
+      observed old event answer (state_of new remembered)
+  pub exists : StillClear setting (IsTrue clear) old (observed_with observed old (state_of new remembered))
+      → HoldsObserved setting (observed ++ contents_outside old.contents) (state_of new remembered)
 
 -- An event leads from what a folder shows to what it shows then, from whatever is remembered. The premise:
 -- true records of it exist in the folder, if all was collision-free before.
 abbrev pub Leads : Setting → Shown → Event → Answer → Shown → Type 0
 Leads setting old event answer new =
-    (remembered : Memory) (clear : Bool) (seen : List Bytes)
-    → (IsTrue clear → StandsSeen setting seen (state_of old remembered))
-    → LeadsTo setting clear seen (state_of old remembered) event answer new
+    (remembered : Memory) (clear : Bool) (observed : List Bytes)
+    → (IsTrue clear → HoldsObserved setting observed (state_of old remembered))
+    → LeadsTo setting clear observed (state_of old remembered) event answer new

@@ -3,7 +3,7 @@ use Rattle.std.specs.Prelude.{ℕ, ◌≡◌, false, List, Option, Result, Ok, E
 use Rattle.std.specs.List.{AllZip}
 use Rattle.gb_action.specs.Meanings.{Meanings}
 use Rattle.gb_exec.specs.Asking.{ExecutionsAsk}
-use Rattle.gb_folder.specs.Calls.{Asks, Call, no_change}
+use Rattle.gb_folder.specs.Calls.{Requests, Call, no_change}
 use Rattle.gb_folder.specs.Files.{Tearing}
 use Rattle.gb_history.specs.Record.{Record}
 use Rattle.gb_meaning.specs.Outline.{IsOutlinedBy}
@@ -18,23 +18,23 @@ use Rattle.gb_report.specs.declared.report.TaskReport.{TaskReport}
 
 -- First no change is requested, and calls return these records of the plan's tasks, except in a dry run. From
 -- there on the tasks are executed, each by its record and its report.
-pub record PlanAsks {F S : Type 0} (failures : F → ℕ) (may_leave : F → Tearing)
-    (asked : F → Call → F → Type 0) (meanings : Meanings S) (rows : Rows S) (options : Options)
+pub record PlanRequests {F S : Type 0} (failures : F → ℕ) (may_leave : F → Tearing)
+    (allowed : F → Call → F → Type 0) (meanings : Meanings S) (rows : Rows S) (options : Options)
     (plan : Plan) (reports : List TaskReport)
     (old new : F) : Type 0 where
   pub records : List (Option Record)
   pub begun : F
-  pub first : Asks failures may_leave asked no_change old begun
+  pub first : Requests failures may_leave allowed no_change old begun
   pub answered : options.dry_run ≡ false
-      → AllZip (WasAnswered failures may_leave asked old begun) (order plan) records
-  pub executions : ExecutionsAsk failures may_leave asked meanings rows options plan records reports begun new
+      → AllZip (WasAnswered failures may_leave allowed old begun) (order plan) records
+  pub executions : ExecutionsAsk failures may_leave allowed meanings rows options plan records reports begun new
 
 -- a refused build requests no change; another makes the calls of its plan
-abbrev pub BuildAsks : {F S : Type 0} → (F → ℕ) → (F → Tearing) → (F → Call → F → Type 0) → Meanings S
+abbrev pub BuildRequests : {F S : Type 0} → (F → ℕ) → (F → Tearing) → (F → Call → F → Type 0) → Meanings S
     → Rows S
     → Registry → Invocation → Result Report Fault → F → F → Type 0
-BuildAsks failures may_leave asked meanings rows registry invocation (Err fault) old new =
-    Asks failures may_leave asked no_change old new
-BuildAsks failures may_leave asked meanings rows registry invocation (Ok report) old new =
+BuildRequests failures may_leave allowed meanings rows registry invocation (Err fault) old new =
+    Requests failures may_leave allowed no_change old new
+BuildRequests failures may_leave allowed meanings rows registry invocation (Ok report) old new =
     (by : IsOutlinedBy registry invocation report)
-    × PlanAsks failures may_leave asked meanings rows invocation.options by.plan report.tasks old new
+    × PlanRequests failures may_leave allowed meanings rows invocation.options by.plan report.tasks old new

@@ -46,12 +46,12 @@ AreTexts files places texts = AllZip (λ place text. TextSays Says files place (
 
 -- the fault is that of the script at one of these places, and the scripts at the places before it have none
 pub record IsFirstFault (files : Files) (places : List Place) (fault : Fault) : Type 0 where
-  pub front : List Place
+  pub prefix : List Place
   pub place : Place
   pub back : List Place
   pub texts : List (List Statement)
-  pub all : places ≡ front ++ place ∷ back
-  pub before : AreTexts files front texts
+  pub all : places ≡ prefix ++ place ∷ back
+  pub before : AreTexts files prefix texts
   pub here : TextSays Says files place (Err fault)
 
 -- what the scripts at these places declare, a text for each; or their first fault

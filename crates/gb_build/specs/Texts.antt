@@ -40,6 +40,6 @@ module _ {X : Type 0} (SaysAs : Bytes → Result (List X) ScriptFault → Type 0
 
 -- A call returns what is declared, or its fault; or the fault of the machine that prevented it, between these
 -- counts.
-abbrev pub Tells : {X : Type 0} → (Result X Fault → Type 0) → ℕ → ℕ → Result X Fault → Type 0
-Tells Says before after result =
+abbrev pub Reports : {X : Type 0} → (Result X Fault → Type 0) → ℕ → ℕ → Result X Fault → Type 0
+Reports Says before after result =
     MatchResult result (λ said. Says (Ok said)) (λ fault. IsOfMachine before after fault ⊎ Says (Err fault))

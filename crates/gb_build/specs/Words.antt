@@ -1,21 +1,21 @@
 -- The definitions that the contracts of builds use.
 pub use Rattle.gb_action.specs.Meanings.{Meanings}
 pub use Rattle.gb_build.specs.Answers.{AnswerIsOutlined}
-pub use Rattle.gb_build.specs.EventAsked.{EventAsks, EventsAsk}
+pub use Rattle.gb_build.specs.EventAsked.{EventRequests, EventsAsk}
 pub use Rattle.gb_folder.specs.Files.{Bytes, Contents, SameTearing}
 pub use Rattle.gb_graph.specs.Answer.{IsPlanOf, IsRefusalOf}
 pub use Rattle.gb_history.specs.Places.{record_place}
-pub use Rattle.gb_build.specs.InvocationAsked.{InvocationAsks}
+pub use Rattle.gb_build.specs.InvocationAsked.{InvocationRequests}
 pub use Rattle.gb_build.specs.Registering.{registers_in, setting_of}
 pub use Rattle.gb_build.specs.Leading.{Leads}
-pub use Rattle.gb_exec.specs.Telling.{Refuses}
+pub use Rattle.gb_exec.specs.Notifying.{Refuses}
 pub use Rattle.gb_meaning.specs.Edits.{Shown}
 pub use Rattle.gb_meaning.specs.Events.{IsBuild, IsNotBuilt, Setting, State, has_failure, is_read_first}
 pub use Rattle.gb_meaning.specs.Every.{IsFromScratch, PlainRun, PromiseHolds, Succeeds}
 pub use Rattle.gb_meaning.specs.Assumed.{MemoryGrants, SomeKindsAgree, leaves_nothing}
 pub use Rattle.gb_meaning.specs.Headline.{Agrees, AllKeepElsewhere, Ear, EventKeeps, EventsHold}
 pub use Rattle.gb_meaning.specs.Headline.{HasFailed, HaveHeard, HaveHeardAll, HearsAll, InvocationHolds}
-pub use Rattle.gb_meaning.specs.Headline.{Stands, TearsAreSeen, answer_of, times_blamed}
+pub use Rattle.gb_meaning.specs.Headline.{HoldsMemory, TornWritesAreDetected, answer_of, times_blamed}
 pub use Rattle.gb_meaning.specs.Headline.{times_blamed_in_all}
 pub use Rattle.gb_meaning.specs.Kinds.{Kind, Kinds}
 pub use Rattle.gb_meaning.specs.Memory.{Memory}

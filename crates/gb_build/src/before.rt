@@ -1,7 +1,7 @@
 //! What is read before a build.
 ghost use Rattle.std.specs.Prelude.{◌≡◌, true, false, length, IfErr, IfOk, IsTrue};
 ghost use Rattle.std.specs.List.{AllZip};
-ghost use Rattle.gb_folder.specs.Calls.{Asks, no_change};
+ghost use Rattle.gb_folder.specs.Calls.{Requests, no_change};
 ghost use Rattle.gb_plan.specs.Graph.{order};
 ghost use Rattle.gb_records.specs.Answered.{WasAnswered};
 ghost use Rattle.gb_records.specs.Said.{IsReadAt};
@@ -24,13 +24,13 @@ pub fn records_for<F: Folder>(
     dry_run: bool,
 ) -> Result<Vec<Option<Record>>, Fault>
     ensures each { IfOk result (λ records. length records.items ≡ length tasks.now) }
-    ensures asks { Asks F.failures F.may_leave F.asked no_change folder.old folder.new }
+    ensures requests { Requests F.failures F.may_leave F.allowed no_change folder.old folder.new }
     // Over any folder: each record is what a call at its place returned.
     ensures answered { dry_run ≡ false → IfOk result (λ records. AllZip
-        (WasAnswered F.failures F.may_leave F.asked folder.old folder.new) (order tasks.now) records.items) }
-    ensures same { IsTrue F.tells → F.contents folder.new ≡ F.contents folder.old }
+        (WasAnswered F.failures F.may_leave F.allowed folder.old folder.new) (order tasks.now) records.items) }
+    ensures same { IsTrue F.faithful → F.contents folder.new ≡ F.contents folder.old }
     ensures dry { dry_run ≡ true → folder.new ≡ folder.old }
-    ensures read { IsTrue F.tells → dry_run ≡ false → IfOk result
+    ensures read { IsTrue F.faithful → dry_run ≡ false → IfOk result
         (λ records. AllZip (IsReadAt (F.contents folder.old).files) (order tasks.now) records.items) }
     ensures unread { IfErr result
         (IsUnread dry_run (F.failures folder.old) (F.failures folder.new)) }

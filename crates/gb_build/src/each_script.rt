@@ -3,11 +3,11 @@ ghost use Rattle.std.specs.Prelude.{◌≡◌, ◌⊎◌, Ok, Err, IsTrue, IfOk,
 ghost use Rattle.std.specs.List.{list_all};
 ghost use Rattle.std.specs.Option.{option_copied};
 ghost use Rattle.gb_core.specs.Place.{is_place};
-ghost use Rattle.gb_folder.specs.Calls.{Asks, no_change};
+ghost use Rattle.gb_folder.specs.Calls.{Requests, no_change};
 ghost use Rattle.gb_script.specs.Script.{Says};
 ghost use Rattle.gb_store.specs.Faults.{Blames, BlamesOnly, IsOfMachine};
 ghost use Rattle.gb_build.specs.Scripts.{ScriptsSay, is_script_place, script_place, script_places};
-ghost use Rattle.gb_build.specs.Texts.{Tells, TextSays};
+ghost use Rattle.gb_build.specs.Texts.{Reports, TextSays};
 
 use crate::one_script::script_at;
 use gb_core::path::ProjectPath;
@@ -24,12 +24,12 @@ pub fn read_scripts<F: Folder>(
     projects: &[(ProjectPath, Option<Place>)],
 ) -> Result<Vec<Script>, Fault>
     requires places { IsTrue (list_all (λ place. is_place place) (script_places projects.now)) }
-    ensures asks { Asks F.failures F.may_leave F.asked no_change folder.old folder.new }
+    ensures requests { Requests F.failures F.may_leave F.allowed no_change folder.old folder.new }
     ensures blame { Blames result (F.failures folder.old) (F.failures folder.new) }
     ensures blamed { BlamesOnly is_script_place result }
-    ensures same { IsTrue F.tells → F.contents folder.new ≡ F.contents folder.old }
+    ensures same { IsTrue F.faithful → F.contents folder.new ≡ F.contents folder.old }
     ensures one_each { IfOk result (λ scripts. length scripts.items ≡ length projects.now) }
-    ensures said { IsTrue F.tells → MatchResult result
+    ensures said { IsTrue F.faithful → MatchResult result
         (λ scripts. ScriptsSay (F.contents folder.old).files (script_places projects.now) (Ok scripts.items))
         (λ fault. IsOfMachine (F.failures folder.old) (F.failures folder.new) fault
         ⊎ ScriptsSay (F.contents folder.old).files (script_places projects.now) (Err fault)) }
@@ -48,12 +48,12 @@ fn read_script_of<F: Folder>(
     project: &(ProjectPath, Option<Place>),
 ) -> Result<Script, Fault>
     requires place { IsTrue (is_place (script_place project.now.1)) }
-    ensures asks { Asks F.failures F.may_leave F.asked no_change folder.old folder.new }
+    ensures requests { Requests F.failures F.may_leave F.allowed no_change folder.old folder.new }
     ensures blame { Blames result (F.failures folder.old) (F.failures folder.new) }
     ensures blamed { BlamesOnly is_script_place result }
-    ensures same { IsTrue F.tells → F.contents folder.new ≡ F.contents folder.old }
-    ensures said { IsTrue F.tells
-        → Tells (TextSays Says (F.contents folder.old).files (script_place project.now.1))
+    ensures same { IsTrue F.faithful → F.contents folder.new ≡ F.contents folder.old }
+    ensures said { IsTrue F.faithful
+        → Reports (TextSays Says (F.contents folder.old).files (script_place project.now.1))
         (F.failures folder.old) (F.failures folder.new) result }
 {
     let place = script_place(alloc, project.1.as_ref())?;

@@ -1,12 +1,12 @@
 //! Edits from outside.
 ghost use Rattle.std.specs.Prelude.{◌≡◌, ◌≤◌, IsTrue, MatchResult};
 ghost use Rattle.gb_folder.specs.Files.{SameTearing, is_own};
-ghost use Rattle.gb_folder.specs.Calls.{Asks, Removes, Writes, takes_at};
+ghost use Rattle.gb_folder.specs.Calls.{Requests, Removes, Writes, takes_at};
 ghost use Rattle.gb_folder.specs.Limits.{max_file};
 ghost use Rattle.gb_meaning.specs.Edits.{LossStep, PutStep, RemoveStep, own_place};
 ghost use Rattle.gb_store.specs.Changes.{ChangesOnly};
 ghost use Rattle.gb_store.specs.Faults.{Blames};
-ghost use Rattle.gb_build.specs.EventAsked.{AsksOnce};
+ghost use Rattle.gb_build.specs.EventAsked.{RequestsOnce};
 ghost use Rattle.gb_build.specs.Answers.{edit_answer};
 
 use gb_core::bytes::Bytes;
@@ -24,9 +24,9 @@ use std::alloc::Global;
 pub fn put<F: Folder>(folder: &mut F, place: &Place, bytes: &Bytes) -> Result<(), Fault>
     ensures count { F.failures folder.old ≤ F.failures folder.new }
     ensures blame { Blames result (F.failures folder.old) (F.failures folder.new) }
-    ensures asks { AsksOnce F.asked (Writes place.now bytes.now max_file) folder.old folder.new }
+    ensures requests { RequestsOnce F.allowed (Writes place.now bytes.now max_file) folder.old folder.new }
     ensures tearing { SameTearing (F.may_leave folder.old) (F.may_leave folder.new) }
-    ensures step { IsTrue F.tells → PutStep (F.may_leave folder.old) place.now bytes.now
+    ensures step { IsTrue F.faithful → PutStep (F.may_leave folder.old) place.now bytes.now
         (record { contents = F.contents folder.old; failures = F.failures folder.old })
         (edit_answer result)
         (record { contents = F.contents folder.new; failures = F.failures folder.new }) }
@@ -46,9 +46,9 @@ pub fn put<F: Folder>(folder: &mut F, place: &Place, bytes: &Bytes) -> Result<()
 pub fn remove<F: Folder>(folder: &mut F, place: &Place) -> Result<(), Fault>
     ensures count { F.failures folder.old ≤ F.failures folder.new }
     ensures blame { Blames result (F.failures folder.old) (F.failures folder.new) }
-    ensures asks { AsksOnce F.asked (Removes place.now) folder.old folder.new }
+    ensures requests { RequestsOnce F.allowed (Removes place.now) folder.old folder.new }
     ensures tearing { SameTearing (F.may_leave folder.old) (F.may_leave folder.new) }
-    ensures step { IsTrue F.tells → RemoveStep (F.may_leave folder.old) place.now
+    ensures step { IsTrue F.faithful → RemoveStep (F.may_leave folder.old) place.now
         (record { contents = F.contents folder.old; failures = F.failures folder.old })
         (edit_answer result)
         (record { contents = F.contents folder.new; failures = F.failures folder.new }) }
@@ -65,11 +65,11 @@ pub fn remove<F: Folder>(folder: &mut F, place: &Place) -> Result<(), Fault>
 
 /// Removes everything at or under `.gb`.
 pub fn lose<F: Folder>(alloc: Global, folder: &mut F) -> Result<(), Fault>
-    ensures asks { Asks F.failures F.may_leave F.asked (takes_at is_own) folder.old folder.new }
+    ensures requests { Requests F.failures F.may_leave F.allowed (takes_at is_own) folder.old folder.new }
     ensures blame { Blames result (F.failures folder.old) (F.failures folder.new) }
-    ensures elsewhere { IsTrue F.tells
+    ensures elsewhere { IsTrue F.faithful
         → ChangesOnly is_own (F.contents folder.old) (F.contents folder.new) }
-    ensures step { IsTrue F.tells → LossStep (F.may_leave folder.old)
+    ensures step { IsTrue F.faithful → LossStep (F.may_leave folder.old)
         (record { contents = F.contents folder.old; failures = F.failures folder.old })
         (edit_answer result)
         (record { contents = F.contents folder.new; failures = F.failures folder.new }) }

@@ -11,7 +11,7 @@ ghost use Rattle.gb_records.specs.Assumed.{IsAssumed};
 ghost use Rattle.gb_registry.specs.Tables.{tables_of};
 ghost use Rattle.gb_build.specs.Registering.{registers_in, setting_of};
 ghost use Rattle.gb_build.specs.Leading.{Leads};
-ghost use Rattle.gb_build.specs.EventAsked.{EventAsks, EventsAsk};
+ghost use Rattle.gb_build.specs.EventAsked.{EventRequests, EventsAsk};
 ghost use Rattle.gb_build.specs.Answers.{AnswerIsOutlined, edit_answer};
 
 use crate::edits::{lose, put, remove};
@@ -39,13 +39,13 @@ pub fn run_events<A: Actions, T: Transforms, F: Folder, L: TaskListener>(
 ) -> Result<Vec<Answer>, AllocError>
     ensures count { F.failures folder.old ≤ F.failures folder.new }
     ensures unbegun { OnErr result (folder.new ≡ folder.old) }
-    ensures untold { OnErr result (listeners.new ≡ listeners.old) }
+    ensures unnotified { OnErr result (listeners.new ≡ listeners.old) }
     ensures tearing { SameTearing (F.may_leave folder.old) (F.may_leave folder.new) }
     // Over any folder: an edit makes at most one call, at its own place. A build requests a write
     // or a removal only at or under an output of a task of its plan or at the record of one, and
     // the text of such a record is that of a run of the task. A refused build and a dry run request
     // none.
-    ensures asks { IfOk result (λ answers. EventsAsk F.failures F.may_leave F.asked A.meanings
+    ensures requests { IfOk result (λ answers. EventsAsk F.failures F.may_leave F.allowed A.meanings
         tables.now.actions events.now answers.items folder.old folder.new) }
     // One answer for each event.
     ensures each { IfOk result (λ answers. length answers.items ≡ length events.now) }
@@ -59,11 +59,11 @@ pub fn run_events<A: Actions, T: Transforms, F: Folder, L: TaskListener>(
     // task of this plan starts, and has an outcome, as the outline permits.
     ensures outlined { IfOk result (λ answers. AllZip AnswerIsOutlined events.now answers.items) }
     // Whatever fails, a build changes nothing but `.gb` and the build folders of its projects.
-    ensures elsewhere { IsTrue F.tells → IfOk result (λ answers.
+    ensures elsewhere { IsTrue F.faithful → IfOk result (λ answers.
         AllKeepElsewhere (registers_in (tables_of T.meanings A.meanings tables.now)) events.now answers.items
         (F.contents folder.old) (F.contents folder.new)) }
     // This is a run of the events by its definition.
-    ensures holds { IsTrue F.tells → IfOk result (λ answers. (kinds : Kinds)
+    ensures holds { IsTrue F.faithful → IfOk result (λ answers. (kinds : Kinds)
         → IsAssumed A.meanings tables.now.actions kinds (F.may_leave folder.old)
         → EventsHold
         (setting_of (tables_of T.meanings A.meanings tables.now) kinds (F.may_leave folder.old))
@@ -72,7 +72,7 @@ pub fn run_events<A: Actions, T: Transforms, F: Folder, L: TaskListener>(
         (record { contents = F.contents folder.new; failures = F.failures folder.new })) }
     // So each event is a plain step, and each build in which no task failed is from scratch,
     // starting from any true records.
-    ensures promise { IsTrue F.tells → IfOk result (λ answers. (kinds : Kinds)
+    ensures promise { IsTrue F.faithful → IfOk result (λ answers. (kinds : Kinds)
         → IsAssumed A.meanings tables.now.actions kinds (F.may_leave folder.old)
         → PromiseHolds
         (setting_of (tables_of T.meanings A.meanings tables.now) kinds (F.may_leave folder.old))
@@ -97,16 +97,16 @@ fn take<A: Actions, T: Transforms, F: Folder, L: TaskListener>(
 ) -> Answer
     ensures count { F.failures folder.old ≤ F.failures folder.new }
     ensures tearing { SameTearing (F.may_leave folder.old) (F.may_leave folder.new) }
-    ensures asks { EventAsks F.failures F.may_leave F.asked A.meanings tables.now.actions event.now result
+    ensures requests { EventRequests F.failures F.may_leave F.allowed A.meanings tables.now.actions event.now result
         folder.old folder.new }
     ensures device { HasFailed (times_blamed result) (F.failures folder.old) (F.failures folder.new) }
     ensures heard { HaveHeardAll (result ∷ []) (map L.ear listeners.old.items)
         (map L.ear listeners.new.items) }
     ensures outlined { AnswerIsOutlined event.now result }
-    ensures keeps { IsTrue F.tells
+    ensures keeps { IsTrue F.faithful
         → EventKeeps (registers_in (tables_of T.meanings A.meanings tables.now)) event.now result
         (F.contents folder.old) (F.contents folder.new) }
-    ensures leads { IsTrue F.tells → (kinds : Kinds)
+    ensures leads { IsTrue F.faithful → (kinds : Kinds)
         → IsAssumed A.meanings tables.now.actions kinds (F.may_leave folder.old)
         → Leads (setting_of (tables_of T.meanings A.meanings tables.now) kinds (F.may_leave folder.old))
         (record { contents = F.contents folder.old; failures = F.failures folder.old })

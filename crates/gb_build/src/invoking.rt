@@ -16,7 +16,7 @@ ghost use Rattle.gb_registry.specs.Tables.{tables_of};
 ghost use Rattle.gb_task.specs.Executing.{setting_with};
 ghost use Rattle.gb_build.specs.Leading.{Leads};
 ghost use Rattle.gb_build.specs.Refusing.{IsNotBegun};
-ghost use Rattle.gb_build.specs.InvocationAsked.{InvocationAsks};
+ghost use Rattle.gb_build.specs.InvocationAsked.{InvocationRequests};
 ghost use Rattle.gb_build.specs.Registering.{registers_in, setting_of};
 
 use crate::reading::read_registry;
@@ -53,7 +53,7 @@ pub fn invoke<A: Actions, T: Transforms, F: Folder, L: TaskListener, P: Printer>
     ensures dry_run { IfOk result (λ report. report.dry_run ≡ invocation.now.options.dry_run) }
     ensures heard { IfOk result (λ report.
         HaveHeard report (map L.ear listeners.old.items) (map L.ear listeners.new.items)) }
-    ensures untold { OnErr result (listeners.new ≡ listeners.old) }
+    ensures unnotified { OnErr result (listeners.new ≡ listeners.old) }
     // The parts of its tasks were printed; or a beginning of them, where they could not be.
     ensures printed { IfOk result (λ report.
         Prints P.contents P.whole (parts_text report) printer.old printer.new) }
@@ -66,7 +66,7 @@ pub fn invoke<A: Actions, T: Transforms, F: Folder, L: TaskListener, P: Printer>
     // Over any folder: it requests a write or a removal only at or under an output of a task of its
     // plan or at the record of one, and the text of such a record is that of a run of the task. A
     // refused build and a dry run request none.
-    ensures asks { InvocationAsks F.failures F.may_leave F.asked A.meanings tables.now.actions invocation.now
+    ensures requests { InvocationRequests F.failures F.may_leave F.allowed A.meanings tables.now.actions invocation.now
         result folder.old folder.new }
     // Over any folder: it is a build of the plan of what was requested of some registry. Each task
     // of this plan starts, and has an outcome, as the outline permits. A refusal that is attributed
@@ -74,29 +74,29 @@ pub fn invoke<A: Actions, T: Transforms, F: Folder, L: TaskListener, P: Printer>
     ensures outlined { IfOk result (IsOutlined invocation.now) }
     ensures places { IfErr result (λ fault. (place : List ℕ) → fault ≡ Fault.Device place
         → IsTrue (is_read_first invocation.now.options place)) }
-    ensures refused { IsTrue F.tells → OnErr result (F.contents folder.new ≡ F.contents folder.old) }
+    ensures refused { IsTrue F.faithful → OnErr result (F.contents folder.new ≡ F.contents folder.old) }
     // Why it is refused, and that a dry run changes nothing, depend on no kinds and no device.
-    ensures not_built { IsTrue F.tells → IfErr result (λ fault.
+    ensures not_built { IsTrue F.faithful → IfErr result (λ fault.
         IsNotBuilt (registers_in (tables_of T.meanings A.meanings tables.now))
         (record { contents = F.contents folder.old; failures = F.failures folder.old })
         invocation.now fault (F.failures folder.new)) }
-    ensures dry { IsTrue F.tells → invocation.now.options.dry_run ≡ true
+    ensures dry { IsTrue F.faithful → invocation.now.options.dry_run ≡ true
         → F.contents folder.new ≡ F.contents folder.old }
     // A build changes nothing but `.gb` and the build folders of the projects, and a refusal
     // changes nothing.
-    ensures keeps { IsTrue F.tells
+    ensures keeps { IsTrue F.faithful
         → EventKeeps (registers_in (tables_of T.meanings A.meanings tables.now))
         (events.Invoke invocation.now)
         (answer_of result) (F.contents folder.old) (F.contents folder.new) }
     // It is a next step of any run, with what the scripts of the folder register.
-    ensures leads { IsTrue F.tells → (kinds : Kinds)
+    ensures leads { IsTrue F.faithful → (kinds : Kinds)
         → IsAssumed A.meanings tables.now.actions kinds (F.may_leave folder.old)
         → Leads (setting_of (tables_of T.meanings A.meanings tables.now) kinds (F.may_leave folder.old))
         (record { contents = F.contents folder.old; failures = F.failures folder.old })
         (events.Invoke invocation.now) (answer_of result)
         (record { contents = F.contents folder.new; failures = F.failures folder.new }) }
     // This is one invocation by its definition.
-    ensures holds { IsTrue F.tells → (kinds : Kinds)
+    ensures holds { IsTrue F.faithful → (kinds : Kinds)
         → IsAssumed A.meanings tables.now.actions kinds (F.may_leave folder.old)
         → InvocationHolds
         (setting_of (tables_of T.meanings A.meanings tables.now) kinds (F.may_leave folder.old))
@@ -105,7 +105,7 @@ pub fn invoke<A: Actions, T: Transforms, F: Folder, L: TaskListener, P: Printer>
         (record { contents = F.contents folder.new; failures = F.failures folder.new }) }
     // So it is a plain step, and a build in which no task failed is from scratch, starting from any
     // true records.
-    ensures promise { IsTrue F.tells → (kinds : Kinds)
+    ensures promise { IsTrue F.faithful → (kinds : Kinds)
         → IsAssumed A.meanings tables.now.actions kinds (F.may_leave folder.old)
         → PromiseHolds
         (setting_of (tables_of T.meanings A.meanings tables.now) kinds (F.may_leave folder.old))
@@ -133,7 +133,7 @@ fn build_registered<A: Actions, T: Transforms, F: Folder, L: TaskListener, P: Pr
     ensures dry_run { IfOk result (λ report. report.dry_run ≡ invocation.now.options.dry_run) }
     ensures heard { IfOk result (λ report.
         HaveHeard report (map L.ear listeners.old.items) (map L.ear listeners.new.items)) }
-    ensures untold { OnErr result (listeners.new ≡ listeners.old) }
+    ensures unnotified { OnErr result (listeners.new ≡ listeners.old) }
     ensures printed { IfOk result (λ report.
         Prints P.contents P.whole (parts_text report) printer.old printer.new) }
     ensures unprinted { OnErr result (printer.new ≡ printer.old) }
@@ -142,7 +142,7 @@ fn build_registered<A: Actions, T: Transforms, F: Folder, L: TaskListener, P: Pr
     ensures device { HasFailed (times_blamed (answer_of result))
         (F.failures folder.old) (F.failures folder.new) }
     ensures tearing { SameTearing (F.may_leave folder.old) (F.may_leave folder.new) }
-    ensures asks { InvocationAsks F.failures F.may_leave F.asked A.meanings
+    ensures requests { InvocationRequests F.failures F.may_leave F.allowed A.meanings
         configured.now.tables.now.actions invocation.now result folder.old folder.new }
     ensures outlined { IfOk result (IsOutlined invocation.now) }
     ensures places { IfErr result (λ fault. (place : List ℕ) → fault ≡ Fault.Device place
@@ -151,12 +151,12 @@ fn build_registered<A: Actions, T: Transforms, F: Folder, L: TaskListener, P: Pr
         IfErr result (IsNotBegun (registry_said tables configured.now.registry) invocation.now
         (F.failures folder.old) (F.failures folder.new)) }
     ensures dry { invocation.now.options.dry_run ≡ true → folder.new ≡ folder.old }
-    ensures refused { IsTrue F.tells → OnErr result (F.contents folder.new ≡ F.contents folder.old) }
+    ensures refused { IsTrue F.faithful → OnErr result (F.contents folder.new ≡ F.contents folder.old) }
     ensures keeps { let tables = tables_of T.meanings A.meanings configured.now.tables.now in
-        IsTrue F.tells → KeepsElsewhere (registry_said tables configured.now.registry)
+        IsTrue F.faithful → KeepsElsewhere (registry_said tables configured.now.registry)
         (F.contents folder.old) (F.contents folder.new) }
     ensures leads { let tables = tables_of T.meanings A.meanings configured.now.tables.now in
-        IsTrue F.tells → (kinds : Kinds)
+        IsTrue F.faithful → (kinds : Kinds)
         → IsAssumed A.meanings configured.now.tables.now.actions kinds (F.may_leave folder.old)
         → Leads (setting_with kinds (λ files given. Ok (registry_said tables configured.now.registry))
         (F.may_leave folder.old))

@@ -2,7 +2,7 @@
 ghost use Rattle.std.specs.Prelude.{[], IfOk};
 ghost use Rattle.gb_meaning.specs.Every.{PromiseHolds};
 ghost use Rattle.gb_meaning.specs.Assumed.{leaves_nothing};
-ghost use Rattle.gb_meaning.specs.Headline.{Agrees, Stands};
+ghost use Rattle.gb_meaning.specs.Headline.{Agrees, HoldsMemory};
 ghost use Rattle.gb_meaning.specs.Kinds.{Kinds};
 ghost use Rattle.gb_registry.specs.Tables.{tables_of};
 ghost use Rattle.gb_build.specs.Registering.{setting_of};
@@ -29,12 +29,12 @@ pub fn run_from_nothing<A: Actions, T: Transforms, L: TaskListener>(
 ) -> Result<(MemoryFolder, Vec<Answer>), AllocError>
     ensures { IfOk result (λ made. (kinds : Kinds)
         × Agrees A.meanings tables.now.actions kinds
-        × Stands (setting_of (tables_of T.meanings A.meanings tables.now) kinds leaves_nothing)
-        (record { files = []; odd = [] }) []
+        × HoldsMemory (setting_of (tables_of T.meanings A.meanings tables.now) kinds leaves_nothing)
+        (record { files = []; special = [] }) []
         × PromiseHolds (setting_of (tables_of T.meanings A.meanings tables.now) kinds leaves_nothing)
-        (record { contents = record { files = []; odd = [] }; failures = 0 })
+        (record { contents = record { files = []; special = [] }; failures = 0 })
         events.now made.1.items
-        (record { contents = record { files = made.0.files; odd = [] }; failures = 0 })) }
+        (record { contents = record { files = made.0.files; special = [] }; failures = 0 })) }
 {
     tables.actions.names_are_unique();
     some_kinds_agree::<A>();

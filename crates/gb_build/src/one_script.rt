@@ -1,10 +1,10 @@
 //! Reads the texts of settings and scripts from their files.
 ghost use Rattle.std.specs.Prelude.{◌≡◌, ◌⊎◌, Some, Ok, Err, IsTrue, MatchResult, length};
-ghost use Rattle.gb_folder.specs.Calls.{Asks, no_change};
+ghost use Rattle.gb_folder.specs.Calls.{Requests, no_change};
 ghost use Rattle.gb_script.specs.Script.{Says, SaysAsSettings};
 ghost use Rattle.gb_store.specs.Changes.{is_at};
 ghost use Rattle.gb_store.specs.Faults.{Blames, BlamesOnly};
-ghost use Rattle.gb_build.specs.Texts.{FileSays, Tells, TextSays, in_file, unread_at};
+ghost use Rattle.gb_build.specs.Texts.{FileSays, Reports, TextSays, in_file, unread_at};
 
 use gb_core::place::Place;
 use gb_folder::folder::{Folder, FolderFault};
@@ -21,12 +21,12 @@ pub fn settings_at<F: Folder>(
     folder: &mut F,
     place: Place,
 ) -> Result<Settings, Fault>
-    ensures asks { Asks F.failures F.may_leave F.asked no_change folder.old folder.new }
+    ensures requests { Requests F.failures F.may_leave F.allowed no_change folder.old folder.new }
     ensures blame { Blames result (F.failures folder.old) (F.failures folder.new) }
     ensures blamed { BlamesOnly (is_at place) result }
-    ensures same { IsTrue F.tells → F.contents folder.new ≡ F.contents folder.old }
-    ensures said { IsTrue F.tells
-        → Tells (TextSays SaysAsSettings (F.contents folder.old).files place)
+    ensures same { IsTrue F.faithful → F.contents folder.new ≡ F.contents folder.old }
+    ensures said { IsTrue F.faithful
+        → Reports (TextSays SaysAsSettings (F.contents folder.old).files place)
         (F.failures folder.old) (F.failures folder.new) result }
 {
     match folder.read(alloc, &place, MAX_SCRIPT as u64) {
@@ -40,12 +40,12 @@ pub fn settings_at<F: Folder>(
 
 /// Reads the script at a place. Where no file exists, it is empty.
 pub fn script_at<F: Folder>(alloc: Global, folder: &mut F, place: Place) -> Result<Script, Fault>
-    ensures asks { Asks F.failures F.may_leave F.asked no_change folder.old folder.new }
+    ensures requests { Requests F.failures F.may_leave F.allowed no_change folder.old folder.new }
     ensures blame { Blames result (F.failures folder.old) (F.failures folder.new) }
     ensures blamed { BlamesOnly (is_at place) result }
-    ensures same { IsTrue F.tells → F.contents folder.new ≡ F.contents folder.old }
-    ensures said { IsTrue F.tells
-        → Tells (TextSays Says (F.contents folder.old).files place)
+    ensures same { IsTrue F.faithful → F.contents folder.new ≡ F.contents folder.old }
+    ensures said { IsTrue F.faithful
+        → Reports (TextSays Says (F.contents folder.old).files place)
         (F.failures folder.old) (F.failures folder.new) result }
 {
     match folder.read(alloc, &place, MAX_SCRIPT as u64) {

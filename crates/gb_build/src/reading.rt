@@ -1,12 +1,12 @@
 //! Reads a folder: its settings, and the scripts of their projects.
 ghost use Rattle.std.specs.Prelude.{◌≡◌, ◌⊎◌, Ok, Err, IsTrue, IfOk, MatchResult};
-ghost use Rattle.gb_folder.specs.Calls.{Asks, no_change};
+ghost use Rattle.gb_folder.specs.Calls.{Requests, no_change};
 ghost use Rattle.gb_registry.specs.Tables.{tables_of};
 ghost use Rattle.gb_script.specs.Script.{SaysAsSettings};
 ghost use Rattle.gb_store.specs.Changes.{is_at};
 ghost use Rattle.gb_store.specs.Faults.{Blames, BlamesOnly, IsOfMachine};
 ghost use Rattle.gb_build.specs.Scripts.{FolderSays, is_script_place, settings_place};
-ghost use Rattle.gb_build.specs.Texts.{Tells, TextSays};
+ghost use Rattle.gb_build.specs.Texts.{Reports, TextSays};
 
 use crate::each_script::read_scripts;
 use crate::one_script::settings_at;
@@ -38,12 +38,12 @@ pub fn read_registry<'a, A: Actions, T: Transforms, F: Folder>(
     tables: &'a Tables<A, T>,
     given: Vec<(Name, Text)>,
 ) -> Result<Configured<'a, A, T>, Fault>
-    ensures asks { Asks F.failures F.may_leave F.asked no_change folder.old folder.new }
+    ensures requests { Requests F.failures F.may_leave F.allowed no_change folder.old folder.new }
     ensures blame { Blames result (F.failures folder.old) (F.failures folder.new) }
     ensures blamed { BlamesOnly is_script_place result }
-    ensures same { IsTrue F.tells → F.contents folder.new ≡ F.contents folder.old }
+    ensures same { IsTrue F.faithful → F.contents folder.new ≡ F.contents folder.old }
     ensures tables { IfOk result (λ configured. configured.tables.now ≡ tables.now) }
-    ensures said { IsTrue F.tells → MatchResult result
+    ensures said { IsTrue F.faithful → MatchResult result
         (λ configured. FolderSays (tables_of T.meanings A.meanings tables.now)
         (F.contents folder.old).files given.items (Ok configured.registry))
         (λ fault. IsOfMachine (F.failures folder.old) (F.failures folder.new) fault
@@ -58,12 +58,12 @@ pub fn read_registry<'a, A: Actions, T: Transforms, F: Folder>(
 
 /// The settings of a folder.
 fn read_settings_of<F: Folder>(alloc: Global, folder: &mut F) -> Result<Settings, Fault>
-    ensures asks { Asks F.failures F.may_leave F.asked no_change folder.old folder.new }
+    ensures requests { Requests F.failures F.may_leave F.allowed no_change folder.old folder.new }
     ensures blame { Blames result (F.failures folder.old) (F.failures folder.new) }
     ensures blamed { BlamesOnly (is_at settings_place) result }
-    ensures same { IsTrue F.tells → F.contents folder.new ≡ F.contents folder.old }
-    ensures said { IsTrue F.tells
-        → Tells (TextSays SaysAsSettings (F.contents folder.old).files settings_place)
+    ensures same { IsTrue F.faithful → F.contents folder.new ≡ F.contents folder.old }
+    ensures said { IsTrue F.faithful
+        → Reports (TextSays SaysAsSettings (F.contents folder.old).files settings_place)
         (F.failures folder.old) (F.failures folder.new) result }
 {
     let place = settings_place(alloc)?;

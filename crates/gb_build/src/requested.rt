@@ -11,7 +11,7 @@ ghost use Rattle.gb_printer.specs.Printing.{Prints, parts_text};
 ghost use Rattle.gb_records.specs.Assumed.{IsAssumed};
 ghost use Rattle.gb_store.specs.Changes.{ChangesOnly};
 ghost use Rattle.gb_task.specs.Executing.{Registering, setting_with};
-ghost use Rattle.gb_build.specs.RequestAsked.{BuildAsks};
+ghost use Rattle.gb_build.specs.RequestAsked.{BuildRequests};
 ghost use Rattle.gb_build.specs.Asking.{AreBuildable, IsReportOf, NoneBlameDevice};
 ghost use Rattle.gb_build.specs.Leading.{Leads};
 ghost use Rattle.gb_build.specs.Refusing.{IsNotBegun};
@@ -55,7 +55,7 @@ pub fn build_requested<A: Actions, F: Folder, L: TaskListener, P: Printer, Ts: T
         (F.failures folder.old) (F.failures folder.new)) }
     ensures heard { IfOk result (λ report.
         HaveHeard report (map L.ear listeners.old.items) (map L.ear listeners.new.items)) }
-    ensures untold { OnErr result (listeners.new ≡ listeners.old) }
+    ensures unnotified { OnErr result (listeners.new ≡ listeners.old) }
     // The parts of its tasks were printed; or a beginning of them, where they could not be.
     ensures printed { IfOk result (λ report.
         Prints P.contents P.whole (parts_text report) printer.old printer.new) }
@@ -67,15 +67,15 @@ pub fn build_requested<A: Actions, F: Folder, L: TaskListener, P: Printer, Ts: T
         → HasFailed (times_blamed (answer_of result)) (F.failures folder.old) (F.failures folder.new) }
     ensures tearing { SameTearing (F.may_leave folder.old) (F.may_leave folder.new) }
     // Over any folder: which changes it requests, and which records it stores.
-    ensures asks { BuildAsks F.failures F.may_leave F.asked A.meanings table.now (Ts.registry tasks.old)
+    ensures requests { BuildRequests F.failures F.may_leave F.allowed A.meanings table.now (Ts.registry tasks.old)
         invocation.now result folder.old folder.new }
     ensures dry { invocation.now.options.dry_run ≡ true → folder.new ≡ folder.old }
-    ensures refused { IsTrue F.tells → OnErr result (F.contents folder.new ≡ F.contents folder.old) }
+    ensures refused { IsTrue F.faithful → OnErr result (F.contents folder.new ≡ F.contents folder.old) }
     // Nothing changes but `.gb` and the build folders of the registered projects.
-    ensures elsewhere { IsTrue F.tells → ChangesOnly (is_of_build (Ts.registry tasks.old).projects)
+    ensures elsewhere { IsTrue F.faithful → ChangesOnly (is_of_build (Ts.registry tasks.old).projects)
         (F.contents folder.old) (F.contents folder.new) }
     // It is a next step of any run, wherever scripts declare what is registered here.
-    ensures leads { IsTrue F.tells → (kinds : Kinds) (registry_of : Registering)
+    ensures leads { IsTrue F.faithful → (kinds : Kinds) (registry_of : Registering)
         → IsAssumed A.meanings table.now kinds (F.may_leave folder.old)
         → registry_of (outside (F.contents folder.old)).files invocation.now.properties
         ≡ Ok (Ts.registry tasks.old)
@@ -84,7 +84,7 @@ pub fn build_requested<A: Actions, F: Folder, L: TaskListener, P: Printer, Ts: T
         (events.Invoke invocation.now) (answer_of result)
         (record { contents = F.contents folder.new; failures = F.failures folder.new }) }
     // This is one invocation by its definition.
-    ensures holds { IsTrue F.tells → (kinds : Kinds) (registry_of : Registering)
+    ensures holds { IsTrue F.faithful → (kinds : Kinds) (registry_of : Registering)
         → IsAssumed A.meanings table.now kinds (F.may_leave folder.old)
         → registry_of (outside (F.contents folder.old)).files invocation.now.properties
         ≡ Ok (Ts.registry tasks.old)

@@ -256,16 +256,16 @@ fn site(alloc: Global) -> Result<MemoryFolder, Fail> {
 fn related<A: Actions, T: Transforms>(
     alloc: Global,
     tables: &Tables<A, T>,
-    asked: &Asked<'_>,
+    allowed: &Asked<'_>,
 ) -> Result<String, Fail> {
     let mut folder = site(alloc)?;
-    let words = words_of(alloc, asked.2)?;
+    let words = words_of(alloc, allowed.2)?;
     let mut out = Vec::new(alloc);
     places::run(
         alloc,
         &mut folder,
-        asked.1,
-        asked.0,
+        allowed.1,
+        allowed.0,
         Ok(words),
         &mut Page::new(&mut out),
         tables,
@@ -343,8 +343,8 @@ fn are_related<A: Actions, T: Transforms>(
     alloc: Global,
     tables: &Tables<A, T>,
 ) -> Result<(), Fail> {
-    for asked in &PLACES {
-        is_reported(asked.3, related(alloc, tables, asked)?.as_str())?;
+    for allowed in &PLACES {
+        is_reported(allowed.3, related(alloc, tables, allowed)?.as_str())?;
     }
     is_status(alloc, tables)
 }

@@ -173,8 +173,8 @@ fn push_file(
     out: &mut String,
 ) -> Result<(), Fail> {
     let text = String::from_utf8(folder.read(alloc, place, 1_048_576)?)?;
-    let front = if out.is_empty() { "" } else { " " };
-    push_texts(out, [front, place.as_str(), "=", text.as_str()])
+    let prefix = if out.is_empty() { "" } else { " " };
+    push_texts(out, [prefix, place.as_str(), "=", text.as_str()])
 }
 
 fn push_texts(out: &mut String, texts: [&str; 4]) -> Result<(), Fail> {

@@ -51,7 +51,7 @@ fn is_unwritten_in<A: Actions, T: Transforms>(
 }
 
 #[test]
-fn a_record_that_cannot_stand_is_reported(rt: HostRuntime) -> Result<(), Fail> {
+fn a_record_that_cannot_exist_is_reported(rt: HostRuntime) -> Result<(), Fail> {
     let (actions, transforms) = offered(rt.alloc())?;
     let tables = Tables::<Builtin, Builtin> {
         actions,

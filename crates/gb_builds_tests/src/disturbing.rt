@@ -36,16 +36,16 @@ impl Folder for Disturbed {
 
     ghost failures = { λ _. 0 };
 
-    ghost tells = { false };
+    ghost faithful = { false };
 
-    ghost contents = { λ _. record { files = []; odd = [] } };
+    ghost contents = { λ _. record { files = []; special = [] } };
 
     ghost may_leave = { λ _ _ _ _ _. ⊤ };
 
-    ghost asked = { λ _ _ _. ⊤ };
+    ghost allowed = { λ _ _ _. ⊤ };
 
     ghost device = { device_of (λ _. 0) (λ _ _ _ _ _. ⊤) (λ _ _ _. ⊤) false
-        (λ _. record { files = []; odd = [] }) };
+        (λ _. record { files = []; special = [] }) };
 
     ghost sound = { λ _. record { in_order = refl; none_blocked = refl } };
 

@@ -93,21 +93,21 @@ fn heard_by_last<L: TaskListener>(alloc: Global, listeners: &[L]) -> Result<Stri
 /// Stops a build at each of its calls, and returns how many of the stops come after the end of its
 /// first task.
 fn all_stops<A: Actions, T: Transforms>(alloc: Global, tables: &Tables<A, T>) -> Result<u64, Fail> {
-    let mut behind = 0u64;
+    let mut following = 0u64;
     for at in 1..200u64 {
         let (text, is_heard) = stopped(alloc, tables, at)?;
         if text.as_str() == EXECUTED {
-            return Ok(behind);
+            return Ok(following);
         }
         if is_heard {
-            behind = behind.saturating_add(1);
+            following = following.saturating_add(1);
         }
     }
     Err(Fail::new("the build does not end"))
 }
 
 /// Fails if no stop comes after the end of the first task.
-fn has_stops_behind<A: Actions, T: Transforms>(
+fn has_stops_after<A: Actions, T: Transforms>(
     alloc: Global,
     tables: &Tables<A, T>,
 ) -> Result<(), Fail> {
@@ -126,7 +126,7 @@ fn what_was_heard_is_so_after_a_stop(rt: HostRuntime) -> Result<(), Fail> {
         actions,
         transforms,
     };
-    has_stops_behind::<Builtin, Builtin>(alloc, &tables)
+    has_stops_after::<Builtin, Builtin>(alloc, &tables)
 }
 
 /// Fails if a listener that refuses a call changes more of a build than its success.

@@ -38,7 +38,7 @@ mod site;
 #[cfg(test)]
 mod stopping;
 #[cfg(test)]
-mod telling;
+mod predicting;
 #[cfg(test)]
 mod versions;
 #[cfg(test)]

@@ -57,7 +57,7 @@ impl Write for Scarce {
 #[derive(Drop)]
 struct Flushed {
     written: usize,
-    seen: Vec<usize>,
+    observed: Vec<usize>,
 }
 
 impl Write for Flushed {
@@ -67,7 +67,7 @@ impl Write for Flushed {
     }
 
     fn flush(&mut self) -> io::Result<()> {
-        self.seen.push(self.written)?;
+        self.observed.push(self.written)?;
         Ok(())
     }
 }
@@ -161,32 +161,32 @@ fn what_cannot_be_printed_stops_nothing(rt: HostRuntime) -> Result<(), Fail> {
 }
 
 /// How much had been written at each flush of a build of all.
-fn seen_at_flushes<A: Actions, T: Transforms>(
+fn observed_at_flushes<A: Actions, T: Transforms>(
     alloc: Global,
     folder: &mut MemoryFolder,
     tables: &Tables<A, T>,
 ) -> Result<Vec<usize>, Fail> {
     let mut page = Page::new(Flushed {
         written: 0,
-        seen: Vec::new(alloc),
+        observed: Vec::new(alloc),
     });
     let words = Ok(words_of(alloc, "a b")?);
     let status = run(alloc, folder, words, &mut page, tables);
-    let Flushed { written: _, seen } = page.into_writer();
+    let Flushed { written: _, observed } = page.into_writer();
     match status {
-        Some(0) => Ok(seen),
+        Some(0) => Ok(observed),
         _ => Err(Fail::new("another status")),
     }
 }
 
 /// Fails if the output of a build of all is flushed at other moments, by how much had been written.
-fn is_seen<A: Actions, T: Transforms>(
+fn is_observed<A: Actions, T: Transforms>(
     alloc: Global,
     folder: &mut MemoryFolder,
     tables: &Tables<A, T>,
     expected: &[usize],
 ) -> Result<(), Fail> {
-    if seen_at_flushes(alloc, folder, tables)?.as_slice() == expected {
+    if observed_at_flushes(alloc, folder, tables)?.as_slice() == expected {
         Ok(())
     } else {
         Err(Fail::new("seen at other moments"))
@@ -194,18 +194,18 @@ fn is_seen<A: Actions, T: Transforms>(
 }
 
 /// Fails if a first build is not flushed part by part, or a later one not at once.
-fn are_seen<A: Actions, T: Transforms>(alloc: Global, tables: &Tables<A, T>) -> Result<(), Fail> {
+fn are_observed<A: Actions, T: Transforms>(alloc: Global, tables: &Tables<A, T>) -> Result<(), Fail> {
     let mut folder = laid_out(alloc)?;
-    is_seen(alloc, &mut folder, tables, &[10, 20, MADE.len()])?;
-    is_seen(alloc, &mut folder, tables, &[KEPT.len()])
+    is_observed(alloc, &mut folder, tables, &[10, 20, MADE.len()])?;
+    is_observed(alloc, &mut folder, tables, &[KEPT.len()])
 }
 
 #[test]
-fn each_part_is_seen_once_its_execution_has_ended(rt: HostRuntime) -> Result<(), Fail> {
+fn each_part_is_observed_once_its_execution_has_ended(rt: HostRuntime) -> Result<(), Fail> {
     let (actions, transforms) = offered(rt.alloc())?;
     let tables = Tables::<Builtin, Builtin> {
         actions,
         transforms,
     };
-    are_seen::<Builtin, Builtin>(rt.alloc(), &tables)
+    are_observed::<Builtin, Builtin>(rt.alloc(), &tables)
 }

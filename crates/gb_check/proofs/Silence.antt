@@ -23,9 +23,9 @@ use Rattle.gb_check.specs.declared.sites.Site.{Site}
 
 -- ---- Findings
 
-front_empty : {X : Type 0} (xs ys : List X) → xs ++ ys ≡ [] → xs ≡ []
-front_empty [] ys e = refl
-front_empty (x ∷ xs) ys e = absurd (cc)
+prefix_empty : {X : Type 0} (xs ys : List X) → xs ++ ys ≡ [] → xs ≡ []
+prefix_empty [] ys e = refl
+prefix_empty (x ∷ xs) ys e = absurd (cc)
 
 back_empty : {X : Type 0} (xs ys : List X) → xs ++ ys ≡ [] → ys ≡ []
 back_empty [] ys e = e
@@ -36,7 +36,7 @@ nothing_in f [] path none is = not_true is
 nothing_in {X} f (p ∷ paths) path none is =
     let both : f p ++ flat_map f paths ≡ [] = sym (flat_map-cons f p paths) ∙ none in
     elim (bytes_eq path p) as (λ b. bytes_eq path p ≡ b → (b || has_path paths path) ≡ true → f path ≡ []) [
-      | true ↦ λ same _. ap f ((bytes_decides path p).0 same) ∙ front_empty (f p) (flat_map f paths) both
+      | true ↦ λ same _. ap f ((bytes_decides path p).0 same) ∙ prefix_empty (f p) (flat_map f paths) both
       | false ↦ λ _ there. nothing_in f paths path (back_empty (f p) (flat_map f paths) both) there
     ] refl is
 
@@ -55,7 +55,7 @@ registered (row ∷ rows) path x e =
 
 module _ (registry : Registry) where
   abbrev IsAsked : Result Request Fault → Type 0
-  IsAsked asked = IfOk asked (λ request. request.registry ≡ registry)
+  IsAsked allowed = IfOk allowed (λ request. request.registry ≡ registry)
 
   by_first : (request : Request) → request.registry ≡ registry → (reported : List Fault)
       → IsAsked (elim (first_of reported) [ None ↦ Ok request | Some fault ↦ Err fault ])
@@ -89,9 +89,9 @@ module _ (sites : List Site) (marks : List Mark) (registry : Registry) (none : t
   pub silent_of : IsSilent registry
   silent_of requested excluded fault (inl memory) = inl memory
   silent_of requested excluded fault (inr (inl words)) = inr (inl words)
-  silent_of requested excluded fault (inr (inr (request, asked, inl task))) =
-      absurd (not_at_fault task.path fault (ap (λ r. declaration_at r task.path) (sym (request_registry registry requested excluded request asked)) ∙ task.at_fault))
-  silent_of requested excluded fault (inr (inr (request, asked, inr (plan, schedule, bad)))) = inr (inr (plan, bad))
+  silent_of requested excluded fault (inr (inr (request, allowed, inl task))) =
+      absurd (not_at_fault task.path fault (ap (λ r. declaration_at r task.path) (sym (request_registry registry requested excluded request allowed)) ∙ task.at_fault))
+  silent_of requested excluded fault (inr (inr (request, allowed, inr (plan, schedule, bad)))) = inr (inr (plan, bad))
 
 pub silence : (sites : List Site) (marks : List Mark) (registry : Registry) (found : List Finding) → IsFound sites marks registry found → found ≡ [] → IsSilent registry
 silence sites marks registry found (in_tasks full is) empty = absurd (full empty)

@@ -12,12 +12,12 @@ use Rattle.gb_check.specs.declared.marks.Mark.{Mark}
 use Rattle.gb_check.specs.declared.sites.Site.{Site}
 
 -- The findings for a registry whose tasks these scripts register, with the lines in which they do.
-pub record AreFindings (tells : Bool) (contents : Contents) (registry : Registry)
+pub record AreFindings (faithful : Bool) (contents : Contents) (registry : Registry)
     (scripts : List (Path × List Statement)) (findings : Findings) : Type 0 where
   pub sites : List Site
   pub marks : List Mark
-  pub are_sites : AreSites tells contents.files scripts sites marks
+  pub are_sites : AreSites faithful contents.files scripts sites marks
   pub faults : IsFound sites marks registry findings.faults.items
   -- The theorem of silence.
   pub silent : findings.faults.items ≡ [] → IsSilent registry
-  pub warnings : AreWarnings tells sites scripts contents registry findings.warnings.items
+  pub warnings : AreWarnings faithful sites scripts contents registry findings.warnings.items

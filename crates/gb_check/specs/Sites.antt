@@ -50,11 +50,11 @@ AreLinesAt files place lines =
 -- Where these scripts register tasks, in their order, each with the line in which its statement begins, and
 -- the words of their clauses. If the contents of the folder are known, the lines are those of the files.
 abbrev pub AreSites : Bool → Files → List (Path × List Statement) → List Site → List Mark → Type 0
-AreSites tells files [] sites marks = (sites ≡ []) × (marks ≡ [])
-AreSites tells files (script ∷ scripts) sites marks =
+AreSites faithful files [] sites marks = (sites ≡ []) × (marks ≡ [])
+AreSites faithful files (script ∷ scripts) sites marks =
     (lines : List Lines) × (others : List Site) × (words : List Mark)
-    × (IsTrue tells → AreLinesAt files (script_of_project script.0) lines)
-    × AreSites tells files scripts others words
+    × (IsTrue faithful → AreLinesAt files (script_of_project script.0) lines)
+    × AreSites faithful files scripts others words
     × (sites ≡ sites_of script.0 (script_of_project script.0) script.1 lines ++ others)
     × (marks ≡ marks_of script.0 script.1 lines ++ words)
 

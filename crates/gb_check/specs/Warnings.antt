@@ -4,7 +4,7 @@ use Rattle.std.specs.Prelude.{None, Result, Ok, Err, bytes_eq, false, if◌then�
 use Rattle.std.specs.List.{flat_map, list_any}
 use Rattle.gb_core.specs.Path.{task_in}
 use Rattle.gb_core.specs.Place.{overlaps}
-use Rattle.gb_folder.specs.Files.{Contents, Place, is_empty, is_odd_under, places_under}
+use Rattle.gb_folder.specs.Files.{Contents, Place, is_empty, is_special_under, places_under}
 use Rattle.gb_plan.specs.Graph.{Registry, declaration_at, paths_of}
 use Rattle.gb_plan.specs.Task.{Path, has_path, output_places}
 use Rattle.gb_plan.specs.declared.task.FileProperty.{FileProperty}
@@ -130,7 +130,7 @@ all_roots tasks =
 abbrev pub is_bare : Contents → List Place → Place → Bool
 is_bare contents outputs root =
     not (list_any (overlaps root) outputs) && is_empty (places_under contents.files root)
-    && not (is_odd_under contents root)
+    && not (is_special_under contents root)
 
 abbrev pub bare_root : List Site → Contents → List Place → Rooted → List Finding
 bare_root sites contents outputs rooted =
@@ -150,8 +150,8 @@ declared_warnings sites scripts tasks = shared_in sites tasks ++ between_all sit
 
 -- These, and then those for roots: if the contents of the folder are known, for the roots that have no files
 -- in it.
-pub record AreWarnings (tells : Bool) (sites : List Site) (scripts : List (Path × List Statement))
+pub record AreWarnings (faithful : Bool) (sites : List Site) (scripts : List (Path × List Statement))
     (contents : Contents) (registry : Registry) (found : List Finding) : Type 0 where
   pub bare : List Finding
-  pub are_bare : IsTrue tells → bare ≡ bare_roots sites contents (declared_in registry)
+  pub are_bare : IsTrue faithful → bare ≡ bare_roots sites contents (declared_in registry)
   pub found_is : found ≡ declared_warnings sites scripts (declared_in registry) ++ bare

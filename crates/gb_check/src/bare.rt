@@ -2,8 +2,8 @@
 ghost use Rattle.std.specs.Prelude.{◌≡◌, ◌∷◌, ◌++◌, ◌&&◌, [], IfErr, IfOk, IsTrue, OnOk, not};
 ghost use Rattle.std.specs.List.{flat_map, list_any};
 ghost use Rattle.gb_core.specs.Place.{overlaps};
-ghost use Rattle.gb_folder.specs.Calls.{Asks, no_change};
-ghost use Rattle.gb_folder.specs.Files.{is_empty, is_odd_under, places_under};
+ghost use Rattle.gb_folder.specs.Calls.{Requests, no_change};
+ghost use Rattle.gb_folder.specs.Files.{is_empty, is_special_under, places_under};
 ghost use Rattle.gb_store.specs.Faults.{IsOfMachine};
 ghost use Rattle.gb_check.specs.Findings.{warning};
 ghost use Rattle.gb_check.specs.Warnings.{bare_root, bare_roots, is_bare};
@@ -26,11 +26,11 @@ pub(crate) fn warn_bare<F: Folder>(
     tasks: &[TaskDeclaration],
     sites: &[Site],
 ) -> Result<Vec<Finding>, Fault>
-    ensures asks { Asks F.failures F.may_leave F.asked no_change folder.old folder.new }
-    ensures same { IsTrue F.tells → F.contents folder.new ≡ F.contents folder.old }
-    ensures found { IsTrue F.tells → IfOk result (λ found. found.items
+    ensures requests { Requests F.failures F.may_leave F.allowed no_change folder.old folder.new }
+    ensures same { IsTrue F.faithful → F.contents folder.new ≡ F.contents folder.old }
+    ensures found { IsTrue F.faithful → IfOk result (λ found. found.items
         ≡ bare_roots sites.now (F.contents folder.old) tasks.now) }
-    ensures err { IsTrue F.tells
+    ensures err { IsTrue F.faithful
         → IfErr result (IsOfMachine (F.failures folder.old) (F.failures folder.new)) }
 {
     let outputs = all_outputs(alloc, tasks)?;
@@ -46,11 +46,11 @@ fn warn_each<F: Folder>(
     outputs: &[Place],
     roots: &[Rooted],
 ) -> Result<Vec<Finding>, Fault>
-    ensures asks { Asks F.failures F.may_leave F.asked no_change folder.old folder.new }
-    ensures same { IsTrue F.tells → F.contents folder.new ≡ F.contents folder.old }
-    ensures found { IsTrue F.tells → IfOk result (λ found. found.items
+    ensures requests { Requests F.failures F.may_leave F.allowed no_change folder.old folder.new }
+    ensures same { IsTrue F.faithful → F.contents folder.new ≡ F.contents folder.old }
+    ensures found { IsTrue F.faithful → IfOk result (λ found. found.items
         ≡ flat_map (bare_root sites.now (F.contents folder.old) outputs.now) roots.now) }
-    ensures err { IsTrue F.tells
+    ensures err { IsTrue F.faithful
         → IfErr result (IsOfMachine (F.failures folder.old) (F.failures folder.new)) }
 {
     let mut found = Vec::new(alloc);
@@ -68,11 +68,11 @@ fn push_rooted<F: Folder>(
     outputs: &[Place],
     rooted: &Rooted,
 ) -> Result<(), Fault>
-    ensures asks { Asks F.failures F.may_leave F.asked no_change folder.old folder.new }
-    ensures same { IsTrue F.tells → F.contents folder.new ≡ F.contents folder.old }
-    ensures found { IsTrue F.tells → OnOk result (found.new.items
+    ensures requests { Requests F.failures F.may_leave F.allowed no_change folder.old folder.new }
+    ensures same { IsTrue F.faithful → F.contents folder.new ≡ F.contents folder.old }
+    ensures found { IsTrue F.faithful → OnOk result (found.new.items
         ≡ found.old.items ++ bare_root sites.now (F.contents folder.old) outputs.now rooted.now) }
-    ensures err { IsTrue F.tells
+    ensures err { IsTrue F.faithful
         → IfErr result (IsOfMachine (F.failures folder.old) (F.failures folder.new)) }
 {
     if is_bare(alloc, folder, outputs, &rooted.root)? {
@@ -95,11 +95,11 @@ fn is_bare<F: Folder>(
     outputs: &[Place],
     root: &Place,
 ) -> Result<bool, Fault>
-    ensures asks { Asks F.failures F.may_leave F.asked no_change folder.old folder.new }
-    ensures same { IsTrue F.tells → F.contents folder.new ≡ F.contents folder.old }
-    ensures bare { IsTrue F.tells → IfOk result (λ is.
+    ensures requests { Requests F.failures F.may_leave F.allowed no_change folder.old folder.new }
+    ensures same { IsTrue F.faithful → F.contents folder.new ≡ F.contents folder.old }
+    ensures bare { IsTrue F.faithful → IfOk result (λ is.
         is ≡ is_bare (F.contents folder.old) outputs.now root.now) }
-    ensures err { IsTrue F.tells
+    ensures err { IsTrue F.faithful
         → IfErr result (IsOfMachine (F.failures folder.old) (F.failures folder.new)) }
 {
     if is_made(outputs, root) {
@@ -115,12 +115,12 @@ fn is_made(outputs: &[Place], root: &Place) -> bool
 }
 
 fn has_nothing<F: Folder>(alloc: Global, folder: &mut F, root: &Place) -> Result<bool, Fault>
-    ensures asks { Asks F.failures F.may_leave F.asked no_change folder.old folder.new }
-    ensures same { IsTrue F.tells → F.contents folder.new ≡ F.contents folder.old }
-    ensures nothing { IsTrue F.tells → IfOk result (λ is. is
+    ensures requests { Requests F.failures F.may_leave F.allowed no_change folder.old folder.new }
+    ensures same { IsTrue F.faithful → F.contents folder.new ≡ F.contents folder.old }
+    ensures nothing { IsTrue F.faithful → IfOk result (λ is. is
         ≡ (is_empty (places_under (F.contents folder.old).files root.now)
-        && not (is_odd_under (F.contents folder.old) root.now))) }
-    ensures err { IsTrue F.tells
+        && not (is_special_under (F.contents folder.old) root.now))) }
+    ensures err { IsTrue F.faithful
         → IfErr result (IsOfMachine (F.failures folder.old) (F.failures folder.new)) }
 {
     match folder.list(alloc, root) {

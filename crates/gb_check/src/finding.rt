@@ -1,8 +1,8 @@
 //! The faults of registered tasks, and warnings.
 ghost use Rattle.std.specs.Prelude.{◌≡◌, ◌⊎◌, IfErr, IfOk, IsTrue};
-ghost use Rattle.gb_folder.specs.Calls.{Asks, no_change};
+ghost use Rattle.gb_folder.specs.Calls.{Requests, no_change};
 ghost use Rattle.gb_plan.specs.Graph.{paths_of};
-ghost use Rattle.gb_registry.specs.Seen.{scripts_in};
+ghost use Rattle.gb_registry.specs.SoFar.{scripts_in};
 ghost use Rattle.gb_store.specs.Faults.{IsOfMachine};
 ghost use Rattle.gb_check.specs.All.{AreFindings};
 ghost use Rattle.gb_check.specs.Sites.{IsUnread};
@@ -40,11 +40,11 @@ pub fn find<Ts: Tasks, F: Folder>(
     scripts: &[Scripted],
 ) -> Result<Findings, Fault>
     requires { names.now ≡ paths_of (Ts.registry tasks.old) }
-    ensures asks { Asks F.failures F.may_leave F.asked no_change folder.old folder.new }
-    ensures same { IsTrue F.tells → F.contents folder.new ≡ F.contents folder.old }
-    ensures findings { IfOk result (AreFindings F.tells (F.contents folder.old)
+    ensures requests { Requests F.failures F.may_leave F.allowed no_change folder.old folder.new }
+    ensures same { IsTrue F.faithful → F.contents folder.new ≡ F.contents folder.old }
+    ensures findings { IfOk result (AreFindings F.faithful (F.contents folder.old)
         (Ts.registry tasks.old) (scripts_in scripts.now)) }
-    ensures err { IsTrue F.tells → IfErr result (λ fault.
+    ensures err { IsTrue F.faithful → IfErr result (λ fault.
         IsOfMachine (F.failures folder.old) (F.failures folder.new) fault
         ⊎ IsUnread (F.contents folder.old).files (scripts_in scripts.now) fault) }
 {

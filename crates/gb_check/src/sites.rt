@@ -4,8 +4,8 @@ ghost use Rattle.std.specs.Prelude.{codes, false};
 ghost use Rattle.std.specs.Option.{option_copied};
 ghost use Rattle.gb_core.specs.Path.{task_in};
 ghost use Rattle.gb_core.specs.Place.{is_place, joined};
-ghost use Rattle.gb_folder.specs.Calls.{Asks, no_change};
-ghost use Rattle.gb_registry.specs.Seen.{scripts_in};
+ghost use Rattle.gb_folder.specs.Calls.{Requests, no_change};
+ghost use Rattle.gb_registry.specs.SoFar.{scripts_in};
 ghost use Rattle.gb_report.specs.declared.fault.Fault.TheVariants.{OutOfMemory};
 ghost use Rattle.gb_script.specs.Lines.{AreLinesOf};
 ghost use Rattle.gb_script.specs.Script.{Says};
@@ -49,11 +49,11 @@ pub(crate) fn read_sites<F: Folder>(
     folder: &mut F,
     scripts: &[Scripted],
 ) -> Result<(Vec<Site>, Vec<Mark>), Fault>
-    ensures asks { Asks F.failures F.may_leave F.asked no_change folder.old folder.new }
-    ensures same { IsTrue F.tells → F.contents folder.new ≡ F.contents folder.old }
+    ensures requests { Requests F.failures F.may_leave F.allowed no_change folder.old folder.new }
+    ensures same { IsTrue F.faithful → F.contents folder.new ≡ F.contents folder.old }
     ensures sites { IfOk result (λ read.
-        AreSites F.tells (F.contents folder.old).files (scripts_in scripts.now) read.0.items read.1.items) }
-    ensures err { IsTrue F.tells → IfErr result (λ fault.
+        AreSites F.faithful (F.contents folder.old).files (scripts_in scripts.now) read.0.items read.1.items) }
+    ensures err { IsTrue F.faithful → IfErr result (λ fault.
         IsOfMachine (F.failures folder.old) (F.failures folder.new) fault
         ⊎ IsUnread (F.contents folder.old).files (scripts_in scripts.now) fault) }
 {
@@ -73,15 +73,15 @@ fn push_script<F: Folder>(
     marks: &mut Vec<Mark>,
     scripted: &Scripted,
 ) -> Result<(), Fault>
-    ensures asks { Asks F.failures F.may_leave F.asked no_change folder.old folder.new }
-    ensures same { IsTrue F.tells → F.contents folder.new ≡ F.contents folder.old }
+    ensures requests { Requests F.failures F.may_leave F.allowed no_change folder.old folder.new }
+    ensures same { IsTrue F.faithful → F.contents folder.new ≡ F.contents folder.old }
     ensures sites { OnOk result ((lines : List Lines)
-        × (IsTrue F.tells
+        × (IsTrue F.faithful
         → AreLinesAt (F.contents folder.old).files (script_of_project scripted.now.project) lines)
         × (sites.new.items ≡ sites.old.items ++ sites_of scripted.now.project
         (script_of_project scripted.now.project) scripted.now.script lines)
         × (marks.new.items ≡ marks.old.items ++ marks_of scripted.now.project scripted.now.script lines)) }
-    ensures err { IsTrue F.tells → IfErr result (λ fault.
+    ensures err { IsTrue F.faithful → IfErr result (λ fault.
         IsOfMachine (F.failures folder.old) (F.failures folder.new) fault
         ⊎ HasTextFault (F.contents folder.old).files (script_of_project scripted.now.project) fault) }
 {
@@ -118,11 +118,11 @@ fn lines_at<F: Folder>(
     folder: &mut F,
     place: &Place,
 ) -> Result<Vec<StatementLines>, Fault>
-    ensures asks { Asks F.failures F.may_leave F.asked no_change folder.old folder.new }
-    ensures same { IsTrue F.tells → F.contents folder.new ≡ F.contents folder.old }
-    ensures lines { IsTrue F.tells → IfOk result (λ lines.
+    ensures requests { Requests F.failures F.may_leave F.allowed no_change folder.old folder.new }
+    ensures same { IsTrue F.faithful → F.contents folder.new ≡ F.contents folder.old }
+    ensures lines { IsTrue F.faithful → IfOk result (λ lines.
         AreLinesAt (F.contents folder.old).files place.now lines.items) }
-    ensures err { IsTrue F.tells → IfErr result (λ fault.
+    ensures err { IsTrue F.faithful → IfErr result (λ fault.
         IsOfMachine (F.failures folder.old) (F.failures folder.new) fault
         ⊎ HasTextFault (F.contents folder.old).files place.now fault) }
 {

@@ -1,8 +1,8 @@
 //! All warnings of registered tasks.
 ghost use Rattle.std.specs.Prelude.{◌≡◌, IfErr, IfOk, IsTrue};
-ghost use Rattle.gb_folder.specs.Calls.{Asks, no_change};
+ghost use Rattle.gb_folder.specs.Calls.{Requests, no_change};
 ghost use Rattle.gb_plan.specs.Graph.{paths_of};
-ghost use Rattle.gb_registry.specs.Seen.{scripts_in};
+ghost use Rattle.gb_registry.specs.SoFar.{scripts_in};
 ghost use Rattle.gb_store.specs.Faults.{IsOfMachine};
 ghost use Rattle.gb_check.specs.Warnings.{AreWarnings, declared_warnings};
 
@@ -33,11 +33,11 @@ pub(crate) fn warn<Ts: Tasks, F: Folder>(
 ) -> Result<Vec<Finding>, Fault>
     requires { names.now ≡ paths_of (Ts.registry tasks.old) }
     ensures kept { Ts.registry tasks.new ≡ Ts.registry tasks.old }
-    ensures asks { Asks F.failures F.may_leave F.asked no_change folder.old folder.new }
-    ensures same { IsTrue F.tells → F.contents folder.new ≡ F.contents folder.old }
-    ensures warnings { IfOk result (λ found. AreWarnings F.tells sites.now (scripts_in scripts.now)
+    ensures requests { Requests F.failures F.may_leave F.allowed no_change folder.old folder.new }
+    ensures same { IsTrue F.faithful → F.contents folder.new ≡ F.contents folder.old }
+    ensures warnings { IfOk result (λ found. AreWarnings F.faithful sites.now (scripts_in scripts.now)
         (F.contents folder.old) (Ts.registry tasks.old) found.items) }
-    ensures err { IsTrue F.tells
+    ensures err { IsTrue F.faithful
         → IfErr result (IsOfMachine (F.failures folder.old) (F.failures folder.new)) }
 {
     let declared = declarations(alloc, tasks, names)?;

@@ -2,9 +2,9 @@
 use Rattle.std.specs.Prelude.{ℕ, ◌≡◌, ◌⊎◌, ◌∷◌, [], List, Result, Ok, Err}
 use Rattle.std.specs.Result.{result_map_both}
 use Rattle.gb_action.specs.Meanings.{Meanings}
-use Rattle.gb_folder.specs.Calls.{Asks, Call, no_change}
+use Rattle.gb_folder.specs.Calls.{Requests, Call, no_change}
 use Rattle.gb_folder.specs.Files.{Tearing}
-use Rattle.gb_build.specs.InvocationAsked.{InvocationAsks}
+use Rattle.gb_build.specs.InvocationAsked.{InvocationRequests}
 use Rattle.gb_build.specs.Registering.{registers_in, setting_of}
 use Rattle.gb_meaning.specs.Edits.{Shown}
 use Rattle.gb_meaning.specs.Headline.{EventKeeps, InvocationHolds, answer_of}
@@ -30,8 +30,8 @@ given_of bytes words = result_map_both bytes (λ fault. fault) words
 
 -- the arguments request this
 abbrev pub AskFor : Given → Invocation → Type 0
-AskFor (Ok words) asked = IsAsked words asked
-AskFor (Err fault) asked = ⊥
+AskFor (Ok words) allowed = IsAsked words allowed
+AskFor (Err fault) allowed = ⊥
 
 -- the arguments are refused for this: they cannot be read, or it is the first fault of them, or memory ran
 -- out
@@ -46,30 +46,30 @@ IsRefused given old answer new =
 
 -- Over any folder: a report is that of an invocation that the arguments request, which makes the calls that
 -- its answer permits. Where there is no report, no change is requested.
-abbrev pub AsksFor : {F S : Type 0} → (F → ℕ) → (F → Tearing) → (F → Call → F → Type 0) → Meanings S → Rows S
+abbrev pub RequestsFor : {F S : Type 0} → (F → ℕ) → (F → Tearing) → (F → Call → F → Type 0) → Meanings S → Rows S
     → Given
     → Result Report Fault → F → F → Type 0
-AsksFor failures may_leave asked meanings rows given (Err fault) old new =
-    Asks failures may_leave asked no_change old new
-AsksFor failures may_leave asked meanings rows given (Ok report) old new =
+RequestsFor failures may_leave allowed meanings rows given (Err fault) old new =
+    Requests failures may_leave allowed no_change old new
+RequestsFor failures may_leave allowed meanings rows given (Ok report) old new =
     (invocation : Invocation) × AskFor given invocation
-    × InvocationAsks failures may_leave asked meanings rows invocation (Ok report) old new
+    × InvocationRequests failures may_leave allowed meanings rows invocation (Ok report) old new
 
 module _ {M F Z S A : Type 0} (tables : Tables M F Z S A) (may_leave : Tearing) where
   -- It is one invocation by its definition, with what the scripts of the folder register, and so a plain
   -- step, starting from any true records. It changes only what a build may, and nothing where it is refused.
-  pub record Invokes (asked : Invocation) (old : Shown) (answer : Result Report Fault) (new : Shown)
+  pub record Invokes (allowed : Invocation) (old : Shown) (answer : Result Report Fault) (new : Shown)
       : Type 0 where
-    pub keeps : EventKeeps (registers_in tables) (events.Invoke asked) (answer_of answer)
+    pub keeps : EventKeeps (registers_in tables) (events.Invoke allowed) (answer_of answer)
         old.contents new.contents
     pub holds : (kinds : Kinds) → IsAssumed tables.shapes tables.kinds kinds may_leave
-        → InvocationHolds (setting_of tables kinds may_leave) old asked answer new
+        → InvocationHolds (setting_of tables kinds may_leave) old allowed answer new
     pub promise : (kinds : Kinds) → IsAssumed tables.shapes tables.kinds kinds may_leave
-        → PromiseHolds (setting_of tables kinds may_leave) old (events.Invoke asked ∷ [])
+        → PromiseHolds (setting_of tables kinds may_leave) old (events.Invoke allowed ∷ [])
         (answer_of answer ∷ []) new
 
   -- the arguments are refused, or they request an invocation, and this is its answer
   abbrev pub Answers : Given → Shown → Result Report Fault → Shown → Type 0
   Answers given old answer new =
       IsRefused given old answer new
-      ⊎ ((asked : Invocation) × AskFor given asked × Invokes asked old answer new)
+      ⊎ ((allowed : Invocation) × AskFor given allowed × Invokes allowed old answer new)

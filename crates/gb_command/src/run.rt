@@ -8,7 +8,7 @@ ghost use Rattle.gb_printer.specs.Printing.{Prints};
 ghost use Rattle.gb_registry.specs.Tables.{tables_of};
 ghost use Rattle.gb_report.specs.declared.fault.Fault.{Fault};
 ghost use Rattle.gb_report.specs.declared.report.Report.{Report};
-ghost use Rattle.gb_command.specs.Answered.{Answers, AreRefused, AskFor, AsksFor, given_of};
+ghost use Rattle.gb_command.specs.Answered.{Answers, AreRefused, AskFor, RequestsFor, given_of};
 
 use gb_action::actions::Actions;
 use gb_answer::answer::status_of;
@@ -45,12 +45,12 @@ pub fn run<A: Actions, T: Transforms, F: Folder, W: Printer>(
     // else is printed, and the status is its own; where it could not, a beginning of its text is
     // printed.
     ensures reported { (answer : Result Report Fault)
-        × (IsTrue F.tells → Answers (tables_of T.meanings A.meanings tables.now) (F.may_leave folder.old)
+        × (IsTrue F.faithful → Answers (tables_of T.meanings A.meanings tables.now) (F.may_leave folder.old)
         (given_of (λ words. map string_bytes words.items) words)
         (record { contents = F.contents folder.old; failures = F.failures folder.old })
         answer
         (record { contents = F.contents folder.new; failures = F.failures folder.new }))
-        × AsksFor F.failures F.may_leave F.asked A.meanings tables.now.actions
+        × RequestsFor F.failures F.may_leave F.allowed A.meanings tables.now.actions
         (given_of (λ words. map string_bytes words.items) words) answer folder.old folder.new
         × Prints W.contents W.whole (answer_text answer) writer.old writer.new
         × IfSome result (λ status.
@@ -78,19 +78,19 @@ fn answered<A: Actions, T: Transforms, F: Folder, W: Printer>(
 ) -> Result<Report, Fault>
     ensures printed { Prints W.contents W.whole (parts_of result) writer.old writer.new }
     ensures count { F.failures folder.old ≤ F.failures folder.new }
-    ensures answers { IsTrue F.tells
+    ensures answers { IsTrue F.faithful
         → Answers (tables_of T.meanings A.meanings tables.now) (F.may_leave folder.old)
         (given_of (λ words. map string_bytes words.items) words)
         (record { contents = F.contents folder.old; failures = F.failures folder.old })
         result
         (record { contents = F.contents folder.new; failures = F.failures folder.new }) }
-    ensures asks { AsksFor F.failures F.may_leave F.asked A.meanings tables.now.actions
+    ensures requests { RequestsFor F.failures F.may_leave F.allowed A.meanings tables.now.actions
         (given_of (λ words. map string_bytes words.items) words) result folder.old folder.new }
 {
     match asked_by(alloc, words) {
-        Ok(asked) => {
+        Ok(allowed) => {
             let mut listeners: Vec<Recorder> = Vec::new(alloc);
-            invoke(alloc, folder, tables, &asked, &mut listeners, writer)
+            invoke(alloc, folder, tables, &allowed, &mut listeners, writer)
         }
         Err(fault) => Err(fault),
     }

@@ -11,23 +11,23 @@ use Rattle.gb_core.specs.Place.{segments, is_beneath, is_under, overlaps, IsBene
 pub segments-joined : (folder text : List ℕ) → segments (folder ++ 47 ∷ text) ≡ segments folder ++ segments text
 segments-joined = parts-joined 47
 
-same_front : (c d : ℕ) (b : Bool) (text front : List ℕ) → nat_eq d c ≡ b → IsTrue (b && starts_with nat_eq text front) → ((rest : List ℕ) × (text ≡ front ++ rest)) → (rest : List ℕ) × (c ∷ text ≡ d ∷ front ++ rest)
-same_front c d true text front same h r = (r.0, ap (λ x. x ∷ text) (sym (eqb-true d c same)) ∙ ap (λ xs. d ∷ xs) r.1)
-same_front c d false text front same h r = absurd (cc)
+same_prefix : (c d : ℕ) (b : Bool) (text prefix : List ℕ) → nat_eq d c ≡ b → IsTrue (b && starts_with nat_eq text prefix) → ((rest : List ℕ) × (text ≡ prefix ++ rest)) → (rest : List ℕ) × (c ∷ text ≡ d ∷ prefix ++ rest)
+same_prefix c d true text prefix same h r = (r.0, ap (λ x. x ∷ text) (sym (eqb-true d c same)) ∙ ap (λ xs. d ∷ xs) r.1)
+same_prefix c d false text prefix same h r = absurd (cc)
 
 rest_starts : (b c : Bool) → IsTrue (b && c) → IsTrue c
 rest_starts true c h = h
 rest_starts false c h = absurd (cc)
 
 -- a text that starts with another is that and a rest
-pub begins : (text front : List ℕ) → IsTrue (starts_with nat_eq text front) → (rest : List ℕ) × (text ≡ front ++ rest)
+pub begins : (text prefix : List ℕ) → IsTrue (starts_with nat_eq text prefix) → (rest : List ℕ) × (text ≡ prefix ++ rest)
 begins text [] h = (text, refl)
-begins [] (d ∷ front) h = absurd (cc)
-begins (c ∷ text) (d ∷ front) h = same_front c d (nat_eq d c) text front refl h (begins text front (rest_starts (nat_eq d c) (starts_with nat_eq text front) h))
+begins [] (d ∷ prefix) h = absurd (cc)
+begins (c ∷ text) (d ∷ prefix) h = same_prefix c d (nat_eq d c) text prefix refl h (begins text prefix (rest_starts (nat_eq d c) (starts_with nat_eq text prefix) h))
 
-begun : (front rest : List ℕ) → IsTrue (starts_with nat_eq (front ++ rest) front)
+begun : (prefix rest : List ℕ) → IsTrue (starts_with nat_eq (prefix ++ rest) prefix)
 begun [] rest = refl
-begun (c ∷ front) rest = subst (λ b. IsTrue (b && starts_with nat_eq (front ++ rest) front)) (sym (eq-eqb c c refl)) (begun front rest)
+begun (c ∷ prefix) rest = subst (λ b. IsTrue (b && starts_with nat_eq (prefix ++ rest) prefix)) (sym (eq-eqb c c refl)) (begun prefix rest)
 
 join-append : (first : List ℕ) (parts : List (List ℕ)) (next : List ℕ) (more : List (List ℕ)) → join_with_byte 47 ((first ∷ parts) ++ next ∷ more) ≡ join_with_byte 47 (first ∷ parts) ++ 47 ∷ join_with_byte 47 (next ∷ more)
 join-append first [] next more = refl

@@ -23,15 +23,15 @@ beyond c s j none small k from below e =
     NoCharPasses-char c (drop j s) (k - j) none small short (get_or-drop j s (k - j) 0 ∙ ap (λ n. get_or s n 0) same ∙ e)
 
 -- the text is cut around the last c
-pub cut_at_last : (c : ℕ) (s front back : List ℕ) → c < 128 → SplitsAroundMatch (RFindsChar c) s front back → (front ≡ before_last (λ b. eqb b c) s) × (back ≡ after_last (λ b. eqb b c) s)
-cut_at_last c s front back small (i, j, finds, at_front, at_back, order, long_front, long_back) =
+pub cut_at_last : (c : ℕ) (s prefix back : List ℕ) → c < 128 → SplitsAroundMatch (RFindsChar c) s prefix back → (prefix ≡ before_last (λ b. eqb b c) s) × (back ≡ after_last (λ b. eqb b c) s)
+cut_at_last c s prefix back small (i, j, finds, at_prefix, at_back, order, long_prefix, long_back) =
     let ends : j ≡ i + 1 = finds.1.ends ∙ ap (λ n. i + n) (len_utf8_ascii c small) in
     let within : j ≤ length s = omega arith in
     let count : suffix_len (λ b. not (eqb b c)) s ≡ length s - j =
     suffix-of c s j within (beyond c s j finds.0 small) (λ _. ap (λ n. get_or s (n - 1) 0) ends ∙ ap (λ n. get_or s n 0) (let e : (i + 1) - 1 ≡ i = omega arith in e) ∙ finds.1.byte small) in
     let first : length s - (length s - j) - 1 ≡ i = omega arith in
     let second : length s - (length s - j) ≡ j = omega arith in (
-      at_front ∙ sym (ap (λ n. take (length s - n - 1) s) count ∙ ap (λ n. take n s) first),
+      at_prefix ∙ sym (ap (λ n. take (length s - n - 1) s) count ∙ ap (λ n. take n s) first),
       at_back ∙ sym (ap (λ n. drop (length s - n) s) count ∙ ap (λ n. drop n s) second),
     )
 

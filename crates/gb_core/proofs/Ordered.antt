@@ -20,22 +20,22 @@ put_last (other ∷ tasks) task below =
     ap (λ o. match_ordering o (task ∷ other ∷ tasks) (other ∷ tasks) (other ∷ insert_key byte_order tasks task)) after
     ∙ ap (λ rest. other ∷ rest) (put_last tasks task below.1)
 
-at_seam : {X : Type 0} (P : X → Type 0) (front : List X) (x : X) (back : List X) → AllByRecursion P (front ++ x ∷ back) → P x
+at_seam : {X : Type 0} (P : X → Type 0) (prefix : List X) (x : X) (back : List X) → AllByRecursion P (prefix ++ x ∷ back) → P x
 at_seam P [] x back all = all.0
-at_seam P (y ∷ front) x back all = at_seam P front x back all.1
+at_seam P (y ∷ prefix) x back all = at_seam P prefix x back all.1
 
-front_below : (front : List (List ℕ)) (task : List ℕ) (back : List (List ℕ)) → IsStrictlySortedBy byte_order (front ++ task ∷ back) → AllByRecursion (λ other. byte_order other task ≡ Less) front
+prefix_below : (prefix : List (List ℕ)) (task : List ℕ) (back : List (List ℕ)) → IsStrictlySortedBy byte_order (prefix ++ task ∷ back) → AllByRecursion (λ other. byte_order other task ≡ Less) prefix
 unfolding IsStrictlySortedBy
-front_below [] task back sorted = tt
-front_below (other ∷ front) task back sorted = (at_seam (λ y. byte_order other y ≡ Less) front task back sorted.0, front_below front task back sorted.1)
+prefix_below [] task back sorted = tt
+prefix_below (other ∷ prefix) task back sorted = (at_seam (λ y. byte_order other y ≡ Less) prefix task back sorted.0, prefix_below prefix task back sorted.1)
 
-with_above : (tasks front : List (List ℕ)) → IsStrictlySortedBy byte_order (front ++ tasks) → with_tasks front tasks ≡ front ++ tasks
-with_above [] front sorted = sym (append-nil front)
-with_above (task ∷ tasks) front sorted =
-    let last = put_last front task (front_below front task tasks sorted) in
-    let seam = append_assoc front (task ∷ []) tasks in
+with_above : (tasks prefix : List (List ℕ)) → IsStrictlySortedBy byte_order (prefix ++ tasks) → with_tasks prefix tasks ≡ prefix ++ tasks
+with_above [] prefix sorted = sym (append-nil prefix)
+with_above (task ∷ tasks) prefix sorted =
+    let last = put_last prefix task (prefix_below prefix task tasks sorted) in
+    let seam = append_assoc prefix (task ∷ []) tasks in
     ap (λ f. with_tasks f tasks) last
-    ∙ (with_above tasks (front ++ task ∷ []) (subst (IsStrictlySortedBy byte_order) (sym seam) sorted) ∙ seam)
+    ∙ (with_above tasks (prefix ++ task ∷ []) (subst (IsStrictlySortedBy byte_order) (sym seam) sorted) ∙ seam)
 
 -- inserting tasks that are already in order into the empty list gives the same tasks
 pub with_ordered : (tasks : List (List ℕ)) → IsStrictlySortedBy byte_order tasks → with_tasks [] tasks ≡ tasks
@@ -46,16 +46,16 @@ with_more there [] b = refl
 with_more there (task ∷ a) b = with_more (insert_key byte_order there task) a b
 
 -- the prefix of tasks already inserted, one task longer
-pub front_grows : (there front whole rest : List (List ℕ)) (task : List ℕ) → front ++ task ∷ rest ≡ whole
-    → (longer : List (List ℕ)) × (longer ++ rest ≡ whole) × (insert_key byte_order (with_tasks there front) task ≡ with_tasks there longer)
-front_grows there front whole rest task is =
-    (front ++ task ∷ [], append_assoc front (task ∷ []) rest ∙ is, sym (with_more there front (task ∷ [])))
+pub prefix_grows : (there prefix whole rest : List (List ℕ)) (task : List ℕ) → prefix ++ task ∷ rest ≡ whole
+    → (longer : List (List ℕ)) × (longer ++ rest ≡ whole) × (insert_key byte_order (with_tasks there prefix) task ≡ with_tasks there longer)
+prefix_grows there prefix whole rest task is =
+    (prefix ++ task ∷ [], append_assoc prefix (task ∷ []) rest ∙ is, sym (with_more there prefix (task ∷ [])))
 
 -- the prefix of tasks already inserted, given by its length
-pub front_counted : (there now front whole rest : List (List ℕ)) → front ++ rest ≡ whole → now ≡ with_tasks there front
+pub prefix_counted : (there now prefix whole rest : List (List ℕ)) → prefix ++ rest ≡ whole → now ≡ with_tasks there prefix
     → (added : ℕ) × (now ≡ with_tasks there (take added whole))
-front_counted there now front whole rest is put =
-    (length front, put ∙ ap (with_tasks there) (sym (ap (take (length front)) (sym is) ∙ take-append_seam front rest)))
+prefix_counted there now prefix whole rest is put =
+    (length prefix, put ∙ ap (with_tasks there) (sym (ap (take (length prefix)) (sym is) ∙ take-append_seam prefix rest)))
 
 pub if_refused : {T E P : Type 0} (result : Result T E) → P → OnErr result P
 if_refused (Ok value) p = tt

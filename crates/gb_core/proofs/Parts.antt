@@ -33,44 +33,44 @@ none_in_name (c ∷ text) h (suc k) d below = none_of_bytes text (name_bytes c t
 
 -- a text has no colon, or splits at its last one
 abbrev IsCut : List ℕ → Type 0
-IsCut text = HasNone text ⊎ ((front : List ℕ) × (back : List ℕ) × (text ≡ front ++ 58 ∷ back) × HasNone back)
+IsCut text = HasNone text ⊎ ((prefix : List ℕ) × (back : List ℕ) × (text ≡ prefix ++ 58 ∷ back) × HasNone back)
 
-none_behind : (c : ℕ) (text : List ℕ) → is_colon c ≡ false → HasNone text → HasNone (c ∷ text)
-none_behind c text e h zero d below = e
-none_behind c text e h (suc k) d below = h k d (omega (arith, below))
+none_after : (c : ℕ) (text : List ℕ) → is_colon c ≡ false → HasNone text → HasNone (c ∷ text)
+none_after c text e h zero d below = e
+none_after c text e h (suc k) d below = h k d (omega (arith, below))
 
-cut_behind : (c : ℕ) (text : List ℕ) (b : Bool) → is_colon c ≡ b → IsCut text → IsCut (c ∷ text)
-cut_behind c text b e (inr (front, back, same, none)) = inr (c ∷ front, back, ap (λ xs. c ∷ xs) same, none)
-cut_behind c text true e (inl none) = inr ([], text, ap (λ d. d ∷ text) (eqb-true c 58 e), none)
-cut_behind c text false e (inl none) = inl (none_behind c text e none)
+cut_after : (c : ℕ) (text : List ℕ) (b : Bool) → is_colon c ≡ b → IsCut text → IsCut (c ∷ text)
+cut_after c text b e (inr (prefix, back, same, none)) = inr (c ∷ prefix, back, ap (λ xs. c ∷ xs) same, none)
+cut_after c text true e (inl none) = inr ([], text, ap (λ d. d ∷ text) (eqb-true c 58 e), none)
+cut_after c text false e (inl none) = inl (none_after c text e none)
 
 cut : (text : List ℕ) → IsCut text
 cut [] = inl (λ k d below. absurd (omega (arith, below)))
-cut (c ∷ text) = cut_behind c text (is_colon c) refl (cut text)
+cut (c ∷ text) = cut_after c text (is_colon c) refl (cut text)
 
-module _ (front back : List ℕ) (none : HasNone back) where
-  behind : (k : ℕ) → length front + 1 ≤ k → k < length (front ++ 58 ∷ back) → not (is_colon (get_or (front ++ 58 ∷ back) k 0)) ≡ true
-  behind k from below =
-      let index : k - length front ≡ suc (k - length front - 1) = omega (arith, from) in
-      let short : k - length front - 1 < length back = omega (arith, from, below, length-append front (58 ∷ back)) in
-      ap (λ b. not (is_colon b)) (get_or-append_right front (58 ∷ back) (length front) k 0 refl (omega (arith, from)) ∙ ap (λ n. get_or (58 ∷ back) n 0) index)
-      ∙ ap not (none (k - length front - 1) 0 short)
+module _ (prefix back : List ℕ) (none : HasNone back) where
+  following : (k : ℕ) → length prefix + 1 ≤ k → k < length (prefix ++ 58 ∷ back) → not (is_colon (get_or (prefix ++ 58 ∷ back) k 0)) ≡ true
+  following k from below =
+      let index : k - length prefix ≡ suc (k - length prefix - 1) = omega (arith, from) in
+      let short : k - length prefix - 1 < length back = omega (arith, from, below, length-append prefix (58 ∷ back)) in
+      ap (λ b. not (is_colon b)) (get_or-append_right prefix (58 ∷ back) (length prefix) k 0 refl (omega (arith, from)) ∙ ap (λ n. get_or (58 ∷ back) n 0) index)
+      ∙ ap not (none (k - length prefix - 1) 0 short)
 
-  suffix : suffix_len (λ b. not (is_colon b)) (front ++ 58 ∷ back) ≡ length (front ++ 58 ∷ back) - (length front + 1)
+  suffix : suffix_len (λ b. not (is_colon b)) (prefix ++ 58 ∷ back) ≡ length (prefix ++ 58 ∷ back) - (length prefix + 1)
   suffix =
-      suffix_len_is (λ b. not (is_colon b)) (front ++ 58 ∷ back) (length front + 1) 0 (omega (arith, length-append front (58 ∷ back))) behind
-      (λ p. ap (λ n. not (is_colon (get_or (front ++ 58 ∷ back) n 0))) (let e : (length front + 1) - 1 ≡ length front = omega arith in e) ∙ ap (λ b. not (is_colon b)) (get_or-append_seam front 58 back 0))
+      suffix_len_is (λ b. not (is_colon b)) (prefix ++ 58 ∷ back) (length prefix + 1) 0 (omega (arith, length-append prefix (58 ∷ back))) following
+      (λ p. ap (λ n. not (is_colon (get_or (prefix ++ 58 ∷ back) n 0))) (let e : (length prefix + 1) - 1 ≡ length prefix = omega arith in e) ∙ ap (λ b. not (is_colon b)) (get_or-append_seam prefix 58 back 0))
 
   -- the parts before and after the last colon
-  pub before : before_last is_colon (front ++ 58 ∷ back) ≡ front
+  pub before : before_last is_colon (prefix ++ 58 ∷ back) ≡ prefix
   before =
-      let count : length (front ++ 58 ∷ back) - suffix_len (λ b. not (is_colon b)) (front ++ 58 ∷ back) - 1 ≡ length front = omega (arith, suffix, length-append front (58 ∷ back)) in
-      ap (λ n. take n (front ++ 58 ∷ back)) count ∙ take-append_seam front (58 ∷ back)
+      let count : length (prefix ++ 58 ∷ back) - suffix_len (λ b. not (is_colon b)) (prefix ++ 58 ∷ back) - 1 ≡ length prefix = omega (arith, suffix, length-append prefix (58 ∷ back)) in
+      ap (λ n. take n (prefix ++ 58 ∷ back)) count ∙ take-append_seam prefix (58 ∷ back)
 
-  pub after : after_last is_colon (front ++ 58 ∷ back) ≡ back
+  pub after : after_last is_colon (prefix ++ 58 ∷ back) ≡ back
   after =
-      let count : length (front ++ 58 ∷ back) - suffix_len (λ b. not (is_colon b)) (front ++ 58 ∷ back) ≡ length front + 1 = omega (arith, suffix, length-append front (58 ∷ back)) in
-      ap (λ n. drop n (front ++ 58 ∷ back)) count ∙ drop-append-add front (58 ∷ back) 1
+      let count : length (prefix ++ 58 ∷ back) - suffix_len (λ b. not (is_colon b)) (prefix ++ 58 ∷ back) ≡ length prefix + 1 = omega (arith, suffix, length-append prefix (58 ∷ back)) in
+      ap (λ n. drop n (prefix ++ 58 ∷ back)) count ∙ drop-append-add prefix (58 ∷ back) 1
 
 abbrev HasParts : List ℕ → Type 0
 HasParts path = IsTrue (is_project_path (project_of path)) × IsTrue (is_name (task_name path)) × (task_in (project_of path) (task_name path) ≡ path)
@@ -78,13 +78,13 @@ HasParts path = IsTrue (is_project_path (project_of path)) × IsTrue (is_name (t
 abbrev AreParts : List ℕ → List ℕ → List ℕ → Type 0
 AreParts path project name = IsTrue (is_task_path path) × (project_of path ≡ project) × (task_name path ≡ name)
 
-around : (front back : List ℕ) → HasNone back → is_project_path (root_if_empty front) ≡ true → is_name back ≡ true → task_in (root_if_empty front) back ≡ front ++ 58 ∷ back → HasParts (front ++ 58 ∷ back)
-around front back none project name again =
-    let at_front : project_of (front ++ 58 ∷ back) ≡ root_if_empty front = ap root_if_empty (before front back none) in
-    let at_back : task_name (front ++ 58 ∷ back) ≡ back = after front back none in (
-      subst (λ x. is_project_path x ≡ true) (sym at_front) project,
+around : (prefix back : List ℕ) → HasNone back → is_project_path (root_if_empty prefix) ≡ true → is_name back ≡ true → task_in (root_if_empty prefix) back ≡ prefix ++ 58 ∷ back → HasParts (prefix ++ 58 ∷ back)
+around prefix back none project name again =
+    let at_prefix : project_of (prefix ++ 58 ∷ back) ≡ root_if_empty prefix = ap root_if_empty (before prefix back none) in
+    let at_back : task_name (prefix ++ 58 ∷ back) ≡ back = after prefix back none in (
+      subst (λ x. is_project_path x ≡ true) (sym at_prefix) project,
       subst (λ x. is_name x ≡ true) (sym at_back) name,
-      ap (λ x. task_in x (task_name (front ++ 58 ∷ back))) at_front ∙ ap (task_in (root_if_empty front)) at_back ∙ again,
+      ap (λ x. task_in x (task_name (prefix ++ 58 ∷ back))) at_prefix ∙ ap (task_in (root_if_empty prefix)) at_back ∙ again,
     )
 
 or_right : (a b : Bool) → b ≡ true → (a || b) ≡ true
@@ -92,23 +92,23 @@ or_right true b h = refl
 or_right false b h = h
 
 -- the names of a text are those before a colon and the one after it
-names-joined : (front back : List ℕ) → HasNone back → list_all is_name (slice_split is_colon (front ++ 58 ∷ back)) ≡ (list_all is_name (slice_split is_colon front) && (is_name back && true))
-names-joined front back none =
-    ap (list_all is_name) (parts-joined 58 front back ∙ ap (λ parts. slice_split is_colon front ++ parts) (slice_split_none is_colon back none))
-    ∙ list_all-append is_name (slice_split is_colon front) (back ∷ [])
+names-joined : (prefix back : List ℕ) → HasNone back → list_all is_name (slice_split is_colon (prefix ++ 58 ∷ back)) ≡ (list_all is_name (slice_split is_colon prefix) && (is_name back && true))
+names-joined prefix back none =
+    ap (list_all is_name) (parts-joined 58 prefix back ∙ ap (λ parts. slice_split is_colon prefix ++ parts) (slice_split_none is_colon back none))
+    ∙ list_all-append is_name (slice_split is_colon prefix) (back ∷ [])
 
-no_root : (front back : List ℕ) → list_all is_name (slice_split is_colon front) ≡ true → task_in (58 ∷ front) back ≡ (58 ∷ front) ++ 58 ∷ back
+no_root : (prefix back : List ℕ) → list_all is_name (slice_split is_colon prefix) ≡ true → task_in (58 ∷ prefix) back ≡ (58 ∷ prefix) ++ 58 ∷ back
 no_root [] back h = absurd (true≢false (sym h))
-no_root (c ∷ front) back h = refl
+no_root (c ∷ prefix) back h = refl
 
 parts_of_text : (text : List ℕ) → list_all is_name (slice_split is_colon text) ≡ true → IsCut text → HasParts (58 ∷ text)
 parts_of_text text h (inl none) =
     around [] text none refl (left_of (is_name text) true (sym (ap (list_all is_name) (slice_split_none is_colon text none)) ∙ h)) refl
-parts_of_text text h (inr (front, back, same, none)) =
-    let both : (list_all is_name (slice_split is_colon front) && (is_name back && true)) ≡ true = sym (names-joined front back none) ∙ ap (λ t. list_all is_name (slice_split is_colon t)) (sym same) ∙ h in
-    let names : list_all is_name (slice_split is_colon front) ≡ true = left_of (list_all is_name (slice_split is_colon front)) (is_name back && true) both in
-    let name : is_name back ≡ true = left_of (is_name back) true (right_of (list_all is_name (slice_split is_colon front)) (is_name back && true) both) in
-    subst (λ t. HasParts (58 ∷ t)) (sym same) (around (58 ∷ front) back none (or_right (bytes_eq (58 ∷ front) (codes ":")) (is_task_path (58 ∷ front)) names) name (no_root front back names))
+parts_of_text text h (inr (prefix, back, same, none)) =
+    let both : (list_all is_name (slice_split is_colon prefix) && (is_name back && true)) ≡ true = sym (names-joined prefix back none) ∙ ap (λ t. list_all is_name (slice_split is_colon t)) (sym same) ∙ h in
+    let names : list_all is_name (slice_split is_colon prefix) ≡ true = left_of (list_all is_name (slice_split is_colon prefix)) (is_name back && true) both in
+    let name : is_name back ≡ true = left_of (is_name back) true (right_of (list_all is_name (slice_split is_colon prefix)) (is_name back && true) both) in
+    subst (λ t. HasParts (58 ∷ t)) (sym same) (around (58 ∷ prefix) back none (or_right (bytes_eq (58 ∷ prefix) (codes ":")) (is_task_path (58 ∷ prefix)) names) name (no_root prefix back names))
 
 pub has_parts : (path : List ℕ) → is_task_path path ≡ true → HasParts path
 has_parts [] h = absurd (true≢false (sym h))
@@ -123,13 +123,13 @@ root_parts project name same h =
 
 inner_parts : (project name : List ℕ) → is_task_path project ≡ true → is_name name ≡ true → AreParts (project ++ 58 ∷ name) project name
 inner_parts [] name p h = absurd (true≢false (sym p))
-inner_parts (c ∷ front) name p h =
+inner_parts (c ∷ prefix) name p h =
     let none : HasNone name = none_in_name name h in
-    let colon : eqb c 58 ≡ true = left_of (eqb c 58) (list_all is_name (slice_split is_colon front)) p in
-    let names : list_all is_name (slice_split is_colon front) ≡ true = right_of (eqb c 58) (list_all is_name (slice_split is_colon front)) p in (
-      ap (λ b. b && list_all is_name (slice_split is_colon (front ++ 58 ∷ name))) colon ∙ names-joined front name none ∙ ap (λ b. b && (is_name name && true)) names ∙ ap (λ b. b && true) h,
-      ap root_if_empty (before (c ∷ front) name none),
-      after (c ∷ front) name none,
+    let colon : eqb c 58 ≡ true = left_of (eqb c 58) (list_all is_name (slice_split is_colon prefix)) p in
+    let names : list_all is_name (slice_split is_colon prefix) ≡ true = right_of (eqb c 58) (list_all is_name (slice_split is_colon prefix)) p in (
+      ap (λ b. b && list_all is_name (slice_split is_colon (prefix ++ 58 ∷ name))) colon ∙ names-joined prefix name none ∙ ap (λ b. b && (is_name name && true)) names ∙ ap (λ b. b && true) h,
+      ap root_if_empty (before (c ∷ prefix) name none),
+      after (c ∷ prefix) name none,
     )
 
 by_root : (project name : List ℕ) (b : Bool) → bytes_eq project (codes ":") ≡ b → (b || is_task_path project) ≡ true → is_name name ≡ true → AreParts (if b then 58 ∷ name else project ++ 58 ∷ name) project name

@@ -26,11 +26,11 @@ module _ (at : ℕ) where
   onto_first-append c parts more (first, rest, same) = subst (λ p. onto_first c (p ++ more) ≡ onto_first c p ++ more) (sym same) refl
 
   -- the parts of two texts around such a byte are those of the one and then those of the other
-  pub parts-joined : (front back : List ℕ) → parts_of (front ++ at ∷ back) ≡ parts_of front ++ parts_of back
+  pub parts-joined : (prefix back : List ℕ) → parts_of (prefix ++ at ∷ back) ≡ parts_of prefix ++ parts_of back
   parts-joined [] back = ap (λ b. cond b ([] ∷ parts_of back) (onto_first at (parts_of back))) (eq-eqb at at refl)
-  parts-joined (c ∷ front) back =
-      ap (λ parts. cond (eqb c at) ([] ∷ parts) (onto_first c parts)) (parts-joined front back)
-      ∙ elim (eqb c at) as (λ b. cond b ([] ∷ (parts_of front ++ parts_of back)) (onto_first c (parts_of front ++ parts_of back)) ≡ cond b ([] ∷ parts_of front) (onto_first c (parts_of front)) ++ parts_of back) [
+  parts-joined (c ∷ prefix) back =
+      ap (λ parts. cond (eqb c at) ([] ∷ parts) (onto_first c parts)) (parts-joined prefix back)
+      ∙ elim (eqb c at) as (λ b. cond b ([] ∷ (parts_of prefix ++ parts_of back)) (onto_first c (parts_of prefix ++ parts_of back)) ≡ cond b ([] ∷ parts_of prefix) (onto_first c (parts_of prefix)) ++ parts_of back) [
         | true ↦ refl
-        | false ↦ onto_first-append c (parts_of front) (parts_of back) (has_first front)
+        | false ↦ onto_first-append c (parts_of prefix) (parts_of back) (has_first prefix)
       ]

@@ -20,7 +20,7 @@ task_name path = after_last (λ b. b == 58) path
 -- the root's path if nothing precedes the last colon
 abbrev pub root_if_empty : List ℕ → List ℕ
 root_if_empty [] = codes ":"
-root_if_empty (c ∷ front) = c ∷ front
+root_if_empty (c ∷ prefix) = c ∷ prefix
 
 -- the project of a task: the text before the last colon, or the root
 abbrev pub project_of : List ℕ → List ℕ

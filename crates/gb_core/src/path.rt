@@ -183,10 +183,10 @@ pub fn is_task_path(text: &str) -> bool
 }
 
 /// The path of the project: `:` if nothing precedes the last colon.
-pub fn root_if_empty(front: &str) -> &str
-    ensures { result.now ≡ root_if_empty front.now }
+pub fn root_if_empty(prefix: &str) -> &str
+    ensures { result.now ≡ root_if_empty prefix.now }
 {
-    if front.is_empty() { ":" } else { front }
+    if prefix.is_empty() { ":" } else { prefix }
 }
 
 /// Whether the text is the path of a project.

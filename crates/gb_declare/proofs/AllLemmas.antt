@@ -16,8 +16,8 @@ use Rattle.gb_declare.proofs.JoinLemmas.{put_all}
 
 module _ {X : Type 0} (P : X → Type 0) where
   pub all_append : (xs ys : List X) → AllByRecursion P xs → AllByRecursion P ys → AllByRecursion P (xs ++ ys)
-  all_append [] ys front back = back
-  all_append (x ∷ xs) ys front back = (front.0, all_append xs ys front.1 back)
+  all_append [] ys prefix back = back
+  all_append (x ∷ xs) ys prefix back = (prefix.0, all_append xs ys prefix.1 back)
 
   pub all_reversed : (xs : List X) → AllByRecursion P xs → AllByRecursion P (reverse xs)
   all_reversed [] all = tt

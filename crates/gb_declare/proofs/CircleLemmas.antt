@@ -12,7 +12,7 @@ use Rattle.gb_provider.specs.Rules.{rule, rules}
 use Rattle.gb_provider.specs.declared.expression.Expression.{Expression}
 use Rattle.gb_provider.specs.declared.expression.Expression.TheVariants.{Constant, OfProperty, OfOutput, Listed, Mapped, FlatMapped, Zipped, OrElse}
 use Rattle.gb_provider.specs.declared.expression.Outcome.{Outcome}
-use Rattle.gb_declare.specs.Circles.{AreApart, CirclesStay}
+use Rattle.gb_declare.specs.Circles.{AreDistinct, CirclesStay}
 use Rattle.gb_declare.specs.Partly.{renamed, IsPartOf, IsPending}
 use Rattle.gb_declare.proofs.CopyLemmas.{mapped_at, rules_are_part}
 use Rattle.gb_declare.proofs.RoundLemmas.{next_in_part, after_in_part}
@@ -60,7 +60,7 @@ module _ {M F Z S : Type 0} (meanings : Meanings M F Z S) (number : ℕ → ℕ)
       ap (λ l. l ++ names_on whole (map number xs)) (same_names x here.0 here.1)
       ∙ ap (λ l. names_of (slice_get part x) ++ l) (names_same xs (λ i below. all (suc i) (omega arith)))
 
-  module _ (entry : ℕ) (circle : List ℕ) (apart : AreApart number circle) (is : IsCircle (rules meanings part) entry circle) where
+  module _ (entry : ℕ) (circle : List ℕ) (separate : AreDistinct number circle) (is : IsCircle (rules meanings part) entry circle) where
     same_length : length (map number circle) ≡ length circle
     same_length = length-map circle number
 
@@ -82,7 +82,7 @@ module _ {M F Z S : Type 0} (meanings : Meanings M F Z S) (number : ℕ → ℕ)
     moved_different : (i j : ℕ) → i < j → j < length (map number circle) → slice_index (map number circle) i ≢ slice_index (map number circle) j
     moved_different i j less below same =
         let within : j < length circle = omega (arith, below, same_length) in
-        apart i j less within (sym (at_map number circle i (omega arith)) ∙ same ∙ at_map number circle j within)
+        separate i j less within (sym (at_map number circle i (omega arith)) ∙ same ∙ at_map number circle j within)
 
     moved_circle : IsCircle (rules meanings whole) (number entry) (map number circle)
     moved_circle = record {
@@ -98,8 +98,8 @@ module _ {M F Z S : Type 0} (meanings : Meanings M F Z S) (number : ℕ → ℕ)
     }
 
     -- an entry on the circle is an expression
-    stands_at : (i : ℕ) → i < length circle → (e : Expression M F Z) × (slice_get part (slice_index circle i) ≡ Some e)
-    stands_at i below =
+    exists_at : (i : ℕ) → i < length circle → (e : Expression M F Z) × (slice_get part (slice_index circle i) ≡ Some e)
+    exists_at i below =
         elim (cases_lt (i + 1) (length circle)) [
           | inl more ↦ node_there (slice_index circle i) (slice_index circle (i + 1)) (is.next i more)
           | inr past ↦
@@ -108,8 +108,8 @@ module _ {M F Z S : Type 0} (meanings : Meanings M F Z S) (number : ℕ → ℕ)
         ]
 
     moved_names : names_on whole (map number circle) ≡ names_on part circle
-    moved_names = names_same circle stands_at
+    moved_names = names_same circle exists_at
 
 pub circles_stay : {M F Z S : Type 0} (meanings : Meanings M F Z S) → CirclesStay meanings
-circles_stay meanings number part whole is_part entry circle apart is =
-    (moved_circle meanings number part whole is_part entry circle apart is, moved_names meanings number part whole is_part entry circle apart is)
+circles_stay meanings number part whole is_part entry circle separate is =
+    (moved_circle meanings number part whole is_part entry circle separate is, moved_names meanings number part whole is_part entry circle separate is)

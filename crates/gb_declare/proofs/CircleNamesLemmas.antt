@@ -48,9 +48,9 @@ module _ (w : ℕ → ℕ) where
   none_or_one x (suc n) =
       elim (cases_eq x (w n)) [
         | inl same ↦ inr (n, omega arith, same)
-        | inr apart ↦
+        | inr separate ↦
             elim (none_or_one x n) [
-              | inl none ↦ inl (ne_eqb x (w n) apart, none)
+              | inl none ↦ inl (ne_eqb x (w n) separate, none)
               | inr one ↦ inr (one.0, omega (arith, one.1), one.2)
             ]
       ]

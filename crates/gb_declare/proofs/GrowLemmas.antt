@@ -14,13 +14,13 @@ use Rattle.gb_provider.proofs.WithinLemmas.{added_within}
 use Rattle.gb_declare.specs.Growing.{extended, PartGrows}
 use Rattle.gb_declare.specs.Partly.{IsPartOf, renamed, renamed_setting}
 
-front_or_last : {X : Type 0} (xs : List X) (y z : X) (i : ℕ) → slice_get (xs ++ y ∷ []) i ≡ Some z → (slice_get xs i ≡ Some z) ⊎ ((i ≡ length xs) × (y ≡ z))
-front_or_last [] y z zero e = let same : y ≡ z = cc in inr (refl, same)
-front_or_last [] y z (suc i) e = cc
-front_or_last (x ∷ xs) y z zero e = inl e
-front_or_last (x ∷ xs) y z (suc i) e =
-    elim (front_or_last xs y z i e) [
-      | inl front ↦ inl front
+prefix_or_last : {X : Type 0} (xs : List X) (y z : X) (i : ℕ) → slice_get (xs ++ y ∷ []) i ≡ Some z → (slice_get xs i ≡ Some z) ⊎ ((i ≡ length xs) × (y ≡ z))
+prefix_or_last [] y z zero e = let same : y ≡ z = cc in inr (refl, same)
+prefix_or_last [] y z (suc i) e = cc
+prefix_or_last (x ∷ xs) y z zero e = inl e
+prefix_or_last (x ∷ xs) y z (suc i) e =
+    elim (prefix_or_last xs y z i e) [
+      | inl prefix ↦ inl prefix
       | inr last ↦ let at = last.0 in inr (omega arith, last.1)
     ]
 
@@ -54,7 +54,7 @@ module _ (number number' : ℕ → ℕ) (n : ℕ) (agree : (i : ℕ) → i < n �
   same_renamed (OrElse left right) within = ap (λ i. OrElse i (number' right)) (agree left within.0) ∙ ap (λ i. OrElse (number left) i) (agree right within.1)
 
 module _ {M F Z : Type 0} (number : ℕ → ℕ) (part whole : List (Expression M F Z)) (is_part : IsPartOf number part whole) (e : Expression M F Z) (place : ℕ) (within : OperandsWithin (length part) e)
-    (stands : slice_get whole place ≡ Some (renamed number e)) (if_output : (chosen : Chosen) → is_output chosen e ≡ true → output_place whole chosen ≡ Some place) where
+    (exists : slice_get whole place ≡ Some (renamed number e)) (if_output : (chosen : Chosen) → is_output chosen e ≡ true → output_place whole chosen ≡ Some place) where
   abbrev more : ℕ → ℕ
   more = extended number (length part) place
 
@@ -69,24 +69,24 @@ module _ {M F Z : Type 0} (number : ℕ → ℕ) (part whole : List (Expression 
 
   copied_more : (i : ℕ) (x : Expression M F Z) → slice_get (part ++ e ∷ []) i ≡ Some x → slice_get whole (more i) ≡ Some (renamed more x)
   copied_more i x is =
-      elim (front_or_last part e x i is) [
-        | inl front ↦
-            ap (slice_get whole) (old_number i (slice_get_within part i x front)) ∙ is_part.copied i x front
-            ∙ ap Some (sym (same_renamed number more (length part) old_number x (old_within i x front)))
+      elim (prefix_or_last part e x i is) [
+        | inl prefix ↦
+            ap (slice_get whole) (old_number i (slice_get_within part i x prefix)) ∙ is_part.copied i x prefix
+            ∙ ap Some (sym (same_renamed number more (length part) old_number x (old_within i x prefix)))
         | inr last ↦
-            ap (λ k. slice_get whole (more k)) last.0 ∙ ap (slice_get whole) new_number ∙ stands
+            ap (λ k. slice_get whole (more k)) last.0 ∙ ap (slice_get whole) new_number ∙ exists
             ∙ ap Some (sym (same_renamed number more (length part) old_number e within)) ∙ ap (λ y. Some (renamed more y)) last.1
       ]
 
   placed_at : (chosen : Chosen) (k : ℕ) (o : Option ℕ) (b : Bool) → output_place part chosen ≡ o → is_output chosen e ≡ b → grown o b (length part) ≡ Some k → output_place whole chosen ≡ Some (more k)
-  placed_at chosen k (Some j) b stood is g =
+  placed_at chosen k (Some j) b existed is g =
       let same : j ≡ k = cc in
-      let below : PlaceWithin (length part) (Some j) = subst (PlaceWithin (length part)) stood (place_within part chosen) in
-      is_part.placed chosen j stood ∙ ap Some (sym (old_number j below)) ∙ ap (λ i. Some (more i)) same
-  placed_at chosen k None true stood is g =
+      let below : PlaceWithin (length part) (Some j) = subst (PlaceWithin (length part)) existed (place_within part chosen) in
+      is_part.placed chosen j existed ∙ ap Some (sym (old_number j below)) ∙ ap (λ i. Some (more i)) same
+  placed_at chosen k None true existed is g =
       let same : length part ≡ k = cc in
       if_output chosen is ∙ ap Some (sym new_number) ∙ ap (λ i. Some (more i)) same
-  placed_at chosen k None false stood is g = cc
+  placed_at chosen k None false existed is g = cc
 
   pub grown_part : IsPartOf more (part ++ e ∷ []) whole
   grown_part = record {
@@ -96,4 +96,4 @@ module _ {M F Z : Type 0} (number : ℕ → ℕ) (part whole : List (Expression 
   }
 
 pub part_grows : {M F Z : Type 0} → PartGrows M F Z
-part_grows number part whole is_part e place within stands if_output = grown_part number part whole is_part e place within stands if_output
+part_grows number part whole is_part e place within exists if_output = grown_part number part whole is_part e place within exists if_output

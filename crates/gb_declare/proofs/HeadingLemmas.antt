@@ -17,7 +17,7 @@ use Rattle.gb_core.proofs.Found.{tied_same, same_tied}
 use Rattle.gb_core.specs.Lists.{byte_order}
 use Rattle.gb_declare.specs.Declaring.{clash, heading}
 use Rattle.gb_declare.specs.Headings.{Heading, noted, clashes, is_other, word_in, words_in}
-use Rattle.gb_declare.proofs.JoinLemmas.{put_in}
+use Rattle.gb_declare.proofs.JoinLemmas.{store_record}
 
 equal : (o : Ordering) → is_eq o ≡ true → o ≡ Equal
 equal Less e = absurd (cc)
@@ -31,13 +31,13 @@ found_put : (q : List ℕ) (h : Heading) (words : List Heading) → find byte_or
 found_put q h words = find-put byte_order nat_list_cmp_total q h.0 h.1 words ∙ ap (λ b. cond b (Some h.1) (find byte_order q words)) (same_test q h.0)
 
 -- the word of a heading is noted
-abbrev Stands : List Heading → Option Heading → Type 0
-Stands words None = Unit {0}
-Stands words (Some h) = find byte_order h.0 words ≡ Some h.1
+abbrev IsNoted : List Heading → Option Heading → Type 0
+IsNoted words None = Unit {0}
+IsNoted words (Some h) = find byte_order h.0 words ≡ Some h.1
 
-abbrev AllStand : List Heading → List (Option Heading) → Type 0
-AllStand words [] = Unit {0}
-AllStand words (h ∷ hs) = Stands words h × AllStand words hs
+abbrev AllNoted : List Heading → List (Option Heading) → Type 0
+AllNoted words [] = Unit {0}
+AllNoted words (h ∷ hs) = IsNoted words h × AllNoted words hs
 
 abbrev is_heading : List ℕ → List ℕ → Option Heading → Bool
 is_heading name word None = false
@@ -45,11 +45,11 @@ is_heading name word (Some h) = bytes_eq h.0 name && bytes_eq h.1 word
 
 -- the words noted are those of the headings, which do not clash
 pub record Agrees (words : List Heading) (headings : List (Option Heading)) : Type 0 where
-  pub stand : AllStand words headings
+  pub exist : AllNoted words headings
   pub backed : (name word : List ℕ) → find byte_order name words ≡ Some word → list_any (is_heading name word) headings ≡ true
 
 pub none_agree : Agrees [] []
-none_agree = record { stand = tt; backed = λ name word e. absurd (cc) }
+none_agree = record { exist = tt; backed = λ name word e. absurd (cc) }
 
 same : (a b : List ℕ) → bytes_eq a b ≡ true → a ≡ b
 same a b e = (bytes_decides a b).0 e
@@ -58,26 +58,26 @@ itself : (a b : List ℕ) → a ≡ b → bytes_eq a b ≡ true
 itself a b e = (bytes_decides a b).1 e
 
 -- a name that is not noted is in no heading
-unknown : (words : List Heading) (hs : List (Option Heading)) (h : Heading) → AllStand words hs → find byte_order h.0 words ≡ None → list_any (λ e. clash e (Some h)) hs ≡ false
-unknown words [] h stand none = refl
-unknown words (None ∷ hs) h stand none = unknown words hs h stand.1 none
-unknown words (Some e ∷ hs) h stand none =
+unknown : (words : List Heading) (hs : List (Option Heading)) (h : Heading) → AllNoted words hs → find byte_order h.0 words ≡ None → list_any (λ e. clash e (Some h)) hs ≡ false
+unknown words [] h exist none = refl
+unknown words (None ∷ hs) h exist none = unknown words hs h exist.1 none
+unknown words (Some e ∷ hs) h exist none =
     elim (bytes_eq e.0 h.0) as (λ b. bytes_eq e.0 h.0 ≡ b → ((b && not (bytes_eq e.1 h.1)) || list_any (λ e. clash e (Some h)) hs) ≡ false) [
-      | true ↦ λ p. let is : e.0 ≡ h.0 = same e.0 h.0 p in let has : find byte_order e.0 words ≡ Some e.1 = stand.0 in absurd (cc)
-      | false ↦ λ p. unknown words hs h stand.1 none
+      | true ↦ λ p. let is : e.0 ≡ h.0 = same e.0 h.0 p in let has : find byte_order e.0 words ≡ Some e.1 = exist.0 in absurd (cc)
+      | false ↦ λ p. unknown words hs h exist.1 none
     ] refl
 
 -- the same word is in all headings of the name
-agreeing : (words : List Heading) (hs : List (Option Heading)) (h : Heading) (known : List ℕ) → AllStand words hs → find byte_order h.0 words ≡ Some known → bytes_eq known h.1 ≡ true
+agreeing : (words : List Heading) (hs : List (Option Heading)) (h : Heading) (known : List ℕ) → AllNoted words hs → find byte_order h.0 words ≡ Some known → bytes_eq known h.1 ≡ true
     → list_any (λ e. clash e (Some h)) hs ≡ false
-agreeing words [] h known stand found alike = refl
-agreeing words (None ∷ hs) h known stand found alike = agreeing words hs h known stand.1 found alike
-agreeing words (Some e ∷ hs) h known stand found alike =
-    let rest = agreeing words hs h known stand.1 found alike in
+agreeing words [] h known exist found alike = refl
+agreeing words (None ∷ hs) h known exist found alike = agreeing words hs h known exist.1 found alike
+agreeing words (Some e ∷ hs) h known exist found alike =
+    let rest = agreeing words hs h known exist.1 found alike in
     elim (bytes_eq e.0 h.0) as (λ b. bytes_eq e.0 h.0 ≡ b → ((b && not (bytes_eq e.1 h.1)) || list_any (λ e. clash e (Some h)) hs) ≡ false) [
       | true ↦ λ p.
           let is : e.0 ≡ h.0 = same e.0 h.0 p in
-          let has : find byte_order e.0 words ≡ Some e.1 = stand.0 in
+          let has : find byte_order e.0 words ≡ Some e.1 = exist.0 in
           let word : e.1 ≡ known = cc in
           rw (itself e.1 h.1 (word ∙ same known h.1 alike)) rest
       | false ↦ λ p. rest
@@ -86,16 +86,16 @@ agreeing words (Some e ∷ hs) h known stand found alike =
 -- another word is in a heading of the name
 differing : (hs : List (Option Heading)) (h : Heading) (known : List ℕ) → bytes_eq known h.1 ≡ false → list_any (is_heading h.0 known) hs ≡ true
     → list_any (λ e. clash e (Some h)) hs ≡ true
-differing [] h known apart any = absurd (cc)
-differing (None ∷ hs) h known apart any = differing hs h known apart any
-differing (Some e ∷ hs) h known apart any =
+differing [] h known separate any = absurd (cc)
+differing (None ∷ hs) h known separate any = differing hs h known separate any
+differing (Some e ∷ hs) h known separate any =
     elim (bytes_eq e.0 h.0) as (λ b. (((b && bytes_eq e.1 known) || list_any (is_heading h.0 known) hs) ≡ true) → ((b && not (bytes_eq e.1 h.1)) || list_any (λ e. clash e (Some h)) hs) ≡ true) [
       | true ↦ λ any.
           elim (bytes_eq e.1 known) as (λ b. bytes_eq e.1 known ≡ b → ((b || list_any (is_heading h.0 known) hs) ≡ true) → (not (bytes_eq e.1 h.1) || list_any (λ e. clash e (Some h)) hs) ≡ true) [
-            | true ↦ λ p _. rw (ap (λ w. bytes_eq w h.1) (same e.1 known p) ∙ apart) refl
-            | false ↦ λ p any. rw (differing hs h known apart any) (or-true (not (bytes_eq e.1 h.1)))
+            | true ↦ λ p _. rw (ap (λ w. bytes_eq w h.1) (same e.1 known p) ∙ separate) refl
+            | false ↦ λ p any. rw (differing hs h known separate any) (or-true (not (bytes_eq e.1 h.1)))
           ] refl any
-      | false ↦ λ any. differing hs h known apart any
+      | false ↦ λ any. differing hs h known separate any
     ] any
 
 none_clash : (hs : List (Option Heading)) → list_any (λ e. clash e None) hs ≡ false
@@ -108,10 +108,10 @@ pub any_clash : (words : List Heading) (hs : List (Option Heading)) (h : Option 
 any_clash words hs None agrees = none_clash hs
 any_clash words hs (Some h) agrees =
     elim (find byte_order h.0 words) as (λ o. find byte_order h.0 words ≡ o → list_any (λ e. clash e (Some h)) hs ≡ is_other h.1 o) [
-      | None ↦ λ none. unknown words hs h agrees.stand none
+      | None ↦ λ none. unknown words hs h agrees.exist none
       | Some known ↦ λ found.
           elim (bytes_eq known h.1) as (λ b. bytes_eq known h.1 ≡ b → list_any (λ e. clash e (Some h)) hs ≡ not b) [
-            | true ↦ λ p. agreeing words hs h known agrees.stand found p
+            | true ↦ λ p. agreeing words hs h known agrees.exist found p
             | false ↦ λ p. differing hs h known p (agrees.backed h.0 known found)
           ] refl
     ] refl
@@ -125,27 +125,27 @@ equal_words known word e =
       | false ↦ λ p no. absurd (cc)
     ] refl e
 
-put_stands : (words : List Heading) (hs : List (Option Heading)) (h : Heading) → AllStand words hs → clashes words (Some h) ≡ false → AllStand (put byte_order h.0 h.1 words) hs
-put_stands words [] h stand clear = tt
-put_stands words (None ∷ hs) h stand clear = (tt, put_stands words hs h stand.1 clear)
-put_stands words (Some e ∷ hs) h stand clear = (
+put_exists : (words : List Heading) (hs : List (Option Heading)) (h : Heading) → AllNoted words hs → clashes words (Some h) ≡ false → AllNoted (put byte_order h.0 h.1 words) hs
+put_exists words [] h exist clear = tt
+put_exists words (None ∷ hs) h exist clear = (tt, put_exists words hs h exist.1 clear)
+put_exists words (Some e ∷ hs) h exist clear = (
   found_put e.0 h words ∙ elim (bytes_eq e.0 h.0) as (λ b. bytes_eq e.0 h.0 ≡ b → cond b (Some h.1) (find byte_order e.0 words) ≡ Some e.1) [
     | true ↦ λ p.
-        let found : find byte_order h.0 words ≡ Some e.1 = ap (λ n. find byte_order n words) (sym (same e.0 h.0 p)) ∙ stand.0 in
+        let found : find byte_order h.0 words ≡ Some e.1 = ap (λ n. find byte_order n words) (sym (same e.0 h.0 p)) ∙ exist.0 in
         ap (λ w. Some w) (sym (equal_words e.1 h.1 (ap (is_other h.1) (sym found) ∙ clear)))
-    | false ↦ λ p. stand.0
+    | false ↦ λ p. exist.0
   ] refl,
-  put_stands words hs h stand.1 clear,
+  put_exists words hs h exist.1 clear,
 )
 
-last_stands : (words : List Heading) (hs : List (Option Heading)) (h : Option Heading) → AllStand words hs → Stands words h → AllStand words (hs ++ h ∷ [])
-last_stands words [] h stand last = (last, tt)
-last_stands words (e ∷ hs) h stand last = (stand.0, last_stands words hs h stand.1 last)
+last_exists : (words : List Heading) (hs : List (Option Heading)) (h : Option Heading) → AllNoted words hs → IsNoted words h → AllNoted words (hs ++ h ∷ [])
+last_exists words [] h exist last = (last, tt)
+last_exists words (e ∷ hs) h exist last = (exist.0, last_exists words hs h exist.1 last)
 
-any_front : (p : Option Heading → Bool) (hs : List (Option Heading)) (h : Option Heading) → list_any p hs ≡ true → list_any p (hs ++ h ∷ []) ≡ true
-any_front p [] h e = absurd (cc)
-any_front p (x ∷ hs) h e =
-    elim (p x) as (λ b. (b || list_any p hs) ≡ true → (b || list_any p (hs ++ h ∷ [])) ≡ true) [ true ↦ λ _. refl | false ↦ λ e. any_front p hs h e ] e
+any_prefix : (p : Option Heading → Bool) (hs : List (Option Heading)) (h : Option Heading) → list_any p hs ≡ true → list_any p (hs ++ h ∷ []) ≡ true
+any_prefix p [] h e = absurd (cc)
+any_prefix p (x ∷ hs) h e =
+    elim (p x) as (λ b. (b || list_any p hs) ≡ true → (b || list_any p (hs ++ h ∷ [])) ≡ true) [ true ↦ λ _. refl | false ↦ λ e. any_prefix p hs h e ] e
 
 any_last : (p : Option Heading → Bool) (hs : List (Option Heading)) (h : Option Heading) → p h ≡ true → list_any p (hs ++ h ∷ []) ≡ true
 any_last p [] h e = rw e refl
@@ -154,17 +154,17 @@ any_last p (x ∷ hs) h e = rw (any_last p hs h e) (or-true (p x))
 -- one that does not clash is noted
 pub agrees_more : (words : List Heading) (hs : List (Option Heading)) (h : Option Heading) → Agrees words hs → clashes words h ≡ false → Agrees (noted words h) (hs ++ h ∷ [])
 agrees_more words hs None agrees clear = record {
-  stand = last_stands words hs None agrees.stand tt;
-  backed = λ name word e. any_front (is_heading name word) hs None (agrees.backed name word e);
+  exist = last_exists words hs None agrees.exist tt;
+  backed = λ name word e. any_prefix (is_heading name word) hs None (agrees.backed name word e);
 }
 agrees_more words hs (Some h) agrees clear = record {
-  stand = last_stands (put byte_order h.0 h.1 words) hs (Some h) (put_stands words hs h agrees.stand clear) (found_put h.0 h words ∙ ap (λ b. cond b (Some h.1) (find byte_order h.0 words)) (itself h.0 h.0 refl));
+  exist = last_exists (put byte_order h.0 h.1 words) hs (Some h) (put_exists words hs h agrees.exist clear) (found_put h.0 h words ∙ ap (λ b. cond b (Some h.1) (find byte_order h.0 words)) (itself h.0 h.0 refl));
   backed = λ name word e.
       elim (bytes_eq name h.0) as (λ b. bytes_eq name h.0 ≡ b → cond b (Some h.1) (find byte_order name words) ≡ Some word → list_any (is_heading name word) (hs ++ Some h ∷ []) ≡ true) [
         | true ↦ λ p is.
             let word_is : h.1 ≡ word = cc in
             any_last (is_heading name word) hs (Some h) (rw (itself h.0 name (sym (same name h.0 p)), itself h.1 word word_is) refl)
-        | false ↦ λ p is. any_front (is_heading name word) hs (Some h) (agrees.backed name word is)
+        | false ↦ λ p is. any_prefix (is_heading name word) hs (Some h) (agrees.backed name word is)
       ] refl (sym (found_put name h words) ∙ e);
 }
 
@@ -203,6 +203,6 @@ module _ (words : BTreeMap (List ℕ) (Bor Clause)) (h : Option Heading) (name :
   -- the clause about a name is stored under it
   pub noted_put : (new : BTreeMap (List ℕ) (Bor Clause)) (clause : Bor Clause) → h ≡ heading clause.now → new.entries ≡ insert_entry byte_order words.entries name clause → words_in new ≡ noted (words_in words) h
   noted_put new clause of put_is =
-      put_in (λ (c : Bor Clause). word_in (heading c.now)) words new new name clause refl put_is
+      store_record (λ (c : Bor Clause). word_in (heading c.now)) words new new name clause refl put_is
       ∙ ap (λ w. put byte_order name w (words_in words)) (ap word_in (sym of))
       ∙ sym (ap (noted (words_in words)) (split_heading h name is))

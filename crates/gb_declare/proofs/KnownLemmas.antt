@@ -28,7 +28,7 @@ use Rattle.gb_declare.specs.Whole.{spots, table_of}
 use Rattle.gb_declare.proofs.AllLemmas.{insert_all, with_all}
 use Rattle.gb_declare.proofs.EvaluatedLemmas.{is_evaluated}
 use Rattle.gb_declare.proofs.ReadyLemmas.{no_faults}
-use Rattle.gb_declare.proofs.ViewLemmas.{back_none, front_none, judged_must_run_after_in, judged_finalized_by_in, known_path}
+use Rattle.gb_declare.proofs.ViewLemmas.{back_none, prefix_none, judged_must_run_after_in, judged_finalized_by_in, known_path}
 
 -- ---- Tasks in order
 
@@ -81,7 +81,7 @@ found names project text e =
 module _ (names : Names) (project : Path) where
   all_found : (texts : List (List ℕ)) → flat_map (reference_faults names project) texts ≡ [] → AllByRecursion (λ path. is_among names.tasks path ≡ true) (flat_map (λ text. absolute project text ∷ []) texts)
   all_found [] e = tt
-  all_found (text ∷ texts) e = (found names project text (front_none (reference_faults names project text) _ e), all_found texts (back_none (reference_faults names project text) _ e))
+  all_found (text ∷ texts) e = (found names project text (prefix_none (reference_faults names project text) _ e), all_found texts (back_none (reference_faults names project text) _ e))
 
   pub registered_in : (texts : List (List ℕ)) → flat_map (reference_faults names project) texts ≡ [] → AllByRecursion (λ path. is_among names.tasks path ≡ true) (tasks_in project texts)
   registered_in texts e = with_all (λ path. is_among names.tasks path ≡ true) [] (flat_map (λ text. absolute project text ∷ []) texts) tt (all_found texts e)
@@ -92,7 +92,7 @@ pub all_known : {M F Z S A : Type 0} (tables : Tables M F Z S A) (scope : Scope)
 all_known tables scope path pick judged before [] e = refl
 all_known tables scope path pick judged before (clause ∷ after) e =
     let both = clash_faults path before clause ++ clause_faults tables scope clause in
-    let here : clause_faults tables scope clause ≡ [] = back_none (clash_faults path before clause) _ (front_none both _ e) in
+    let here : clause_faults tables scope clause ≡ [] = back_none (clash_faults path before clause) _ (prefix_none both _ e) in
     flat_map-append scope.task_faults (pick clause) (flat_map pick after)
     ∙ ap (λ f. f ++ flat_map scope.task_faults (flat_map pick after)) (judged clause here)
     ∙ all_known tables scope path pick judged (before ++ clause ∷ []) after (back_none both _ e)
@@ -104,7 +104,7 @@ module _ {M F Z S A : Type 0} (tables : Tables M F Z S A) (source : Source) (at 
   clauses_clear e =
       let scope = block_scope source.names source.said at.project in
       back_none (main_faults tables scope at.action) (clauses_faults tables scope at.path [] at.clauses)
-      (front_none (main_faults tables scope at.action ++ clauses_faults tables scope at.path [] at.clauses) (shape_faults tables at.path (joined at)) e)
+      (prefix_none (main_faults tables scope at.action ++ clauses_faults tables scope at.path [] at.clauses) (shape_faults tables at.path (joined at)) e)
 
   names_at : (task : Joined) (t : TaskDeclaration) → declared tables source.names source.said at ≡ Ok task → evaluated tables source at (spots tables source) (table_of tables source (spots tables source)) task ≡ Ok t → NamesTasks source t
   names_at task t is e =

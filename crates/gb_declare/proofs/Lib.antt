@@ -4,7 +4,7 @@ pub mod RoundLemmas
 pub mod CarrierLemmas
 pub mod NeedLemmas
 pub mod CircleLemmas
-pub mod ApartLemmas
+pub mod DistinctLemmas
 pub mod GrowLemmas
 pub mod SpotLemmas
 pub mod ReadyLemmas

@@ -88,9 +88,9 @@ placed : {X : Type 0} (p : X → Bool) (xs : List X) (i : ℕ) → position p xs
 placed p [] i is = absurd (cc)
 placed p (x ∷ xs) i is = let found = position-Some p (x ∷ xs) i x is in (get_or (x ∷ xs) i x, slice_get-get_or (x ∷ xs) i x found.0, found.1)
 
-front_true : (a b : Bool) → (a && b) ≡ true → a ≡ true
-front_true true b e = refl
-front_true false b e = absurd (cc)
+prefix_true : (a b : Bool) → (a && b) ≡ true → a ≡ true
+prefix_true true b e = refl
+prefix_true false b e = absurd (cc)
 
 module _ {M F Z S : Type 0} (meanings : Meanings M F Z S) (nodes : List (Expression M F Z)) (Good : List ℕ → Type 0) (good : (entry : ℕ) (e : Expression M F Z) → slice_get nodes entry ≡ Some e → NamesGood Good e) where
   -- an expression has tasks, and good ones
@@ -141,7 +141,7 @@ module _ {M F Z S : Type 0} (meanings : Meanings M F Z S) (nodes : List (Express
     )
 
     output_good : (chosen : Chosen) (e : Expression M F Z) → NamesGood Good e → is_output chosen e ≡ true → Good chosen.task
-    output_good chosen (OfOutput output) names is = subst Good ((bytes_eq-Decides output.chosen.task chosen.task).0 (front_true _ _ is)) names
+    output_good chosen (OfOutput output) names is = subst Good ((bytes_eq-Decides output.chosen.task chosen.task).0 (prefix_true _ _ is)) names
     output_good chosen (Constant value) names is = absurd (cc)
     output_good chosen (OfProperty property) names is = absurd (cc)
     output_good chosen (Listed operands) names is = absurd (cc)

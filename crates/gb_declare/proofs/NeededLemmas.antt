@@ -43,7 +43,7 @@ use Rattle.gb_declare.proofs.EvaluatedLemmas.{IsEvaluated, is_evaluated}
 use Rattle.gb_declare.proofs.KnownLemmas.{all_known, clauses_clear, found, looked_up, registered_in}
 use Rattle.gb_declare.proofs.NeedLemmas.{NamesGood, good_tasks, held_tasks}
 use Rattle.gb_declare.proofs.ReadyLemmas.{both_ok, each_ok, no_faults, same_ok}
-use Rattle.gb_declare.proofs.ViewLemmas.{back_none, front_none, judged_depends_on_in, known_path}
+use Rattle.gb_declare.proofs.ViewLemmas.{back_none, prefix_none, judged_depends_on_in, known_path}
 
 -- ---- Expressions of a script that name a task
 
@@ -70,9 +70,9 @@ module _ (Good : Path → Type 0) where
     mutual
       tree_good : (tree : Tree) → found_in at_root at_link tree ≡ [] → AreGood (parts project tree)
       tree_good (Chain root links) e =
-          let here = front_none (found_at at_root at_link root) (found_along at_root at_link links) e in
-          let behind = back_none (found_at at_root at_link root) (found_along at_root at_link links) e in
-          (root_good root here, all_append IsGoodSpot (root_parts project root) (links_parts project root [] links) (source_good root here) (links_good root [] links behind))
+          let here = prefix_none (found_at at_root at_link root) (found_along at_root at_link links) e in
+          let following = back_none (found_at at_root at_link root) (found_along at_root at_link links) e in
+          (root_good root here, all_append IsGoodSpot (root_parts project root) (links_parts project root [] links) (source_good root here) (links_good root [] links following))
 
       source_good : (root : Root) → found_at at_root at_link root ≡ [] → AreGood (root_parts project root)
       source_good (ListOf trees) e = trees_good trees e
@@ -89,7 +89,7 @@ module _ (Good : Path → Type 0) where
       trees_good NoTree e = tt
       trees_good (AndTree tree trees) e =
           all_append IsGoodSpot (parts project tree) (trees_parts project trees)
-          (tree_good tree (front_none (found_in at_root at_link tree) (found_in_all at_root at_link trees) e))
+          (tree_good tree (prefix_none (found_in at_root at_link tree) (found_in_all at_root at_link trees) e))
           (trees_good trees (back_none (found_in at_root at_link tree) (found_in_all at_root at_link trees) e))
 
       links_good : (root : Root) (before : List Link) (links : Links) → found_along at_root at_link links ≡ [] → AreGood (links_parts project root before links)
@@ -97,15 +97,15 @@ module _ (Good : Path → Type 0) where
       links_good root before (AndLink link links) e = (
         tt,
         all_append IsGoodSpot (link_parts project link) (links_parts project root (link ∷ before) links)
-            (link_good link (front_none (found_by at_root at_link link) (found_along at_root at_link links) e))
+            (link_good link (prefix_none (found_by at_root at_link link) (found_along at_root at_link links) e))
             (links_good root (link ∷ before) links (back_none (found_by at_root at_link link) (found_along at_root at_link links) e)),
       )
 
       link_good : (link : Link) → found_by at_root at_link link ≡ [] → AreGood (link_parts project link)
       link_good (MapBy f) e = tt
       link_good (FlatMapBy f) e = tt
-      link_good (ZipBy tree f) e = tree_good tree (front_none (found_in at_root at_link tree) (at_link (ZipBy tree f)) e)
-      link_good (Else tree) e = tree_good tree (front_none (found_in at_root at_link tree) (at_link (Else tree)) e)
+      link_good (ZipBy tree f) e = tree_good tree (prefix_none (found_in at_root at_link tree) (at_link (ZipBy tree f)) e)
+      link_good (Else tree) e = tree_good tree (prefix_none (found_in at_root at_link tree) (at_link (Else tree)) e)
 
   -- ---- The table of such spots
 
@@ -150,7 +150,7 @@ module _ (Good : Path → Type 0) where
 
 all_clear : {X : Type 0} (f : X → List Fault) (xs : List X) → flat_map f xs ≡ [] → AllByRecursion (λ x. f x ≡ []) xs
 all_clear f [] e = tt
-all_clear f (x ∷ xs) e = (front_none (f x) (flat_map f xs) e, all_clear f xs (back_none (f x) (flat_map f xs) e))
+all_clear f (x ∷ xs) e = (prefix_none (f x) (flat_map f xs) e, all_clear f xs (back_none (f x) (flat_map f xs) e))
 
 -- ---- A task without a fault
 
@@ -168,13 +168,13 @@ module _ {M F Z S A : Type 0} (tables : Tables M F Z S A) (scope : Scope) where
   call_clear call e = all_clear (tree_faults tables scope) call.arguments (back_none _ (flat_map (tree_faults tables scope) call.arguments) e)
 
   condition_clear : (condition : Condition) → condition_faults tables scope condition ≡ [] → IsClear condition.value
-  condition_clear condition e = front_none (tree_faults tables scope condition.value) _ e
+  condition_clear condition e = prefix_none (tree_faults tables scope condition.value) _ e
 
   clauses_each : (path : Path) (before after : List Clause) → clauses_faults tables scope path before after ≡ [] → AllByRecursion IsClearClause after
   clauses_each path before [] e = tt
   clauses_each path before (clause ∷ after) e =
       let both = clash_faults path before clause ++ clause_faults tables scope clause in
-      (back_none (clash_faults path before clause) _ (front_none both _ e), clauses_each path (before ++ clause ∷ []) after (back_none both _ e))
+      (back_none (clash_faults path before clause) _ (prefix_none both _ e), clauses_each path (before ++ clause ∷ []) after (back_none both _ e))
 
   value_clear : (clause : Clause) → IsClearClause clause → AllByRecursion (λ (value : Named Tree). IsClear value.1) (option_to_list (value_in clause))
   value_clear (clauses.Input a) e = (e, tt)
@@ -183,7 +183,7 @@ module _ {M F Z S A : Type 0} (tables : Tables M F Z S A) (scope : Scope) where
   from_clear : (files : InputFiles) → files_faults tables scope files ≡ [] → AllByRecursion IsClear files.from
   from_clear files e =
       let trees = flat_map (tree_faults tables scope) files.from in
-      all_clear (tree_faults tables scope) files.from (front_none trees (flat_map pattern_faults files.include) (front_none (trees ++ flat_map pattern_faults files.include) (flat_map pattern_faults files.exclude) e))
+      all_clear (tree_faults tables scope) files.from (prefix_none trees (flat_map pattern_faults files.include) (prefix_none (trees ++ flat_map pattern_faults files.include) (flat_map pattern_faults files.exclude) e))
 
   files_clear : (clause : Clause) → IsClearClause clause → AllByRecursion (λ (files : Named InputFiles). AllByRecursion IsClear files.1.from) (option_to_list (files_in clause))
   files_clear (clauses.InputFiles files) e = (from_clear files e, tt)
@@ -290,7 +290,7 @@ module _ {M F Z S A : Type 0} (tables : Tables M F Z S A) (source : Source) wher
   value_good : (project : Path) (tree : Tree) → flat_map (found_in (missing_at_root source.names project) missing_at_link) (tree ∷ []) ≡ [] → AreGood Good (flat_map (parts project) (tree ∷ []))
   value_good project tree e =
       all_append (IsGoodSpot Good) (parts project tree) []
-      (tree_good Good project (missing_at_root source.names project) missing_at_link (looked_up source.names project) tree (front_none (found_in (missing_at_root source.names project) missing_at_link tree) [] e)) tt
+      (tree_good Good project (missing_at_root source.names project) missing_at_link (looked_up source.names project) tree (prefix_none (found_in (missing_at_root source.names project) missing_at_link tree) [] e)) tt
 
   statement_good : (project : Path) (statement : Statement) → missing_tasks source.names (record { project = project; statement = statement }) ≡ []
       → AreGood Good (statement_spots (record { project = project; statement = statement }))
@@ -307,7 +307,7 @@ module _ {M F Z S A : Type 0} (tables : Tables M F Z S A) (source : Source) wher
   no_main at e =
       let main = main_faults tables (block_scope source.names source.said at.project) at.action in
       let clauses = clauses_faults tables (block_scope source.names source.said at.project) at.path [] at.clauses in
-      front_none main clauses (front_none (main ++ clauses) (shape_faults tables at.path (joined at)) e)
+      prefix_none main clauses (prefix_none (main ++ clauses) (shape_faults tables at.path (joined at)) e)
 
   task_good : (at : Registered) (r : Result Joined Fault) → declared tables source.names source.said at ≡ r → Good at.path → AreGood Good (task_spots at r)
   task_good at (Ok task) is good =

@@ -84,15 +84,15 @@ module _ (p q : List (List ℕ)) where
 round_there : (p q : List (List ℕ)) (i : ℕ) → (j : ℕ) × (round_from (p ++ q) i ≡ round_from (q ++ p) j)
 round_there p q i =
     elim (cases_lt i (length p)) [
-      | inl front ↦ (length q + i, sym (turned_round q p i (omega (arith, front))))
-      | inr behind ↦
+      | inl prefix ↦ (length q + i, sym (turned_round q p i (omega (arith, prefix))))
+      | inr following ↦
           elim (cases_lt (length p + length q) i) [
             | inl past ↦
                 let count = length-append p q in
                 (length q + 0, past_end (p ++ q) i (omega (arith, past, count)) ∙ sym (turned_round q p 0 (omega arith)))
             | inr within ↦
-                let place : i ≡ length p + (i - length p) = omega (arith, behind) in
-                (i - length p, ap (round_from (p ++ q)) place ∙ turned_round p q (i - length p) (omega (arith, behind, within)))
+                let place : i ≡ length p + (i - length p) = omega (arith, following) in
+                (i - length p, ap (round_from (p ++ q)) place ∙ turned_round p q (i - length p) (omega (arith, following, within)))
           ]
     ]
 

@@ -24,7 +24,7 @@ use Rattle.gb_declare.specs.Joined.{Joined, Named, Made, joined}
 use Rattle.gb_registry.specs.Projects.{Path}
 use Rattle.gb_folder.specs.Files.{is_empty}
 use Rattle.gb_plan.specs.Ready.{IsReadyAction}
-use Rattle.gb_plan.specs.Task.{seen_files, seen_outputs}
+use Rattle.gb_plan.specs.Task.{given_files, given_outputs}
 use Rattle.gb_declare.specs.Ready.{IsSound, RealisedIsSound}
 use Rattle.gb_declare.specs.Realised.{and_then, each_of, realised_if, realised_at, evaluated, is_enabled, passes, value_under, files_under, output_under, action_of, fitting, place_of, required}
 use Rattle.gb_registry.specs.Said.{Registered, task_at}
@@ -65,11 +65,11 @@ module _ {X Y E : Type 0} where
       (first.1 ∙ ap Ok (same_head first.0 y second.0 ys same), each_ok f xs ys (second.1 ∙ ap Ok (same_tail first.0 y second.0 ys same)))
 
   -- the views of them are the same
-  pub seen_same : {V : Type 0} (f : X → Result Y E) (a : X → V) (b : Y → V) → ((x : X) (y : Y) → f x ≡ Ok y → b y ≡ a x) → (xs : List X) (ys : List Y) → AllZip (λ x y. f x ≡ Ok y) xs ys → map b ys ≡ map a xs
-  seen_same f a b same [] [] all = refl
-  seen_same f a b same [] (y ∷ ys) all = absurd all
-  seen_same f a b same (x ∷ xs) [] all = absurd all
-  seen_same f a b same (x ∷ xs) (y ∷ ys) all = ap (λ v. v ∷ map b ys) (same x y all.0) ∙ ap (λ vs. a x ∷ vs) (seen_same f a b same xs ys all.1)
+  pub observed_same : {V : Type 0} (f : X → Result Y E) (a : X → V) (b : Y → V) → ((x : X) (y : Y) → f x ≡ Ok y → b y ≡ a x) → (xs : List X) (ys : List Y) → AllZip (λ x y. f x ≡ Ok y) xs ys → map b ys ≡ map a xs
+  observed_same f a b same [] [] all = refl
+  observed_same f a b same [] (y ∷ ys) all = absurd all
+  observed_same f a b same (x ∷ xs) [] all = absurd all
+  observed_same f a b same (x ∷ xs) (y ∷ ys) all = ap (λ v. v ∷ map b ys) (same x y all.0) ∙ ap (λ vs. a x ∷ vs) (observed_same f a b same xs ys all.1)
 
   each_has : (f : X → Result Y E) (P : Y → Type 0) → ((x : X) (y : Y) → f x ≡ Ok y → P y) → (xs : List X) (ys : List Y) → AllZip (λ x y. f x ≡ Ok y) xs ys → AllByRecursion P ys
   each_has f P has [] [] all = tt
@@ -78,9 +78,9 @@ module _ {X Y E : Type 0} where
   each_has f P has (x ∷ xs) (y ∷ ys) all = (has x y all.0, each_has f P has xs ys all.1)
 
 -- no fault in all, so none in the second list
-none_behind : {X : Type 0} (xs ys : List X) → xs ++ ys ≡ [] → ys ≡ []
-none_behind [] ys e = e
-none_behind (x ∷ xs) ys e = cc
+none_after : {X : Type 0} (xs ys : List X) → xs ++ ys ≡ [] → ys ≡ []
+none_after [] ys e = e
+none_after (x ∷ xs) ys e = cc
 
 pub no_faults : {X : Type 0} (faults : List Fault) (x y : X) → unless faults x ≡ Ok y → (faults ≡ []) × (x ≡ y)
 no_faults [] x y e = (refl, same_ok x y e)
@@ -135,7 +135,7 @@ module _ {M F Z S A : Type 0} (tables : Tables M F Z S A) (source : Source) (at 
   abbrev CanBeAsked : List FileProperty → List Output → Action → Type 0
   CanBeAsked files outputs action =
       (stored : A) × (find byte_order action.kind tables.kinds ≡ Some stored) × (tables.shapes.version stored ≡ action.version)
-      × (fit (shape_of tables.shapes stored) action.args (seen_files files) (seen_outputs outputs) ≡ fits.Yes)
+      × (fit (shape_of tables.shapes stored) action.args (given_files files) (given_outputs outputs) ≡ fits.Yes)
 
   all_asked : (task : TaskDeclaration) (actions : List Action) → AllByRecursion (CanBeAsked task.files task.outputs) actions
       → AllByRecursion (IsReadyAction tables.shapes tables.kinds task) actions
@@ -157,7 +157,7 @@ module _ {M F Z S A : Type 0} (tables : Tables M F Z S A) (source : Source) (at 
       let here = both_ok (each_of (required tables source at all table call.name) call.arguments) _ y e in
       fitting_ok call (find byte_order call.name tables.kinds) here.0 y here.2
 
-  module _ (task : Joined) (files : List FileProperty) (outputs : List Output) (same_files : seen_files files ≡ map (λ f. f.0) task.files) (same_outputs : seen_outputs outputs ≡ map (λ o. (o.0, o.1.0)) task.outputs) where
+  module _ (task : Joined) (files : List FileProperty) (outputs : List Output) (same_files : given_files files ≡ map (λ f. f.0) task.files) (same_outputs : given_outputs outputs ≡ map (λ o. (o.0, o.1.0)) task.outputs) where
     action_ready : (call : Call) (y : Action) → is_misfit tables task (find byte_order call.name tables.kinds) ≡ false → action_of tables source at all table call ≡ Ok y → CanBeAsked files outputs y
     action_ready call y fits_all e =
         let ok = action_ok call y e in
@@ -167,7 +167,7 @@ module _ {M F Z S A : Type 0} (tables : Tables M F Z S A) (source : Source) (at 
           ok.0,
           ap (λ n. find byte_order n tables.kinds) ok.2 ∙ ok.1,
           ok.4,
-          ap (λ fs. fit shape y.args fs (seen_outputs outputs)) same_files ∙ ap (λ os. fit shape y.args (map (λ f. f.0) task.files) os) same_outputs
+          ap (λ fs. fit shape y.args fs (given_outputs outputs)) same_files ∙ ap (λ os. fit shape y.args (map (λ f. f.0) task.files) os) same_outputs
               ∙ both_yes _ _ has ok.3,
         )
 
@@ -192,14 +192,14 @@ module _ {M F Z S A : Type 0} (tables : Tables M F Z S A) (source : Source) (at 
       let files = each_ok (files_under tables source at all table) task.files e5.0 e5.1 in
       let outputs = each_ok (output_under tables source at all table) task.outputs e6.0 e6.1 in
       let actions = each_ok (action_of tables source at all table) task.actions e7.0 e7.1 in
-      let seen_f : seen_files e5.0 ≡ map (λ f. f.0) task.files = seen_same (files_under tables source at all table) (λ f. f.0) (λ p. p.name) file_ok task.files e5.0 files in
-      let seen_o : seen_outputs e6.0 ≡ map (λ o. (o.0, o.1.0)) task.outputs =
-      seen_same (output_under tables source at all table) (λ o. (o.0, o.1.0)) (λ o. (o.name, o.form)) (λ o y is. (output_ok o y is).0) task.outputs e6.0 outputs in
+      let observed_f : given_files e5.0 ≡ map (λ f. f.0) task.files = observed_same (files_under tables source at all table) (λ f. f.0) (λ p. p.name) file_ok task.files e5.0 files in
+      let observed_o : given_outputs e6.0 ≡ map (λ o. (o.0, o.1.0)) task.outputs =
+      observed_same (output_under tables source at all table) (λ o. (o.0, o.1.0)) (λ o. (o.name, o.form)) (λ o y is. (output_ok o y is).0) task.outputs e6.0 outputs in
       subst (IsSound tables at) same (record {
         own = refl;
         shaped = shaped_if e6.0 e7.0 (lacks_same task.outputs task.actions e6.0 e7.0 _ _ outputs actions (left_false (lacks_actions task.outputs task.actions) _ shaped));
         built = each_has (output_under tables source at all table) _ (λ o y is. (output_ok o y is).1) task.outputs e6.0 outputs;
-        ready = all_asked _ e7.0 (each_fails (λ call. is_misfit tables task (find byte_order call.name tables.kinds)) _ (CanBeAsked e5.0 e6.0) (action_ready task e5.0 e6.0 seen_f seen_o) task.actions e7.0
+        ready = all_asked _ e7.0 (each_fails (λ call. is_misfit tables task (find byte_order call.name tables.kinds)) _ (CanBeAsked e5.0 e6.0) (action_ready task e5.0 e6.0 observed_f observed_o) task.actions e7.0
             (right_false (lacks_actions task.outputs task.actions) _ shaped) actions);
       })
 
@@ -207,7 +207,7 @@ module _ {M F Z S A : Type 0} (tables : Tables M F Z S A) (source : Source) wher
   shaped_at : (at : Registered) (task : Joined) → declared tables source.names source.said at ≡ Ok task → is_misshapen tables task ≡ false
   shaped_at at task e =
       let ok = no_faults (declaring_faults tables source.names source.said at) (joined at) task e in
-      let last : shape_faults tables at.path (joined at) ≡ [] = none_behind _ _ ok.0 in
+      let last : shape_faults tables at.path (joined at) ≡ [] = none_after _ _ ok.0 in
       subst (λ t. is_misshapen tables t ≡ false) ok.1 (none_of (is_misshapen tables (joined at)) at.path _ last)
 
   realised_at_ready : (at : Registered) (r : Result Joined Fault) (task : TaskDeclaration) → declared tables source.names source.said at ≡ r → realised_at tables source at r ≡ Ok task → IsSound tables at task

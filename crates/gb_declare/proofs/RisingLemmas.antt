@@ -28,7 +28,7 @@ use Rattle.gb_declare.specs.Spots.{Spot}
 use Rattle.gb_declare.specs.Whole.{spots, table_of}
 use Rattle.gb_declare.proofs.EvaluatedLemmas.{IsEvaluated, is_evaluated}
 use Rattle.gb_declare.proofs.JoinLemmas.{put_all}
-use Rattle.gb_declare.proofs.ReadyLemmas.{both_ok, same_ok, no_faults, seen_same, file_ok, output_ok}
+use Rattle.gb_declare.proofs.ReadyLemmas.{both_ok, same_ok, no_faults, observed_same, file_ok, output_ok}
 
 -- ---- Entries by name
 
@@ -77,9 +77,9 @@ module _ {M F Z S A : Type 0} (tables : Tables M F Z S A) (source : Source) (at 
     evaluated_rises : (task : Joined) (t : TaskDeclaration) → IsEvaluated tables source at all table task t
         → Rise (map (λ e. e.0) task.values) → Rise (map (λ e. e.0) task.files) → Rise (map (λ e. e.0) task.outputs) → HasRisingNames t
     evaluated_rises task t is values files outputs = record {
-      values = subst Rise (sym (seen_same (value_under tables source at all table) (λ e. e.0) (λ y. y.0) value_ok task.values t.values is.values)) values;
-      files = subst Rise (sym (seen_same (files_under tables source at all table) (λ e. e.0) (λ p. p.name) (file_ok tables source at all table) task.files t.files is.files)) files;
-      outputs = subst Rise (sym (seen_same (output_under tables source at all table) (λ e. e.0) (λ o. o.name) same_name task.outputs t.outputs is.outputs)) outputs;
+      values = subst Rise (sym (observed_same (value_under tables source at all table) (λ e. e.0) (λ y. y.0) value_ok task.values t.values is.values)) values;
+      files = subst Rise (sym (observed_same (files_under tables source at all table) (λ e. e.0) (λ p. p.name) (file_ok tables source at all table) task.files t.files is.files)) files;
+      outputs = subst Rise (sym (observed_same (output_under tables source at all table) (λ e. e.0) (λ o. o.name) same_name task.outputs t.outputs is.outputs)) outputs;
     }
       where
         same_name : (o : Named Made) (y : Output) → output_under tables source at all table o ≡ Ok y → y.name ≡ o.0

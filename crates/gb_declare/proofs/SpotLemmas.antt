@@ -14,7 +14,7 @@ use Rattle.gb_script.specs.Tree.{Tree, Chain, Root, Link, Links, NoLink, AndLink
 use Rattle.gb_registry.specs.Projects.{Path}
 use Rattle.gb_registry.specs.Source.{Source}
 use Rattle.gb_declare.specs.Spots.{Spot, Written, Made, is_cell, is_tree, is_spot}
-use Rattle.gb_declare.specs.Standing.{ExpressionsStand}
+use Rattle.gb_declare.specs.InTable.{ExpressionsInTable}
 use Rattle.gb_registry.specs.Tables.{Tables}
 use Rattle.gb_declare.specs.Whole.{spots, expression_at}
 
@@ -31,9 +31,9 @@ texts_decide a b = slice_eq-Decides bytes_eq-Decides a b (pointwise bytes_eq a b
 
 cell_same : (a b : Cell) → is_cell a b ≡ true → a ≡ b
 cell_same (n, (t, ts)) (m, (u, us)) e =
-    let front = first_true ((n == m) && bytes_eq t u) (pointwise bytes_eq ts us) e in
-    let tags = eqb-true n m (first_true (n == m) (bytes_eq t u) front) in
-    let texts = (bytes_eq-Decides t u).0 (second_true (n == m) (bytes_eq t u) front) in
+    let prefix = first_true ((n == m) && bytes_eq t u) (pointwise bytes_eq ts us) e in
+    let tags = eqb-true n m (first_true (n == m) (bytes_eq t u) prefix) in
+    let texts = (bytes_eq-Decides t u).0 (second_true (n == m) (bytes_eq t u) prefix) in
     let more = (texts_decide ts us).0 (second_true ((n == m) && bytes_eq t u) (pointwise bytes_eq ts us) e) in
     ap (λ x. (x, (t, ts))) tags ∙ ap (λ x. (m, (x, ts))) texts ∙ ap (λ x. (m, (u, x))) more
 
@@ -87,15 +87,15 @@ first_such p (y ∷ ys) zero x is e =
 first_such p (y ∷ ys) (suc k) x is e = found_by p y x (find p ys) (p y) refl (λ fails. first_such p ys k x is e)
 
 -- an expression that is one of these is at the position of the first one that is the same
-pub spot_stands : (all : List Spot) (project : Path) (root' : Root) (steps : List Link) (place : ℕ) → slice_get all place ≡ Some (Written project root' steps)
+pub spot_in_table : (all : List Spot) (project : Path) (root' : Root) (steps : List Link) (place : ℕ) → slice_get all place ≡ Some (Written project root' steps)
     → slice_get all (position_or_len (is_spot (Written project root' steps)) all) ≡ Some (Written project root' steps)
-spot_stands all project root' steps place is =
+spot_in_table all project root' steps place is =
     let spot = Written project root' steps in
     let first = first_such (is_spot spot) all place spot is (written_itself project root' steps) in
     sym (find_at (is_spot spot) all) ∙ first.1 ∙ ap Some (sym (written_same project root' steps first.0 first.2))
 
-pub expressions_stand : {M F Z S A : Type 0} (tables : Tables M F Z S A) (source : Source) → ExpressionsStand tables source
-expressions_stand tables source project root' steps place is =
+pub expressions_in_table : {M F Z S A : Type 0} (tables : Tables M F Z S A) (source : Source) → ExpressionsInTable tables source
+expressions_in_table tables source project root' steps place is =
     let all = spots tables source in
     slice_get-map (expression_at tables source all) all (position_or_len (is_spot (Written project root' steps)) all)
-    ∙ ap (option_map (expression_at tables source all)) (spot_stands all project root' steps place is)
+    ∙ ap (option_map (expression_at tables source all)) (spot_in_table all project root' steps place is)

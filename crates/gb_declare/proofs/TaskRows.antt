@@ -55,9 +55,9 @@ given_nothing = refl
 
 -- ---- a shape
 
-pub odd : task_of (register (codes "ok") (do_last (codes "printLine") (text (codes "ok")) ∷ []) ∷ register_of (codes "odd") (called (codes "copyFiles") []) [] ∷ []) [] (codes ":odd")
+pub special : task_of (register (codes "ok") (do_last (codes "printLine") (text (codes "ok")) ∷ []) ∷ register_of (codes "odd") (called (codes "copyFiles") []) [] ∷ []) [] (codes ":odd")
     ≡ Err (Plain (faults.BadShape (codes ":odd")))
-odd = refl
+special = refl
 
 pub ok : task_of (register (codes "ok") (do_last (codes "printLine") (text (codes "ok")) ∷ []) ∷ register_of (codes "odd") (called (codes "copyFiles") []) [] ∷ []) [] (codes ":ok") ≡ Ok (record {
   path = codes ":ok";

@@ -67,9 +67,9 @@ module _ {M F Z S A : Type 0} (tables : Tables M F Z S A) where
 
 -- ---- Texts
 
-pub front_none : (a b : List Fault) → a ++ b ≡ [] → a ≡ []
-front_none [] b e = refl
-front_none (x ∷ a) b e = absurd (cc)
+pub prefix_none : (a b : List Fault) → a ++ b ≡ [] → a ≡ []
+prefix_none [] b e = refl
+prefix_none (x ∷ a) b e = absurd (cc)
 
 pub back_none : (a b : List Fault) → a ++ b ≡ [] → b ≡ []
 back_none [] b e = e
@@ -79,14 +79,14 @@ module _ {M F Z S A : Type 0} (tables : Tables M F Z S A) (scope : Scope) (path 
   paths_only : (texts : List (List ℕ)) → flat_map scope.task_faults texts ≡ [] → flat_map (name_faults project) texts ≡ []
   paths_only [] e = refl
   paths_only (text ∷ texts) e =
-      ap (λ f. f ++ flat_map (name_faults project) texts) (known text (front_none (scope.task_faults text) _ e)) ∙ paths_only texts (back_none (scope.task_faults text) _ e)
+      ap (λ f. f ++ flat_map (name_faults project) texts) (known text (prefix_none (scope.task_faults text) _ e)) ∙ paths_only texts (back_none (scope.task_faults text) _ e)
 
   all_paths : (pick : Clause → List (List ℕ)) → ((clause : Clause) → clause_faults tables scope clause ≡ [] → flat_map scope.task_faults (pick clause) ≡ [])
       → (before after : List Clause) → clauses_faults tables scope path before after ≡ [] → flat_map (name_faults project) (flat_map pick after) ≡ []
   all_paths pick judged before [] e = refl
   all_paths pick judged before (clause ∷ after) e =
       let both = clash_faults path before clause ++ clause_faults tables scope clause in
-      let here : clause_faults tables scope clause ≡ [] = back_none (clash_faults path before clause) _ (front_none both _ e) in
+      let here : clause_faults tables scope clause ≡ [] = back_none (clash_faults path before clause) _ (prefix_none both _ e) in
       flat_map-append (name_faults project) (pick clause) (flat_map pick after)
       ∙ ap (λ f. f ++ flat_map (name_faults project) (flat_map pick after)) (paths_only (pick clause) (judged clause here))
       ∙ all_paths pick judged (before ++ clause ∷ []) after (back_none both _ e)

@@ -11,8 +11,8 @@ use Rattle.gb_provider.specs.declared.expression.Expression.TheVariants.{OfPrope
 use Rattle.gb_declare.specs.Partly.{IsPartOf}
 
 -- the numbers of these in the whole are pairwise distinct
-abbrev pub AreApart : (ℕ → ℕ) → List ℕ → Type 0
-AreApart number entries =
+abbrev pub AreDistinct : (ℕ → ℕ) → List ℕ → Type 0
+AreDistinct number entries =
     (i j : ℕ) → i < j → j < length entries → number (slice_index entries i) ≢ number (slice_index entries j)
 
 -- A circle that an expression runs into in a part of a table is also one that it runs into in the whole,
@@ -20,7 +20,7 @@ AreApart number entries =
 abbrev pub CirclesStay : {M F Z S : Type 0} → Meanings M F Z S → Type 0
 CirclesStay {M} {F} {Z} meanings =
     (number : ℕ → ℕ) (part whole : List (Expression M F Z)) → IsPartOf number part whole
-    → (entry : ℕ) (circle : List ℕ) → AreApart number circle →
+    → (entry : ℕ) (circle : List ℕ) → AreDistinct number circle →
     IsCircle (rules meanings part) entry circle
     → IsCircle (rules meanings whole) (number entry) (map number circle)
     × (names_on whole (map number circle) ≡ names_on part circle)
@@ -42,8 +42,8 @@ pub record AreOrdered {M F Z S : Type 0} (meanings : Meanings M F Z S) (number :
       → is_named (slice_get part s) ≡ false → s < x
 
 -- In such a part the entries of a circle have distinct numbers.
-abbrev pub CirclesAreApart : {M F Z S : Type 0} → Meanings M F Z S → Type 0
-CirclesAreApart {M} {F} {Z} meanings =
+abbrev pub CirclesAreDistinct : {M F Z S : Type 0} → Meanings M F Z S → Type 0
+CirclesAreDistinct {M} {F} {Z} meanings =
     (number : ℕ → ℕ) (part whole : List (Expression M F Z)) → IsPartOf number part whole
     → AreOrdered meanings number part → (entry : ℕ) (circle : List ℕ) →
-    IsCircle (rules meanings part) entry circle → AreApart number circle
+    IsCircle (rules meanings part) entry circle → AreDistinct number circle

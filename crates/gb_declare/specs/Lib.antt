@@ -15,7 +15,7 @@ pub mod Partly
 pub mod Needs
 pub mod Circles
 pub mod Growing
-pub mod Standing
+pub mod InTable
 pub mod Ready
 pub mod Kept
 pub mod Known

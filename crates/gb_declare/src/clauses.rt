@@ -1,7 +1,7 @@
 //! The faults of one clause of a task.
 ghost use Rattle.std.specs.Prelude.{◌≡◌};
 ghost use Rattle.std.specs.List.{flat_map};
-ghost use Rattle.gb_registry.specs.Faults.{TellsFirst};
+ghost use Rattle.gb_registry.specs.Faults.{ReportsFirst};
 ghost use Rattle.gb_registry.specs.Tables.{tables_of};
 ghost use Rattle.gb_declare.specs.Declaring.{call_faults, clause_faults, condition_faults, files_faults};
 ghost use Rattle.gb_declare.specs.Declaring.{main_faults, pattern_faults, scope_in, trees_faults};
@@ -27,7 +27,7 @@ pub fn check_clause<A: Actions, T: Transforms>(
     scope: &Scope<'_, A, T>,
     clause: &Clause,
 ) -> Result<(), Fault>
-    ensures { TellsFirst (clause_faults (tables_of T.meanings A.meanings scope.now.tables.now)
+    ensures { ReportsFirst (clause_faults (tables_of T.meanings A.meanings scope.now.tables.now)
         (scope_in scope.now.project.now scope.now.properties.now (option_copied scope.now.names))
         clause.now) result }
 {
@@ -53,7 +53,7 @@ pub fn check_main<A: Actions, T: Transforms>(
     scope: &Scope<'_, A, T>,
     call: Option<&Call>,
 ) -> Result<(), Fault>
-    ensures { TellsFirst (main_faults (tables_of T.meanings A.meanings scope.now.tables.now)
+    ensures { ReportsFirst (main_faults (tables_of T.meanings A.meanings scope.now.tables.now)
         (scope_in scope.now.project.now scope.now.properties.now (option_copied scope.now.names))
         (option_copied call.entry)) result }
 {
@@ -69,7 +69,7 @@ fn check_call<A: Actions, T: Transforms>(
     scope: &Scope<'_, A, T>,
     call: &Call,
 ) -> Result<(), Fault>
-    ensures { TellsFirst (call_faults (tables_of T.meanings A.meanings scope.now.tables.now)
+    ensures { ReportsFirst (call_faults (tables_of T.meanings A.meanings scope.now.tables.now)
         (scope_in scope.now.project.now scope.now.properties.now (option_copied scope.now.names))
         call.now) result }
 {
@@ -85,7 +85,7 @@ fn check_condition<A: Actions, T: Transforms>(
     scope: &Scope<'_, A, T>,
     condition: &Condition,
 ) -> Result<(), Fault>
-    ensures { TellsFirst (condition_faults (tables_of T.meanings A.meanings scope.now.tables.now)
+    ensures { ReportsFirst (condition_faults (tables_of T.meanings A.meanings scope.now.tables.now)
         (scope_in scope.now.project.now scope.now.properties.now (option_copied scope.now.names))
         condition.now) result }
 {
@@ -99,7 +99,7 @@ fn check_test<A: Actions, T: Transforms>(
     scope: &Scope<'_, A, T>,
     test: &Function,
 ) -> Result<(), Fault>
-    ensures { TellsFirst (test_faults
+    ensures { ReportsFirst (test_faults
         (tables_of T.meanings A.meanings scope.now.tables.now) test.now) result }
 {
     let stored = scope.tables.transforms.find_test(test.name.as_str());
@@ -112,7 +112,7 @@ fn check_files<A: Actions, T: Transforms>(
     scope: &Scope<'_, A, T>,
     files: &InputFiles,
 ) -> Result<(), Fault>
-    ensures { TellsFirst (files_faults (tables_of T.meanings A.meanings scope.now.tables.now)
+    ensures { ReportsFirst (files_faults (tables_of T.meanings A.meanings scope.now.tables.now)
         (scope_in scope.now.project.now scope.now.properties.now (option_copied scope.now.names))
         files.now) result }
 {
@@ -126,7 +126,7 @@ fn check_expressions<A: Actions, T: Transforms>(
     scope: &Scope<'_, A, T>,
     expressions: &Expressions,
 ) -> Result<(), Fault>
-    ensures { TellsFirst (trees_faults (tables_of T.meanings A.meanings scope.now.tables.now)
+    ensures { ReportsFirst (trees_faults (tables_of T.meanings A.meanings scope.now.tables.now)
         (scope_in scope.now.project.now scope.now.properties.now (option_copied scope.now.names))
         expressions.now) result }
 {
@@ -141,7 +141,7 @@ fn check_tasks<A: Actions, T: Transforms>(
     scope: &Scope<'_, A, T>,
     texts: &Texts,
 ) -> Result<(), Fault>
-    ensures { TellsFirst
+    ensures { ReportsFirst
         (flat_map (task_faults_in (option_copied scope.now.names) scope.now.project.now) texts.now) result }
 {
     let project = scope.project.path().as_str();
@@ -152,7 +152,7 @@ fn check_tasks<A: Actions, T: Transforms>(
 }
 
 fn check_patterns(alloc: Global, texts: &Texts) -> Result<(), Fault>
-    ensures { TellsFirst (flat_map pattern_faults texts.now) result }
+    ensures { ReportsFirst (flat_map pattern_faults texts.now) result }
 {
     for text in texts.as_slice() {
         check_pattern(alloc, text)?;
@@ -161,7 +161,7 @@ fn check_patterns(alloc: Global, texts: &Texts) -> Result<(), Fault>
 }
 
 fn check_pattern(alloc: Global, text: &Text) -> Result<(), Fault>
-    ensures { TellsFirst (pattern_faults text.now) result }
+    ensures { ReportsFirst (pattern_faults text.now) result }
 {
     match Pattern::read(alloc, text.as_str()) {
         Ok(_) => Ok(()),

@@ -1,7 +1,7 @@
 //! What a registered task declares.
 ghost use Rattle.std.specs.Prelude.{◌≡◌, [], IfOk};
 ghost use Rattle.std.specs.Option.{option_copied};
-ghost use Rattle.gb_registry.specs.Faults.{TellsFirst};
+ghost use Rattle.gb_registry.specs.Faults.{ReportsFirst};
 ghost use Rattle.gb_registry.specs.Tables.{tables_of};
 ghost use Rattle.gb_declare.specs.Borrowed.{now_of};
 ghost use Rattle.gb_declare.specs.Declaring.{clauses_faults, faults_within, scope_in};
@@ -32,7 +32,7 @@ pub fn declare<'a, A: Actions, T: Transforms>(
 ) -> Result<Joined<'a>, Fault>
     requires { task.now.project.now ≡ scope.now.project.now }
     ensures joined { IfOk result (λ said. joined_of said ≡ joined (registered_of task.now)) }
-    ensures faults { TellsFirst (faults_within (tables_of T.meanings A.meanings scope.now.tables.now)
+    ensures faults { ReportsFirst (faults_within (tables_of T.meanings A.meanings scope.now.tables.now)
         (scope_in scope.now.project.now scope.now.properties.now (option_copied scope.now.names))
         (registered_of task.now)) result }
 {
@@ -46,7 +46,7 @@ pub fn declare<'a, A: Actions, T: Transforms>(
 /// The combined clauses of a task; 1 where a text names no task.
 fn join<'a>(alloc: Global, task: &Registered<'a>) -> Result<Joined<'a>, Fault>
     ensures joined { IfOk result (λ said. joined_of said ≡ joined (registered_of task.now)) }
-    ensures faults { TellsFirst (text_faults (registered_of task.now)) result }
+    ensures faults { ReportsFirst (text_faults (registered_of task.now)) result }
 {
     let depends_on = naming::depends_on(alloc, task.project, &task.clauses)?;
     let must_run_after = naming::must_run_after(alloc, task.project, &task.clauses)?;
@@ -73,7 +73,7 @@ fn check_clauses<A: Actions, T: Transforms>(
     path: &TaskPath,
     clauses: &[&Clause],
 ) -> Result<(), Fault>
-    ensures { TellsFirst (clauses_faults (tables_of T.meanings A.meanings scope.now.tables.now)
+    ensures { ReportsFirst (clauses_faults (tables_of T.meanings A.meanings scope.now.tables.now)
         (scope_in scope.now.project.now scope.now.properties.now (option_copied scope.now.names))
         path.now [] (now_of clauses.now)) result }
 {

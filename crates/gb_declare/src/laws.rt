@@ -1,5 +1,5 @@
 //! Facts that follow from the definitions alone.
-ghost use Rattle.gb_declare.specs.Circles.{CirclesAreApart, CirclesStay};
+ghost use Rattle.gb_declare.specs.Circles.{CirclesAreDistinct, CirclesStay};
 ghost use Rattle.gb_declare.specs.Growing.{PartGrows};
 ghost use Rattle.gb_declare.specs.Known.{
   RealisedInOrder,
@@ -11,7 +11,7 @@ ghost use Rattle.gb_declare.specs.Needs.{GivenHasTasks, PartProduces};
 ghost use Rattle.gb_declare.specs.Partly.{PartAnswers, PartIsEndless};
 ghost use Rattle.gb_declare.specs.Ready.{RealisedIsSound};
 ghost use Rattle.gb_registry.specs.Source.{Source};
-ghost use Rattle.gb_declare.specs.Standing.{ExpressionsStand};
+ghost use Rattle.gb_declare.specs.InTable.{ExpressionsInTable};
 ghost use Rattle.gb_registry.specs.Tables.{Tables};
 ghost use Rattle.gb_declare.specs.Reported.{IsReportedBy, ReportedOneWay, reported_circle};
 
@@ -37,7 +37,7 @@ pub fn values_have_tasks<T: Transforms>()
 /// after what they await.
 pub fn circles_stay<T: Transforms>()
     ensures stay { CirclesStay T.meanings }
-    ensures apart { CirclesAreApart T.meanings }
+    ensures separate { CirclesAreDistinct T.meanings }
 {}
 
 /// A part of a table stays a part when it gains one expression of the whole.
@@ -46,9 +46,9 @@ pub fn parts_grow<T: Transforms>()
 {}
 
 /// Each expression of the scripts is in the whole table, under its number.
-pub fn expressions_stand<A: Actions, T: Transforms>()
+pub fn expressions_in_table<A: Actions, T: Transforms>()
     ensures { (tables : Tables T.Map T.FlatMap T.Zip T.Test A.Stored) (source : Source)
-        → ExpressionsStand tables source }
+        → ExpressionsInTable tables source }
 {}
 
 /// A task that is realised is registered, has no outputs without actions, its outputs under the

@@ -1,7 +1,7 @@
 //! The tasks that the clauses of a task name.
 ghost use Rattle.std.specs.Prelude.{◌≡◌, IfOk, OnOk};
 ghost use Rattle.std.specs.List.{flat_map};
-ghost use Rattle.gb_registry.specs.Faults.{TellsFirst};
+ghost use Rattle.gb_registry.specs.Faults.{ReportsFirst};
 ghost use Rattle.gb_registry.specs.Projects.{absolute};
 ghost use Rattle.gb_registry.specs.References.{name_faults};
 ghost use Rattle.gb_declare.specs.Borrowed.{now_of};
@@ -26,7 +26,7 @@ pub fn depends_on(
 ) -> Result<TaskPaths, Fault>
     ensures tasks { IfOk result (λ tasks. tasks ≡ tasks_in project.now (flat_map depends_on_in (now_of
         clauses.now))) }
-    ensures faults { TellsFirst (flat_map (name_faults project.now) (flat_map depends_on_in (now_of
+    ensures faults { ReportsFirst (flat_map (name_faults project.now) (flat_map depends_on_in (now_of
         clauses.now))) result }
 {
     let mut tasks = TaskPaths::new(alloc);
@@ -46,7 +46,7 @@ pub fn must_run_after(
 ) -> Result<TaskPaths, Fault>
     ensures tasks { IfOk result (λ tasks. tasks ≡ tasks_in project.now (flat_map must_run_after_in (now_of
         clauses.now))) }
-    ensures faults { TellsFirst (flat_map (name_faults project.now) (flat_map must_run_after_in (now_of
+    ensures faults { ReportsFirst (flat_map (name_faults project.now) (flat_map must_run_after_in (now_of
         clauses.now))) result }
 {
     let mut tasks = TaskPaths::new(alloc);
@@ -66,7 +66,7 @@ pub fn finalized_by(
 ) -> Result<TaskPaths, Fault>
     ensures tasks { IfOk result (λ tasks. tasks ≡ tasks_in project.now (flat_map finalized_by_in (now_of
         clauses.now))) }
-    ensures faults { TellsFirst (flat_map (name_faults project.now) (flat_map finalized_by_in (now_of
+    ensures faults { ReportsFirst (flat_map (name_faults project.now) (flat_map finalized_by_in (now_of
         clauses.now))) result }
 {
     let mut tasks = TaskPaths::new(alloc);
@@ -86,7 +86,7 @@ fn add_named(
     texts: &Texts,
 ) -> Result<(), Fault>
     ensures tasks { OnOk result (tasks.new ≡ with_named project.now tasks.old texts.now) }
-    ensures faults { TellsFirst (flat_map (name_faults project.now) texts.now) result }
+    ensures faults { ReportsFirst (flat_map (name_faults project.now) texts.now) result }
 {
     for text in texts.as_slice() {
         tasks.insert(task_named(alloc, project, text)?)?;
@@ -97,7 +97,7 @@ fn add_named(
 /// The task that a text names in a project; 1 where it is no path.
 fn task_named(alloc: Global, project: &ProjectPath, text: &Text) -> Result<TaskPath, Fault>
     ensures path { IfOk result (λ task. task ≡ absolute project.now text.now) }
-    ensures faults { TellsFirst (name_faults project.now text.now) result }
+    ensures faults { ReportsFirst (name_faults project.now text.now) result }
 {
     let path = absolute(alloc, project.as_str(), text.as_str())?;
     match TaskPath::read(alloc, path.as_str()) {

@@ -3,7 +3,7 @@ ghost use Rattle.std.specs.Prelude.{◌≡◌, ◌∷◌, [], IfOk, map};
 ghost use Rattle.std.specs.List.{list_any};
 ghost use Rattle.std.specs.FinMap.Entries.{find};
 ghost use Rattle.gb_core.specs.Lists.{byte_order};
-ghost use Rattle.gb_registry.specs.Faults.{TellsFirst};
+ghost use Rattle.gb_registry.specs.Faults.{ReportsFirst};
 ghost use Rattle.gb_registry.specs.Tables.{tables_of};
 ghost use Rattle.gb_declare.specs.Declaring.{is_misshapen, lacks_actions, shape_faults};
 ghost use Rattle.gb_declare.specs.Shapes.{is_unfit};
@@ -119,7 +119,7 @@ pub fn check_shape<A: Actions, T: Transforms>(
     path: &TaskPath,
     said: &Joined<'_>,
 ) -> Result<(), Fault>
-    ensures { TellsFirst (shape_faults
+    ensures { ReportsFirst (shape_faults
         (tables_of T.meanings A.meanings scope.now.tables.now) path.now (joined_of said.now)) result }
 {
     if is_misshapen(alloc, scope, said)? {

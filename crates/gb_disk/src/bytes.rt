@@ -4,7 +4,7 @@ ghost use Rattle.gb_disk.specs.Disk.{IsOfMachine};
 
 use crate::device::Device;
 use crate::span::Span;
-use crate::standing::FileInfo;
+use crate::entry::FileInfo;
 use gb_folder::folder::FolderFault;
 use std::alloc::Global;
 use std::fs::{self, Files, OpenFile};

@@ -8,7 +8,7 @@ ghost use Rattle.gb_disk.specs.Disk.{AllUnder, IsOfListing, IsOfMachine, path_in
 use crate::device::Device;
 use crate::names::in_order;
 use crate::span::Span;
-use crate::standing::{FileInfo, Standing};
+use crate::entry::{FileInfo, Entry};
 use crate::trail::Trail;
 use crate::walk::Found;
 use gb_core::place::Place;
@@ -45,10 +45,10 @@ impl<R: Files> Device<R> {
     {
         trail.forget_listed();
         let places = match self.look(trail, root)? {
-            Standing::File(info) => trail.list_file(alloc, root, info)?,
-            Standing::Folder => self.list_folder(alloc, trail, root)?,
-            Standing::Nothing | Standing::UnderFile => Vec::new(alloc),
-            Standing::Odd => return Err(FolderFault::BadFileName),
+            Entry::File(info) => trail.list_file(alloc, root, info)?,
+            Entry::Folder => self.list_folder(alloc, trail, root)?,
+            Entry::Nothing | Entry::UnderFile => Vec::new(alloc),
+            Entry::Special => return Err(FolderFault::BadFileName),
         };
         Ok(in_order(places))
     }
@@ -169,10 +169,10 @@ impl<R: Files> Device<R> {
         }
         trail.forget_listed();
         match self.go_to(&mut trail.path, place, true)? {
-            Standing::Nothing | Standing::File(_) => {}
-            Standing::Folder => self.clear(trail, place)?,
-            Standing::Odd => return Err(FolderFault::Device),
-            Standing::UnderFile => return Err(FolderFault::Blocked),
+            Entry::Nothing | Entry::File(_) => {}
+            Entry::Folder => self.clear(trail, place)?,
+            Entry::Special => return Err(FolderFault::Device),
+            Entry::UnderFile => return Err(FolderFault::Blocked),
         }
         self.put(trail, place, bytes)
     }
@@ -197,11 +197,11 @@ impl<R: Files> Device<R> {
             (λ fault. IsOfMachine fault ⊎ (fault ≡ FolderFault.Missing) ⊎ (fault ≡ FolderFault.Blocked)) }
     {
         match self.look_once(trail, place)? {
-            Standing::File(info) => Ok(info),
-            Standing::Folder if self.has_file(trail, place)? => Err(FolderFault::Blocked),
-            Standing::Folder | Standing::Nothing => Err(FolderFault::Missing),
-            Standing::Odd => Err(FolderFault::Device),
-            Standing::UnderFile => Err(FolderFault::Blocked),
+            Entry::File(info) => Ok(info),
+            Entry::Folder if self.has_file(trail, place)? => Err(FolderFault::Blocked),
+            Entry::Folder | Entry::Nothing => Err(FolderFault::Missing),
+            Entry::Special => Err(FolderFault::Device),
+            Entry::UnderFile => Err(FolderFault::Blocked),
         }
     }
 

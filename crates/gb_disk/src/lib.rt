@@ -44,6 +44,6 @@ pub mod names;
 mod path;
 mod putting;
 mod span;
-mod standing;
+mod entry;
 mod trail;
 mod walk;

@@ -4,7 +4,7 @@ ghost use Rattle.gb_disk.specs.Disk.{IsOfMachine, aside, path_in};
 
 use crate::device::Device;
 use crate::path::{go_down, lead_to};
-use crate::standing::{Standing, fault_of, standing_at};
+use crate::entry::{Entry, fault_of, entry_at};
 use crate::trail::Trail;
 use gb_core::place::Place;
 use gb_folder::folder::FolderFault;
@@ -103,9 +103,9 @@ impl<R: Files> Device<R> {
         ensures { IfErr result IsOfMachine }
     {
         lead_to(path, self.base.as_str(), folder)?;
-        match standing_at(&self.rt, path.as_str())? {
-            Standing::Folder => Ok(true),
-            Standing::Nothing => Ok(self.rt.create_dir(path.as_str()).is_ok()),
+        match entry_at(&self.rt, path.as_str())? {
+            Entry::Folder => Ok(true),
+            Entry::Nothing => Ok(self.rt.create_dir(path.as_str()).is_ok()),
             _ => Ok(false),
         }
     }
@@ -140,7 +140,7 @@ impl<R: Files> Device<R> {
         ensures at { OnOk result (string_bytes path.new ≡ path_in (string_bytes self.now.base) place.now) }
         ensures err { IfErr result IsOfMachine }
     {
-        if let Standing::File(_) = self.look_at(path, place)? {
+        if let Entry::File(_) = self.look_at(path, place)? {
             self.unlink(path, place)?;
         }
         lead_to(path, self.base.as_str(), place.as_str())?;

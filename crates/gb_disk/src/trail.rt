@@ -4,7 +4,7 @@ ghost use Rattle.std.specs.Prelude.{◌≡◌, IfOk};
 ghost use Rattle.gb_disk.specs.Disk.{AllUnder};
 
 use crate::names::alone;
-use crate::standing::FileInfo;
+use crate::entry::FileInfo;
 use gb_core::place::Place;
 use std::alloc::{AllocError, Global};
 

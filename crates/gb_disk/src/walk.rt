@@ -5,7 +5,7 @@ ghost use Rattle.gb_disk.specs.Disk.{AllUnder, IsOfListing, IsOfMachine};
 
 use crate::device::Device;
 use crate::names::{alone, places_in};
-use crate::standing::{FileInfo, Standing, fault_of};
+use crate::entry::{FileInfo, Entry, fault_of};
 use crate::trail::Trail;
 use gb_core::place::Place;
 use gb_folder::folder::FolderFault;
@@ -60,7 +60,7 @@ impl Found {
     }
 
     /// Adds what exists at a place.
-    fn add(&mut self, place: Place, standing: Standing) -> Result<(), FolderFault>
+    fn add(&mut self, place: Place, entry: Entry) -> Result<(), FolderFault>
         ensures files { (root : List ℕ) → IsTrue (is_under place root)
             → AllUnder root self.old.files.items → AllUnder root self.new.files.items }
         ensures folders { (root : List ℕ) → IsTrue (is_under place root)
@@ -71,15 +71,15 @@ impl Found {
             Some(left) => self.left = left,
             None => return Err(FolderFault::Device),
         }
-        match standing {
-            Standing::File(info) => {
+        match entry {
+            Entry::File(info) => {
                 self.info = info;
                 Ok(self.files.push(place)?)
             }
-            Standing::Folder => Ok(self.folders.push(place)?),
-            Standing::Odd => Err(FolderFault::BadFileName),
+            Entry::Folder => Ok(self.folders.push(place)?),
+            Entry::Special => Err(FolderFault::BadFileName),
             // Somebody removed it while its folder was listed.
-            Standing::Nothing | Standing::UnderFile => Ok(()),
+            Entry::Nothing | Entry::UnderFile => Ok(()),
         }
     }
 }
@@ -182,8 +182,8 @@ impl<R: Files> Device<R> {
         ensures err { IfErr result IsOfListing }
     {
         for place in places {
-            let standing = self.look_at(path, &place)?;
-            found.add(place, standing)?;
+            let entry = self.look_at(path, &place)?;
+            found.add(place, entry)?;
         }
         Ok(())
     }

@@ -28,7 +28,7 @@ use Rattle.gb_declare.specs.Partly.{IsPending}
 use Rattle.gb_declare.specs.Realised.{Plain, Endless, given_by, tasks_from, reported}
 use Rattle.gb_declare.specs.Reported.{IsReported}
 use Rattle.gb_declare.specs.Whole.{whole}
-use Rattle.gb_declare.proofs.ApartLemmas.{circles_are_apart}
+use Rattle.gb_declare.proofs.DistinctLemmas.{circles_are_distinct}
 use Rattle.gb_declare.proofs.CarrierLemmas.{part_produces}
 use Rattle.gb_declare.proofs.CircleLemmas.{circles_stay}
 use Rattle.gb_declare.proofs.NeedLemmas.{given_has_tasks}
@@ -36,7 +36,7 @@ use Rattle.gb_declare.proofs.CopyLemmas.{mapped_at, part_answers_lem, part_is_en
 use Rattle.gb_plan.proofs.Tests.{not_true}
 use Rattle.gb_evaluate.proofs.KnownLemmas.{find_passes, placed_at}
 use Rattle.gb_evaluate.specs.Given.{HasValue, IsOfGet, given_at, producers_at}
-use Rattle.gb_evaluate.specs.Over.{IsOver, IsReportedOf, Tells}
+use Rattle.gb_evaluate.specs.Over.{IsOver, IsReportedOf, Reports}
 
 -- ---- What rules read
 
@@ -160,10 +160,10 @@ module _ {M F Z S A : Type 0} (tables : Tables M F Z S A) (source : Source) (nam
       let found = mapped_at tables.means number nodes all over.complete.laid.part (rule tables.means nodes) nodes x here.0 (slice_get nodes x) refl (sym (slice_get-map (rule tables.means nodes) nodes x) ∙ here.1) in
       (found.0, found.1)
 
-  behind : (x s : ℕ) → next_awaited the_rules x ≡ Some s → is_named (slice_get nodes x) ≡ false → is_named (slice_get nodes s) ≡ false → s < x
-  behind x s e unnamed plain =
+  following : (x s : ℕ) → next_awaited the_rules x ≡ Some s → is_named (slice_get nodes x) ≡ false → is_named (slice_get nodes s) ≡ false → s < x
+  following x s e unnamed plain =
       let here = node_there x s e in
-      let operands = over.complete.laid.behind x here.0 here.1 (sym (ap is_named here.1) ∙ unnamed) in
+      let operands = over.complete.laid.following x here.0 here.1 (sym (ap is_named here.1) ∙ unnamed) in
       let awaits = sym (ap (and_then (λ r. awaited (reading (answer the_rules) r))) (slice_get-map (rule tables.means nodes) nodes x ∙ ap (option_map (rule tables.means nodes)) here.1)) ∙ e in
       elim (awaits_fine nodes x (answer the_rules) (rule tables.means nodes here.0) (fine_rule_of nodes x tables.means here.0 (sym (ap is_named here.1) ∙ unnamed) operands) s awaits) [
         | inl less ↦ less
@@ -173,36 +173,36 @@ module _ {M F Z S A : Type 0} (tables : Tables M F Z S A) (source : Source) (nam
   ordered : AreOrdered tables.means number nodes
   ordered = record {
     once = λ x y s t awaits awaits' named same. over.complete.laid.once x y named (slice_get_within nodes y (node_there y t awaits').0 (node_there y t awaits').1) same;
-    falls = behind;
+    falls = following;
   }
 
   pub circle_there : (entry : ℕ) (names : List (List ℕ)) → RunsInto tables.means nodes entry names → RunsInto tables.means all (number entry) names
   circle_there entry names into =
-      let apart = circles_are_apart tables.means number nodes all over.complete.laid.part ordered entry into.0 into.1 in
-      let there = circles_stay tables.means number nodes all over.complete.laid.part entry into.0 apart into.1 in
+      let separate = circles_are_distinct tables.means number nodes all over.complete.laid.part ordered entry into.0 into.1 in
+      let there = circles_stay tables.means number nodes all over.complete.laid.part entry into.0 separate into.1 in
       (map number into.0, there.0, subst (λ (ns : List (List ℕ)). IsLeastRound ns names) (sym there.1) into.2)
 
   -- ---- Results
 
-  pub ok_tells : (entry : ℕ) (value : Option Value) → IsGot tables.means nodes entry (Ok value) → given_at tables source (number entry) ≡ Ok value
-  ok_tells entry (Some value) is = ap (given_by tables source (number entry)) (answered_there entry (outcomes.Given value) is)
-  ok_tells entry None is = ap (given_by tables source (number entry)) (answered_there entry outcomes.Absent is)
+  pub ok_shows : (entry : ℕ) (value : Option Value) → IsGot tables.means nodes entry (Ok value) → given_at tables source (number entry) ≡ Ok value
+  ok_shows entry (Some value) is = ap (given_by tables source (number entry)) (answered_there entry (outcomes.Given value) is)
+  ok_shows entry None is = ap (given_by tables source (number entry)) (answered_there entry outcomes.Absent is)
 
-  pub err_tells : (entry : ℕ) → entry < length nodes → (fault : ProviderFault) (known : Fault) → IsFaultOf tables.means nodes entry fault → IsReportedOf tables names why fault known
-      → Tells tables source (given_at tables source (number entry)) (Err known)
-  err_tells entry within (providers.Circular texts) known is same =
+  pub err_shows : (entry : ℕ) → entry < length nodes → (fault : ProviderFault) (known : Fault) → IsFaultOf tables.means nodes entry fault → IsReportedOf tables names why fault known
+      → Reports tables source (given_at tables source (number entry)) (Err known)
+  err_shows entry within (providers.Circular texts) known is same =
       inr (
         Endless (number entry),
         ap (given_by tables source (number entry)) (endless_there entry within is.0),
         subst (IsReported tables source (Endless (number entry))) (sym same) ∣ circle_there entry texts is.1 ∣₁,
       )
-  err_tells entry within (providers.Step fault) known is same = absurd is
-  err_tells entry within providers.NoValue known is same = absurd is
-  err_tells entry within (providers.Value fault) known is same = elim (same source over.known) [
+  err_shows entry within (providers.Step fault) known is same = absurd is
+  err_shows entry within providers.NoValue known is same = absurd is
+  err_shows entry within (providers.Value fault) known is same = elim (same source over.known) [
     | inl out ↦ inl out
     | inr e ↦ inr (Plain (reported tables source fault), ap (given_by tables source (number entry)) (answered_there entry (outcomes.Refused fault) is), e)
   ]
-  err_tells entry within providers.OutOfMemory known is same = inl same
+  err_shows entry within providers.OutOfMemory known is same = inl same
 
   -- ---- Tasks
 

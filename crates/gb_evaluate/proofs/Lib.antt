@@ -1,6 +1,6 @@
 pub mod KnownLemmas
 pub mod AskLemmas
-pub mod TellLemmas
+pub mod ReportLemmas
 pub mod WalkLemmas
 pub mod RowLemmas
 pub mod NeedLemmas

@@ -9,9 +9,9 @@ use Rattle.gb_core.specs.Lists.{byte_order}
 use Rattle.gb_core.specs.Tasks.{with_tasks}
 use Rattle.gb_evaluate.proofs.WalkLemmas.{left_at}
 
-pub with_both : (tasks front back : List (List ℕ)) → with_tasks tasks (front ++ back) ≡ with_tasks (with_tasks tasks front) back
+pub with_both : (tasks prefix back : List (List ℕ)) → with_tasks tasks (prefix ++ back) ≡ with_tasks (with_tasks tasks prefix) back
 with_both tasks [] back = refl
-with_both tasks (task ∷ front) back = with_both (insert_key byte_order tasks task) front back
+with_both tasks (task ∷ prefix) back = with_both (insert_key byte_order tasks task) prefix back
 
 module _ {Node : Type 0} (producers : ℕ → List (List ℕ)) (number : Node → ℕ) (row : List Node) (i : ℕ) (d : Node) (within : i < length row) where
   pub more_needs : (old new found : List (List ℕ)) → new ≡ with_tasks old found → found ≡ producers (number (get_or row i d))
@@ -27,8 +27,8 @@ module _ {Node : Type 0} (producers : ℕ → List (List ℕ)) (number : Node �
   abbrev of_row : List Node → List (List ℕ)
   of_row row = flat_map producers (map number row)
 
-  of_both : (front back : List Node) → of_row (front ++ back) ≡ of_row front ++ of_row back
-  of_both front back = ap (flat_map producers) (map-append number front back) ∙ flat_map-append producers (map number front) (map number back)
+  of_both : (prefix back : List Node) → of_row (prefix ++ back) ≡ of_row prefix ++ of_row back
+  of_both prefix back = ap (flat_map producers) (map-append number prefix back) ∙ flat_map-append producers (map number prefix) (map number back)
 
   pub all_needs : (v r a : List Node) (begun one two three depends : List (List ℕ)) → begun ≡ depends → one ≡ with_tasks begun (of_row v) → two ≡ with_tasks one (of_row r) → three ≡ with_tasks two (of_row a)
       → three ≡ with_tasks depends (of_row (v ++ r ++ a))

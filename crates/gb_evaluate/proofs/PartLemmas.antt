@@ -18,7 +18,7 @@ use Rattle.gb_declare.specs.Whole.{trees_of}
 use Rattle.gb_evaluate.specs.Parts.{AreAllFor, AreAllWithin, AreCounted, row_of}
 use Rattle.gb_evaluate.specs.Rows.{AreFor, AreWithin}
 use Rattle.gb_evaluate.specs.declared.parts.Parts.{Parts}
-use Rattle.gb_evaluate.proofs.RowLemmas.{back_for, front_for}
+use Rattle.gb_evaluate.proofs.RowLemmas.{back_for, prefix_for}
 
 -- ---- Lengths
 
@@ -28,8 +28,8 @@ long ps qs xs ys first second = length-append ps qs ∙ ap (λ n. n + length qs)
 -- ---- Nodes of a table
 
 module _ {X : Type 0} (P : X → Type 0) (xs ys : List X) (both : All P (xs ++ ys)) where
-  pub front_all : All P xs
-  front_all = subst (All P) (take-append_seam xs ys) (All-take P (length xs) (xs ++ ys) both)
+  pub prefix_all : All P xs
+  prefix_all = subst (All P) (take-append_seam xs ys) (All-take P (length xs) (xs ++ ys) both)
 
   pub back_all : All P ys
   back_all = subst (All P) (drop-append_seam xs ys) (All-drop P (length xs) (xs ++ ys) both)
@@ -44,14 +44,14 @@ parts_within nodes parts within =
     let w = parts.outputs.now in
     let a = parts.arguments.now in
     let P = λ (node : Node). node.number < length nodes in
-    let first5 = front_all P (e ++ (o ++ u) ++ v ++ r ++ w) a within in
-    let first4 = front_all P (e ++ (o ++ u) ++ v ++ r) w first5 in
-    let first3 = front_all P (e ++ (o ++ u) ++ v) r first4 in
-    let first2 = front_all P (e ++ (o ++ u)) v first3 in
+    let first5 = prefix_all P (e ++ (o ++ u) ++ v ++ r ++ w) a within in
+    let first4 = prefix_all P (e ++ (o ++ u) ++ v ++ r) w first5 in
+    let first3 = prefix_all P (e ++ (o ++ u) ++ v) r first4 in
+    let first2 = prefix_all P (e ++ (o ++ u)) v first3 in
     let conditions = back_all P e (o ++ u) first2 in
     record {
-      enabled = front_all P e (o ++ u) first2;
-      only_if = front_all P o u conditions;
+      enabled = prefix_all P e (o ++ u) first2;
+      only_if = prefix_all P o u conditions;
       up_to_date_when = back_all P o u conditions;
       values = back_all P (e ++ (o ++ u)) v first3;
       roots = back_all P (e ++ (o ++ u) ++ v) r first4;
@@ -89,14 +89,14 @@ parts_for tables source number project task parts counted are =
     let l3 = long (e ++ (o ++ u)) v (E ++ C) V l2 lv in
     let l4 = long (e ++ (o ++ u) ++ v) r (E ++ C ++ V) R l3 counted.roots in
     let l5 = long (e ++ (o ++ u) ++ v ++ r) w (E ++ C ++ V ++ R) W l4 lw in
-    let first5 = front_for tables source number project (e ++ (o ++ u) ++ v ++ r ++ w) a (E ++ C ++ V ++ R ++ W) A l5 are in
-    let first4 = front_for tables source number project (e ++ (o ++ u) ++ v ++ r) w (E ++ C ++ V ++ R) W l4 first5 in
-    let first3 = front_for tables source number project (e ++ (o ++ u) ++ v) r (E ++ C ++ V) R l3 first4 in
-    let first2 = front_for tables source number project (e ++ (o ++ u)) v (E ++ C) V l2 first3 in
+    let first5 = prefix_for tables source number project (e ++ (o ++ u) ++ v ++ r ++ w) a (E ++ C ++ V ++ R ++ W) A l5 are in
+    let first4 = prefix_for tables source number project (e ++ (o ++ u) ++ v ++ r) w (E ++ C ++ V ++ R) W l4 first5 in
+    let first3 = prefix_for tables source number project (e ++ (o ++ u) ++ v) r (E ++ C ++ V) R l3 first4 in
+    let first2 = prefix_for tables source number project (e ++ (o ++ u)) v (E ++ C) V l2 first3 in
     let conditions = subst (AreFor tables source number project (o ++ u)) same (back_for tables source number project e (o ++ u) E C counted.enabled first2) in
     record {
-      enabled = front_for tables source number project e (o ++ u) E C counted.enabled first2;
-      only_if = front_for tables source number project o u O U lo conditions;
+      enabled = prefix_for tables source number project e (o ++ u) E C counted.enabled first2;
+      only_if = prefix_for tables source number project o u O U lo conditions;
       up_to_date_when = back_for tables source number project o u O U lo conditions;
       values = back_for tables source number project (e ++ (o ++ u)) v (E ++ C) V l2 first3;
       roots = back_for tables source number project (e ++ (o ++ u) ++ v) r (E ++ C ++ V) R l3 first4;

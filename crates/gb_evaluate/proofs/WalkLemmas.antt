@@ -9,7 +9,7 @@ use Rattle.gb_registry.specs.Source.{Source}
 use Rattle.gb_registry.specs.Tables.{Tables}
 use Rattle.gb_report.specs.declared.fault.Fault.{Fault}
 use Rattle.gb_declare.specs.Realised.{Trouble, and_then, each_of}
-use Rattle.gb_evaluate.specs.Over.{Tells}
+use Rattle.gb_evaluate.specs.Over.{Reports}
 
 -- ---- One thing after another
 
@@ -55,7 +55,7 @@ module _ {X Y E : Type 0} (f : X → Result Y E) where
 
 -- the fault of one is that of all
 module _ {M F Z S A : Type 0} (tables : Tables M F Z S A) (source : Source) {X Y : Type 0} (f : X → Result Y Trouble) where
-  pub fails_all : (all : List X) (done : List Y) (x : X) (rest : List X) (fault : Fault) → IsWalked f all done (x ∷ rest) → Tells tables source (f x) (Err fault) → Tells tables source (each_of f all) (Err fault)
+  pub fails_all : (all : List X) (done : List Y) (x : X) (rest : List X) (fault : Fault) → IsWalked f all done (x ∷ rest) → Reports tables source (f x) (Err fault) → Reports tables source (each_of f all) (Err fault)
   fails_all all done x rest fault walked (inl out) = inl out
   fails_all all done x rest fault walked (inr (trouble, is, reported)) = inr (trouble, walk_fails f all done x rest trouble walked is, reported)
 
@@ -78,8 +78,8 @@ module _ {Node Y : Type 0} (f : ℕ → Result Y Trouble) (number : Node → ℕ
       (walk_goes_on f (map number row) done (number (get_or row i d)) (map number (drop (i + 1) row)) y
       (subst (IsWalked f (map number row) done) (left_at number row i d within) walked) given)
 
-  pub row_fails : {M F Z S A : Type 0} (tables : Tables M F Z S A) (source : Source) (done : List Y) (fault : Fault) → IsWalked f (map number row) done (map number (drop i row)) → Tells tables source (f (number (get_or row i d))) (Err fault)
-      → Tells tables source (each_of f (map number row)) (Err fault)
+  pub row_fails : {M F Z S A : Type 0} (tables : Tables M F Z S A) (source : Source) (done : List Y) (fault : Fault) → IsWalked f (map number row) done (map number (drop i row)) → Reports tables source (f (number (get_or row i d))) (Err fault)
+      → Reports tables source (each_of f (map number row)) (Err fault)
   row_fails tables source done fault walked reported =
       fails_all tables source f (map number row) done (number (get_or row i d)) (map number (drop (i + 1) row)) fault
       (subst (IsWalked f (map number row) done) (left_at number row i d within) walked) reported

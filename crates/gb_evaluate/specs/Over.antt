@@ -48,19 +48,19 @@ module _ {M F Z S A : Type 0} (tables : Tables M F Z S A) (source : Source) wher
     pub complete : IsComplete tables source number nodes
 
   -- The expected value is given; or its trouble is reported, or memory ran out.
-  abbrev pub Tells : {X : Type 0} → Result X Trouble → Result X Fault → Type 0
-  Tells expected (Ok x) = expected ≡ Ok x
-  Tells expected (Err fault) =
+  abbrev pub Reports : {X : Type 0} → Result X Trouble → Result X Fault → Type 0
+  Reports expected (Ok x) = expected ≡ Ok x
+  Reports expected (Err fault) =
       (fault ≡ OutOfMemory)
       ⊎ ((trouble : Trouble) × (expected ≡ Err trouble) × IsReported tables source trouble fault)
 
--- The result matches the expected one, in the sense of `Tells`, for any scripts, by any numbers, that fit
+-- The result matches the expected one, in the sense of `Reports`, for any scripts, by any numbers, that fit
 -- these names, faults and expressions.
-abbrev pub TellsOver : {M F Z S A X : Type 0} → Tables M F Z S A → Names → List (Option Fault)
+abbrev pub ReportsOver : {M F Z S A X : Type 0} → Tables M F Z S A → Names → List (Option Fault)
     → List (Expression M F Z) → (Source → (ℕ → ℕ) → Result X Trouble) → Result X Fault → Type 0
-TellsOver tables names why nodes expected reported =
+ReportsOver tables names why nodes expected reported =
     (source : Source) (number : ℕ → ℕ) → IsOver tables source names why nodes number
-    → Tells tables source (expected source number) reported
+    → Reports tables source (expected source number) reported
 
 module _ {M F Z S A : Type 0} (tables : Tables M F Z S A) (names : Names) (why : List (Option Fault)) where
   -- The fault of a provider is reported as this one: a circle by its names, the fault of a value as the

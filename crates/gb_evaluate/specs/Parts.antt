@@ -15,7 +15,7 @@ use Rattle.gb_script.specs.declared.script.InputFiles.{InputFiles}
 use Rattle.gb_tree.specs.Pattern.{is_pattern}
 use Rattle.gb_declare.specs.Joined.{Joined, Named}
 use Rattle.gb_declare.specs.Realised.{Trouble}
-use Rattle.gb_evaluate.specs.Over.{IsOver, Tells}
+use Rattle.gb_evaluate.specs.Over.{IsOver, Reports}
 use Rattle.gb_evaluate.specs.Rows.{AreFor, AreWithin, HaveValues}
 use Rattle.gb_evaluate.specs.declared.parts.Parts.{Parts}
 
@@ -67,14 +67,14 @@ pub record AreAllFor {M F Z S A : Type 0} (tables : Tables M F Z S A) (source : 
   pub arguments : AreFor tables source number project parts.arguments.now
       (flat_map (λ call. call.arguments) task.actions)
 
--- The result matches the expected one for a task as given, as in `TellsOf`, by the parts of its row.
-abbrev pub TellsOfParts : {M F Z S A X : Type 0} → Tables M F Z S A → Names → List (Option Fault)
+-- The result matches the expected one for a task as given, as in `ReportsOf`, by the parts of its row.
+abbrev pub ReportsOfParts : {M F Z S A X : Type 0} → Tables M F Z S A → Names → List (Option Fault)
     → List (Expression M F Z) → (Registered → Type 0) → Joined → Parts
     → (Source → Registered → Result X Trouble) → Result X Fault → Type 0
-TellsOfParts tables names why nodes IsSaid task parts expected reported =
+ReportsOfParts tables names why nodes IsSaid task parts expected reported =
     (source : Source) (number : ℕ → ℕ) → IsOver tables source names why nodes number
     → (at : Registered) → IsSaid at → AreAllFor tables source number at.project task parts
-    → Tells tables source (expected source at) reported
+    → Reports tables source (expected source at) reported
 
 -- All texts that must be patterns are patterns.
 pub record HasPatterns (files : InputFiles) : Type 0 where

@@ -13,7 +13,7 @@ use Rattle.gb_registry.specs.Tables.{Tables}
 use Rattle.gb_declare.specs.Realised.{Trouble}
 use Rattle.gb_nodes.specs.Complete.{place_in_whole}
 use Rattle.gb_evaluate.specs.Given.{HasValue}
-use Rattle.gb_evaluate.specs.Over.{IsOver, Tells}
+use Rattle.gb_evaluate.specs.Over.{IsOver, Reports}
 
 -- nodes of a table
 abbrev pub AreWithin : {M F Z : Type 0} → List (Expression M F Z) → List Node → Type 0
@@ -33,16 +33,16 @@ abbrev pub AreFor : {M F Z S A : Type 0} → Tables M F Z S A → Source → (�
 AreFor tables source number project row trees =
     numbers_in number row ≡ map (place_in_whole tables source project) trees
 
--- The result matches the expected one, in the sense of `Tells`, for a task as given, for any scripts and by
+-- The result matches the expected one, in the sense of `Reports`, for a task as given, for any scripts and by
 -- any numbers that fit these names, faults and expressions, where the nodes in the row represent these
 -- expressions of the task.
-abbrev pub TellsOf : {M F Z S A X : Type 0} → Tables M F Z S A → Names → List (Option Fault)
+abbrev pub ReportsOf : {M F Z S A X : Type 0} → Tables M F Z S A → Names → List (Option Fault)
     → List (Expression M F Z) → (Registered → Type 0) → List Node → List Tree
     → (Source → Registered → Result X Trouble) → Result X Fault → Type 0
-TellsOf tables names why nodes IsSaid row trees expected reported =
+ReportsOf tables names why nodes IsSaid row trees expected reported =
     (source : Source) (number : ℕ → ℕ) → IsOver tables source names why nodes number
     → (at : Registered) → IsSaid at → AreFor tables source number at.project row trees
-    → Tells tables source (expected source at) reported
+    → Reports tables source (expected source at) reported
 
 -- any task
 abbrev pub Anywhere : Registered → Type 0

@@ -12,7 +12,7 @@ ghost use Rattle.gb_declare.specs.Whole.{spots, whole};
 ghost use Rattle.gb_evaluate.specs.Given.{IsSorted};
 ghost use Rattle.gb_evaluate.specs.Over.{known_names};
 ghost use Rattle.gb_evaluate.specs.Evaluated.{actions_of};
-ghost use Rattle.gb_evaluate.specs.Rows.{AreWithin, HaveValues, IsAt, TellsOf};
+ghost use Rattle.gb_evaluate.specs.Rows.{AreWithin, HaveValues, IsAt, ReportsOf};
 
 use crate::context::Context;
 use crate::parts::split_at;
@@ -65,7 +65,7 @@ fn action<A: Actions, T: Transforms>(
 ) -> Result<Action, Fault>
     requires { AreWithin providers.old.nodes row.now }
     ensures reported { let tables = tables_of T.meanings A.meanings context.now.tables.now in
-        TellsOf tables (known_names context.now.projects.now context.now.tasks.now)
+        ReportsOf tables (known_names context.now.projects.now context.now.tasks.now)
         context.now.faults.now providers.old.nodes (IsAt path.now) row.now call.now.arguments
         (λ source at. action_of tables source at (spots tables source) (whole tables source) call.now)
         result }
@@ -89,7 +89,7 @@ pub fn actions<A: Actions, T: Transforms>(
     requires within { AreWithin providers.old.nodes row.now }
     requires count { length row.now ≡ length (flat_map (λ call. call.arguments) (now_of calls.now)) }
     ensures reported { let tables = tables_of T.meanings A.meanings context.now.tables.now in
-        TellsOf tables (known_names context.now.projects.now context.now.tasks.now)
+        ReportsOf tables (known_names context.now.projects.now context.now.tasks.now)
         context.now.faults.now providers.old.nodes (IsAt path.now) row.now
         (flat_map (λ call. call.arguments) (now_of calls.now))
         (λ source at. actions_of tables source at (now_of calls.now)) result }

@@ -11,10 +11,10 @@ ghost use Rattle.gb_declare.specs.Realised.{answered, as_flag, as_place, truth_o
 ghost use Rattle.gb_declare.specs.Whole.{spots, whole};
 ghost use Rattle.gb_evaluate.specs.Given.{HasValue, IsOfGet, IsSorted, flag_at, given_at, place_at};
 ghost use Rattle.gb_evaluate.specs.Given.{producers_at, required_at, truth_at};
-ghost use Rattle.gb_evaluate.specs.Over.{IsOver, IsReportedOf, TellsOver, known_names};
+ghost use Rattle.gb_evaluate.specs.Over.{IsOver, IsReportedOf, ReportsOver, known_names};
 
 use crate::context::Context;
-use crate::telling::{refused, reported};
+use crate::reporting::{refused, reported};
 use gb_action::actions::Actions;
 use gb_core::name::Name;
 use gb_core::path::TaskPath;
@@ -58,7 +58,7 @@ pub fn ask<A: Actions, T: Transforms>(
 ) -> Result<Option<Value>, Fault>
     requires { node.number < length providers.old.nodes }
     ensures reported { let tables = tables_of T.meanings A.meanings context.now.tables.now in
-        TellsOver tables (known_names context.now.projects.now context.now.tasks.now)
+        ReportsOver tables (known_names context.now.projects.now context.now.tasks.now)
         context.now.faults.now providers.old.nodes
         (λ source number. given_at tables source (number node.number)) result }
     ensures got { IfOk result (λ value. IsGot T.meanings providers.old.nodes node.number (Ok value)) }
@@ -81,7 +81,7 @@ pub fn require<A: Actions, T: Transforms>(
 ) -> Result<Value, Fault>
     requires { node.number < length providers.old.nodes }
     ensures reported { let tables = tables_of T.meanings A.meanings context.now.tables.now in
-        TellsOver tables (known_names context.now.projects.now context.now.tasks.now)
+        ReportsOver tables (known_names context.now.projects.now context.now.tasks.now)
         context.now.faults.now providers.old.nodes
         (λ source number. required_at tables source path.now name.now (number node.number)) result }
     ensures given { IfOk result (λ _. HasValue T.meanings providers.old.nodes node.number) }
@@ -104,7 +104,7 @@ pub fn require_place<A: Actions, T: Transforms>(
 ) -> Result<Place, Fault>
     requires { node.number < length providers.old.nodes }
     ensures reported { let tables = tables_of T.meanings A.meanings context.now.tables.now in
-        TellsOver tables (known_names context.now.projects.now context.now.tasks.now)
+        ReportsOver tables (known_names context.now.projects.now context.now.tasks.now)
         context.now.faults.now providers.old.nodes
         (λ source number. place_at tables source path.now name.now (number node.number)) result }
     ensures given { IfOk result (λ _. HasValue T.meanings providers.old.nodes node.number) }
@@ -134,7 +134,7 @@ pub fn require_flag<A: Actions, T: Transforms>(
 ) -> Result<bool, Fault>
     requires { node.number < length providers.old.nodes }
     ensures reported { let tables = tables_of T.meanings A.meanings context.now.tables.now in
-        TellsOver tables (known_names context.now.projects.now context.now.tasks.now)
+        ReportsOver tables (known_names context.now.projects.now context.now.tasks.now)
         context.now.faults.now providers.old.nodes
         (λ source number. flag_at tables source path.now name.now (number node.number)) result }
     ensures kept { providers.new ≡ providers.old }
@@ -203,7 +203,7 @@ pub fn passes<A: Actions, T: Transforms>(
     requires { node.number < length providers.old.nodes }
     ensures reported { let tables = tables_of T.meanings A.meanings context.now.tables.now in
         (at : Registered)
-        → TellsOver tables (known_names context.now.projects.now context.now.tasks.now)
+        → ReportsOver tables (known_names context.now.projects.now context.now.tasks.now)
         context.now.faults.now providers.old.nodes
         (λ source number. truth_at tables source at test.now (number node.number)) result }
     ensures kept { providers.new ≡ providers.old }

@@ -5,7 +5,7 @@ ghost use Rattle.gb_registry.specs.Tables.{tables_of};
 ghost use Rattle.gb_declare.specs.Borrowed.{now_of};
 ghost use Rattle.gb_evaluate.specs.Over.{known_names};
 ghost use Rattle.gb_evaluate.specs.Evaluated.{all_hold, enabled_of};
-ghost use Rattle.gb_evaluate.specs.Rows.{Anywhere, AreWithin, IsAt, TellsOf};
+ghost use Rattle.gb_evaluate.specs.Rows.{Anywhere, AreWithin, IsAt, ReportsOf};
 
 use crate::asking::{passes, require_flag};
 use crate::context::Context;
@@ -43,7 +43,7 @@ pub fn is_enabled<A: Actions, T: Transforms>(
     requires within { AreWithin providers.old.nodes row.now }
     requires count { length row.now ≡ length (option_to_list (option_copied enabled)) }
     ensures reported { let tables = tables_of T.meanings A.meanings context.now.tables.now in
-        TellsOf tables (known_names context.now.projects.now context.now.tasks.now)
+        ReportsOf tables (known_names context.now.projects.now context.now.tasks.now)
         context.now.faults.now providers.old.nodes (IsAt path.now) row.now
         (option_to_list (option_copied enabled.entry))
         (λ source at. enabled_of tables source at (option_copied enabled.entry)) result }
@@ -67,7 +67,7 @@ pub fn all_hold<A: Actions, T: Transforms>(
     requires within { AreWithin providers.old.nodes row.now }
     requires count { length row.now ≡ length conditions.now }
     ensures reported { let tables = tables_of T.meanings A.meanings context.now.tables.now in
-        TellsOf tables (known_names context.now.projects.now context.now.tasks.now)
+        ReportsOf tables (known_names context.now.projects.now context.now.tasks.now)
         context.now.faults.now providers.old.nodes Anywhere row.now
         (map (λ condition. condition.value) (now_of conditions.now))
         (λ source at. all_hold tables source at (now_of conditions.now)) result }

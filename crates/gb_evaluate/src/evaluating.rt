@@ -7,8 +7,8 @@ ghost use Rattle.gb_declare.specs.Whole.{spots, trees_of, whole};
 ghost use Rattle.gb_evaluate.specs.Over.{known_names};
 ghost use Rattle.gb_evaluate.specs.Evaluated.{IsBuiltIn, contents_of, declaration_of, flags_of};
 ghost use Rattle.gb_evaluate.specs.Parts.{AreAllWithin, AreCounted, HaveAllValues, HavePatterns};
-ghost use Rattle.gb_evaluate.specs.Parts.{TellsOfParts};
-ghost use Rattle.gb_evaluate.specs.Rows.{AreWithin, IsAt, TellsOf};
+ghost use Rattle.gb_evaluate.specs.Parts.{ReportsOfParts};
+ghost use Rattle.gb_evaluate.specs.Rows.{AreWithin, IsAt, ReportsOf};
 
 use crate::actions::actions;
 use crate::conditions::{all_hold, is_enabled};
@@ -42,7 +42,7 @@ fn flags<A: Actions, T: Transforms>(
     requires within { AreAllWithin providers.old.nodes parts.now }
     requires counted { AreCounted (joined_of task.now) parts.now }
     ensures reported { let tables = tables_of T.meanings A.meanings context.now.tables.now in
-        TellsOfParts tables (known_names context.now.projects.now context.now.tasks.now)
+        ReportsOfParts tables (known_names context.now.projects.now context.now.tasks.now)
         context.now.faults.now providers.old.nodes (IsAt path.now) (joined_of task.now) parts.now
         (λ source at. flags_of tables source at (joined_of task.now)) result }
     ensures kept { providers.new ≡ providers.old }
@@ -76,7 +76,7 @@ fn contents<A: Actions, T: Transforms>(
     requires counted { AreCounted (joined_of task.now) parts.now }
     requires patterns { HavePatterns (joined_of task.now).files }
     ensures reported { let tables = tables_of T.meanings A.meanings context.now.tables.now in
-        TellsOfParts tables (known_names context.now.projects.now context.now.tasks.now)
+        ReportsOfParts tables (known_names context.now.projects.now context.now.tasks.now)
         context.now.faults.now providers.old.nodes (IsBuiltIn path.now build.now) (joined_of task.now)
         parts.now
         (λ source at. contents_of tables source at (joined_of task.now)) result }
@@ -154,7 +154,7 @@ pub fn evaluated<A: Actions, T: Transforms>(
     requires count { length row.now ≡ length (trees_of (joined_of task.now)) }
     requires patterns { HavePatterns (joined_of task.now).files }
     ensures reported { let tables = tables_of T.meanings A.meanings context.now.tables.now in
-        TellsOf tables (known_names context.now.projects.now context.now.tasks.now)
+        ReportsOf tables (known_names context.now.projects.now context.now.tasks.now)
         context.now.faults.now providers.old.nodes (IsBuiltIn path.now build.now) row.now
         (trees_of (joined_of task.now))
         (λ source at. evaluated tables source at (spots tables source) (whole tables source)

@@ -10,7 +10,7 @@ ghost use Rattle.gb_declare.specs.Whole.{spots, whole};
 ghost use Rattle.gb_evaluate.specs.Over.{known_names};
 ghost use Rattle.gb_evaluate.specs.Evaluated.{files_of};
 ghost use Rattle.gb_evaluate.specs.Parts.{HasPatterns, HavePatterns};
-ghost use Rattle.gb_evaluate.specs.Rows.{AreWithin, HaveValues, IsAt, TellsOf};
+ghost use Rattle.gb_evaluate.specs.Rows.{AreWithin, HaveValues, IsAt, ReportsOf};
 
 use crate::context::Context;
 use crate::parts::split_at;
@@ -100,7 +100,7 @@ fn property<A: Actions, T: Transforms>(
     requires within { AreWithin providers.old.nodes row.now }
     requires patterns { HasPatterns files.now }
     ensures reported { let tables = tables_of T.meanings A.meanings context.now.tables.now in
-        TellsOf tables (known_names context.now.projects.now context.now.tasks.now)
+        ReportsOf tables (known_names context.now.projects.now context.now.tasks.now)
         context.now.faults.now providers.old.nodes (IsAt path.now) row.now files.now.from
         (λ source at. files_under tables source at (spots tables source) (whole tables source)
         (name.now, files.now)) result }
@@ -124,7 +124,7 @@ pub fn properties<A: Actions, T: Transforms>(
     requires count { length row.now ≡ length (flat_map (λ property. property.1.from) (named_in files.now)) }
     requires patterns { HavePatterns (named_in files.now) }
     ensures reported { let tables = tables_of T.meanings A.meanings context.now.tables.now in
-        TellsOf tables (known_names context.now.projects.now context.now.tasks.now)
+        ReportsOf tables (known_names context.now.projects.now context.now.tasks.now)
         context.now.faults.now providers.old.nodes (IsAt path.now) row.now
         (flat_map (λ property. property.1.from) (named_in files.now))
         (λ source at. files_of tables source at (named_in files.now)) result }

@@ -14,5 +14,5 @@ mod needs;
 mod outputs;
 pub mod parts;
 mod rows;
-mod telling;
+mod reporting;
 mod values;

@@ -10,7 +10,7 @@ ghost use Rattle.gb_declare.specs.Whole.{spots, whole};
 ghost use Rattle.gb_evaluate.specs.Given.{IsSorted};
 ghost use Rattle.gb_evaluate.specs.Over.{known_names};
 ghost use Rattle.gb_evaluate.specs.Evaluated.{IsBuiltIn, outputs_of};
-ghost use Rattle.gb_evaluate.specs.Rows.{AreWithin, TellsOf};
+ghost use Rattle.gb_evaluate.specs.Rows.{AreWithin, ReportsOf};
 
 use crate::asking::require_place;
 use crate::context::Context;
@@ -55,7 +55,7 @@ fn output<A: Actions, T: Transforms>(
     requires { node.number < length providers.old.nodes }
     ensures reported { let tables = tables_of T.meanings A.meanings context.now.tables.now in
         (tree : Tree)
-        → TellsOf tables (known_names context.now.projects.now context.now.tasks.now)
+        → ReportsOf tables (known_names context.now.projects.now context.now.tasks.now)
         context.now.faults.now providers.old.nodes (IsBuiltIn path.now build.now) (node ∷ []) (tree ∷ [])
         (λ source at. output_under tables source at (spots tables source) (whole tables source)
         (name.now, (form, tree))) result }
@@ -80,7 +80,7 @@ pub fn outputs<A: Actions, T: Transforms>(
     requires within { AreWithin providers.old.nodes row.now }
     requires count { length row.now ≡ length outputs.now.entries }
     ensures reported { let tables = tables_of T.meanings A.meanings context.now.tables.now in
-        TellsOf tables (known_names context.now.projects.now context.now.tasks.now)
+        ReportsOf tables (known_names context.now.projects.now context.now.tasks.now)
         context.now.faults.now providers.old.nodes (IsBuiltIn path.now build.now) row.now
         (map (λ output. output.1.1) (outputs_in outputs.now))
         (λ source at. outputs_of tables source at (outputs_in outputs.now)) result }

@@ -3,7 +3,7 @@ ghost use Rattle.std.specs.Prelude.{◌≡◌, IfOk};
 ghost use Rattle.gb_registry.specs.Tables.{tables_of};
 ghost use Rattle.gb_declare.specs.Realised.{each_of};
 ghost use Rattle.gb_evaluate.specs.Given.{place_at, required_at};
-ghost use Rattle.gb_evaluate.specs.Over.{TellsOver, known_names};
+ghost use Rattle.gb_evaluate.specs.Over.{ReportsOver, known_names};
 ghost use Rattle.gb_evaluate.specs.Rows.{AreWithin, HaveValues, numbers_in};
 
 use crate::asking::{require, require_place};
@@ -30,7 +30,7 @@ pub fn places<A: Actions, T: Transforms>(
 ) -> Result<Places, Fault>
     requires { AreWithin providers.old.nodes row.now }
     ensures reported { let tables = tables_of T.meanings A.meanings context.now.tables.now in
-        TellsOver tables (known_names context.now.projects.now context.now.tasks.now)
+        ReportsOver tables (known_names context.now.projects.now context.now.tasks.now)
         context.now.faults.now providers.old.nodes
         (λ source number. each_of (place_at tables source path.now name.now) (numbers_in number row.now))
         result }
@@ -56,7 +56,7 @@ pub fn arguments<A: Actions, T: Transforms>(
 ) -> Result<Arguments, Fault>
     requires { AreWithin providers.old.nodes row.now }
     ensures reported { let tables = tables_of T.meanings A.meanings context.now.tables.now in
-        TellsOver tables (known_names context.now.projects.now context.now.tasks.now)
+        ReportsOver tables (known_names context.now.projects.now context.now.tasks.now)
         context.now.faults.now providers.old.nodes
         (λ source number. each_of (required_at tables source path.now name.now) (numbers_in number row.now))
         result }

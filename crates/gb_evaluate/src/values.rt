@@ -4,7 +4,7 @@ ghost use Rattle.gb_registry.specs.Tables.{tables_of};
 ghost use Rattle.gb_declare.specs.Borrowed.{named_in};
 ghost use Rattle.gb_evaluate.specs.Over.{known_names};
 ghost use Rattle.gb_evaluate.specs.Evaluated.{values_of};
-ghost use Rattle.gb_evaluate.specs.Rows.{AreWithin, HaveValues, IsAt, TellsOf};
+ghost use Rattle.gb_evaluate.specs.Rows.{AreWithin, HaveValues, IsAt, ReportsOf};
 
 use crate::asking::require;
 use crate::context::Context;
@@ -32,7 +32,7 @@ pub fn values<A: Actions, T: Transforms>(
     requires within { AreWithin providers.old.nodes row.now }
     requires count { length row.now ≡ length inputs.now.entries }
     ensures reported { let tables = tables_of T.meanings A.meanings context.now.tables.now in
-        TellsOf tables (known_names context.now.projects.now context.now.tasks.now)
+        ReportsOf tables (known_names context.now.projects.now context.now.tasks.now)
         context.now.faults.now providers.old.nodes (IsAt path.now) row.now
         (map (λ value. value.1) (named_in inputs.now))
         (λ source at. values_of tables source at (named_in inputs.now)) result }

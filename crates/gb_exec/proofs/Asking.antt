@@ -2,9 +2,9 @@
 use Rattle.std.specs.Prelude.{ℕ, ◌≡◌, ◌||◌, ◌++◌, Bool, true, false, List, [], ◌∷◌, Option, length}
 use Rattle.std.proofs.Common.{refl, sym, ap, subst, arith}
 use Rattle.gb_action.specs.Meanings.{Meanings}
-use Rattle.gb_folder.specs.Calls.{Asks, Call, changes_at}
+use Rattle.gb_folder.specs.Calls.{Requests, Call, changes_at}
 use Rattle.gb_folder.specs.Files.{Place, Tearing}
-use Rattle.gb_folder.proofs.Asked.{asks_more, asks_nothing, asks_then, change_at}
+use Rattle.gb_folder.proofs.Asked.{requests_more, requests_nothing, requests_then, change_at}
 use Rattle.gb_history.specs.Record.{Record}
 use Rattle.gb_meaning.specs.Execution.{dry_reports}
 use Rattle.gb_plan.specs.Ready.{Rows}
@@ -19,19 +19,19 @@ use Rattle.gb_task.specs.Executing.{is_of_execution}
 use Rattle.gb_task.proofs.ByOutcome.{execution_places}
 use Rattle.gb_exec.specs.Asking.{ExecutionsAsk}
 use Rattle.gb_exec.specs.Building.{is_of_executions}
-use Rattle.gb_task.specs.ByOutcome.{ExecutionAsks}
+use Rattle.gb_task.specs.ByOutcome.{ExecutionRequests}
 
 right : (a b : Bool) → b ≡ true → (a || b) ≡ true
 right true b e = refl
 right false b e = e
 
-module _ {F S : Type 0} (failures : F → ℕ) (may_leave : F → Tearing) (asked : F → Call → F → Type 0) (meanings : Meanings S) (rows : Rows S) (options : Options) where
+module _ {F S : Type 0} (failures : F → ℕ) (may_leave : F → Tearing) (allowed : F → Call → F → Type 0) (meanings : Meanings S) (rows : Rows S) (options : Options) where
   -- ---- One execution more
 
   pub executions_more : (plan : List Planned) (records : List (Option Record)) (reports : List TaskReport) (planned : Planned) (last : Option Record) (report : TaskReport) (old mid new : F)
-      → ExecutionsAsk failures may_leave asked meanings rows options plan records reports old mid → ExecutionAsks failures may_leave asked meanings rows options planned.task last report.outcome report.lines mid new
-      → ExecutionsAsk failures may_leave asked meanings rows options (plan ++ planned ∷ []) (records ++ last ∷ []) (reports ++ report ∷ []) old new
-  executions_more [] [] [] planned last report old mid new executions execution = (new, subst (λ (f : F). ExecutionAsks failures may_leave asked meanings rows options planned.task last report.outcome report.lines f new) executions execution, refl)
+      → ExecutionsAsk failures may_leave allowed meanings rows options plan records reports old mid → ExecutionRequests failures may_leave allowed meanings rows options planned.task last report.outcome report.lines mid new
+      → ExecutionsAsk failures may_leave allowed meanings rows options (plan ++ planned ∷ []) (records ++ last ∷ []) (reports ++ report ∷ []) old new
+  executions_more [] [] [] planned last report old mid new executions execution = (new, subst (λ (f : F). ExecutionRequests failures may_leave allowed meanings rows options planned.task last report.outcome report.lines f new) executions execution, refl)
   executions_more (p ∷ plan) (l ∷ records) (r ∷ reports) planned last report old mid new executions execution =
       (executions.0, executions.1, executions_more plan records reports planned last report executions.0 mid new executions.2 execution)
   executions_more [] [] (r ∷ reports) planned last report old mid new executions execution = absurd executions
@@ -41,19 +41,19 @@ module _ {F S : Type 0} (failures : F → ℕ) (may_leave : F → Tearing) (aske
 
   -- ---- Where changes are requested
 
-  wider : (test wide : Place → Bool) → ((place : Place) → test place ≡ true → wide place ≡ true) → (old new : F) → Asks failures may_leave asked (changes_at test) old new
-      → Asks failures may_leave asked (changes_at wide) old new
+  wider : (test wide : Place → Bool) → ((place : Place) → test place ≡ true → wide place ≡ true) → (old new : F) → Requests failures may_leave allowed (changes_at test) old new
+      → Requests failures may_leave allowed (changes_at wide) old new
   unfolding changes_at
-  wider test wide within old new asks = asks_more (λ place next may. change_at wide place next (within place may)) asks
+  wider test wide within old new requests = requests_more (λ place next may. change_at wide place next (within place may)) requests
 
   -- the executions request changes only at outputs and records of the plan's tasks
   pub executions_places : (plan : List Planned) (records : List (Option Record)) (reports : List TaskReport) (old new : F)
-      → ExecutionsAsk failures may_leave asked meanings rows options plan records reports old new → Asks failures may_leave asked (changes_at (is_of_executions plan)) old new
-  executions_places [] [] [] old new executions = subst (λ (f : F). Asks failures may_leave asked (changes_at (is_of_executions [])) old f) (sym executions) (asks_nothing old)
+      → ExecutionsAsk failures may_leave allowed meanings rows options plan records reports old new → Requests failures may_leave allowed (changes_at (is_of_executions plan)) old new
+  executions_places [] [] [] old new executions = subst (λ (f : F). Requests failures may_leave allowed (changes_at (is_of_executions [])) old f) (sym executions) (requests_nothing old)
   executions_places (planned ∷ plan) (last ∷ records) (report ∷ reports) old new executions =
-      asks_then
+      requests_then
       (wider (is_of_execution planned.task) (is_of_executions (planned ∷ plan)) (λ place e. ap (λ b. b || is_of_executions plan place) e) old executions.0
-      (execution_places failures may_leave asked meanings rows options planned.task last report.lines old executions.0 report.outcome executions.1))
+      (execution_places failures may_leave allowed meanings rows options planned.task last report.lines old executions.0 report.outcome executions.1))
       (wider (is_of_executions plan) (is_of_executions (planned ∷ plan)) (λ place e. right (is_of_execution planned.task place) (is_of_executions plan place) e) executions.0 new
       (executions_places plan records reports executions.0 new executions.2))
   executions_places [] [] (r ∷ reports) old new executions = absurd executions
@@ -63,9 +63,9 @@ module _ {F S : Type 0} (failures : F → ℕ) (may_leave : F → Tearing) (aske
 
   -- ---- A dry run
 
-  pub dry_asks : (plan : List Planned) (records : List (Option Record)) (old : F) → length records ≡ length plan
-      → ExecutionsAsk failures may_leave asked meanings rows options plan records (dry_reports plan) old old
-  dry_asks [] [] old each = refl
-  dry_asks (planned ∷ plan) (last ∷ records) old each = (old, asks_nothing old, dry_asks plan records old (omega (arith, each)))
-  dry_asks [] (last ∷ records) old each = absurd (omega (arith, each))
-  dry_asks (planned ∷ plan) [] old each = absurd (omega (arith, each))
+  pub dry_requests : (plan : List Planned) (records : List (Option Record)) (old : F) → length records ≡ length plan
+      → ExecutionsAsk failures may_leave allowed meanings rows options plan records (dry_reports plan) old old
+  dry_requests [] [] old each = refl
+  dry_requests (planned ∷ plan) (last ∷ records) old each = (old, requests_nothing old, dry_requests plan records old (omega (arith, each)))
+  dry_requests [] (last ∷ records) old each = absurd (omega (arith, each))
+  dry_requests (planned ∷ plan) [] old each = absurd (omega (arith, each))

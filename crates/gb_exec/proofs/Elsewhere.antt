@@ -6,7 +6,7 @@ use Rattle.gb_meaning.specs.Kinds.{Kinds}
 use Rattle.gb_meaning.specs.Label.{CannotRead, Early, HasNoActions, HasNoSource, Moment, Skips, early_case}
 use Rattle.gb_meaning.specs.Made.{with_outputs}
 use Rattle.gb_meaning.specs.Memory.{Entry, Memory, World, entry_of, forget, recalled, remember}
-use Rattle.gb_meaning.specs.Execution.{ByItself, ByMachine, Cause, FailedRunLeaves, FailureLeaves, HasEnded, IsGivenUp, Leaves, Rules, Standing, Execution, cause_of}
+use Rattle.gb_meaning.specs.Execution.{ByItself, ByMachine, Cause, FailedRunLeaves, FailureLeaves, HasEnded, IsGivenUp, Leaves, Rules, WorldState, Execution, cause_of}
 use Rattle.gb_plan.specs.Task.{Path}
 use Rattle.gb_plan.specs.declared.plan.Planned.{Planned}
 use Rattle.gb_plan.specs.declared.task.TaskDeclaration.{TaskDeclaration as Task}
@@ -66,7 +66,7 @@ module _ (kinds : Kinds) (options : Options) (task : Task) (old new : World) (pa
   leaves_others outcomes.NotRun leaves = same leaves
 
 -- of every task but the executed one the same is remembered
-pub execution_leaves_others : (rules : Rules) (moment : Moment) (planned : Planned) (report : TaskReport) (new : Standing) → Execution rules moment planned report new
+pub execution_leaves_others : (rules : Rules) (moment : Moment) (planned : Planned) (report : TaskReport) (new : WorldState) → Execution rules moment planned report new
     → (path : Path) → bytes_eq path planned.task.path ≡ false → recalled new.world.memory path ≡ recalled moment.world.memory path
 execution_leaves_others rules moment planned report new execution path other = elim execution.2 [
   | inl started ↦ leaves_others rules.kinds rules.options planned.task moment.world new.world path other report.outcome started.1.leaves

@@ -3,7 +3,7 @@ use Rattle.std.specs.Prelude.{ℕ, ◌≡◌, true, false, cond, List, [], ◌�
 use Rattle.std.specs.List.{AllZip}
 use Rattle.std.proofs.Common.{refl, ap, sym, ◌∙◌}
 use Rattle.std.proofs.lemmas.Grind.{flat_map-append}
-use Rattle.gb_exec.specs.Telling.{AllReported}
+use Rattle.gb_exec.specs.Notifying.{AllReported}
 use Rattle.gb_exec.proofs.Counts.{counted_none}
 use Rattle.gb_meaning.specs.Headline.{Ear, HearsAll, HearsSome}
 use Rattle.gb_meaning.specs.Execution.{heard_of}
@@ -28,8 +28,8 @@ each_reported (ear ∷ ears) = (
 )
 
 -- where there is nothing to notify of, all were notified
-pub untold : (ears : List Ear) → AllReported [] true ears ears
-untold ears = record { each = each_reported ears; whole = (λ _. all_heard ears, λ _. refl) }
+pub unnotified : (ears : List Ear) → AllReported [] true ears ears
+unnotified ears = record { each = each_reported ears; whole = (λ _. all_heard ears, λ _. refl) }
 
 pub heard_passed : (report : TaskReport) → is_started report.outcome ≡ false → heard_of false (report ∷ []) ≡ []
 heard_passed report e = ap (λ b. cond b (heard.Start report.path ∷ heard.End report.path report.outcome ∷ []) [] ++ []) e

@@ -53,13 +53,13 @@ module _ (progress : Progress) (task : ℕ) (ending : Ending) (known : task < le
   ended = get_or-set_same progress.endings task ending ToCome known
 
   other : (number : ℕ) → number ≢ task → ending_in (set progress.endings task ending) number ≡ ending_in progress.endings number
-  other number apart = get_or-set_other progress.endings task number ending ToCome apart
+  other number separate = get_or-set_other progress.endings task number ending ToCome separate
 
   -- what was called is called
   still_called : (number : ℕ) → IsCalled progress number → IsCalled after number
   still_called number is = elim (cases_eq is.0 task) [
     | inl e ↦ absurd (false≢true (sym (ap has_started (ap (ending_in progress.endings) e ∙ to_come)) ∙ is.1))
-    | inr apart ↦ (is.0, ap has_started (other is.0 apart) ∙ is.1, is.2)
+    | inr separate ↦ (is.0, ap has_started (other is.0 separate) ∙ is.1, is.2)
   ]
 
   -- and the finalizers of the task, where it was started
@@ -70,7 +70,7 @@ module _ (progress : Progress) (task : ℕ) (ending : Ending) (known : task < le
   only_called : (number : ℕ) → IsCalled after number → IsCalled progress number ⊎ ((has_started ending ≡ true) × Contains (row progress.finalizers task) number)
   only_called number is = elim (cases_eq is.0 task) [
     | inl e ↦ inr (sym (ap has_started (ap (ending_in (set progress.endings task ending)) e ∙ ended)) ∙ is.1, subst (λ k. Contains (row progress.finalizers k) number) e is.2)
-    | inr apart ↦ inl (is.0, sym (ap has_started (other is.0 apart)) ∙ is.1, is.2)
+    | inr separate ↦ inl (is.0, sym (ap has_started (other is.0 separate)) ∙ is.1, is.2)
   ]
 
   pub failed_more : list_any has_failed (set progress.endings task ending) ≡ (list_any has_failed progress.endings || has_failed ending)

@@ -11,9 +11,9 @@ use Rattle.gb_folder.specs.Files.{Bytes, Contents, Files, IsFolder, are_placed, 
 use Rattle.gb_history.specs.Record.{Record}
 use Rattle.gb_meaning.specs.Kinds.{Kinds}
 use Rattle.gb_meaning.specs.Memory.{Memory, World, folder_contents, recalled}
-use Rattle.gb_meaning.specs.TrueRecord.{AreApart, contents_of}
+use Rattle.gb_meaning.specs.TrueRecord.{AreCollisionFree, contents_of}
 use Rattle.gb_meaning.proofs.Common.{none_some, some_same}
-use Rattle.gb_meaning.proofs.Lemmas.Clear.{Among, apart_of_fewer, in_left, in_one, in_right}
+use Rattle.gb_meaning.proofs.Lemmas.Clear.{Among, separate_of_fewer, in_left, in_one, in_right}
 use Rattle.gb_plan.specs.Graph.{order}
 use Rattle.gb_plan.specs.declared.plan.Planned.{Planned}
 use Rattle.gb_records.specs.Said.{IsReadAt}
@@ -36,17 +36,17 @@ among_of some all h c e =
     let same : c ≡ found.1 = (bytes_decides c found.1).0 found.3 in
     contains_any (bytes_eq c) all c (h c (subst (Contains some) (sym same) (contained some found.0 found.1 found.2))) (itself c)
 
-pub knows : (law : WhatIsReadIsKnown) (kinds : Kinds) (plan : List Planned) (records : List (Option Record)) (seen seen_now : List Bytes) (start : Contents) (remembered : Memory) (world : World)
-    (index : ℕ) (planned : Planned) → slice_get plan index ≡ Some planned → AreWorth kinds plan records seen start remembered → IsTrue (is_task_path planned.task.path)
+pub knows : (law : WhatIsReadIsKnown) (kinds : Kinds) (plan : List Planned) (records : List (Option Record)) (observed observed_now : List Bytes) (start : Contents) (remembered : Memory) (world : World)
+    (index : ℕ) (planned : Planned) → slice_get plan index ≡ Some planned → AreWorth kinds plan records observed start remembered → IsTrue (is_task_path planned.task.path)
     → recalled world.memory planned.task.path ≡ recalled remembered planned.task.path → IsFolder world.folder.files → IsTrue (are_placed world.folder.files)
-    → list_any (λ output. is_own output.place) planned.task.outputs ≡ false → Among seen seen_now
-    → IsTrue (is_empty remembered) ⊎ AreApart sha256 (seen_now ++ folder_contents world)
+    → list_any (λ output. is_own output.place) planned.task.outputs ≡ false → Among observed observed_now
+    → IsTrue (is_empty remembered) ⊎ AreCollisionFree sha256 (observed_now ++ folder_contents world)
     → IsKnown kinds planned.task world (slice_index_or records index None)
-knows law kinds plan records seen seen_now start remembered world index planned is worth is_task same is_folder placed not_own keeps clear =
+knows law kinds plan records observed observed_now start remembered world index planned is worth is_task same is_folder placed not_own keeps clear =
     law kinds planned.task start.files remembered world (slice_index_or records index None)
     (record {
       is_task = is_task;
-      stood = worth.standing;
+      existed = worth.existing;
       made = worth.made;
       kept = same;
       is_folder = is_folder;
@@ -54,11 +54,11 @@ knows law kinds plan records seen seen_now start remembered world index planned 
       not_own = not_own;
       clear = elim clear [
         | inl empty ↦ inl empty
-        | inr apart ↦ inr (apart_of_fewer sha256 (seen_now ++ folder_contents world) (flat_map (λ entry. contents_of entry.1) remembered ++ folder_contents world)
+        | inr separate ↦ inr (separate_of_fewer sha256 (observed_now ++ folder_contents world) (flat_map (λ entry. contents_of entry.1) remembered ++ folder_contents world)
             (λ c h. elim (in_one c (flat_map (λ entry. contents_of entry.1) remembered) (folder_contents world) h) [
-              | inl of_memory ↦ in_left c seen_now (folder_contents world) (keeps c (among_of (flat_map (λ entry. contents_of entry.1) remembered) seen worth.was_seen c of_memory))
-              | inr here ↦ in_right c seen_now (folder_contents world) here
-            ]) apart)
+              | inl of_memory ↦ in_left c observed_now (folder_contents world) (keeps c (among_of (flat_map (λ entry. contents_of entry.1) remembered) observed worth.was_observed c of_memory))
+              | inr here ↦ in_right c observed_now (folder_contents world) here
+            ]) separate)
       ];
     })
     (read_at start.files plan records index planned worth.read is)

@@ -47,15 +47,15 @@ module _ (options : Options) (plan : Plan) where
       answers true false r a reported = answer.answer r a
 
   -- one report more
-  pub outlines_more : (ended : List (Path × Outcome)) (front : List Planned) (planned : Planned) (done : List TaskReport) (report : TaskReport)
-      → AreOutlines options plan ended front done → IsOutline options plan (moment_by (ended ++ map outcome_in done)) planned report
-      → AreOutlines options plan ended (front ++ planned ∷ []) (done ++ report ∷ [])
+  pub outlines_more : (ended : List (Path × Outcome)) (prefix : List Planned) (planned : Planned) (done : List TaskReport) (report : TaskReport)
+      → AreOutlines options plan ended prefix done → IsOutline options plan (moment_by (ended ++ map outcome_in done)) planned report
+      → AreOutlines options plan ended (prefix ++ planned ∷ []) (done ++ report ∷ [])
   outlines_more ended [] planned [] report all here =
       (subst (λ (os : List (Path × Outcome)). IsOutline options plan (moment_by os) planned report) (append-nil ended) here, tt)
   outlines_more ended [] planned (r ∷ done) report all here = absurd all
-  outlines_more ended (p ∷ front) planned [] report all here = absurd all
-  outlines_more ended (p ∷ front) planned (r ∷ done) report all here = (
+  outlines_more ended (p ∷ prefix) planned [] report all here = absurd all
+  outlines_more ended (p ∷ prefix) planned (r ∷ done) report all here = (
     all.0,
-    outlines_more (ended ++ outcome_in r ∷ []) front planned done report all.1
+    outlines_more (ended ++ outcome_in r ∷ []) prefix planned done report all.1
         (subst (λ (os : List (Path × Outcome)). IsOutline options plan (moment_by os) planned report) (sym (append_assoc ended (outcome_in r ∷ []) (map outcome_in done))) here),
   )

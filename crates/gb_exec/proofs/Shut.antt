@@ -8,10 +8,10 @@ use Rattle.gb_core.specs.Path.{is_task_path}
 use Rattle.gb_core.specs.Place.{is_beneath, is_place}
 use Rattle.gb_folder.specs.Files.{Bytes, Contents, Files, HasRisen, Place, SameTearing, Tearing, is_blocked, is_own}
 use Rattle.gb_history.specs.Places.{record_place}
-use Rattle.gb_meaning.specs.Events.{IsTornInRun, StandsInRun, is_record_shut_out, is_record_too_long, may_come, own_files, rules_in}
+use Rattle.gb_meaning.specs.Events.{IsTornInRun, ExistsInRun, is_record_shut_out, is_record_too_long, may_occur, own_files, rules_in}
 use Rattle.gb_meaning.specs.Kinds.{Kinds}
 use Rattle.gb_meaning.specs.Label.{Moment}
-use Rattle.gb_meaning.specs.Execution.{Standing, Execution}
+use Rattle.gb_meaning.specs.Execution.{WorldState, Execution}
 use Rattle.gb_meaning.proofs.Lemmas.Weaker.{execution_weaker}
 use Rattle.gb_plan.specs.Graph.{Plan}
 use Rattle.gb_plan.specs.Task.{Path, is_output_of}
@@ -55,10 +55,10 @@ module _ (path : Path) (is_path : IsTrue (is_task_path path)) where
       by true e = not_in_own_way (record_place path) f refl (no_longer (is_own f) (kept_at planned.task.outputs places.not_own f e))
       by false e = at_record (open_in (is_output_of planned.task f) (is_at (record_place planned.task.path) f) h e)
 
-  free : (front : List Planned) → AllByRecursion HasOwnPlaces front → (f : Place) → is_of_executions front f ≡ true
+  free : (prefix : List Planned) → AllByRecursion HasOwnPlaces prefix → (f : Place) → is_of_executions prefix f ≡ true
       → (is_beneath (record_place path) f || is_beneath f (record_place path)) ≡ false
   free [] places f h = not_true h
-  free (planned ∷ front) places f h = by (is_of_execution planned.task f) refl (λ e. free front places.1 f (open_in (is_of_execution planned.task f) (is_of_executions front f) h e))
+  free (planned ∷ prefix) places f h = by (is_of_execution planned.task f) refl (λ e. free prefix places.1 f (open_in (is_of_execution planned.task f) (is_of_executions prefix f) h e))
     where
       by : (t : Bool) → is_of_execution planned.task f ≡ t
           → (is_of_execution planned.task f ≡ false → (is_beneath (record_place path) f || is_beneath f (record_place path)) ≡ false)
@@ -66,29 +66,29 @@ module _ (path : Path) (is_path : IsTrue (is_task_path path)) where
       by true e rest = free_of planned places.0 f e
       by false e rest = rest e
 
-  in_way_before : (front : List Planned) → AllByRecursion HasOwnPlaces front → (old now : Contents) → ChangesOnly (is_of_executions front) old now
+  in_way_before : (prefix : List Planned) → AllByRecursion HasOwnPlaces prefix → (old now : Contents) → ChangesOnly (is_of_executions prefix) old now
       → is_blocked (own_files now) (record_place path) ≡ is_blocked (own_files old) (record_place path)
-  in_way_before front places old now changes =
-      let others : Place → Bool = λ q. not (is_of_executions front q) in
+  in_way_before prefix places old now changes =
+      let others : Place → Bool = λ q. not (is_of_executions prefix q) in
       let none : (f : Place) → others f ≡ false → (is_beneath (record_place path) f || is_beneath f (record_place path)) ≡ false =
-      λ f e. free front places f (not_false_so (is_of_executions front f) e) in
+      λ f e. free prefix places f (not_false_so (is_of_executions prefix f) e) in
       sym (blocked_by_own path now.files)
       ∙ sym (blocked_where others (record_place path) none now.files)
       ∙ ap (λ (files : Files). is_blocked files (record_place path)) changes.elsewhere
       ∙ blocked_where others (record_place path) none old.files
       ∙ blocked_by_own path old.files
 
-module _ (kinds : Kinds) (registry_of : Registering) (may_leave second : Tearing) (same : SameTearing may_leave second) (options : Options) (plan : Plan) (front : List Planned) (old now : Contents)
-    (places : AllByRecursion HasOwnPlaces front) (changes : ChangesOnly (is_of_executions front) old now) (planned : Planned) (is_path : IsTrue (is_task_path planned.task.path))
-    (moment : Moment) (new : Standing) where
+module _ (kinds : Kinds) (registry_of : Registering) (may_leave second : Tearing) (same : SameTearing may_leave second) (options : Options) (plan : Plan) (prefix : List Planned) (old now : Contents)
+    (places : AllByRecursion HasOwnPlaces prefix) (changes : ChangesOnly (is_of_executions prefix) old now) (planned : Planned) (is_path : IsTrue (is_task_path planned.task.path))
+    (moment : Moment) (new : WorldState) where
   shut_so : is_record_shut_out (setting_with kinds registry_of second) (own_files now) planned.task.path
       ≡ is_record_shut_out (setting_with kinds registry_of may_leave) (own_files old) planned.task.path
-  shut_so = ap (λ b. not (is_place (record_place planned.task.path)) || b) (in_way_before planned.task.path is_path front places old now changes)
+  shut_so = ap (λ b. not (is_place (record_place planned.task.path)) || b) (in_way_before planned.task.path is_path prefix places old now changes)
 
   left_so : (place : Place) (left : Option Bytes)
-      → StandsInRun kinds planned.task moment.world.folder.files place left ⊎ IsTornInRun (setting_with kinds registry_of second) planned.task moment.world.folder.files place left
-      → StandsInRun kinds planned.task moment.world.folder.files place left ⊎ IsTornInRun (setting_with kinds registry_of may_leave) planned.task moment.world.folder.files place left
-  left_so place left (inl stands) = inl stands
+      → ExistsInRun kinds planned.task moment.world.folder.files place left ⊎ IsTornInRun (setting_with kinds registry_of second) planned.task moment.world.folder.files place left
+      → ExistsInRun kinds planned.task moment.world.folder.files place left ⊎ IsTornInRun (setting_with kinds registry_of may_leave) planned.task moment.world.folder.files place left
+  left_so place left (inl exists) = inl exists
   left_so place left (inr torn) = inr (torn.0, torn.1, torn.2, torn.3, (same place torn.0 torn.1 left).0 torn.4)
 
   written_so : HasRisen moment.failures new.failures ⊎ IsTrue (is_record_shut_out (setting_with kinds registry_of second) (own_files now) planned.task.path)
@@ -99,8 +99,8 @@ module _ (kinds : Kinds) (registry_of : Registering) (may_leave second : Tearing
   written_so (inr (inl shut)) = inr (inl (sym shut_so ∙ shut))
   written_so (inr (inr long)) = inr (inr long)
 
-  may_so : (fault : Fault) → may_come (setting_with kinds registry_of second) (own_files now) options planned.task moment new fault
-      → may_come (setting_with kinds registry_of may_leave) (own_files old) options planned.task moment new fault
+  may_so : (fault : Fault) → may_occur (setting_with kinds registry_of second) (own_files now) options planned.task moment new fault
+      → may_occur (setting_with kinds registry_of may_leave) (own_files old) options planned.task moment new fault
   may_so faults.OutOfMemory may = tt
   may_so (faults.Device place) may = (may.0, may.1, left_so place _ may.2)
   may_so faults.HistoryNotWritten may = (may.0, written_so may.1)
@@ -148,4 +148,4 @@ module _ (kinds : Kinds) (registry_of : Registering) (may_leave second : Tearing
   -- an execution over the tool's own files of now is one over those of the beginning
   pub execution_so : (report : TaskReport) → Execution (rules_in (setting_with kinds registry_of second) (own_files now) options plan) moment planned report new
       → Execution (rules_in (setting_with kinds registry_of may_leave) (own_files old) options plan) moment planned report new
-  execution_so report execution = execution_weaker kinds options plan (may_come (setting_with kinds registry_of second) (own_files now) options) (may_come (setting_with kinds registry_of may_leave) (own_files old) options) moment planned report new may_so execution
+  execution_so report execution = execution_weaker kinds options plan (may_occur (setting_with kinds registry_of second) (own_files now) options) (may_occur (setting_with kinds registry_of may_leave) (own_files old) options) moment planned report new may_so execution

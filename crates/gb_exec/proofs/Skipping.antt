@@ -8,7 +8,7 @@ use Rattle.gb_meaning.specs.Kinds.{Kinds}
 use Rattle.gb_meaning.specs.Execution.{dry_reports}
 use Rattle.gb_plan.specs.Graph.{Plan}
 use Rattle.gb_plan.specs.declared.plan.Planned.{Planned}
-use Rattle.gb_records.specs.Standing.{Standing}
+use Rattle.gb_records.specs.Holding.{HoldsRecords}
 use Rattle.gb_report.specs.declared.report.Options.{Options}
 use Rattle.gb_task.specs.Executing.{Registering, setting_with}
 use Rattle.gb_exec.specs.Built.{HasBuilt}
@@ -31,11 +31,11 @@ none_blamed plan = none_from 0 plan
 pub dry_blames : (plan : List Planned) (before : ℕ) → HasFailed (times_blamed (dry_reports plan)) before before
 dry_blames plan before = subst (λ (n : ℕ). HasFailed n before before) (sym (none_blamed plan)) (inl (omega arith))
 
-pub dry_built : (kinds : Kinds) (registry_of : Registering) (may_leave : Tearing) (clear : Bool) (seen : List Bytes) (options : Options) (plan : Plan) (old : State)
-    → options.dry_run ≡ true → (IsTrue clear → Standing old.contents.files old.remembered)
-    → HasBuilt (setting_with kinds registry_of may_leave) clear seen options plan old (dry_reports plan) (record { contents = old.contents; failures = old.failures })
-dry_built kinds registry_of may_leave clear seen options plan old dry stands = record {
+pub dry_built : (kinds : Kinds) (registry_of : Registering) (may_leave : Tearing) (clear : Bool) (observed : List Bytes) (options : Options) (plan : Plan) (old : State)
+    → options.dry_run ≡ true → (IsTrue clear → HoldsRecords old.contents.files old.remembered)
+    → HasBuilt (setting_with kinds registry_of may_leave) clear observed options plan old (dry_reports plan) (record { contents = old.contents; failures = old.failures })
+dry_built kinds registry_of may_leave clear observed options plan old dry exists = record {
   remembered = old.remembered;
   builds = inl (dry, refl, refl);
-  records = λ given. stands given.0;
+  records = λ given. exists given.0;
 }

@@ -18,7 +18,7 @@ use Rattle.gb_plan.specs.declared.plan.Planned.{Planned}
 use Rattle.gb_plan.specs.declared.task.TaskDeclaration.{TaskDeclaration as Task}
 use Rattle.gb_plan.proofs.Places.{overlap_tail}
 use Rattle.gb_plan.proofs.Tests.{any_append, neither, none_left, none_right}
-use Rattle.gb_records.specs.Standing.{Standing}
+use Rattle.gb_records.specs.Holding.{HoldsRecords}
 use Rattle.gb_report.specs.declared.report.Options.{Options}
 use Rattle.gb_report.specs.declared.report.Outcome.TheVariants.{NotRun}
 use Rattle.gb_report.specs.declared.report.TaskReport.{TaskReport}
@@ -35,12 +35,12 @@ overlap_head (x ∷ xs) ys e =
     (none_left (list_any (overlaps x) xs) (list_any (overlaps x) ys) (sym (any_append (overlaps x) xs ys) ∙ none_left (list_any (overlaps x) (xs ++ ys)) (some_overlap (xs ++ ys)) e))
     (overlap_head xs ys (none_right (list_any (overlaps x) (xs ++ ys)) (some_overlap (xs ++ ys)) e))
 
-pub own_apart : (plan : List Planned) (index : ℕ) (planned : Planned) → slice_get plan index ≡ Some planned → some_overlap (flat_map (λ planned. output_places planned.task) plan) ≡ false
+pub own_separate : (plan : List Planned) (index : ℕ) (planned : Planned) → slice_get plan index ≡ Some planned → some_overlap (flat_map (λ planned. output_places planned.task) plan) ≡ false
     → some_overlap (output_places planned.task) ≡ false
-own_apart [] index planned is e = none_some is
-own_apart (p ∷ plan) zero planned is e =
+own_separate [] index planned is e = none_some is
+own_separate (p ∷ plan) zero planned is e =
     subst (λ (z : Planned). some_overlap (output_places z.task) ≡ false) (some_same is) (overlap_head (output_places p.task) (flat_map (λ planned. output_places planned.task) plan) e)
-own_apart (p ∷ plan) (suc index) planned is e = own_apart plan index planned is (overlap_tail (output_places p.task) (flat_map (λ planned. output_places planned.task) plan) e)
+own_separate (p ∷ plan) (suc index) planned is e = own_separate plan index planned is (overlap_tail (output_places p.task) (flat_map (λ planned. output_places planned.task) plan) e)
 
 -- ---- What was read
 
@@ -51,9 +51,9 @@ read_so kinds task world (Some run) known = ap is_some known.1
 -- ---- Executions
 
 pub execution_passed : (kinds : Kinds) (registry_of : Registering) (may_leave : Tearing) (options : Options) (plan : Plan) (moment : Moment) (planned : Planned) (report : TaskReport)
-    (folder : Contents) (after : ℕ) → report ≡ report_with NotRun planned → (¬ DoesStart options plan moment planned) → moment.world.folder ≡ outside folder → Standing folder.files moment.world.memory
+    (folder : Contents) (after : ℕ) → report ≡ report_with NotRun planned → (¬ DoesStart options plan moment planned) → moment.world.folder ≡ outside folder → HoldsRecords folder.files moment.world.memory
     → IsExecutionOf (setting_with kinds registry_of may_leave) options plan moment planned report folder after folder
-execution_passed kinds registry_of may_leave options plan moment planned report folder after is not_starts there stands = record {
+execution_passed kinds registry_of may_leave options plan moment planned report folder after is not_starts there exists = record {
   memory = moment.world.memory;
   execution = (
     ap (λ (r : TaskReport). r.path) is,
@@ -67,7 +67,7 @@ execution_passed kinds registry_of may_leave options plan moment planned report 
       },
     ),
   );
-  records = stands;
+  records = exists;
 }
 
 pub execution_started : (kinds : Kinds) (registry_of : Registering) (may_leave : Tearing) (options : Options) (plan : Plan) (moment : Moment) (planned : Planned) (report : TaskReport)

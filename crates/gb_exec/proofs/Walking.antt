@@ -66,21 +66,21 @@ next_path tasks i planned path rest is e =
     (same_head path planned.task.path rest (order (drop (i + 1) tasks)) both, same_tail path planned.task.path rest (order (drop (i + 1) tasks)) both)
 
 -- no later task has the path of one
-pub once_behind : (front rest : List Planned) (planned : Planned) → no_repeats (order (front ++ planned ∷ rest)) ≡ true → list_any (bytes_eq planned.task.path) (order rest) ≡ false
-once_behind [] rest planned e = no_longer (has_path (order rest) planned.task.path) (left_of (not (has_path (order rest) planned.task.path)) (no_repeats (order rest)) e)
-once_behind (p ∷ front) rest planned e =
-    once_behind front rest planned (right_of (not (has_path (order (front ++ planned ∷ rest)) p.task.path)) (no_repeats (order (front ++ planned ∷ rest))) e)
+pub once_after : (prefix rest : List Planned) (planned : Planned) → no_repeats (order (prefix ++ planned ∷ rest)) ≡ true → list_any (bytes_eq planned.task.path) (order rest) ≡ false
+once_after [] rest planned e = no_longer (has_path (order rest) planned.task.path) (left_of (not (has_path (order rest) planned.task.path)) (no_repeats (order rest)) e)
+once_after (p ∷ prefix) rest planned e =
+    once_after prefix rest planned (right_of (not (has_path (order (prefix ++ planned ∷ rest)) p.task.path)) (no_repeats (order (prefix ++ planned ∷ rest))) e)
 
 -- ---- Changes
 
-pub changes_more : (front : List Planned) (planned : Planned) (old now next : Contents) → ChangesOnly (is_of_executions front) old now → ChangesOnly (is_of_execution planned.task) now next
-    → ChangesOnly (is_of_executions (front ++ planned ∷ [])) old next
-changes_more front planned old now next before here =
-    let all = is_of_executions (front ++ planned ∷ []) in
+pub changes_more : (prefix : List Planned) (planned : Planned) (old now next : Contents) → ChangesOnly (is_of_executions prefix) old now → ChangesOnly (is_of_execution planned.task) now next
+    → ChangesOnly (is_of_executions (prefix ++ planned ∷ [])) old next
+changes_more prefix planned old now next before here =
+    let all = is_of_executions (prefix ++ planned ∷ []) in
     changes_chain all old now next
-    (widened (is_of_executions front) all (λ q e. any_append (λ (p : Planned). is_of_execution p.task q) front (planned ∷ []) ∙ ap (λ b. b || list_any (λ (p : Planned). is_of_execution p.task q) (planned ∷ [])) e) old now before)
+    (widened (is_of_executions prefix) all (λ q e. any_append (λ (p : Planned). is_of_execution p.task q) prefix (planned ∷ []) ∙ ap (λ b. b || list_any (λ (p : Planned). is_of_execution p.task q) (planned ∷ [])) e) old now before)
     (widened (is_of_execution planned.task) all
-    (λ q e. any_append (λ (p : Planned). is_of_execution p.task q) front (planned ∷ []) ∙ or_right (is_of_executions front q) (is_of_execution planned.task q || false) (ap (λ b. b || false) e)) now next here)
+    (λ q e. any_append (λ (p : Planned). is_of_execution p.task q) prefix (planned ∷ []) ∙ or_right (is_of_executions prefix q) (is_of_execution planned.task q || false) (ap (λ b. b || false) e)) now next here)
 
 pub placed_where : (test : Place → Bool) (files : Files) → are_placed files ≡ true → are_placed (files_where test files) ≡ true
 placed_where test [] e = refl

@@ -8,9 +8,9 @@ use Rattle.gb_plan.specs.Ready.{Rows}
 use Rattle.gb_plan.specs.declared.plan.Planned.{Planned}
 use Rattle.gb_report.specs.declared.report.Options.{Options}
 use Rattle.gb_report.specs.declared.report.TaskReport.{TaskReport}
-use Rattle.gb_task.specs.ByOutcome.{ExecutionAsks}
+use Rattle.gb_task.specs.ByOutcome.{ExecutionRequests}
 
-module _ {F S : Type 0} (failures : F → ℕ) (may_leave : F → Tearing) (asked : F → Call → F → Type 0)
+module _ {F S : Type 0} (failures : F → ℕ) (may_leave : F → Tearing) (allowed : F → Call → F → Type 0)
     (meanings : Meanings S) (rows : Rows S) (options : Options) where
   -- The executions of the tasks of a plan, one after another, each from the state in which the one before it
   -- ended: for each task the record that was read of it, and its report.
@@ -18,7 +18,7 @@ module _ {F S : Type 0} (failures : F → ℕ) (may_leave : F → Tearing) (aske
   ExecutionsAsk [] [] [] old new = new ≡ old
   ExecutionsAsk (planned ∷ plan) (last ∷ records) (report ∷ reports) old new =
       (mid : F)
-      × ExecutionAsks failures may_leave asked meanings rows options planned.task last report.outcome
+      × ExecutionRequests failures may_leave allowed meanings rows options planned.task last report.outcome
       report.lines
       old mid
       × ExecutionsAsk plan records reports mid new

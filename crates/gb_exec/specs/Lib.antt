@@ -1,4 +1,4 @@
-pub mod Telling
+pub mod Notifying
 pub mod Starts
 pub mod Plans
 pub mod Building

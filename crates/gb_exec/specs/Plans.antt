@@ -18,7 +18,7 @@ abbrev pub path_at : List Planned → ℕ → Path
 path_at plan number = slice_index_or (order plan) number []
 
 -- Each row has the numbers of the tasks of the plan whose paths its task lists.
-pub record TellRows (paths : Planned → List Path) (plan : List Planned) (table : List (List ℕ)) : Type 0 where
+pub record GiveRows (paths : Planned → List Path) (plan : List Planned) (table : List (List ℕ)) : Type 0 where
   pub each : length table ≡ length plan
   pub reported : (task number : ℕ) (planned : Planned) → slice_get plan task ≡ Some planned →
       Contains (row table task) number
@@ -36,8 +36,8 @@ IsNeeded needs number = (later : ℕ) × Contains (row needs later) number
 
 -- The numbers of a plan: its rows, and which of its tasks are wanted.
 pub record AreOfPlan (plan : List Planned) (progress : Progress) : Type 0 where
-  pub needs : TellRows needs_of plan progress.needs
-  pub finalizers : TellRows finalizers_of plan progress.finalizers
+  pub needs : GiveRows needs_of plan progress.needs
+  pub finalizers : GiveRows finalizers_of plan progress.finalizers
   pub wanted : (number : ℕ) (planned : Planned) → slice_get plan number ≡ Some planned →
       IsTrue (mark_at progress.wanted number) ↔ (IsTrue planned.is_selected ⊎ IsNeeded progress.needs number)
 

@@ -4,11 +4,11 @@ pub use Rattle.gb_exec.specs.Building.{CanBuild, is_of_executions}
 pub use Rattle.gb_exec.specs.Built.{AreWorth, HasBuilt}
 pub use Rattle.gb_exec.specs.Failing.{times_blamed}
 pub use Rattle.gb_exec.specs.Reports.{IsOf}
-pub use Rattle.gb_folder.specs.Calls.{Asks}
+pub use Rattle.gb_folder.specs.Calls.{Requests}
 pub use Rattle.gb_folder.specs.Files.{Bytes, Contents}
 pub use Rattle.gb_history.specs.Places.{record_place}
-pub use Rattle.gb_exec.specs.Telling.{Refuses}
-pub use Rattle.gb_meaning.specs.Headline.{Agrees, Ear, HasFailed, HaveHeard, HearsAll, TearsAreSeen}
+pub use Rattle.gb_exec.specs.Notifying.{Refuses}
+pub use Rattle.gb_meaning.specs.Headline.{Agrees, Ear, HasFailed, HaveHeard, HearsAll, TornWritesAreDetected}
 pub use Rattle.gb_meaning.specs.Kinds.{Kinds}
 pub use Rattle.gb_meaning.specs.Memory.{Memory}
 pub use Rattle.gb_meaning.specs.Outline.{Outlines}

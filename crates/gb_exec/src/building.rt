@@ -52,7 +52,7 @@ pub fn execute<A: Actions, F: Folder, L: TaskListener, P: Printer>(
     requires can { CanBuild A.meanings table.now plan.now }
     requires each { length records.now ≡ length plan.now }
     ensures unbegun { OnErr result (folder.new ≡ folder.old) }
-    ensures untold { OnErr result (listeners.new ≡ listeners.old) }
+    ensures unnotified { OnErr result (listeners.new ≡ listeners.old) }
     ensures unprinted { OnErr result (printer.new ≡ printer.old) }
     ensures dry_run { IfOk result (λ report. report.dry_run ≡ options.dry_run) }
     ensures of_tasks { IfOk result (λ report. AllZip IsOf plan.now report.tasks) }
@@ -67,21 +67,21 @@ pub fn execute<A: Actions, F: Folder, L: TaskListener, P: Printer>(
     ensures tearing { SameTearing (F.may_leave folder.old) (F.may_leave folder.new) }
     // Over any folder: task after task, each from the state in which the one before it ended, makes
     // the calls that its outcome permits.
-    ensures asks { IfOk result (λ report. ExecutionsAsk F.failures F.may_leave F.asked A.meanings table.now
+    ensures requests { IfOk result (λ report. ExecutionsAsk F.failures F.may_leave F.allowed A.meanings table.now
         options plan.now records.now report.tasks folder.old folder.new) }
     // Faults are attributed to the device no more often than it failed.
     ensures device { IfOk result (λ report.
         HasFailed (times_blamed report.tasks) (F.failures folder.old) (F.failures folder.new)) }
     ensures dry { options.dry_run ≡ true → folder.new ≡ folder.old }
-    ensures changes { IsTrue F.tells
+    ensures changes { IsTrue F.faithful
         → ChangesOnly (is_of_executions plan.now) (F.contents folder.old) (F.contents folder.new) }
     // If `AreWorth` holds of the records, this is a build of the plan, and the records of what is
     // remembered exist after it.
-    ensures build { IsTrue F.tells → IfOk result (λ report. (kinds : Kinds) (registry_of : Registering)
-        (remembered : Memory) (clear : Bool) (seen : List Bytes)
+    ensures build { IsTrue F.faithful → IfOk result (λ report. (kinds : Kinds) (registry_of : Registering)
+        (remembered : Memory) (clear : Bool) (observed : List Bytes)
         → IsAssumed A.meanings table.now kinds (F.may_leave folder.old)
-        → (IsTrue clear → AreWorth kinds plan.now records.now seen (F.contents folder.old) remembered)
-        → HasBuilt (setting_with kinds registry_of (F.may_leave folder.old)) clear seen options plan.now
+        → (IsTrue clear → AreWorth kinds plan.now records.now observed (F.contents folder.old) remembered)
+        → HasBuilt (setting_with kinds registry_of (F.may_leave folder.old)) clear observed options plan.now
         (record {
           contents = F.contents folder.old;
           remembered = remembered;

@@ -16,7 +16,7 @@ ghost use Rattle.gb_records.specs.Assumed.{IsAssumed};
 ghost use Rattle.gb_report.specs.Report.{task_text};
 ghost use Rattle.gb_store.specs.Changes.{ChangesOnly};
 ghost use Rattle.gb_task.specs.Executing.{Registering, setting_with};
-ghost use Rattle.gb_exec.specs.Telling.{AllReported};
+ghost use Rattle.gb_exec.specs.Notifying.{AllReported};
 ghost use Rattle.gb_exec.specs.Plans.{AreOfPlan};
 ghost use Rattle.gb_exec.specs.declared.starts.Ending.TheVariants.{ToCome};
 ghost use Rattle.gb_exec.specs.Asking.{ExecutionsAsk};
@@ -78,18 +78,18 @@ pub(crate) fn execute_tasks<A: Actions, F: Folder, L: TaskListener, P: Printer>(
         (map L.ear listeners.old.items) (map L.ear listeners.new.items) }
     ensures printed { Prints P.contents P.whole (flat_map task_text reports.new.items)
         printer.old printer.new }
-    ensures asks { ExecutionsAsk F.failures F.may_leave F.asked A.meanings build.now.table.now
+    ensures requests { ExecutionsAsk F.failures F.may_leave F.allowed A.meanings build.now.table.now
         build.now.options build.now.tasks.now build.now.records.now reports.new.items folder.old folder.new }
     ensures device { HasFailed (times_blamed reports.new.items)
         (F.failures folder.old) (F.failures folder.new) }
-    ensures changes { IsTrue F.tells
+    ensures changes { IsTrue F.faithful
         → ChangesOnly (is_of_executions build.now.tasks.now) (F.contents folder.old) (F.contents folder.new) }
-    ensures build { IsTrue F.tells → (kinds : Kinds) (registry_of : Registering) (remembered : Memory)
-        (clear : Bool) (seen : List Bytes)
+    ensures build { IsTrue F.faithful → (kinds : Kinds) (registry_of : Registering) (remembered : Memory)
+        (clear : Bool) (observed : List Bytes)
         → IsAssumed A.meanings build.now.table.now kinds (F.may_leave folder.old)
-        → (IsTrue clear → AreWorth kinds build.now.tasks.now build.now.records.now seen
+        → (IsTrue clear → AreWorth kinds build.now.tasks.now build.now.records.now observed
         (F.contents folder.old) remembered)
-        → HasBuilt (setting_with kinds registry_of (F.may_leave folder.old)) clear seen build.now.options
+        → HasBuilt (setting_with kinds registry_of (F.may_leave folder.old)) clear observed build.now.options
         build.now.tasks.now
         (record {
           contents = F.contents folder.old;

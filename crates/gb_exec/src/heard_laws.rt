@@ -1,5 +1,5 @@
 //! Laws of the notifications of many calls, each the contract of a function that does nothing.
-ghost use Rattle.gb_exec.specs.Telling.{ReportedIsHeard, ReportedMore};
+ghost use Rattle.gb_exec.specs.Notifying.{ReportedIsHeard, ReportedMore};
 
 /// Calls one after another notify of the same things as one call with all of them.
 pub fn reported_more()

@@ -23,7 +23,7 @@ mod one;
 mod plans;
 mod start_laws;
 mod starts;
-pub mod telling;
+pub mod notifying;
 
 pub use crate::building::execute;
 pub use crate::listener::{Recorder, TaskListener};

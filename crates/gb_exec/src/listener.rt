@@ -2,7 +2,7 @@
 ghost use Rattle.std.specs.Prelude.{◌≡◌, ◌++◌, [], ◌∷◌, OnOk, OnErr};
 ghost use Rattle.gb_meaning.specs.Headline.{HearsAll};
 ghost use Rattle.gb_report.specs.declared.report.Heard.TheVariants.{Start, End};
-ghost use Rattle.gb_exec.specs.Telling.{Refuses};
+ghost use Rattle.gb_exec.specs.Notifying.{Refuses};
 
 use gb_core::path::TaskPath;
 use gb_report::report::{Heard, Outcome};

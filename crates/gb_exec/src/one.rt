@@ -9,13 +9,13 @@ ghost use Rattle.gb_meaning.specs.TrueRecord.{outside};
 ghost use Rattle.gb_meaning.specs.Execution.{heard_of};
 ghost use Rattle.gb_plan.specs.declared.plan.Planned.{Planned};
 ghost use Rattle.gb_records.specs.Assumed.{IsAssumed};
-ghost use Rattle.gb_records.specs.Standing.{Standing};
+ghost use Rattle.gb_records.specs.Holding.{HoldsRecords};
 ghost use Rattle.gb_report.specs.declared.report.Outcome.TheVariants.{Failed, NotRun};
 ghost use Rattle.gb_store.specs.Changes.{ChangesOnly};
 ghost use Rattle.gb_task.specs.Case.{IsKnown};
-ghost use Rattle.gb_task.specs.ByOutcome.{ExecutionAsks};
+ghost use Rattle.gb_task.specs.ByOutcome.{ExecutionRequests};
 ghost use Rattle.gb_task.specs.Executing.{Registering, is_of_execution, setting_with};
-ghost use Rattle.gb_exec.specs.Telling.{AllReported};
+ghost use Rattle.gb_exec.specs.Notifying.{AllReported};
 ghost use Rattle.gb_exec.specs.Plans.{AreEndings, AreOfPlan};
 ghost use Rattle.gb_exec.specs.Building.{CanBuild};
 ghost use Rattle.gb_exec.specs.Built.{IsExecutionOf};
@@ -25,7 +25,7 @@ use crate::heard_laws::reported_more;
 use crate::listener::TaskListener;
 use crate::start_laws::{needs_by_number, starts_by_number};
 use crate::starts::Starts;
-use crate::telling::tell;
+use crate::notifying::notify;
 use gb_action::actions::Actions;
 use gb_action::table::ActionTable;
 use gb_core::path::TaskPath;
@@ -90,13 +90,13 @@ pub(crate) fn take_one<A: Actions, F: Folder, L: TaskListener>(
     ensures heard { AllReported (heard_of false (result.report ∷ [])) result.all_heard
         (map L.ear listeners.old.items) (map L.ear listeners.new.items) }
     // Over any folder: it makes the calls that its outcome permits.
-    ensures asks { (planned : Planned) → slice_get build.now.tasks.now index ≡ Some planned
-        → ExecutionAsks F.failures F.may_leave F.asked A.meanings build.now.table.now build.now.options
+    ensures requests { (planned : Planned) → slice_get build.now.tasks.now index ≡ Some planned
+        → ExecutionRequests F.failures F.may_leave F.allowed A.meanings build.now.table.now build.now.options
         planned.task (slice_index_or build.now.records.now index None) result.report.outcome
         result.report.lines folder.old folder.new }
     ensures blame { (place : List ℕ) → result.report.outcome ≡ Failed (Fault.Device place)
         → HasRisen (F.failures folder.old) (F.failures folder.new) }
-    ensures changes { IsTrue F.tells → (planned : Planned)
+    ensures changes { IsTrue F.faithful → (planned : Planned)
         → slice_get build.now.tasks.now index ≡ Some planned
         → ChangesOnly (is_of_execution planned.task) (F.contents folder.old) (F.contents folder.new) }
     // Over any folder, at each moment with the outcomes so far, its report is one that the outline
@@ -106,12 +106,12 @@ pub(crate) fn take_one<A: Actions, F: Folder, L: TaskListener>(
         → AreEndings build.now.tasks.now moment.outcomes starts.old.endings
         → IsOutline build.now.options build.now.tasks.now moment planned result.report }
     // Where the record that was read of the task is known of it, this is its execution.
-    ensures execution { IsTrue F.tells → (kinds : Kinds) (registry_of : Registering) (moment : Moment)
+    ensures execution { IsTrue F.faithful → (kinds : Kinds) (registry_of : Registering) (moment : Moment)
         (planned : Planned) → slice_get build.now.tasks.now index ≡ Some planned
         → IsAssumed A.meanings build.now.table.now kinds (F.may_leave folder.old)
         → moment.world.folder ≡ outside (F.contents folder.old)
         → moment.failures ≡ F.failures folder.old
-        → Standing (F.contents folder.old).files moment.world.memory
+        → HoldsRecords (F.contents folder.old).files moment.world.memory
         → AreEndings build.now.tasks.now moment.outcomes starts.old.endings
         → IsKnown kinds planned.task moment.world (slice_index_or build.now.records.now index None)
         → IsExecutionOf (setting_with kinds registry_of (F.may_leave folder.old)) build.now.options
@@ -130,7 +130,7 @@ pub(crate) fn take_one<A: Actions, F: Folder, L: TaskListener>(
     }
     let need = starts.has_executed_need(index);
     let last = build.records[index].as_ref();
-    let begun = tell(alloc, listeners, &planned.task.path, None);
+    let begun = notify(alloc, listeners, &planned.task.path, None);
     let report = execute_task::<A, F>(
         alloc,
         folder,
@@ -141,7 +141,7 @@ pub(crate) fn take_one<A: Actions, F: Folder, L: TaskListener>(
         last,
         need,
     );
-    let ended = tell(alloc, listeners, &planned.task.path, Some(&report.outcome));
+    let ended = notify(alloc, listeners, &planned.task.path, Some(&report.outcome));
     Taken {
         report,
         all_heard: begun && ended,

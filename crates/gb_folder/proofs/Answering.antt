@@ -1,28 +1,28 @@
 -- An answer returned in a part of a sequence of calls was returned in the whole sequence.
 use Rattle.std.proofs.Common.{ℕ}
 use Rattle.gb_folder.specs.Answers.{IsOnWay, WereRead}
-use Rattle.gb_folder.specs.Calls.{Asks, Call, no_change}
+use Rattle.gb_folder.specs.Calls.{Requests, Call, no_change}
 use Rattle.gb_folder.specs.Files.{Bytes, Place, Tearing}
-use Rattle.gb_folder.proofs.Asked.{asks_nothing, asks_then}
+use Rattle.gb_folder.proofs.Asked.{requests_nothing, requests_then}
 
-module _ {F : Type 0} {failures : F → ℕ} {may_leave : F → Tearing} {asked : F → Call → F → Type 0} where
+module _ {F : Type 0} {failures : F → ℕ} {may_leave : F → Tearing} {allowed : F → Call → F → Type 0} where
   -- one call, as it was made
-  pub on_way_here : {call : Call} {old new : F} → asked old call new → IsOnWay failures may_leave asked call old new
+  pub on_way_here : {call : Call} {old new : F} → allowed old call new → IsOnWay failures may_leave allowed call old new
   on_way_here {old = old} {new = new} is =
-      record { before = old; after = new; first = asks_nothing old; is = is; rest = asks_nothing new }
+      record { before = old; after = new; first = requests_nothing old; is = is; rest = requests_nothing new }
 
-  pub on_longer_way : {call : Call} {first old new end : F} → Asks failures may_leave asked no_change first old
-      → Asks failures may_leave asked no_change new end → IsOnWay failures may_leave asked call old new
-      → IsOnWay failures may_leave asked call first end
-  on_longer_way before behind way = record {
+  pub on_longer_way : {call : Call} {first old new end : F} → Requests failures may_leave allowed no_change first old
+      → Requests failures may_leave allowed no_change new end → IsOnWay failures may_leave allowed call old new
+      → IsOnWay failures may_leave allowed call first end
+  on_longer_way before following way = record {
     before = way.before;
     after = way.after;
-    first = asks_then before way.first;
+    first = requests_then before way.first;
     is = way.is;
-    rest = asks_then way.rest behind;
+    rest = requests_then way.rest following;
   }
 
-  pub read_longer : {first old new end : F} → Asks failures may_leave asked no_change first old → Asks failures may_leave asked no_change new end
-      → (place : Place) (bytes : Bytes) → WereRead failures may_leave asked old new place bytes
-      → WereRead failures may_leave asked first end place bytes
-  read_longer before behind place bytes read = (read.0, on_longer_way before behind read.1)
+  pub read_longer : {first old new end : F} → Requests failures may_leave allowed no_change first old → Requests failures may_leave allowed no_change new end
+      → (place : Place) (bytes : Bytes) → WereRead failures may_leave allowed old new place bytes
+      → WereRead failures may_leave allowed first end place bytes
+  read_longer before following place bytes read = (read.0, on_longer_way before following read.1)

@@ -14,10 +14,10 @@ split_at xs i x within is =
     ∙ (at_drop_more (λ (rest : List _). take i xs ++ rest) xs i x within ∙ ap (λ y. take i xs ++ y ∷ drop (i + 1) xs) (sym is))
 
 module _ {E X Y : Type 0} (One : X → List Call → List Y → Ended E → Type 0) where
-  pub each_then : (front behind : List X) (done last : List Call) (some more : List Y) (result : Ended E) → Each One front done some (Ok tt) → Each One behind last more result → Each One (front ++ behind) (done ++ last) (some ++ more) result
-  each_then [] behind done last some more result first next =
-      subst (λ (cs : List Call). Each One behind (cs ++ last) (some ++ more) result) (sym first.0) (subst (λ (ys : List Y). Each One behind last (ys ++ more) result) (sym first.1) next)
-  each_then (x ∷ front) behind done last some more result first next = (
+  pub each_then : (prefix following : List X) (done last : List Call) (some more : List Y) (result : Ended E) → Each One prefix done some (Ok tt) → Each One following last more result → Each One (prefix ++ following) (done ++ last) (some ++ more) result
+  each_then [] following done last some more result first next =
+      subst (λ (cs : List Call). Each One following (cs ++ last) (some ++ more) result) (sym first.0) (subst (λ (ys : List Y). Each One following last (ys ++ more) result) (sym first.1) next)
+  each_then (x ∷ prefix) following done last some more result first next = (
     first.0,
     first.1 ++ last,
     first.2,
@@ -26,11 +26,11 @@ module _ {E X Y : Type 0} (One : X → List Call → List Y → Ended E → Type
     ap (λ (cs : List Call). cs ++ last) first.5 ∙ append_assoc first.0 first.1 last,
     ap (λ (ys : List Y). ys ++ more) first.6 ∙ append_assoc first.2 first.3 more,
     first.7,
-    on first.4 first.8 (λ h. each_then front behind first.1 last first.3 more result h next),
+    on first.4 first.8 (λ h. each_then prefix following first.1 last first.3 more result h next),
   )
     where
-      on : (t : Ended E) → OrStops t (Each One front first.1 first.3 (Ok tt)) first.1 first.3 (Ok tt) → (Each One front first.1 first.3 (Ok tt) → Each One (front ++ behind) (first.1 ++ last) (first.3 ++ more) result)
-          → OrStops t (Each One (front ++ behind) (first.1 ++ last) (first.3 ++ more) result) (first.1 ++ last) (first.3 ++ more) result
+      on : (t : Ended E) → OrStops t (Each One prefix first.1 first.3 (Ok tt)) first.1 first.3 (Ok tt) → (Each One prefix first.1 first.3 (Ok tt) → Each One (prefix ++ following) (first.1 ++ last) (first.3 ++ more) result)
+          → OrStops t (Each One (prefix ++ following) (first.1 ++ last) (first.3 ++ more) result) (first.1 ++ last) (first.3 ++ more) result
       on (Ok d) h goes = goes h
       on (Err fault) h goes = absurd (let e = h.2 in (cc))
 

@@ -10,7 +10,7 @@ use Rattle.gb_core.specs.Lists.{byte_order}
 use Rattle.gb_core.specs.Place.{is_under}
 use Rattle.gb_folder.specs.Calls.{answered}
 use Rattle.gb_folder.specs.Device.{ListsWell, ReadsPartWell, ReadsWell, RemovesWell, WritesWell}
-use Rattle.gb_folder.specs.Files.{Bytes, Contents, IsTorn, Place, Tearing, file_at, is_blocked, is_odd_under, places_under, with_file, without}
+use Rattle.gb_folder.specs.Files.{Bytes, Contents, IsTorn, Place, Tearing, file_at, is_blocked, is_special_under, places_under, with_file, without}
 use Rattle.gb_folder.specs.Semantics.{Answer, Listed, Read, ReadPart, Removed, Unread, Wrote}
 use Rattle.gb_folder.specs.declared.folder.FolderFault.{FolderFault}
 use Rattle.gb_folder.specs.declared.folder.FolderFault.TheVariants as folders
@@ -65,14 +65,14 @@ some_and None P holds = absurd holds
 
 module _ (old : Contents) where
   pub listed : (root : Place) (row : Result (Vec Place Global) FolderFault) → row ≢ Err folders.TooLarge → row ≢ Err folders.Missing → row ≢ Err folders.Blocked
-      → IfOk row (λ places. places.items ≡ places_under old.files root) → OnOk row (is_odd_under old root ≡ false) → (row ≡ Err folders.BadFileName → IsTrue (is_odd_under old root)) → Listed old root (answered row)
-  listed root (Ok places) large missing blocked found none odd = (found, none)
-  listed root (Err folders.OutOfMemory) large missing blocked found none odd = tt
-  listed root (Err folders.Device) large missing blocked found none odd = tt
-  listed root (Err folders.Missing) large missing blocked found none odd = absurd (missing refl)
-  listed root (Err folders.Blocked) large missing blocked found none odd = absurd (blocked refl)
-  listed root (Err folders.TooLarge) large missing blocked found none odd = absurd (large refl)
-  listed root (Err folders.BadFileName) large missing blocked found none odd = odd refl
+      → IfOk row (λ places. places.items ≡ places_under old.files root) → OnOk row (is_special_under old root ≡ false) → (row ≡ Err folders.BadFileName → IsTrue (is_special_under old root)) → Listed old root (answered row)
+  listed root (Ok places) large missing blocked found none special = (found, none)
+  listed root (Err folders.OutOfMemory) large missing blocked found none special = tt
+  listed root (Err folders.Device) large missing blocked found none special = tt
+  listed root (Err folders.Missing) large missing blocked found none special = absurd (missing refl)
+  listed root (Err folders.Blocked) large missing blocked found none special = absurd (blocked refl)
+  listed root (Err folders.TooLarge) large missing blocked found none special = absurd (large refl)
+  listed root (Err folders.BadFileName) large missing blocked found none special = special refl
 
   module _ (place : Place) (row : Result (Vec ℕ Global) FolderFault) (named : row ≢ Err folders.BadFileName) (missing : row ≡ Err folders.Missing → file_at old.files place ≡ None) (free : row ≡ Err folders.Missing → is_blocked old.files place ≡ false)
       (blocked : row ≡ Err folders.Blocked → IsTrue (is_blocked old.files place)) where
@@ -113,10 +113,10 @@ module _ (may_leave : Tearing) (old : Contents) (place : Place) where
       → OnOk answer (new ≡ record old { files = without old.files place }) → OnOk answer (IsSome (file_at old.files place)) → (answer ≡ Err folders.Missing → file_at old.files place ≡ None) → (answer ≡ Err folders.Missing → is_blocked old.files place ≡ false)
       → (answer ≡ Err folders.Blocked → IsTrue (is_blocked old.files place))
       → IfErr answer (λ fault. fault ≢ folders.Device → new ≡ old) → (answer ≡ Err folders.Device → IsTorn may_leave place None old new) → Removed may_leave old place answer new
-  removed (Ok done) new large named gone stood missing free blocked same torn = (stood, gone)
-  removed (Err folders.OutOfMemory) new large named gone stood missing free blocked same torn = same (λ e. cc)
-  removed (Err folders.Device) new large named gone stood missing free blocked same torn = torn refl
-  removed (Err folders.Missing) new large named gone stood missing free blocked same torn = (missing refl, free refl, same (λ e. cc))
-  removed (Err folders.Blocked) new large named gone stood missing free blocked same torn = (blocked refl, same (λ e. cc))
-  removed (Err folders.TooLarge) new large named gone stood missing free blocked same torn = absurd (large refl)
-  removed (Err folders.BadFileName) new large named gone stood missing free blocked same torn = absurd (named refl)
+  removed (Ok done) new large named gone existed missing free blocked same torn = (existed, gone)
+  removed (Err folders.OutOfMemory) new large named gone existed missing free blocked same torn = same (λ e. cc)
+  removed (Err folders.Device) new large named gone existed missing free blocked same torn = torn refl
+  removed (Err folders.Missing) new large named gone existed missing free blocked same torn = (missing refl, free refl, same (λ e. cc))
+  removed (Err folders.Blocked) new large named gone existed missing free blocked same torn = (blocked refl, same (λ e. cc))
+  removed (Err folders.TooLarge) new large named gone existed missing free blocked same torn = absurd (large refl)
+  removed (Err folders.BadFileName) new large named gone existed missing free blocked same torn = absurd (named refl)

@@ -2,12 +2,12 @@
 use Rattle.std.specs.Prelude.{◌≡◌, ◌≤◌, ◌++◌, List, [], ◌∷◌, Option, Some, None, Ok, Err, IsTrue}
 use Rattle.std.specs.List.{AllByRecursion}
 use Rattle.std.proofs.Common.{refl, sym, subst, arith}
-use Rattle.gb_folder.specs.Calls.{Asks, Call, IsPermitted, Lists, Permit, Reads, ReadsPart, Removes, Writes}
+use Rattle.gb_folder.specs.Calls.{Requests, Call, IsPermitted, Lists, Permit, Reads, ReadsPart, Removes, Writes}
 use Rattle.gb_folder.specs.Device.{Device, IsCalled, Leads}
 use Rattle.gb_folder.specs.Files.{Bytes, Contents, IsFolder, IsTorn, Place, SameTearing, Tearing}
 use Rattle.gb_folder.specs.Semantics.{Answers, AnswersAll}
 use Rattle.gb_folder.specs.declared.folder.FolderFault.TheVariants as folders
-use Rattle.gb_folder.proofs.Asked.{asks_nothing, asks_then, one_call}
+use Rattle.gb_folder.proofs.Asked.{requests_nothing, requests_then, one_call}
 use Rattle.gb_folder.proofs.Changes.{SameTearing-same, SameTearing-chain}
 
 -- ---- over any folder
@@ -20,9 +20,9 @@ module _ {F : Type 0} (device : Device F) where
   pub leads_once : (old new : F) (call : Call) → IsCalled device old call new → Leads device old (call ∷ []) new
   leads_once old new call called = (new, called, refl)
 
-  pub asks_of : (permit : Permit) (old new : F) (calls : List Call) → AllByRecursion (IsPermitted permit) calls → Leads device old calls new → Asks device.failures device.may_leave device.asked permit old new
-  asks_of permit old new [] all same = subst (λ (f : F). Asks device.failures device.may_leave device.asked permit old f) (sym same) (asks_nothing old)
-  asks_of permit old new (call ∷ calls) all led = asks_then (one_call call all.0 led.1.count led.1.tearing led.1.asked) (asks_of permit led.0 new calls all.1 led.2)
+  pub requests_of : (permit : Permit) (old new : F) (calls : List Call) → AllByRecursion (IsPermitted permit) calls → Leads device old calls new → Requests device.failures device.may_leave device.allowed permit old new
+  requests_of permit old new [] all same = subst (λ (f : F). Requests device.failures device.may_leave device.allowed permit old f) (sym same) (requests_nothing old)
+  requests_of permit old new (call ∷ calls) all led = requests_then (one_call call all.0 led.1.count led.1.tearing led.1.allowed) (requests_of permit led.0 new calls all.1 led.2)
 
   pub count_of : (old new : F) (calls : List Call) → Leads device old calls new → device.failures old ≤ device.failures new
   count_of old new [] same = subst (λ (f : F). device.failures old ≤ device.failures f) (sym same) (omega arith)
@@ -60,14 +60,14 @@ answers_before first second same old new (Removes place (Err folders.BadFileName
 
 -- ---- over a folder with known contents
 
-module _ {F : Type 0} (device : Device F) (tells : IsTrue device.tells) (sound : (f : F) → IsFolder (device.contents f).files) where
+module _ {F : Type 0} (device : Device F) (faithful : IsTrue device.faithful) (sound : (f : F) → IsFolder (device.contents f).files) where
   answered_from : (first : Tearing) (old new : F) (calls : List Call) → SameTearing first (device.may_leave old) → Leads device old calls new → AnswersAll first (device.contents old) calls (device.contents new)
   answered_from first old new [] same led = subst (λ (f : F). device.contents f ≡ device.contents old) (sym led) refl
   answered_from first old new (call ∷ calls) same led = (
     sound old,
     (
       device.contents led.0,
-      answers_before first (device.may_leave old) same (device.contents old) (device.contents led.0) call (led.1.exact tells),
+      answers_before first (device.may_leave old) same (device.contents old) (device.contents led.0) call (led.1.exact faithful),
       answered_from first led.0 new calls (SameTearing-chain _ _ _ same led.1.tearing) led.2,
     ),
   )

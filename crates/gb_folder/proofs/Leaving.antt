@@ -14,27 +14,27 @@ use Rattle.gb_folder.proofs.Changes.{file_at-with_file, file_at-without}
 use Rattle.gb_folder.proofs.Sound.{same_from}
 
 put_same : (files : Files) (place bytes other : List ℕ) → file_at files place ≡ Some bytes → file_at (with_file files place bytes) other ≡ file_at files other
-put_same files place bytes other stands =
+put_same files place bytes other exists =
     file_at-with_file files place bytes other ∙ (elim (bytes_eq other place) as (λ b. bytes_eq other place ≡ b → cond b (Some bytes) (file_at files other) ≡ file_at files other) [
-      | true ↦ λ is. sym stands ∙ ap (file_at files) (sym ((bytes_decides other place).0 is))
+      | true ↦ λ is. sym exists ∙ ap (file_at files) (sym ((bytes_decides other place).0 is))
       | false ↦ λ _. refl
     ] refl)
 
 taken_same : (files : Files) (place other : List ℕ) → file_at files place ≡ None → file_at (without files place) other ≡ file_at files other
-taken_same files place other stands =
+taken_same files place other exists =
     file_at-without files place other ∙ (elim (bytes_eq other place) as (λ b. bytes_eq other place ≡ b → cond (not b) (file_at files other) None ≡ file_at files other) [
-      | true ↦ λ is. sym stands ∙ ap (file_at files) (sym ((bytes_decides other place).0 is))
+      | true ↦ λ is. sym exists ∙ ap (file_at files) (sym ((bytes_decides other place).0 is))
       | false ↦ λ _. refl
     ] refl)
 
 -- leaving at a place what was there changes nothing
-left_as_it_stood : (files : Files) (place : List ℕ) → IsFolder files → files ≡ with_left files place (file_at files place)
-left_as_it_stood files place sound =
+left_as_it_was : (files : Files) (place : List ℕ) → IsFolder files → files ≡ with_left files place (file_at files place)
+left_as_it_was files place sound =
     elim (file_at files place) as (λ o. file_at files place ≡ o → files ≡ with_left files place o) [
-      | None ↦ λ stands. sym (same_entries byte_order nat_list_cmp_total same_from (without files place) files
-          (is_sorted-where_key byte_order _ files sorted) sorted (λ other. taken_same files place other stands))
-      | Some bytes ↦ λ stands. sym (same_entries byte_order nat_list_cmp_total same_from (with_file files place bytes) files
-          (is_sorted-put byte_order nat_list_cmp_total place bytes files sorted) sorted (λ other. put_same files place bytes other stands))
+      | None ↦ λ exists. sym (same_entries byte_order nat_list_cmp_total same_from (without files place) files
+          (is_sorted-where_key byte_order _ files sorted) sorted (λ other. taken_same files place other exists))
+      | Some bytes ↦ λ exists. sym (same_entries byte_order nat_list_cmp_total same_from (with_file files place bytes) files
+          (is_sorted-put byte_order nat_list_cmp_total place bytes files sorted) sorted (λ other. put_same files place bytes other exists))
     ] refl
   where
     sorted : T (is_sorted byte_order files)
@@ -45,19 +45,19 @@ abbrev pub Left : FaultMode → Tearing → Contents → Contents → List ℕ �
 Left mode inner old new place next =
     (left : Option (List ℕ)) × may_leave_by mode inner place (file_at old.files place) next left × (new ≡ record old { files = with_left old.files place left })
 
-may_stand : (mode : FaultMode) (inner : Tearing) (place : List ℕ) (stood next : Option (List ℕ)) → may_leave_by mode inner place stood next stood
-may_stand FailOnce inner place stood next = inl refl
-may_stand Stop inner place stood next = inl refl
-may_stand (StopTorn bytes) inner place stood None = inl refl
-may_stand (StopTorn bytes) inner place stood (Some next) = inl refl
+may_exist : (mode : FaultMode) (inner : Tearing) (place : List ℕ) (existed next : Option (List ℕ)) → may_leave_by mode inner place existed next existed
+may_exist FailOnce inner place existed next = inl refl
+may_exist Stop inner place existed next = inl refl
+may_exist (StopTorn bytes) inner place existed None = inl refl
+may_exist (StopTorn bytes) inner place existed (Some next) = inl refl
 
 -- a call that does not reach the inner folder leaves what was there
 pub nothing_touched : (mode : FaultMode) (inner : Tearing) (folder : Contents) (place : List ℕ) (next : Option (List ℕ)) → IsFolder folder.files
     → Left mode inner folder folder place next
 nothing_touched mode inner folder place next sound = (
   file_at folder.files place,
-  may_stand mode inner place (file_at folder.files place) next,
-  ap (λ files. record folder { files = files }) (left_as_it_stood folder.files place sound),
+  may_exist mode inner place (file_at folder.files place) next,
+  ap (λ files. record folder { files = files }) (left_as_it_was folder.files place sound),
 )
 
 device_or_not : (fault : FolderFault) → (fault ≡ Device) ⊎ (fault ≢ Device)

@@ -40,18 +40,18 @@ IsPermitted permit (Writes place bytes limit answer) = permit place (Some bytes)
 IsPermitted permit (Removes place answer) = permit place None
 
 -- such calls, one after another, lead from the first state of the folder to the second
-pub data Leads {F : Type 0} (asked : F → Call → F → Type 0) (permit : Permit) (old : F) : F → Type 0 where
-  none : Leads asked permit old old
-  then : {mid : F} (call : Call) (new : F) → Leads asked permit old mid → IsPermitted permit call
-      → asked mid call new → Leads asked permit old new
+pub data Leads {F : Type 0} (allowed : F → Call → F → Type 0) (permit : Permit) (old : F) : F → Type 0 where
+  none : Leads allowed permit old old
+  then : {mid : F} (call : Call) (new : F) → Leads allowed permit old mid → IsPermitted permit call
+      → allowed mid call new → Leads allowed permit old new
 
 -- The requests to a folder between two of its states: if such calls led to the first state, such calls lead
 -- to the second. The device's count of failures never falls. What a stopped call may leave stays the same.
-pub record Asks {F : Type 0} (failures : F → ℕ) (may_leave : F → Tearing) (asked : F → Call → F → Type 0)
+pub record Requests {F : Type 0} (failures : F → ℕ) (may_leave : F → Tearing) (allowed : F → Call → F → Type 0)
     (permit : Permit) (old new : F) : Type 0 where
   pub count : failures old ≤ failures new
   pub tearing : SameTearing (may_leave old) (may_leave new)
-  pub calls : {first : F} → Leads asked permit first old → Leads asked permit first new
+  pub calls : {first : F} → Leads allowed permit first old → Leads allowed permit first new
 
 -- no change is requested
 unfoldable pub no_change : Permit

@@ -15,17 +15,17 @@ use Rattle.gb_folder.specs.declared.folder.FolderFault.TheVariants as folders
 pub record Device (F : Type 0) : Type 1 where
   pub failures : F → ℕ
   pub may_leave : F → Tearing
-  pub asked : F → Call → F → Type 0
-  pub tells : Bool
+  pub allowed : F → Call → F → Type 0
+  pub faithful : Bool
   pub contents : F → Contents
 
 abbrev pub device_of : {F : Type 0} → (F → ℕ) → (F → Tearing) → (F → Call → F → Type 0) → Bool
     → (F → Contents) → Device F
-device_of failures may_leave asked tells contents = record {
+device_of failures may_leave allowed faithful contents = record {
   failures = failures;
   may_leave = may_leave;
-  asked = asked;
-  tells = tells;
+  allowed = allowed;
+  faithful = faithful;
   contents = contents;
 }
 
@@ -66,12 +66,12 @@ IsWell (Removes place answer) = RemovesWell answer
 -- One call of a folder, with its answer. The count of failures does not fall, and it rises if the device
 -- failed. If the contents of the folder are known, the answer is exact.
 pub record IsCalled {F : Type 0} (device : Device F) (old : F) (call : Call) (new : F) : Type 0 where
-  pub asked : device.asked old call new
+  pub allowed : device.allowed old call new
   pub well : IsWell call
   pub count : device.failures old ≤ device.failures new
   pub tearing : SameTearing (device.may_leave old) (device.may_leave new)
   pub risen : fault_of call ≡ Some folders.Device → HasRisen (device.failures old) (device.failures new)
-  pub exact : IsTrue device.tells
+  pub exact : IsTrue device.faithful
       → Answers (device.may_leave old) (device.contents old) call (device.contents new)
 
 -- These calls, one after another, lead from the first state of the folder to the second.

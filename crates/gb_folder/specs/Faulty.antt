@@ -45,15 +45,15 @@ pub record CallOf (old : FaultPlan) (fault : Option FolderFault) (new : FaultPla
   pub counted : new ≡ after_call old
   pub fails : IsTrue (fails_next old) → fault ≡ Some Device
   pub kept : IsTrue (fails_next old) → tears new ≡ false → Kept
-  pub asked : fails_next old ≡ false → Asked
+  pub allowed : fails_next old ≡ false → Asked
 
 -- what a stopped call may leave at the place: what was there or what the inner folder leaves; for a torn
 -- write also the given bytes or what the inner folder leaves of them
 abbrev pub may_leave_by : FaultMode → Tearing → Tearing
-may_leave_by (StopTorn bytes) inner place stood (Some next) left =
-    (left ≡ stood) ⊎ (left ≡ Some bytes.items) ⊎ inner place stood (Some next) left
-    ⊎ inner place stood (Some bytes.items) left
-may_leave_by mode inner place stood next left = (left ≡ stood) ⊎ inner place stood next left
+may_leave_by (StopTorn bytes) inner place existed (Some next) left =
+    (left ≡ existed) ⊎ (left ≡ Some bytes.items) ⊎ inner place existed (Some next) left
+    ⊎ inner place existed (Some bytes.items) left
+may_leave_by mode inner place existed next left = (left ≡ existed) ⊎ inner place existed next left
 
 -- the inner folder's failures and its own, up to the last value of a count
 abbrev pub failures_in_all : ℕ → ℕ → ℕ

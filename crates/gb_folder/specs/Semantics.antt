@@ -3,7 +3,7 @@ use Rattle.std.specs.Prelude.{ℕ, ◌≡◌, ◌<◌, ◌≤◌, false, List, [
 use Rattle.std.specs.Prelude.{length, take, drop, IsSome}
 use Rattle.gb_folder.specs.Calls.{Call, Lists, Reads, ReadsPart, Writes, Removes}
 use Rattle.gb_folder.specs.Files.{Bytes, Contents, IsFolder, IsTorn, Place, Tearing, file_at, is_blocked}
-use Rattle.gb_folder.specs.Files.{is_odd_under, places_under, with_file, without}
+use Rattle.gb_folder.specs.Files.{is_special_under, places_under, with_file, without}
 use Rattle.gb_folder.specs.declared.folder.FolderFault.{FolderFault}
 use Rattle.gb_folder.specs.declared.folder.FolderFault.TheVariants as folders
 
@@ -12,10 +12,10 @@ abbrev pub Answer : Type 0
 Answer = Result (Unit {0}) FolderFault
 
 abbrev pub Listed : Contents → Place → Result (List Place) FolderFault → Type 0
-Listed old root (Ok places) = (places ≡ places_under old.files root) × (is_odd_under old root ≡ false)
+Listed old root (Ok places) = (places ≡ places_under old.files root) × (is_special_under old root ≡ false)
 Listed old root (Err folders.OutOfMemory) = Unit {0}
 Listed old root (Err folders.Device) = Unit {0}
-Listed old root (Err folders.BadFileName) = IsTrue (is_odd_under old root)
+Listed old root (Err folders.BadFileName) = IsTrue (is_special_under old root)
 Listed old root (Err folders.Missing) = ⊥
 Listed old root (Err folders.Blocked) = ⊥
 Listed old root (Err folders.TooLarge) = ⊥

@@ -1,7 +1,7 @@
 //! Theorems about sequences of folder calls.
 ghost use Rattle.std.specs.Prelude.{Bool, List, IsTrue};
 ghost use Rattle.std.specs.List.{AllByRecursion};
-ghost use Rattle.gb_folder.specs.Calls.{Asks, Call, IsPermitted, changes_at};
+ghost use Rattle.gb_folder.specs.Calls.{Requests, Call, IsPermitted, changes_at};
 ghost use Rattle.gb_folder.specs.Device.{Leads};
 ghost use Rattle.gb_folder.specs.Files.{Place};
 ghost use Rattle.gb_folder.specs.Semantics.{AnswersAll};
@@ -10,7 +10,7 @@ use crate::folder::Folder;
 
 /// A folder with known contents answers each call by them, as the calls before it left them.
 pub fn calls_are_exact<F: Folder>()
-    ensures { (old new : F) (calls : List Call) → IsTrue F.tells → Leads F.device old calls new
+    ensures { (old new : F) (calls : List Call) → IsTrue F.faithful → Leads F.device old calls new
         → AnswersAll (F.may_leave old) (F.contents old) calls (F.contents new) }
 {}
 
@@ -18,5 +18,5 @@ pub fn calls_are_exact<F: Folder>()
 pub fn calls_ask_for_no_more<F: Folder>()
     ensures { (test : Place → Bool) (old new : F) (calls : List Call)
         → AllByRecursion (IsPermitted (changes_at test)) calls → Leads F.device old calls new
-        → Asks F.failures F.may_leave F.asked (changes_at test) old new }
+        → Requests F.failures F.may_leave F.allowed (changes_at test) old new }
 {}

@@ -68,18 +68,18 @@ impl<F: Folder + Drop> Folder for NotedFolder<F> {
 
     ghost failures = { λ f. F.failures f.inner };
 
-    ghost tells = { F.tells };
+    ghost faithful = { F.faithful };
 
     ghost contents = { λ f. F.contents f.inner };
 
     ghost may_leave = { λ f. F.may_leave f.inner };
 
-    ghost asked = { λ old call new. IsNoted call old.notes.items new.notes.items
-        (new.inner ≡ old.inner) (F.asked old.inner call new.inner) };
+    ghost allowed = { λ old call new. IsNoted call old.notes.items new.notes.items
+        (new.inner ≡ old.inner) (F.allowed old.inner call new.inner) };
 
     ghost device = { device_of (λ f. F.failures f.inner) (λ f. F.may_leave f.inner)
         (λ old call new. IsNoted call old.notes.items new.notes.items (new.inner ≡ old.inner)
-        (F.asked old.inner call new.inner)) F.tells (λ f. F.contents f.inner) };
+        (F.allowed old.inner call new.inner)) F.faithful (λ f. F.contents f.inner) };
 
     ghost sound = { λ f. F.sound f.inner };
 

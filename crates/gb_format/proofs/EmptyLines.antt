@@ -9,13 +9,13 @@ use Rattle.gb_script.specs.declared.token.Token.TheVariants.{Word, Text, Mark, W
 use Rattle.gb_script.specs.Lexing.{is_blank, is_newline, escaped, Piece, Blank, Comment, Single, written}
 use Rattle.gb_script.proofs.Runs.{cases_bool}
 use Rattle.gb_script.proofs.Cuts.{and_both}
-use Rattle.gb_format.specs.declared.rule.Apart.{Apart}
-use Rattle.gb_format.specs.declared.rule.Apart.TheVariants.{Beside, Below, Away}
+use Rattle.gb_format.specs.declared.rule.Spacing.{Spacing}
+use Rattle.gb_format.specs.declared.rule.Spacing.TheVariants.{Beside, Below, Away}
 use Rattle.gb_format.specs.declared.rule.Rule.{Rule}
-use Rattle.gb_format.specs.declared.rule.Rule.TheVariants.{Close, Space, Line, Part, Behind}
-use Rattle.gb_format.specs.Layout.{Item, tidy, apart, indent, gap_of, between, rule_of, rules_behind, placed_behind, placed_first, printed, ending}
+use Rattle.gb_format.specs.declared.rule.Rule.TheVariants.{Close, Space, Line, Part, After}
+use Rattle.gb_format.specs.Layout.{Item, tidy, spacing, indent, gap_of, between, rule_of, rules_after, placed_after, placed_first, printed, ending}
 use Rattle.gb_format.specs.Formatted.{few_newlines}
-use Rattle.gb_format.proofs.Stand.{IsFit, AllFit, tidy_fits}
+use Rattle.gb_format.proofs.Exist.{IsFit, AllFit, tidy_fits}
 use Rattle.gb_format.proofs.Trims.{name_first, name_bytes}
 
 abbrev no_newline : ℕ → Bool
@@ -118,25 +118,25 @@ indent_line : (k n : ℕ) (rest : List ℕ) → few_newlines k (indent n ++ rest
 indent_line k zero rest = refl
 indent_line k (suc n) rest = indent_line k n rest
 
-gap_line : (r : Rule) (a : Apart) (p : Piece) (rest : List ℕ) → IsFit p → few_newlines 0 (gap_of r a ++ (written p ++ rest)) ≡ few_newlines 0 rest
+gap_line : (r : Rule) (a : Spacing) (p : Piece) (rest : List ℕ) → IsFit p → few_newlines 0 (gap_of r a ++ (written p ++ rest)) ≡ few_newlines 0 rest
 gap_line Close a p rest h = piece_line 0 p rest h
 gap_line Space a p rest h = piece_line 0 p rest h
 gap_line (Line d) a p rest h = indent_line 1 d (written p ++ rest) ∙ piece_line 1 p rest h
 gap_line (Part d) Beside p rest h = indent_line 1 d (written p ++ rest) ∙ piece_line 1 p rest h
 gap_line (Part d) Below p rest h = indent_line 1 d (written p ++ rest) ∙ piece_line 1 p rest h
 gap_line (Part d) Away p rest h = indent_line 2 d (written p ++ rest) ∙ piece_line 2 p rest h
-gap_line (Behind d) Beside p rest h = piece_line 0 p rest h
-gap_line (Behind d) Below p rest h = indent_line 1 d (written p ++ rest) ∙ piece_line 1 p rest h
-gap_line (Behind d) Away p rest h = indent_line 2 d (written p ++ rest) ∙ piece_line 2 p rest h
+gap_line (After d) Beside p rest h = piece_line 0 p rest h
+gap_line (After d) Below p rest h = indent_line 1 d (written p ++ rest) ∙ piece_line 1 p rest h
+gap_line (After d) Away p rest h = indent_line 2 d (written p ++ rest) ∙ piece_line 2 p rest h
 
-placed_lines : (p : Piece) (rs : List Rule) (xs : List Item) → AllFit xs → few_newlines 0 (printed (placed_behind p rs xs) (10 ∷ [])) ≡ true
+placed_lines : (p : Piece) (rs : List Rule) (xs : List Item) → AllFit xs → few_newlines 0 (printed (placed_after p rs xs) (10 ∷ [])) ≡ true
 placed_lines p rs [] h = refl
 placed_lines p rs (x ∷ xs) h =
-    gap_line (between p (rule_of rs) (tidy x.1)) (apart x.0) (tidy x.1) (printed (placed_behind (tidy x.1) (rules_behind rs) xs) (10 ∷ [])) (tidy_fits x.1 h.0)
-    ∙ placed_lines (tidy x.1) (rules_behind rs) xs h.1
+    gap_line (between p (rule_of rs) (tidy x.1)) (spacing x.0) (tidy x.1) (printed (placed_after (tidy x.1) (rules_after rs) xs) (10 ∷ [])) (tidy_fits x.1 h.0)
+    ∙ placed_lines (tidy x.1) (rules_after rs) xs h.1
 
 pub few_lines : (rs : List Rule) (xs : List Item) → AllFit xs → few_newlines 0 (printed (placed_first rs xs) (ending xs)) ≡ true
 few_lines rs [] h = refl
 few_lines rs (x ∷ xs) h =
-    piece_line 0 (tidy x.1) (printed (placed_behind (tidy x.1) rs xs) (10 ∷ [])) (tidy_fits x.1 h.0)
+    piece_line 0 (tidy x.1) (printed (placed_after (tidy x.1) rs xs) (10 ∷ [])) (tidy_fits x.1 h.0)
     ∙ placed_lines (tidy x.1) rs xs h.1

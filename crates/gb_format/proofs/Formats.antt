@@ -3,17 +3,17 @@ use Rattle.std.proofs.Common.{◌≡◌, ℕ, ◌≤◌, List, [], length, map, 
 use Rattle.gb_script.specs.Grammar.{Leveled}
 use Rattle.gb_script.specs.Lexing.{Piece, IsCut}
 use Rattle.gb_script.specs.Notation.{IsSpelled}
-use Rattle.gb_format.specs.Layout.{items, kept, tidy, layout, seen}
+use Rattle.gb_format.specs.Layout.{items, kept, tidy, layout, observed}
 use Rattle.gb_format.specs.Pieces.{pieces_of}
 use Rattle.gb_format.specs.Shown.{IsWhole, shown_from, typeset}
 use Rattle.gb_format.specs.Formatted.{formatted, few_newlines, IsFormatted}
-use Rattle.gb_format.specs.declared.rule.Apart.TheVariants.{Beside}
+use Rattle.gb_format.specs.declared.rule.Spacing.TheVariants.{Beside}
 use Rattle.gb_format.proofs.Bridge.{layout_is}
 use Rattle.gb_format.proofs.Computed.{pieces_compute}
 use Rattle.gb_format.proofs.EmptyLines.{few_lines}
 use Rattle.gb_format.proofs.Real.{Real}
 use Rattle.gb_format.proofs.Same.{spelled_same}
-use Rattle.gb_format.proofs.Stand.{fit_items}
+use Rattle.gb_format.proofs.Exist.{fit_items}
 use Rattle.gb_format.proofs.Steady.{rules, steady}
 use Rattle.gb_format.proofs.Twice.{laid_out}
 use Rattle.gb_format.proofs.Whole.{whole}
@@ -36,7 +36,7 @@ is_formatted text out w h =
       out_cut = subst (λ (qs : List Piece). IsCut out qs []) (sym after) cut;
       same = ap kept after ∙ laid.same ∙ ap (λ (qs : List Piece). map tidy (kept qs)) (sym before);
       again = formatted_is out laid.pieces cut ∙ laid.once ∙ sym same;
-      empty_lines = ap (few_newlines 0) same ∙ few_lines (rules (seen (items ps).0)) (items ps).0 (fit_items text ps w.cut);
+      empty_lines = ap (few_newlines 0) same ∙ few_lines (rules (observed (items ps).0)) (items ps).0 (fit_items text ps w.cut);
     }
 
 -- if a text parses as a value, the formatted text parses as it, too

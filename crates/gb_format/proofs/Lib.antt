@@ -1,14 +1,14 @@
 pub mod Indents
 pub mod Cut
 pub mod Computed
-pub mod Stand
+pub mod Exist
 pub mod Kept
 pub mod Twice
 pub mod Same
 pub mod Real
 pub mod Whole
 pub mod Trims
-pub mod Fronts
+pub mod Prefixes
 pub mod CutItems
 pub mod SetItems
 pub mod Showing

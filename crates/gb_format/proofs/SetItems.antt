@@ -9,7 +9,7 @@ use Rattle.gb_format.specs.Rules.{step, first_state}
 use Rattle.gb_format.specs.declared.fits.Item.{Item}
 use Rattle.gb_format.specs.declared.kind.Kind.{Kind}
 use Rattle.gb_format.specs.declared.kind.Kind.TheVariants as kinds
-use Rattle.gb_format.specs.declared.rule.Apart.TheVariants.{Beside}
+use Rattle.gb_format.specs.declared.rule.Spacing.TheVariants.{Beside}
 use Rattle.gb_format.specs.declared.state.State.{State}
 use Rattle.gb_format.specs.declared.state.Advance.{Advance}
 use Rattle.gb_format.specs.Shown.{Shown, texts, shown, mended, typeset_from, typeset}
@@ -27,15 +27,15 @@ rest_is : (items : List Item) (i : ℕ) → take (length items - (i + 1)) (drop 
 rest_is items i = ap (λ n. take n (drop (i + 1) items)) (sym (length-drop (i + 1) items)) ∙ take-length (drop (i + 1) items)
 
 abbrev one_set : State → Kind → Item → Advance → Shown → List ℕ
-one_set s k x next more = gap_of (mended k next.rule (kind_of x.text.now)) x.apart ++ (x.text.now ++ typeset_from next.state (kind_of x.text.now) more)
+one_set s k x next more = gap_of (mended k next.rule (kind_of x.text.now)) x.spacing ++ (x.text.now ++ typeset_from next.state (kind_of x.text.now) more)
 
-pub set_one : (total out new : List ℕ) (s : State) (k after : Kind) (items : List Item) (i : ℕ) (d : Item) (next : Advance) → i < length items → next ≡ step s k (get_or items i d).apart (get_or items i d).text.now (texts_of (take (length items - (i + 1)) (drop (i + 1) items))) → new ≡ out ++ (gap_of (mended k next.rule (kind_of (get_or items i d).text.now)) (get_or items i d).apart ++ (get_or items i d).text.now) → after ≡ kind_of (get_or items i d).text.now → out ++ typeset_from s k (shown (drop i items)) ≡ total → new ++ typeset_from next.state after (shown (drop (i + 1) items)) ≡ total
+pub set_one : (total out new : List ℕ) (s : State) (k after : Kind) (items : List Item) (i : ℕ) (d : Item) (next : Advance) → i < length items → next ≡ step s k (get_or items i d).spacing (get_or items i d).text.now (texts_of (take (length items - (i + 1)) (drop (i + 1) items))) → new ≡ out ++ (gap_of (mended k next.rule (kind_of (get_or items i d).text.now)) (get_or items i d).spacing ++ (get_or items i d).text.now) → after ≡ kind_of (get_or items i d).text.now → out ++ typeset_from s k (shown (drop i items)) ≡ total → new ++ typeset_from next.state after (shown (drop (i + 1) items)) ≡ total
 set_one total out new s k after items i d next h n w a so_far =
     let x = get_or items i d in
     let more = shown (drop (i + 1) items) in
-    let gap = gap_of (mended k next.rule (kind_of x.text.now)) x.apart in
+    let gap = gap_of (mended k next.rule (kind_of x.text.now)) x.spacing in
     let rest = typeset_from next.state (kind_of x.text.now) more in
-    let now : next ≡ step s k x.apart x.text.now (texts more) = n ∙ ap (step s k x.apart x.text.now) (ap texts_of (rest_is items i) ∙ texts_shown (drop (i + 1) items)) in
+    let now : next ≡ step s k x.spacing x.text.now (texts more) = n ∙ ap (step s k x.spacing x.text.now) (ap texts_of (rest_is items i) ∙ texts_shown (drop (i + 1) items)) in
     ap (λ (l : List ℕ). l ++ typeset_from next.state after more) w
     ∙ ap (λ (j : Kind). (out ++ (gap ++ x.text.now)) ++ typeset_from next.state j more) a
     ∙ append_assoc out (gap ++ x.text.now) rest

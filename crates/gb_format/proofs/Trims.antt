@@ -9,7 +9,7 @@ use Rattle.gb_script.specs.declared.token.Token.TheVariants.{Word, Text, Mark, W
 use Rattle.gb_script.specs.Lexing.{is_blank, escaped, Piece, Blank, Comment, Single, written}
 use Rattle.gb_script.proofs.Cuts.{and_both}
 use Rattle.gb_format.specs.Layout.{before_end, trimmed, tidy}
-use Rattle.gb_format.proofs.Stand.{IsFit}
+use Rattle.gb_format.proofs.Exist.{IsFit}
 
 -- the last one is a blank
 pub blank_off : (xs : List ℕ) (b : ℕ) → is_blank b ≡ true → trimmed (xs ++ b ∷ []) ≡ trimmed xs

@@ -15,13 +15,13 @@ use Rattle.gb_format.specs.Shown.{shown_in, typeset}
 abbrev pub formatted : List ℕ → List ℕ
 formatted text = typeset (shown_in text)
 
--- After `seen` newlines with only blanks between them, at most two newlines come in a row, so at most one
+-- After `observed` newlines with only blanks between them, at most two newlines come in a row, so at most one
 -- line in a row is empty.
 abbrev pub few_newlines : ℕ → List ℕ → Bool
-few_newlines seen [] = true
-few_newlines seen (b ∷ bs) =
-    if b == 10 then (if seen == 2 then false else few_newlines (seen + 1) bs)
-    else (if is_blank b then few_newlines seen bs else few_newlines 0 bs)
+few_newlines observed [] = true
+few_newlines observed (b ∷ bs) =
+    if b == 10 then (if observed == 2 then false else few_newlines (observed + 1) bs)
+    else (if is_blank b then few_newlines observed bs else few_newlines 0 bs)
 
 -- The formatted text, and what it has in common with the original text.
 pub record IsFormatted (text out : List ℕ) : Type 0 where

@@ -12,10 +12,10 @@ use Rattle.gb_format.specs.declared.kind.Kind.{Kind}
 use Rattle.gb_format.specs.declared.kind.Kind.TheVariants as kinds
 use Rattle.gb_format.specs.declared.place.Place.{Place}
 use Rattle.gb_format.specs.declared.fits.Reach.TheVariants as reaches
-use Rattle.gb_format.specs.declared.rule.Apart.{Apart}
-use Rattle.gb_format.specs.declared.rule.Apart.TheVariants.{Beside}
+use Rattle.gb_format.specs.declared.rule.Spacing.{Spacing}
+use Rattle.gb_format.specs.declared.rule.Spacing.TheVariants.{Beside}
 use Rattle.gb_format.specs.declared.rule.Rule.{Rule}
-use Rattle.gb_format.specs.declared.rule.Rule.TheVariants.{Close, Space, Line, Part, Behind}
+use Rattle.gb_format.specs.declared.rule.Rule.TheVariants.{Close, Space, Line, Part, After}
 use Rattle.gb_format.specs.declared.state.State.{State}
 use Rattle.gb_format.specs.declared.state.Advance.{Advance}
 use Rattle.gb_format.specs.declared.state.Execution.{Execution}
@@ -151,7 +151,7 @@ inner s before t ts = record {
 -- ---- where a statement or a clause begins
 
 -- it continues the line of the one before
-abbrev pub joins : State → Kind → Apart → List ℕ → List (List ℕ) → Bool
+abbrev pub joins : State → Kind → Spacing → List ℕ → List (List ℕ) → Bool
 joins s kinds.OpenBrace Beside t ts = fits_from reaches.Block s.place s.room t ts
 joins s kinds.OpenBrace a t ts = false
 joins s before a t ts = s.in_line
@@ -182,7 +182,7 @@ begun s in_line t ts = record {
   is_inner_chain = false;
 }
 
-abbrev pub begin : State → Kind → Apart → List ℕ → List (List ℕ) → Advance
+abbrev pub begin : State → Kind → Spacing → List ℕ → List (List ℕ) → Advance
 begin s before a t ts = record {
   rule = begun_rule s before (joins s before a t ts);
   state = begun s (joins s before a t ts) t ts;
@@ -202,13 +202,13 @@ closed s t = record s { place = after s.place t; in_line = false }
 
 -- ---- all of them
 
-abbrev pub step_as : Kind → State → Kind → Apart → List ℕ → List (List ℕ) → Advance
-step_as kinds.Comment s before a t ts = record { rule = Behind (comment_indent s); state = s }
+abbrev pub step_as : Kind → State → Kind → Spacing → List ℕ → List (List ℕ) → Advance
+step_as kinds.Comment s before a t ts = record { rule = After (comment_indent s); state = s }
 step_as kinds.CloseBrace s before a t ts = record { rule = closing_rule s before; state = closed s t }
 step_as k s before a t ts = if begins s.place t then begin s before a t ts else inner s before t ts
 
 -- The rule of a comment or a token, given how it is separated from the one before, and the state after it.
-unfoldable pub step : State → Kind → Apart → List ℕ → List (List ℕ) → Advance
+unfoldable pub step : State → Kind → Spacing → List ℕ → List (List ℕ) → Advance
 step s before a t ts = step_as (kind_of t) s before a t ts
 
 abbrev pub first_state : State

@@ -1,12 +1,12 @@
 //! Cuts a text into its comments and tokens.
 ghost use Rattle.std.specs.Prelude.{◌≡◌, ℕ, ◌-◌, ◌<◌, ◌++◌, IfOk, List, length, take, map};
 ghost use Rattle.std.specs.Str.{IsCharBoundary};
-ghost use Rattle.gb_script.specs.Lexing.{is_blank, Piece, written, Stands};
+ghost use Rattle.gb_script.specs.Lexing.{is_blank, Piece, written, MayPrecede};
 ghost use Rattle.gb_format.specs.Layout.{trimmed};
-ghost use Rattle.gb_format.specs.Shown.{further, gap_after, shown_in, shown, EndsWith, HasFront, IsWhole};
+ghost use Rattle.gb_format.specs.Shown.{further, gap_after, shown_in, shown, EndsWith, HasPrefix, IsWhole};
 
 use crate::fits::Item;
-use crate::rule::Apart;
+use crate::rule::Spacing;
 use gb_script::lexing::first_part;
 use std::alloc::{AllocError, Global};
 
@@ -18,7 +18,7 @@ fn is_blank(byte: u8) -> bool
 
 /// How many bytes there are before the blanks at the end.
 fn trimmed_len(bytes: &[u8]) -> usize
-    ensures front { take result bytes.now ≡ trimmed bytes.now }
+    ensures prefix { take result bytes.now ≡ trimmed bytes.now }
     ensures boundary { IsCharBoundary bytes.now result }
 {
     let mut len = bytes.len();
@@ -38,7 +38,7 @@ fn trimmed(text: &str) -> &str
 /// The text before the rest, and the rest.
 fn split_before<'t>(text: &'t str, rest: &str) -> (&'t str, &'t str)
     requires { EndsWith text.now rest.now }
-    ensures front { result.0.now ≡ take (length text.now - length rest.now) text.now }
+    ensures prefix { result.0.now ≡ take (length text.now - length rest.now) text.now }
     ensures rest { result.1.now ≡ rest.now }
 {
     text.split_at(text.len() - rest.len())
@@ -46,9 +46,9 @@ fn split_before<'t>(text: &'t str, rest: &str) -> (&'t str, &'t str)
 
 /// The comment, the token or the blank at the front, and the text after it.
 fn cut_first(alloc: Global, text: &str) -> Result<(&str, &str), AllocError>
-    requires { HasFront text.now }
+    requires { HasPrefix text.now }
     ensures exact { IfOk result (λ x. (p : Piece) (after : List ℕ) → text.now ≡ written p ++ after
-        → Stands p after → (x.0.now ≡ written p) × (x.1.now ≡ after)) }
+        → MayPrecede p after → (x.0.now ≡ written p) × (x.1.now ≡ after)) }
     ensures shorter { IfOk result (λ x. length x.1.now < length text.now) }
 {
     let (part, rest) = first_part(alloc, text)?;
@@ -57,22 +57,22 @@ fn cut_first(alloc: Global, text: &str) -> Result<(&str, &str), AllocError>
 }
 
 /// The separation with one more newline.
-fn further(apart: Apart) -> Apart
-    ensures { result ≡ further apart }
+fn further(spacing: Spacing) -> Spacing
+    ensures { result ≡ further spacing }
 {
-    match apart {
-        Apart::Beside => Apart::Below,
-        Apart::Below | Apart::Away => Apart::Away,
+    match spacing {
+        Spacing::Beside => Spacing::Below,
+        Spacing::Below | Spacing::Away => Spacing::Away,
     }
 }
 
 /// How the next item is separated, after this blank; nothing if it is not a blank.
-fn gap_after(apart: Apart, front: &str) -> Option<Apart>
-    ensures { result ≡ gap_after apart front.now }
+fn gap_after(spacing: Spacing, prefix: &str) -> Option<Spacing>
+    ensures { result ≡ gap_after spacing prefix.now }
 {
-    match front.as_bytes() {
-        [b'\n', ..] => Some(further(apart)),
-        [first, ..] if is_blank(*first) => Some(apart),
+    match prefix.as_bytes() {
+        [b'\n', ..] => Some(further(spacing)),
+        [first, ..] if is_blank(*first) => Some(spacing),
         _ => None,
     }
 }
@@ -83,16 +83,16 @@ pub fn cut(alloc: Global, text: &str) -> Result<Vec<Item<'_>>, AllocError>
     ensures { IfOk result (λ items. shown items.items ≡ shown_in text.now) }
 {
     let mut items = Vec::new(alloc);
-    let mut apart = Apart::Beside;
+    let mut spacing = Spacing::Beside;
     let mut rest = text;
     'parts: while !rest.is_empty() {
-        let (front, after) = cut_first(alloc, rest)?;
-        match gap_after(apart, front) {
-            Some(next) => apart = next,
+        let (prefix, after) = cut_first(alloc, rest)?;
+        match gap_after(spacing, prefix) {
+            Some(next) => spacing = next,
             None => {
-                let text = trimmed(front);
-                items.push(Item { apart, text })?;
-                apart = Apart::Beside;
+                let text = trimmed(prefix);
+                items.push(Item { spacing, text })?;
+                spacing = Spacing::Beside;
             }
         }
         rest = after;

@@ -6,13 +6,13 @@ ghost use Rattle.gb_format.specs.Fits.{fits_from, texts_of};
 
 use crate::kind::{Kind, is_tight, kind_of};
 use crate::place::{Place, after, begins};
-use crate::rule::Apart;
+use crate::rule::Spacing;
 
 /// A comment or a token of a text.
 #[derive(Clone, Copy)]
 pub struct Item<'t> {
     /// How it is separated from the one before.
-    pub apart: Apart,
+    pub spacing: Spacing,
     /// Its text, without blanks at the end.
     pub text: &'t str,
 }

@@ -6,7 +6,7 @@ use std::alloc::AllocError;
 
 /// How two pieces are separated in the text that is read.
 #[derive(Clone, Copy)]
-pub enum Apart {
+pub enum Spacing {
     /// On one line.
     Beside,
     /// On two consecutive lines.
@@ -27,7 +27,7 @@ pub enum Rule {
     /// A new line, and an empty one before it if the text had an empty line there.
     Part(usize),
     /// On the line of the piece before it, if it was there, and else as `Part`.
-    Behind(usize),
+    After(usize),
 }
 
 /// Indents a line.
@@ -42,34 +42,34 @@ fn push_indent(out: &mut String, depth: usize) -> Result<(), AllocError>
 
 fn push_line(out: &mut String, depth: usize) -> Result<(), AllocError>
     ensures { OnOk result
-        (string_bytes out.new ≡ string_bytes out.old ++ gap_of (Rule.Line depth) Apart.Beside) }
+        (string_bytes out.new ≡ string_bytes out.old ++ gap_of (Rule.Line depth) Spacing.Beside) }
 {
     out.push('\n')?;
     push_indent(out, depth)
 }
 
-fn push_part(out: &mut String, depth: usize, apart: Apart) -> Result<(), AllocError>
-    ensures { OnOk result (string_bytes out.new ≡ string_bytes out.old ++ gap_of (Rule.Part depth) apart) }
+fn push_part(out: &mut String, depth: usize, spacing: Spacing) -> Result<(), AllocError>
+    ensures { OnOk result (string_bytes out.new ≡ string_bytes out.old ++ gap_of (Rule.Part depth) spacing) }
 {
-    match apart {
-        Apart::Away => out.push('\n')?,
-        Apart::Beside | Apart::Below => {}
+    match spacing {
+        Spacing::Away => out.push('\n')?,
+        Spacing::Beside | Spacing::Below => {}
     }
     push_line(out, depth)
 }
 
 /// Writes the white space between two pieces by this rule, given how they were separated.
-pub fn push_gap(out: &mut String, rule: Rule, apart: Apart) -> Result<(), AllocError>
-    ensures { OnOk result (string_bytes out.new ≡ string_bytes out.old ++ gap_of rule apart) }
+pub fn push_gap(out: &mut String, rule: Rule, spacing: Spacing) -> Result<(), AllocError>
+    ensures { OnOk result (string_bytes out.new ≡ string_bytes out.old ++ gap_of rule spacing) }
 {
     match rule {
         Rule::Close => Ok(()),
         Rule::Space => out.push(' '),
         Rule::Line(depth) => push_line(out, depth),
-        Rule::Part(depth) => push_part(out, depth, apart),
-        Rule::Behind(depth) => match apart {
-            Apart::Beside => out.push(' '),
-            Apart::Below | Apart::Away => push_part(out, depth, apart),
+        Rule::Part(depth) => push_part(out, depth, spacing),
+        Rule::After(depth) => match spacing {
+            Spacing::Beside => out.push(' '),
+            Spacing::Below | Spacing::Away => push_part(out, depth, spacing),
         },
     }
 }

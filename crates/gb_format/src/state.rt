@@ -11,7 +11,7 @@ ghost use Rattle.gb_format.specs.Rules.{first_state};
 use crate::fits::{Item, Reach, fits, fits_from};
 use crate::kind::{Kind, is_open, is_tight, kind_of};
 use crate::place::{Place, after, at_start, begins, deeper, depth, shallower};
-use crate::rule::{Apart, Rule};
+use crate::rule::{Spacing, Rule};
 
 /// The state of a layout between two tokens.
 #[derive(Clone, Copy)]
@@ -284,11 +284,11 @@ fn opened(state: State, text: &str, rest: &[Item]) -> State
 }
 
 /// Whether the statement or clause that begins here continues the line of the one before.
-fn joins(state: State, before: Kind, apart: Apart, text: &str, rest: &[Item]) -> bool
-    ensures { result ≡ joins state before apart text.now (texts_of rest.now) }
+fn joins(state: State, before: Kind, spacing: Spacing, text: &str, rest: &[Item]) -> bool
+    ensures { result ≡ joins state before spacing text.now (texts_of rest.now) }
 {
-    match (before, apart) {
-        (Kind::OpenBrace, Apart::Beside) => {
+    match (before, spacing) {
+        (Kind::OpenBrace, Spacing::Beside) => {
             fits_from(Reach::Block, state.place, state.room, text, rest)
         }
         (Kind::OpenBrace, _) => false,
@@ -389,24 +389,24 @@ fn inner(state: State, before: Kind, text: &str, rest: &[Item]) -> Advance
 }
 
 /// The step over the first word of a statement or a clause.
-fn begin(state: State, before: Kind, apart: Apart, text: &str, rest: &[Item]) -> Advance
-    ensures { result ≡ begin state before apart text.now (texts_of rest.now) }
+fn begin(state: State, before: Kind, spacing: Spacing, text: &str, rest: &[Item]) -> Advance
+    ensures { result ≡ begin state before spacing text.now (texts_of rest.now) }
 {
-    let in_line = joins(state, before, apart, text, rest);
+    let in_line = joins(state, before, spacing, text, rest);
     Advance {
         rule: begun_rule(state, before, in_line),
         state: begun(state, in_line, text, rest),
     }
 }
 
-/// The step over a comment or a token, where `apart` is how it is separated from the one before.
+/// The step over a comment or a token, where `spacing` is how it is separated from the one before.
 #[tactic(auto, unfolding(crate::specs::Rules::step))]
-pub fn step(state: State, before: Kind, apart: Apart, text: &str, rest: &[Item]) -> Advance
-    ensures { result ≡ step state before apart text.now (texts_of rest.now) }
+pub fn step(state: State, before: Kind, spacing: Spacing, text: &str, rest: &[Item]) -> Advance
+    ensures { result ≡ step state before spacing text.now (texts_of rest.now) }
 {
     match kind_of(text) {
         Kind::Comment => Advance {
-            rule: Rule::Behind(comment_indent(state)),
+            rule: Rule::After(comment_indent(state)),
             state,
         },
         Kind::CloseBrace => Advance {
@@ -415,7 +415,7 @@ pub fn step(state: State, before: Kind, apart: Apart, text: &str, rest: &[Item])
         },
         _ => {
             if begins(state.place, text) {
-                begin(state, before, apart, text, rest)
+                begin(state, before, spacing, text, rest)
             } else {
                 inner(state, before, text, rest)
             }

@@ -6,7 +6,7 @@ ghost use Rattle.gb_format.specs.Shown.{shown, mended, typeset_from, typeset};
 
 use crate::fits::Item;
 use crate::kind::{Kind, kind_of};
-use crate::rule::{Apart, Rule, push_gap};
+use crate::rule::{Spacing, Rule, push_gap};
 use crate::state::{State, first_state, step};
 use std::alloc::{AllocError, Global};
 
@@ -19,7 +19,7 @@ fn mended(before: Kind, rule: Rule, kind: Kind) -> Rule
         (Kind::Comment, Rule::Space, _) => Rule::Part(0),
         (Kind::Comment, Rule::Line(depth), _) => Rule::Line(depth),
         (Kind::Comment, Rule::Part(depth), _) => Rule::Part(depth),
-        (Kind::Comment, Rule::Behind(depth), _) => Rule::Part(depth),
+        (Kind::Comment, Rule::After(depth), _) => Rule::Part(depth),
         (Kind::Word, Rule::Close, Kind::Word) => Rule::Space,
         _ => rule,
     }
@@ -28,9 +28,9 @@ fn mended(before: Kind, rule: Rule, kind: Kind) -> Rule
 /// Writes the next one after the white space of its rule.
 fn push_item(out: &mut String, before: Kind, rule: Rule, item: &Item) -> Result<(), AllocError>
     ensures { OnOk result (string_bytes out.new ≡ string_bytes out.old
-        ++ (gap_of (mended before rule (kind_of item.now.text.now)) item.now.apart ++ item.now.text.now)) }
+        ++ (gap_of (mended before rule (kind_of item.now.text.now)) item.now.spacing ++ item.now.text.now)) }
 {
-    push_gap(out, mended(before, rule, kind_of(item.text)), item.apart)?;
+    push_gap(out, mended(before, rule, kind_of(item.text)), item.spacing)?;
     out.push_str(item.text)
 }
 
@@ -47,7 +47,7 @@ fn push_items(
     let mut state = state;
     let mut before = before;
     'items: for (at, item) in items.iter().enumerate() {
-        let next = step(state, before, item.apart, item.text, &items[at + 1..]);
+        let next = step(state, before, item.spacing, item.text, &items[at + 1..]);
         push_item(out, before, next.rule, item)?;
         state = next.state;
         before = kind_of(item.text);
@@ -63,7 +63,7 @@ pub fn write(alloc: Global, items: &[Item]) -> Result<String, AllocError>
     match items {
         [] => Ok(out),
         [first, rest @ ..] => {
-            let start = step(first_state(), Kind::Sign, Apart::Beside, first.text, rest);
+            let start = step(first_state(), Kind::Sign, Spacing::Beside, first.text, rest);
             out.push_str(first.text)?;
             push_items(&mut out, start.state, kind_of(first.text), rest)?;
             out.push('\n')?;

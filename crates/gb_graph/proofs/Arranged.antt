@@ -18,14 +18,14 @@ use Rattle.gb_core.specs.Lists.{byte_order}
 use Rattle.gb_core.proofs.Found.{tied_same}
 use Rattle.gb_plan.specs.declared.plan.Planned.{Planned}
 use Rattle.gb_plan.specs.Task.{Path, has_path}
-use Rattle.gb_plan.specs.Graph.{Plan, order, after, needs_in, finalized_by, orders_in, is_scheduled_in, is_ready, precedes, stands_in_order, stuck, no_repeats}
+use Rattle.gb_plan.specs.Graph.{Plan, order, after, needs_in, finalized_by, orders_in, is_scheduled_in, is_ready, precedes, is_in_order, stuck, no_repeats}
 use Rattle.gb_plan.proofs.Tests.{not_true, not_false, no_longer, left_of, right_of, or_true, any_append, any_map, at_member, all_of_members, in_filter, into_filter}
 use Rattle.gb_plan.proofs.Same.{In, found, finds, planned_at, path_of_in}
 use Rattle.gb_graph.specs.Order.{row, IsReady, IsNext, IsOrder}
-use Rattle.gb_graph.specs.Ranked.{comes_after, AreApart, AreOthers, AreRanked, AreRanks, AreSame, IsArranged, rank_order}
+use Rattle.gb_graph.specs.Ranked.{comes_after, AreDistinct, AreOthers, AreRanked, AreRanks, AreSame, IsArranged, rank_order}
 use Rattle.gb_graph.proofs.Edges.{one_number, once_at}
 use Rattle.gb_graph.proofs.Bits.{order_known}
-use Rattle.gb_graph.proofs.Numbers.{in_of, of_in, in_front, in_back, in_either, among, of_map, into_map, both, all_mapped, has_mapped, of_mapped, apart_parts, apart_both, in_order_apart, next_at, grouped, regrouped, either_of, or_first, or_second, or_third, left_or}
+use Rattle.gb_graph.proofs.Numbers.{in_of, of_in, in_prefix, in_back, in_either, among, of_map, into_map, both, all_mapped, has_mapped, of_mapped, separate_parts, separate_both, in_order_separate, next_at, grouped, regrouped, either_of, or_first, or_second, or_third, left_or}
 
 -- ---- What a task of a plan comes after
 
@@ -108,51 +108,51 @@ module _ (n : ℕ) (f : ℕ → Planned) (table : List (List ℕ)) (done others 
 
   pub in_numbers : (k : ℕ) → k < n → In k (done ++ others)
   in_numbers k lt = elim (among k done) [
-    | inl i ↦ in_front k done others i
+    | inl i ↦ in_prefix k done others i
     | inr lacks ↦ in_back k done others (in_of others k (are_others.back k lt (λ c. lacks (in_of done k c))))
   ]
 
-  numbers_apart : AreApart (done ++ others)
-  numbers_apart = apart_both done others (in_order_apart table done is_order.in_order) are_others.apart
+  numbers_distinct : AreDistinct (done ++ others)
+  numbers_distinct = separate_both done others (in_order_separate table done is_order.in_order) are_others.separate
       (λ k i j. (are_others.within k (of_in k others j)).1 (of_in k done i))
 
   pub order_mapped : (ks : List ℕ) → order (map f ks) ≡ map path ks
   order_mapped [] = refl
   order_mapped (k ∷ ks) = ap (λ ps. path k ∷ ps) (order_mapped ks)
 
-  pub once_mapped : (ks : List ℕ) → AreApart ks → ((k : ℕ) → In k ks → k < n) → no_repeats (order (map f ks)) ≡ true
-  once_mapped [] apart known = refl
-  once_mapped (k ∷ ks) apart known = both (not (has_path (order (map f ks)) (path k))) (no_repeats (order (map f ks)))
+  pub once_mapped : (ks : List ℕ) → AreDistinct ks → ((k : ℕ) → In k ks → k < n) → no_repeats (order (map f ks)) ≡ true
+  once_mapped [] separate known = refl
+  once_mapped (k ∷ ks) separate known = both (not (has_path (order (map f ks)) (path k))) (no_repeats (order (map f ks)))
       (elim (has_path (order (map f ks)) (path k)) as (λ b. has_path (order (map f ks)) (path k) ≡ b → not b ≡ true) [
         | true ↦ λ e. let at = of_mapped path ks (path k) (ap (λ ps. has_path ps (path k)) (sym (order_mapped ks)) ∙ e) in
-            absurd (apart.0 (of_in k ks (subst (λ i. In i ks) (sym (paths k at.0 (known k (inl refl)) (known at.0 (inr at.1)) at.2)) at.1)))
+            absurd (separate.0 (of_in k ks (subst (λ i. In i ks) (sym (paths k at.0 (known k (inl refl)) (known at.0 (inr at.1)) at.2)) at.1)))
         | false ↦ λ _. refl
       ] refl)
-      (once_mapped ks apart.1 (λ i j. known i (inr j)))
+      (once_mapped ks separate.1 (λ i j. known i (inr j)))
 
   pub plan_once : no_repeats (order plan) ≡ true
-  plan_once = once_mapped (done ++ others) numbers_apart number_known
+  plan_once = once_mapped (done ++ others) numbers_distinct number_known
 
   -- ---- Who is ready
 
-  ready_if : (front : List ℕ) (k : ℕ) → k < n → IsReady table front k → is_ready plan (map path front) (f k).task ≡ true
-  ready_if front k lt h = all_of_members (has_path (map path front)) (after plan (f k).task) (λ p g.
+  ready_if : (prefix : List ℕ) (k : ℕ) → k < n → IsReady table prefix k → is_ready plan (map path prefix) (f k).task ≡ true
+  ready_if prefix k lt h = all_of_members (has_path (map path prefix)) (after plan (f k).task) (λ p g.
       let at = planned_at plan p (after_known plan (f k) p g) in
       let number = of_map f (done ++ others) at.0 at.1 in
       let known : number.0 < n = number_known number.0 number.1 in
       let same : path number.0 ≡ p = ap (λ (y : Planned). y.task.path) (sym number.2) ∙ at.2 in
       let edge : comes_after (f k) (f number.0) ≡ true = after_is plan (f k) plan_once (f number.0) (subst (λ (y : Planned). In y plan) number.2 at.1)
       (subst (λ q. has_path (after plan (f k).task) q ≡ true) (sym same) g) in
-      let stands : Contains front number.0 = h number.0 ((reported k number.0).1 (lt, known, edge)) in
-      subst (λ q. has_path (map path front) q ≡ true) same (has_mapped path front number.0 (in_of front number.0 stands)))
+      let exists : Contains prefix number.0 = h number.0 ((reported k number.0).1 (lt, known, edge)) in
+      subst (λ q. has_path (map path prefix) q ≡ true) same (has_mapped path prefix number.0 (in_of prefix number.0 exists)))
 
-  ready_only : (front : List ℕ) (k : ℕ) → ((i : ℕ) → In i front → i < n) → is_ready plan (map path front) (f k).task ≡ true → IsReady table front k
-  ready_only front k known h j c =
+  ready_only : (prefix : List ℕ) (k : ℕ) → ((i : ℕ) → In i prefix → i < n) → is_ready plan (map path prefix) (f k).task ≡ true → IsReady table prefix k
+  ready_only prefix k known h j c =
       let edge = (reported k j).0 c in
       let comes = after_so plan (f k) (f j) (into_map f (done ++ others) j (in_numbers j edge.1)) edge.2 in
-      let stands = at_member (has_path (map path front)) (after plan (f k).task) (path j) h comes in
-      let at = of_mapped path front (path j) stands in
-      of_in j front (subst (λ i. In i front) (sym (paths j at.0 edge.1 (known at.0 at.1) at.2)) at.1)
+      let exists = at_member (has_path (map path prefix)) (after plan (f k).task) (path j) h comes in
+      let at = of_mapped path prefix (path j) exists in
+      of_in j prefix (subst (λ i. In i prefix) (sym (paths j at.0 edge.1 (known at.0 at.1) at.2)) at.1)
 
   unready : (u : ℕ) → (u < n) × (¬ Contains done u) → is_ready plan (map path done) (f u).task ≡ false
   unready u h = elim (is_ready plan (map path done) (f u).task) as (λ b. is_ready plan (map path done) (f u).task ≡ b → b ≡ false) [
@@ -162,10 +162,10 @@ module _ (n : ℕ) (f : ℕ → Planned) (table : List (List ℕ)) (done others 
 
   -- ---- From the front on
 
-  walk_others : (us : List ℕ) → ((u : ℕ) → In u us → (u < n) × (¬ Contains done u)) → stands_in_order plan (map path done) (map f us) ≡ true
+  walk_others : (us : List ℕ) → ((u : ℕ) → In u us → (u < n) × (¬ Contains done u)) → is_in_order plan (map path done) (map f us) ≡ true
   walk_others [] h = refl
   walk_others (u ∷ us) h =
-      ap (λ b. cond b (list_all (λ other. precedes (f u) other || not (is_ready plan (map path done) other.task)) (map f us) && stands_in_order plan (map path done ++ path u ∷ []) (map f us))
+      ap (λ b. cond b (list_all (λ other. precedes (f u) other || not (is_ready plan (map path done) other.task)) (map f us) && is_in_order plan (map path done ++ path u ∷ []) (map f us))
       (list_all (λ other. not (is_ready plan (map path done) other.task)) (map f us))) (unready u (h u (inl refl)))
       ∙ all_mapped (λ (other : Planned). not (is_ready plan (map path done) other.task)) f us (λ k i. ap not (unready k (h k (inr i))))
 
@@ -177,56 +177,56 @@ module _ (n : ℕ) (f : ℕ → Planned) (table : List (List ℕ)) (done others 
   others_known u i = are_others.within u (of_in u others i)
 
   -- among those after the next one, it precedes the ready ones
-  later : (front : List ℕ) (t : ℕ) (back : List ℕ) → done ≡ front ++ t ∷ back → IsNext table front t → (k : ℕ) → In k (back ++ others)
-      → (precedes (f t) (f k) || not (is_ready plan (map path front) (f k).task)) ≡ true
-  later front t back e next k i =
-      elim (is_ready plan (map path front) (f k).task) as (λ b. is_ready plan (map path front) (f k).task ≡ b → (precedes (f t) (f k) || not b) ≡ true) [
+  later : (prefix : List ℕ) (t : ℕ) (back : List ℕ) → done ≡ prefix ++ t ∷ back → IsNext table prefix t → (k : ℕ) → In k (back ++ others)
+      → (precedes (f t) (f k) || not (is_ready plan (map path prefix) (f k).task)) ≡ true
+  later prefix t back e next k i =
+      elim (is_ready plan (map path prefix) (f k).task) as (λ b. is_ready plan (map path prefix) (f k).task ≡ b → (precedes (f t) (f k) || not b) ≡ true) [
         | true ↦ λ ready. left_or (precedes (f t) (f k)) false (first ready)
         | false ↦ λ _. or_true (precedes (f t) (f k))
       ] refl
     where
-      split : done ++ others ≡ (front ++ t ∷ []) ++ (back ++ others)
-      split = ap (λ ks. ks ++ others) e ∙ regrouped front t back others
+      split : done ++ others ≡ (prefix ++ t ∷ []) ++ (back ++ others)
+      split = ap (λ ks. ks ++ others) e ∙ regrouped prefix t back others
 
-      apart : AreApart ((front ++ t ∷ []) ++ (back ++ others))
-      apart = subst AreApart split numbers_apart
+      separate : AreDistinct ((prefix ++ t ∷ []) ++ (back ++ others))
+      separate = subst AreDistinct split numbers_distinct
 
-      lacks : In k (front ++ t ∷ []) → ⊥
-      lacks j = apart_parts (front ++ t ∷ []) (back ++ others) apart k j i
+      lacks : In k (prefix ++ t ∷ []) → ⊥
+      lacks j = separate_parts (prefix ++ t ∷ []) (back ++ others) separate k j i
 
       lt : k < n
-      lt = number_known k (subst (λ ks. In k ks) (sym split) (in_back k (front ++ t ∷ []) (back ++ others) i))
+      lt = number_known k (subst (λ ks. In k ks) (sym split) (in_back k (prefix ++ t ∷ []) (back ++ others) i))
 
-      front_known : (j : ℕ) → In j front → j < n
-      front_known j g = done_known j (subst (λ ks. In j ks) (sym e) (in_front j front (t ∷ back) g))
+      prefix_known : (j : ℕ) → In j prefix → j < n
+      prefix_known j g = done_known j (subst (λ ks. In j ks) (sym e) (in_prefix j prefix (t ∷ back) g))
 
-      first : is_ready plan (map path front) (f k).task ≡ true → precedes (f t) (f k) ≡ true
+      first : is_ready plan (map path prefix) (f k).task ≡ true → precedes (f t) (f k) ≡ true
       first ready =
-          let low : t ≤ k = next.least k (omega (arith, each, lt)) (λ c. lacks (in_front k front (t ∷ []) (in_of front k c))) (ready_only front k front_known ready) in
-          let apart_from : k ≡ t → ⊥ = λ same. lacks (in_back k front (t ∷ []) (inl same)) in
-          ranked t k (elim (cases_eq k t) [ inl same ↦ absurd (apart_from same) | inr differs ↦ omega (arith, low, differs) ]) lt
+          let low : t ≤ k = next.least k (omega (arith, each, lt)) (λ c. lacks (in_prefix k prefix (t ∷ []) (in_of prefix k c))) (ready_only prefix k prefix_known ready) in
+          let separate_from : k ≡ t → ⊥ = λ same. lacks (in_back k prefix (t ∷ []) (inl same)) in
+          ranked t k (elim (cases_eq k t) [ inl same ↦ absurd (separate_from same) | inr differs ↦ omega (arith, low, differs) ]) lt
 
-  next_known : (front : List ℕ) (t : ℕ) (back : List ℕ) → done ≡ front ++ t ∷ back → t < n
-  next_known front t back e = done_known t (subst (λ ks. In t ks) (sym e) (in_back t front (t ∷ back) (inl refl)))
+  next_known : (prefix : List ℕ) (t : ℕ) (back : List ℕ) → done ≡ prefix ++ t ∷ back → t < n
+  next_known prefix t back e = done_known t (subst (λ ks. In t ks) (sym e) (in_back t prefix (t ∷ back) (inl refl)))
 
-  walk : (front back : List ℕ) → done ≡ front ++ back → stands_in_order plan (map path front) (map f (back ++ others)) ≡ true
-  walk front [] e = subst (λ ks. stands_in_order plan (map path ks) (map f others) ≡ true) (e ∙ append-nil front) (walk_others others others_known)
-  walk front (t ∷ back) e =
-      let next = next_at table done is_order.in_order front t back e in
-      ap (λ b. cond b (list_all (λ other. precedes (f t) other || not (is_ready plan (map path front) other.task)) (map f (back ++ others)) && stands_in_order plan (map path front ++ path t ∷ []) (map f (back ++ others)))
-      (list_all (λ other. not (is_ready plan (map path front) other.task)) (map f (back ++ others)))) (ready_if front t (next_known front t back e) next.ready)
-      ∙ both (list_all (λ other. precedes (f t) other || not (is_ready plan (map path front) other.task)) (map f (back ++ others))) (stands_in_order plan (map path front ++ path t ∷ []) (map f (back ++ others)))
-      (all_mapped (λ (other : Planned). precedes (f t) other || not (is_ready plan (map path front) other.task)) f (back ++ others) (later front t back e next))
-      (subst (λ st. stands_in_order plan st (map f (back ++ others)) ≡ true) (map-append path front (t ∷ [])) (walk (front ++ t ∷ []) back (e ∙ grouped front t back)))
+  walk : (prefix back : List ℕ) → done ≡ prefix ++ back → is_in_order plan (map path prefix) (map f (back ++ others)) ≡ true
+  walk prefix [] e = subst (λ ks. is_in_order plan (map path ks) (map f others) ≡ true) (e ∙ append-nil prefix) (walk_others others others_known)
+  walk prefix (t ∷ back) e =
+      let next = next_at table done is_order.in_order prefix t back e in
+      ap (λ b. cond b (list_all (λ other. precedes (f t) other || not (is_ready plan (map path prefix) other.task)) (map f (back ++ others)) && is_in_order plan (map path prefix ++ path t ∷ []) (map f (back ++ others)))
+      (list_all (λ other. not (is_ready plan (map path prefix) other.task)) (map f (back ++ others)))) (ready_if prefix t (next_known prefix t back e) next.ready)
+      ∙ both (list_all (λ other. precedes (f t) other || not (is_ready plan (map path prefix) other.task)) (map f (back ++ others))) (is_in_order plan (map path prefix ++ path t ∷ []) (map f (back ++ others)))
+      (all_mapped (λ (other : Planned). precedes (f t) other || not (is_ready plan (map path prefix) other.task)) f (back ++ others) (later prefix t back e next))
+      (subst (λ st. is_in_order plan st (map f (back ++ others)) ≡ true) (map-append path prefix (t ∷ [])) (walk (prefix ++ t ∷ []) back (e ∙ grouped prefix t back)))
 
-  walk_left : (front back : List ℕ) → done ≡ front ++ back → stuck plan (map path front) (map f (back ++ others)) ≡ map f others
-  walk_left front [] e = subst (λ ks. stuck plan (map path ks) (map f others) ≡ map f others) (e ∙ append-nil front) (stuck_others others others_known)
-  walk_left front (t ∷ back) e =
-      let next = next_at table done is_order.in_order front t back e in
-      ap (λ b. cond b (stuck plan (map path front ++ path t ∷ []) (map f (back ++ others))) (f t ∷ map f (back ++ others))) (ready_if front t (next_known front t back e) next.ready)
-      ∙ subst (λ st. stuck plan st (map f (back ++ others)) ≡ map f others) (map-append path front (t ∷ [])) (walk_left (front ++ t ∷ []) back (e ∙ grouped front t back))
+  walk_left : (prefix back : List ℕ) → done ≡ prefix ++ back → stuck plan (map path prefix) (map f (back ++ others)) ≡ map f others
+  walk_left prefix [] e = subst (λ ks. stuck plan (map path ks) (map f others) ≡ map f others) (e ∙ append-nil prefix) (stuck_others others others_known)
+  walk_left prefix (t ∷ back) e =
+      let next = next_at table done is_order.in_order prefix t back e in
+      ap (λ b. cond b (stuck plan (map path prefix ++ path t ∷ []) (map f (back ++ others))) (f t ∷ map f (back ++ others))) (ready_if prefix t (next_known prefix t back e) next.ready)
+      ∙ subst (λ st. stuck plan st (map f (back ++ others)) ≡ map f others) (map-append path prefix (t ∷ [])) (walk_left (prefix ++ t ∷ []) back (e ∙ grouped prefix t back))
 
-  pub plan_in_order : stands_in_order plan [] plan ≡ true
+  pub plan_in_order : is_in_order plan [] plan ≡ true
   plan_in_order = walk [] done refl
 
   pub plan_stuck : stuck plan [] plan ≡ map f others

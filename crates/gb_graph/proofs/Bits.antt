@@ -48,22 +48,22 @@ marked_other row t i lt n =
 
 pub order_known : {after : List (List ℕ)} {order : List ℕ} → InOrder after order → (t : ℕ) → Contains order t → t < length after
 order_known begins t h = absurd (omega (arith, h.1))
-order_known {after} (goes_on {standing} {task} g n) t h = elim (Contains-append_cases standing (task ∷ []) t h) [
+order_known {after} (goes_on {existing} {task} g n) t h = elim (Contains-append_cases existing (task ∷ []) t h) [
   | inl o ↦ order_known g t o
   | inr s ↦ subst (λ v. v < length after) (sym (one_contained task t s)) n.known
 ]
 
-pub stands_before : {after : List (List ℕ)} {order : List ℕ} → InOrder after order → (k : ℕ) → k < length order → (p : ℕ) → Contains (row after (get_or order k 0)) p → Contains (take k order) p
-stands_before begins k lt p h = absurd (omega (arith, lt))
-stands_before {after} (goes_on {standing} {task} g n) k lt p h =
-    let more : length (standing ++ task ∷ []) ≡ length standing + 1 = length-append standing (task ∷ []) in
-    elim (cases_order k (length standing)) [
+pub exists_before : {after : List (List ℕ)} {order : List ℕ} → InOrder after order → (k : ℕ) → k < length order → (p : ℕ) → Contains (row after (get_or order k 0)) p → Contains (take k order) p
+exists_before begins k lt p h = absurd (omega (arith, lt))
+exists_before {after} (goes_on {existing} {task} g n) k lt p h =
+    let more : length (existing ++ task ∷ []) ≡ length existing + 1 = length-append existing (task ∷ []) in
+    elim (cases_order k (length existing)) [
       | inl e ↦
-          let at : get_or (standing ++ task ∷ []) k 0 ≡ task = ap (λ j. get_or (standing ++ task ∷ []) j 0) e ∙ get_or-append_seam standing task [] 0 in
-          subst (λ xs. Contains xs p) (sym (ap (λ j. take j (standing ++ task ∷ [])) e ∙ take-append_seam standing (task ∷ []))) (n.ready p (subst (λ v. Contains (row after v) p) at h))
+          let at : get_or (existing ++ task ∷ []) k 0 ≡ task = ap (λ j. get_or (existing ++ task ∷ []) j 0) e ∙ get_or-append_seam existing task [] 0 in
+          subst (λ xs. Contains xs p) (sym (ap (λ j. take j (existing ++ task ∷ [])) e ∙ take-append_seam existing (task ∷ []))) (n.ready p (subst (λ v. Contains (row after v) p) at h))
       | inr (inl l) ↦
-          let at : get_or (standing ++ task ∷ []) k 0 ≡ get_or standing k 0 = get_or_append_left standing (task ∷ []) 0 k l in
-          subst (λ xs. Contains xs p) (sym (take-append-le k standing (task ∷ []) (omega arith))) (stands_before g k l p (subst (λ v. Contains (row after v) p) at h))
+          let at : get_or (existing ++ task ∷ []) k 0 ≡ get_or existing k 0 = get_or_append_left existing (task ∷ []) 0 k l in
+          subst (λ xs. Contains xs p) (sym (take-append-le k existing (task ∷ []) (omega arith))) (exists_before g k l p (subst (λ v. Contains (row after v) p) at h))
       | inr (inr l) ↦ absurd (omega (arith, lt, more, l))
     ]
 
@@ -73,9 +73,9 @@ pub longer : {after : List (List ℕ)} {t q p : ℕ} → Contains (row after t) 
 longer c (start d) = step (start c) d
 longer c (step h d) = step (longer c h) d
 
-pub front : {after : List (List ℕ)} {t p : ℕ} → IsAfter after t p → (q : ℕ) × Contains (row after t) q × ((p ≡ q) ⊎ IsAfter after q p)
-front {after} {t} {p} (start c) = (p, c, inl refl)
-front {after} {t} {p} (step {between} h d) = let f = front h in elim f.2 [
+pub prefix : {after : List (List ℕ)} {t p : ℕ} → IsAfter after t p → (q : ℕ) × Contains (row after t) q × ((p ≡ q) ⊎ IsAfter after q p)
+prefix {after} {t} {p} (start c) = (p, c, inl refl)
+prefix {after} {t} {p} (step {between} h d) = let f = prefix h in elim f.2 [
   | inl e ↦ (f.0, f.1, inr (start (subst (λ v. Contains (row after v) p) e d)))
   | inr g ↦ (f.0, f.1, inr (step g d))
 ]

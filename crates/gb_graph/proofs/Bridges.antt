@@ -10,7 +10,7 @@ use Rattle.gb_plan.specs.Task.{Path, output_places}
 use Rattle.gb_plan.specs.Refusal.{outputs_of}
 use Rattle.gb_plan.proofs.Tests.{not_true}
 use Rattle.gb_plan.proofs.Same.{In}
-use Rattle.gb_graph.proofs.Numbers.{in_of, of_in, in_front, in_back, in_either}
+use Rattle.gb_graph.proofs.Numbers.{in_of, of_in, in_prefix, in_back, in_either}
 use Rattle.gb_graph.specs.declared.places.TaskPlace.{TaskPlace}
 use Rattle.gb_graph.specs.Places.{with_places, places_from}
 
@@ -42,10 +42,10 @@ at_so [] i d lt = absurd (omega (arith, lt))
 at_so (y ∷ ys) zero d lt = refl
 at_so (y ∷ ys) (suc i) d lt = at_so ys i d (omega (arith, lt))
 
-pub at_front : {X : Type 0} (xs ys : List X) (i : ℕ) (x : X) → At xs i x → At (xs ++ ys) i x
-at_front [] ys i x h = absurd h
-at_front (z ∷ xs) ys zero x h = h
-at_front (z ∷ xs) ys (suc i) x h = at_front xs ys i x h
+pub at_prefix : {X : Type 0} (xs ys : List X) (i : ℕ) (x : X) → At xs i x → At (xs ++ ys) i x
+at_prefix [] ys i x h = absurd h
+at_prefix (z ∷ xs) ys zero x h = h
+at_prefix (z ∷ xs) ys (suc i) x h = at_prefix xs ys i x h
 
 pub at_map : {X Y : Type 0} (f : X → Y) (xs : List X) (i : ℕ) (x : X) → At xs i x → At (map f xs) i (f x)
 at_map f [] i x h = h
@@ -57,36 +57,36 @@ of_at_map f [] i y h = absurd h
 of_at_map f (x ∷ xs) zero y h = (x, refl, h)
 of_at_map f (x ∷ xs) (suc i) y h = of_at_map f xs i y h
 
-others_behind : {X : Type 0} (z : X) (xs : List X) (j : ℕ) (y : X) → At (z ∷ xs) j y → (0 ≡ j → ⊥) → In y xs
-others_behind z xs zero y at apart = absurd (apart refl)
-others_behind z xs (suc j) y at apart = at_in xs j y at
+others_after : {X : Type 0} (z : X) (xs : List X) (j : ℕ) (y : X) → At (z ∷ xs) j y → (0 ≡ j → ⊥) → In y xs
+others_after z xs zero y at separate = absurd (separate refl)
+others_after z xs (suc j) y at separate = at_in xs j y at
 
-others_around : {X : Type 0} (z : X) (xs front back : List X) (i : ℕ) → ((j : ℕ) (y : X) → At xs j y → (i ≡ j → ⊥) → In y (front ++ back))
-    → (j : ℕ) (y : X) → At (z ∷ xs) j y → (suc i ≡ j → ⊥) → In y (z ∷ front ++ back)
-others_around z xs front back i f zero y at apart = inl (sym at)
-others_around z xs front back i f (suc j) y at apart = inr (f j y at (λ e. apart (ap suc e)))
+others_around : {X : Type 0} (z : X) (xs prefix back : List X) (i : ℕ) → ((j : ℕ) (y : X) → At xs j y → (i ≡ j → ⊥) → In y (prefix ++ back))
+    → (j : ℕ) (y : X) → At (z ∷ xs) j y → (suc i ≡ j → ⊥) → In y (z ∷ prefix ++ back)
+others_around z xs prefix back i f zero y at separate = inl (sym at)
+others_around z xs prefix back i f (suc j) y at separate = inr (f j y at (λ e. separate (ap suc e)))
 
 -- the list around an index, where each element at another index is included
 pub parted : {X : Type 0} (xs : List X) (i : ℕ) (x : X) → At xs i x
-    → (front : List X) × (back : List X) × (xs ≡ front ++ x ∷ back) × ((j : ℕ) (y : X) → At xs j y → (i ≡ j → ⊥) → In y (front ++ back))
+    → (prefix : List X) × (back : List X) × (xs ≡ prefix ++ x ∷ back) × ((j : ℕ) (y : X) → At xs j y → (i ≡ j → ⊥) → In y (prefix ++ back))
 parted [] i x h = absurd h
-parted {X} (z ∷ xs) zero x h = let none : List X = [] in (none, xs, ap (λ v. v ∷ xs) h, others_behind z xs)
+parted {X} (z ∷ xs) zero x h = let none : List X = [] in (none, xs, ap (λ v. v ∷ xs) h, others_after z xs)
 parted (z ∷ xs) (suc i) x h =
     let rest = parted xs i x h in
     (z ∷ rest.0, rest.1, ap (λ v. z ∷ v) rest.2, others_around z xs rest.0 rest.1 i rest.3)
 
-at_middle : {X : Type 0} (front back : List X) (x : X) → (i : ℕ) × At (front ++ x ∷ back) i x
+at_middle : {X : Type 0} (prefix back : List X) (x : X) → (i : ℕ) × At (prefix ++ x ∷ back) i x
 at_middle [] back x = (0, refl)
-at_middle (z ∷ front) back x = let at = at_middle front back x in (suc at.0, at.1)
+at_middle (z ∷ prefix) back x = let at = at_middle prefix back x in (suc at.0, at.1)
 
 -- an element around another one is at another index
-pub around : {X : Type 0} (front back : List X) (x y : X) → In y (front ++ back)
-    → (i : ℕ) × (j : ℕ) × At (front ++ x ∷ back) i x × At (front ++ x ∷ back) j y × (i ≡ j → ⊥)
+pub around : {X : Type 0} (prefix back : List X) (x y : X) → In y (prefix ++ back)
+    → (i : ℕ) × (j : ℕ) × At (prefix ++ x ∷ back) i x × At (prefix ++ x ∷ back) j y × (i ≡ j → ⊥)
 around [] back x y h = let at = in_at back y h in (0, suc at.0, refl, at.1, λ e. (let f : 0 ≡ suc at.0 = e in omega (arith, f)))
-around (z ∷ front) back x y (inl e) =
-    let at = at_middle front back x in (suc at.0, 0, at.1, sym e, λ f. omega (arith, f))
-around (z ∷ front) back x y (inr h) =
-    let rest = around front back x y h in (suc rest.0, suc rest.1, rest.2, rest.3, λ e. rest.4 (omega (arith, e)))
+around (z ∷ prefix) back x y (inl e) =
+    let at = at_middle prefix back x in (suc at.0, 0, at.1, sym e, λ f. omega (arith, f))
+around (z ∷ prefix) back x y (inr h) =
+    let rest = around prefix back x y h in (suc rest.0, suc rest.1, rest.2, rest.3, λ e. rest.4 (omega (arith, e)))
 
 -- ---- Tests on lists
 
@@ -135,7 +135,7 @@ of_placed row (pair ∷ pairs) at h =
 
 pub kept_placed : (row : List TaskPlace) (pairs : List (ℕ × Place)) (at : TaskPlace) → In at row → In at (with_places row pairs)
 kept_placed row [] at h = h
-kept_placed row (pair ∷ pairs) at h = kept_placed (row ++ record { task = pair.0; number = length row; place = pair.1 } ∷ []) pairs at (in_front at row _ h)
+kept_placed row (pair ∷ pairs) at h = kept_placed (row ++ record { task = pair.0; number = length row; place = pair.1 } ∷ []) pairs at (in_prefix at row _ h)
 
 pub into_placed : (row : List TaskPlace) (pairs : List (ℕ × Place)) (i : ℕ) (pair : ℕ × Place) → At pairs i pair
     → (at : TaskPlace) × In at (with_places row pairs) × (at.task ≡ pair.0) × (at.place ≡ pair.1) × (at.number ≡ length row + i)
@@ -169,7 +169,7 @@ module _ (places : TaskDeclaration → List Place) where
   pub into_from : (first : ℕ) (tasks : List Planned) (k : ℕ) (z : Planned) (place : Place) → At tasks k z → In place (places z.task) → In {X = ℕ × Place} (first + k, place) (places_from places first tasks)
   into_from first [] k z place at h = absurd at
   into_from first (y ∷ tasks) zero z place at h =
-      in_front (first + 0, place) (map (λ place. (first, place)) (places y.task)) (places_from places (first + 1) tasks)
+      in_prefix (first + 0, place) (map (λ place. (first, place)) (places y.task)) (places_from places (first + 1) tasks)
       (subst (λ n. In {X = ℕ × Place} (n, place) (map (λ place. (first, place)) (places y.task))) (let e : first ≡ first + 0 = omega arith in e)
       (into_in_map (places y.task) (subst (λ (w : Planned). In place (places w.task)) (sym at) h)))
     where

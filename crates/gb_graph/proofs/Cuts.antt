@@ -181,7 +181,7 @@ one_more initial found first n le reported k = (
     | inl c ↦ Contains-append_left found (n ∷ []) k ((reported k).1 (inl c))
     | inr at ↦ elim (cases_eq k n) [
       | inl e ↦ subst (λ v. Contains (found ++ n ∷ []) v) (sym e) (Contains-push found n)
-      | inr apart ↦ Contains-append_left found (n ∷ []) k ((reported k).1 (inr (at.0, omega (arith, at.1, apart))))
+      | inr separate ↦ Contains-append_left found (n ∷ []) k ((reported k).1 (inr (at.0, omega (arith, at.1, separate))))
     ]
   ],
 )
@@ -216,7 +216,7 @@ pub cut_more : (text : List ℕ) (n : ℕ) (place : Place) → get_or text n 0 �
 cut_more text n place is = (
   λ h. elim (cases_eq h.0 n) [
     | inl e ↦ inr (h.3 ∙ ap (λ i. take i text) e)
-    | inr apart ↦ inl (h.0, omega (arith, h.1, apart), h.2, h.3)
+    | inr separate ↦ inl (h.0, omega (arith, h.1, separate), h.2, h.3)
   ],
   λ h. elim h [ inl at ↦ (at.0, omega (arith, at.1), at.2, at.3) | inr e ↦ (n, omega arith, is, e) ],
 )
@@ -225,7 +225,7 @@ pub cut_same : (text : List ℕ) (n : ℕ) (place : Place) → (get_or text n 0 
 cut_same text n place other = (
   λ h. elim (cases_eq h.0 n) [
     | inl e ↦ absurd (other (ap (λ i. get_or text i 0) (sym e) ∙ h.2))
-    | inr apart ↦ (h.0, omega (arith, h.1, apart), h.2, h.3)
+    | inr separate ↦ (h.0, omega (arith, h.1, separate), h.2, h.3)
   ],
   λ at. (at.0, omega (arith, at.1), at.2, at.3),
 )

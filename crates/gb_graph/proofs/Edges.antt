@@ -12,8 +12,8 @@ use Rattle.gb_plan.specs.Task.{Path, has_path}
 use Rattle.gb_plan.specs.Graph.{order, no_repeats}
 use Rattle.gb_plan.proofs.Tests.{not_true, no_longer, left_of, right_of, or_right, itself}
 use Rattle.gb_plan.proofs.Same.{In}
-use Rattle.gb_graph.specs.Ranked.{Numbers, TellNumbers, TellEdges, comes_after, edges_at, edges_from, number_at, numbers_in}
-use Rattle.gb_graph.proofs.Numbers.{in_of, of_in, in_front, in_back, in_either, of_map, into_map, either_of, or_first, or_second, or_third}
+use Rattle.gb_graph.specs.Ranked.{Numbers, GiveNumbers, GiveEdges, comes_after, edges_at, edges_from, number_at, numbers_in}
+use Rattle.gb_graph.proofs.Numbers.{in_of, of_in, in_prefix, in_back, in_either, of_map, into_map, either_of, or_first, or_second, or_third}
 
 -- ---- Paths that occur once
 
@@ -40,7 +40,7 @@ once_at (p ∷ ps) once (suc i) (suc j) low lt e = once_at ps (right_of (not (ha
 pub one_number : (paths : List Path) → no_repeats paths ≡ true → (i j : ℕ) → i < length paths → j < length paths → get_or paths i [] ≡ get_or paths j [] → i ≡ j
 one_number paths once i j li lj e = elim (cases_order i j) [
   | inl same ↦ same
-  | inr apart ↦ elim apart [ inl low ↦ absurd (once_at paths once i j low lj e) | inr high ↦ absurd (once_at paths once j i high li (sym e)) ]
+  | inr separate ↦ elim separate [ inl low ↦ absurd (once_at paths once i j low lj e) | inr high ↦ absurd (once_at paths once j i high li (sym e)) ]
 ]
 
 -- ---- Numbers of paths
@@ -70,8 +70,8 @@ numbers_next old new paths i key once lt is next reported q k = (to, back)
     back : (k < i + 1) × (get_or paths k [] ≡ q) → new q ≡ Some k
     back at = elim (cases_eq k i) [
       | inl e ↦ next q ∙ (ap (λ b. cond b (Some i) (old q)) ((bytes_decides key q).1 (is ∙ (ap (λ j. get_or paths j []) (sym e) ∙ at.1))) ∙ ap Some (sym e))
-      | inr apart ↦
-          let low : k < i = omega (arith, at.0, apart) in
+      | inr separate ↦
+          let low : k < i = omega (arith, at.0, separate) in
           next q ∙ (ap (λ b. cond b (Some i) (old q)) (differs low at.1) ∙ (reported q k).1 (low, at.1))
     ]
 
@@ -127,13 +127,13 @@ module _ (m : Numbers) where
   into_edges : (zs : List Planned) (first i : ℕ) (z : Planned) (edge : ℕ × ℕ) → i < length zs → z ≡ get_or zs i z → In edge (edges_at m (first + i) z) → In edge (edges_from m first zs)
   into_edges [] first i z edge lt is at = absurd (omega (arith, lt))
   into_edges (y ∷ ys) first zero z edge lt is at =
-      in_front edge (edges_at m first y) (edges_from m (first + 1) ys)
+      in_prefix edge (edges_at m first y) (edges_from m (first + 1) ys)
       (subst (λ i. In edge (edges_at m i y)) (let e : first + 0 ≡ first = omega arith in e) (subst (λ v. In edge (edges_at m (first + 0) v)) is at))
   into_edges (y ∷ ys) first (suc i) z edge lt is at =
       in_back edge (edges_at m first y) (edges_from m (first + 1) ys)
       (into_edges ys (first + 1) i z edge (omega (arith, lt)) is (subst (λ n. In edge (edges_at m n z)) (let e : first + suc i ≡ first + 1 + i = omega arith in e) at))
 
-  module _ (tasks : List Planned) (numbers : TellNumbers (order tasks) m) where
+  module _ (tasks : List Planned) (numbers : GiveNumbers (order tasks) m) where
     same_length : length (order tasks) ≡ length tasks
     same_length = length-map tasks (λ (z : Planned). z.task.path)
 
@@ -188,17 +188,17 @@ module _ (m : Numbers) where
         let x = get_or tasks k d in
         let y = get_or tasks j d in
         of_in (k, j) (edges_from m 0 tasks) (either_of (has_path x.task.needs y.task.path) (has_path y.task.finalizers x.task.path) (has_path x.task.must_run_after y.task.path) h
-        (λ e. into_edges tasks 0 k x (k, j) lk (get_or_default tasks k d x lk) (edge_at k x (in_front (k, j) _ (map (λ later. (later, k)) (numbers_in m x.task.finalizers)) (in_front (k, j) _ (map (λ before. (k, before)) (numbers_in m x.task.must_run_after))
+        (λ e. into_edges tasks 0 k x (k, j) lk (get_or_default tasks k d x lk) (edge_at k x (in_prefix (k, j) _ (map (λ later. (later, k)) (numbers_in m x.task.finalizers)) (in_prefix (k, j) _ (map (λ before. (k, before)) (numbers_in m x.task.must_run_after))
         (into_map (λ before. (k, before)) (numbers_in m x.task.needs) j (into_numbers d x.task.needs j lj e))))))
         (λ e. into_edges tasks 0 j y (k, j) lj (get_or_default tasks j d y lj) (edge_at j y (in_back (k, j) (map (λ before. (j, before)) (numbers_in m y.task.needs) ++ map (λ before. (j, before)) (numbers_in m y.task.must_run_after)) _
         (into_map (λ later. (later, j)) (numbers_in m y.task.finalizers) k (into_numbers d y.task.finalizers k lk e)))))
-        (λ e. into_edges tasks 0 k x (k, j) lk (get_or_default tasks k d x lk) (edge_at k x (in_front (k, j) _ (map (λ later. (later, k)) (numbers_in m x.task.finalizers)) (in_back (k, j) (map (λ before. (k, before)) (numbers_in m x.task.needs)) _
+        (λ e. into_edges tasks 0 k x (k, j) lk (get_or_default tasks k d x lk) (edge_at k x (in_prefix (k, j) _ (map (λ later. (later, k)) (numbers_in m x.task.finalizers)) (in_back (k, j) (map (λ before. (k, before)) (numbers_in m x.task.needs)) _
         (into_map (λ before. (k, before)) (numbers_in m x.task.must_run_after) j (into_numbers d x.task.must_run_after j lj e)))))))
       where
         edge_at : (i : ℕ) (z : Planned) → In (k, j) (edges_at m i z) → In (k, j) (edges_at m (0 + i) z)
         edge_at i z at = subst (λ n. In (k, j) (edges_at m n z)) (let e : i ≡ 0 + i = omega arith in e) at
 
-    pub edges_reported : TellEdges tasks (edges_from m 0 tasks)
+    pub edges_reported : GiveEdges tasks (edges_from m 0 tasks)
     edges_reported = record {
       known = λ k j c.
           let at = of_edges tasks 0 k j (in_of (edges_from m 0 tasks) (k, j) c) in

@@ -15,13 +15,13 @@ use Rattle.gb_plan.proofs.Tests.{not_true, or_right}
 use Rattle.gb_plan.proofs.Registered.{brings_declared}
 use Rattle.gb_graph.specs.Order.{row}
 use Rattle.gb_graph.specs.Queue.{paths_in}
-use Rattle.gb_graph.specs.Ranked.{Numbers, TellNumbers, number_at, numbers_in}
+use Rattle.gb_graph.specs.Ranked.{Numbers, GiveNumbers, number_at, numbers_in}
 use Rattle.gb_graph.specs.Reach.{Reaches, IsFirstStart}
 use Rattle.gb_graph.specs.Reach as reach
 use Rattle.gb_graph.specs.Words.{AreDone, brought_rows, selected_once}
 use Rattle.gb_graph.proofs.Edges.{at_path, has_at, of_kept, into_kept}
 use Rattle.gb_graph.proofs.Newly.{first_index, newly_at, newly_length}
-use Rattle.gb_graph.proofs.Numbers.{in_of, of_in, in_front, in_back, in_either, left_or, grouped}
+use Rattle.gb_graph.proofs.Numbers.{in_of, of_in, in_prefix, in_back, in_either, left_or, grouped}
 use Rattle.gb_graph.proofs.Queues.{has_append, split_or}
 
 -- the element at an index
@@ -51,7 +51,7 @@ some_word f [] i p lt h = absurd (omega (arith, lt))
 some_word f (w ∷ words) zero p lt h = has_append (f w) (flat_map f words) p ∙ left_or (has_path (f w) p) (has_path (flat_map f words) p) h
 some_word f (w ∷ words) (suc i) p lt h = has_append (f w) (flat_map f words) p ∙ or_right (has_path (f w) p) (has_path (flat_map f words) p) (some_word f words i p (omega (arith, lt)) h)
 
-module _ (tasks : List TaskDeclaration) (m : Numbers) (numbers : TellNumbers (paths_in tasks) m) where
+module _ (tasks : List TaskDeclaration) (m : Numbers) (numbers : GiveNumbers (paths_in tasks) m) where
   same_length : length (paths_in tasks) ≡ length tasks
   same_length = length-map tasks (λ (task : TaskDeclaration). task.path)
 
@@ -133,7 +133,7 @@ module _ (tasks : List TaskDeclaration) (m : Numbers) (numbers : TellNumbers (pa
         let z = element tasks k lk in
         subst (λ xs. Contains xs j) (sym (row_is k z.0 lk z.1)) (of_in j (numbers_in m z.0.needs ++ numbers_in m z.0.finalizers)
         (split_or (has_path z.0.needs (path j)) (has_path z.0.finalizers (path j)) (sym (brought k z.0 lk z.1 (path j)) ∙ h)
-        (λ e. in_front j (numbers_in m z.0.needs) (numbers_in m z.0.finalizers) (in_of (numbers_in m z.0.needs) j (into_number z.0.needs j lj e)))
+        (λ e. in_prefix j (numbers_in m z.0.needs) (numbers_in m z.0.finalizers) (in_of (numbers_in m z.0.needs) j (into_number z.0.needs j lj e)))
         (λ e. in_back j (numbers_in m z.0.needs) (numbers_in m z.0.finalizers) (in_of (numbers_in m z.0.finalizers) j (into_number z.0.finalizers j lj e)))))
 
     is_open : (k : ℕ) → k < length tasks → leaves_out request (path k) ≡ false

@@ -71,28 +71,28 @@ module _ (plan : Plan) (once : no_repeats (order plan) ≡ true) (tables : Table
 
   -- ---- A sound plan
 
-  apart_of : (xs : List (Path × Place)) → ((i j : ℕ) (x y : Path × Place) → At xs i x → At xs j y → (i ≡ j → ⊥) → overlaps x.1 y.1 ≡ false)
+  separate_of : (xs : List (Path × Place)) → ((i j : ℕ) (x y : Path × Place) → At xs i x → At xs j y → (i ≡ j → ⊥) → overlaps x.1 y.1 ≡ false)
       → some_overlap (map (λ (output : Path × Place). output.1) xs) ≡ false
-  apart_of [] h = refl
-  apart_of (x ∷ xs) h =
+  separate_of [] h = refl
+  separate_of (x ∷ xs) h =
       neither (list_any (overlaps x.1) (map (λ (output : Path × Place). output.1) xs)) (some_overlap (map (λ (output : Path × Place). output.1) xs))
       (none_of xs (λ j y at. h 0 (suc j) x y refl at (λ e. (let f : 0 ≡ suc j = e in omega (arith, f)))))
-      (apart_of xs (λ i j y z a b e. h (suc i) (suc j) y z a b (λ f. e (let g : suc i ≡ suc j = f in omega (arith, g)))))
+      (separate_of xs (λ i j y z a b e. h (suc i) (suc j) y z a b (λ f. e (let g : suc i ≡ suc j = f in omega (arith, g)))))
     where
       none_of : (ys : List (Path × Place)) → ((j : ℕ) (y : Path × Place) → At ys j y → overlaps x.1 y.1 ≡ false) → list_any (overlaps x.1) (map (λ (output : Path × Place). output.1) ys) ≡ false
       none_of [] h = refl
       none_of (y ∷ ys) h = neither (overlaps x.1 y.1) (list_any (overlaps x.1) (map (λ (output : Path × Place). output.1) ys)) (h 0 y refl) (none_of ys (λ j z at. h (suc j) z at))
 
-  some_apart : ((conflict : Conflict) → ¬ IsOverlap plan conflict) → (i j : ℕ) (x y : Path × Place) → At (outputs_of plan) i x → At (outputs_of plan) j y → (i ≡ j → ⊥) → overlaps x.1 y.1 ≡ false
-  some_apart none i j x y a b apart = elim (cases_Bool (overlaps x.1 y.1)) [
+  some_separate : ((conflict : Conflict) → ¬ IsOverlap plan conflict) → (i j : ℕ) (x y : Path × Place) → At (outputs_of plan) i x → At (outputs_of plan) j y → (i ≡ j → ⊥) → overlaps x.1 y.1 ≡ false
+  some_separate none i j x y a b separate = elim (cases_Bool (overlaps x.1 y.1)) [
     | inr f ↦ f
     | inl t ↦
         let parts = parted (outputs_of plan) i x a in
         absurd (none (record { task = x.0; other = y.0; place = x.1 }) (record {
-          front = parts.0;
+          prefix = parts.0;
           back = parts.1;
-          stands = parts.2;
-          overlapped = any_in (λ (o : Path × Place). bytes_eq o.0 y.0 && overlaps x.1 o.1) (parts.0 ++ parts.1) y (parts.3 j y b apart) (ap (λ c. c && overlaps x.1 y.1) (itself y.0) ∙ t);
+          exists = parts.2;
+          overlapped = any_in (λ (o : Path × Place). bytes_eq o.0 y.0 && overlaps x.1 o.1) (parts.0 ++ parts.1) y (parts.3 j y b separate) (ap (λ c. c && overlaps x.1 y.1) (itself y.0) ∙ t);
         }))
   ]
 
@@ -134,14 +134,14 @@ module _ (plan : Plan) (once : no_repeats (order plan) ≡ true) (tables : Table
       let reported = chain plan once outs (same_row outs) ins (same_row ins) chained are.chains k.0 l.0 z w k.1 l.1 in
       elim (cases_eq (bit_in (row (rows tables.chains.items) k.0) l.0) 1) [
         | inl e ↦ reported.0 e
-        | inr apart ↦ absurd (none (record { task = z.task.path; other = w.task.path; place = read.0 })
-            (record { reader = z.task; writer = w.task; is_reader = refl; is_writer = refl; two = two; reads = read.1; not_after = λ h. apart (reported.1 h) }))
+        | inr separate ↦ absurd (none (record { task = z.task.path; other = w.task.path; place = read.0 })
+            (record { reader = z.task; writer = w.task; is_reader = refl; is_writer = refl; two = two; reads = read.1; not_after = λ h. separate (reported.1 h) }))
       ]
 
   pub is_sound : ((conflict : Conflict) → ¬ IsOverlap plan conflict) → ((conflict : Conflict) → ¬ IsOwnInput plan conflict) → ((conflict : Conflict) → ¬ IsUndeclared plan conflict) → IsSound plan
   is_sound no_overlap no_own no_undeclared = record {
-    outputs_apart = ap some_overlap (sym (places_of plan)) ∙ apart_of (outputs_of plan) (some_apart no_overlap);
-    inputs_apart = all_of (λ z. reads_output_of z.task z.task ≡ false) plan (reads_none no_own);
+    outputs_separate = ap some_overlap (sym (places_of plan)) ∙ separate_of (outputs_of plan) (some_separate no_overlap);
+    inputs_separate = all_of (λ z. reads_output_of z.task z.task ≡ false) plan (reads_none no_own);
     declared = all_of (λ z. AllByRecursion (λ (w : Planned). IsReadInOrder plan z.task w.task) plan) plan
         (λ z i. all_of (λ w. IsReadInOrder plan z.task w.task) plan (λ w j. reads_in_order no_undeclared z w i j));
   }

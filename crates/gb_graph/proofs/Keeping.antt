@@ -8,21 +8,21 @@ use Rattle.std.proofs.lemmas.List.Elements.{Contains-append_left, Contains-appen
 use Rattle.std.specs.List.{list_any}
 use Rattle.std.specs.Ordering.{nat_cmp, is_eq, is_gt}
 use Rattle.gb_graph.specs.Order.{row, IsReady, IsNext, AreTasks}
-use Rattle.gb_graph.specs.Settled.{Keeps, IsSettled, IsPutReady, IsPutWaiting, stands_in, missing}
+use Rattle.gb_graph.specs.Settled.{Keeps, IsSettled, IsPutReady, IsPutWaiting, exists_in, missing}
 
 pub one_contained : (t u : ℕ) → Contains (t ∷ []) u → u ≡ t
 one_contained t u h = let z : h.0 ≡ 0 = omega (arith, h.1) in sym (subst (λ k. get_or (t ∷ []) k u ≡ u) z h.2)
 
 -- ---- Marks
 
-pub mark_kept : (stands : List Bool) (t u : ℕ) → t < length stands → stands_in stands u ≡ true → stands_in (set stands t true) u ≡ true
-mark_kept stands t u lt h = elim (cases_eq u t) [
-  | inl e ↦ subst (λ k. stands_in (set stands t true) k ≡ true) (sym e) (get_or-set_same stands t true false lt)
-  | inr n ↦ get_or-set_other stands t u true false n ∙ h
+pub mark_kept : (exists : List Bool) (t u : ℕ) → t < length exists → exists_in exists u ≡ true → exists_in (set exists t true) u ≡ true
+mark_kept exists t u lt h = elim (cases_eq u t) [
+  | inl e ↦ subst (λ k. exists_in (set exists t true) k ≡ true) (sym e) (get_or-set_same exists t true false lt)
+  | inr n ↦ get_or-set_other exists t u true false n ∙ h
 ]
 
-pub mark_other : (stands : List Bool) (t u : ℕ) → u ≢ t → stands_in (set stands t true) u ≡ stands_in stands u
-mark_other stands t u n = get_or-set_other stands t u true false n
+pub mark_other : (exists : List Bool) (t u : ℕ) → u ≢ t → exists_in (set exists t true) u ≡ exists_in exists u
+mark_other exists t u n = get_or-set_other exists t u true false n
 
 pub not_both : {b : Bool} {A : Type 0} → b ≡ true → b ≡ false → A
 not_both p q = absurd (false≢true (sym q ∙ p))
@@ -60,18 +60,18 @@ row_emptied w t p u lt h = elim (cases_eq p t) [
 
 -- ---- A loose task is placed where it belongs
 
-module _ (after : List (List ℕ)) (stands : List Bool) (w w' : List (List ℕ)) (r r' : ℕ → Bool) (order : List ℕ) (loose loose' : ℕ → Type 0) (t : ℕ)
-    (k : Keeps after stands w r order loose) (is : loose t) (split : (u : ℕ) → loose u → (u ≡ t) ⊎ loose' u) (less : (u : ℕ) → loose' u → loose u) where
-  pub settles_ready : IsPutReady after stands w w' r r' t → Keeps after stands w' r' order loose'
+module _ (after : List (List ℕ)) (exists : List Bool) (w w' : List (List ℕ)) (r r' : ℕ → Bool) (order : List ℕ) (loose loose' : ℕ → Type 0) (t : ℕ)
+    (k : Keeps after exists w r order loose) (is : loose t) (split : (u : ℕ) → loose u → (u ≡ t) ⊎ loose' u) (less : (u : ℕ) → loose' u → loose u) where
+  pub settles_ready : IsPutReady after exists w w' r r' t → Keeps after exists w' r' order loose'
   settles_ready s = record {
     marks = k.marks;
     places = ap length s.same ∙ k.places;
     marked = k.marked;
-    standing = k.standing;
+    existing = k.existing;
     closed = k.closed;
     ready_known = λ u h. elim (s.only u h) [ inl e ↦ subst (λ v. v < length after) (sym e) (k.loose_known t is) | inr g ↦ k.ready_known u g ];
-    ready_waits = λ u h. elim (s.only u h) [ inl e ↦ subst (λ v. stands_in stands v ≡ false) (sym e) (k.loose_waits t is) | inr g ↦ k.ready_waits u g ];
-    ready_after = λ u p h c. elim (s.only u h) [ inl e ↦ s.all_stand p (subst (λ v. Contains (row after v) p) e c) | inr g ↦ k.ready_after u p g c ];
+    ready_waits = λ u h. elim (s.only u h) [ inl e ↦ subst (λ v. exists_in exists v ≡ false) (sym e) (k.loose_waits t is) | inr g ↦ k.ready_waits u g ];
+    ready_after = λ u p h c. elim (s.only u h) [ inl e ↦ s.all_exist p (subst (λ v. Contains (row after v) p) e c) | inr g ↦ k.ready_after u p g c ];
     waits_known = λ p u h. k.waits_known p u (subst (λ x. Contains (row x p) u) s.same h);
     waits_after = λ p u h. k.waits_after p u (subst (λ x. Contains (row x p) u) s.same h);
     loose_known = λ u l. k.loose_known u (less u l);
@@ -83,7 +83,7 @@ module _ (after : List (List ℕ)) (stands : List Bool) (w w' : List (List ℕ))
     ];
   }
 
-  pub settles_waiting : AreTasks after → IsPutWaiting after stands w w' r r' t → Keeps after stands w' r' order loose'
+  pub settles_waiting : AreTasks after → IsPutWaiting after exists w w' r r' t → Keeps after exists w' r' order loose'
   settles_waiting tasks s =
       let m = s.before in
       let lt : m < length w = omega (arith, tasks t m s.comes_after, k.places) in
@@ -91,7 +91,7 @@ module _ (after : List (List ℕ)) (stands : List Bool) (w w' : List (List ℕ))
         marks = k.marks;
         places = ap length s.put ∙ length-set w m (row w m ++ t ∷ []) ∙ k.places;
         marked = k.marked;
-        standing = k.standing;
+        existing = k.existing;
         closed = k.closed;
         ready_known = λ u h. k.ready_known u (sym (s.same u) ∙ h);
         ready_waits = λ u h. k.ready_waits u (sym (s.same u) ∙ h);
@@ -118,21 +118,21 @@ module _ (after : List (List ℕ)) (stands : List Bool) (w w' : List (List ℕ))
         ];
       }
 
-  pub settles : AreTasks after → IsSettled after stands w w' r r' t → Keeps after stands w' r' order loose'
+  pub settles : AreTasks after → IsSettled after exists w w' r r' t → Keeps after exists w' r' order loose'
   settles tasks (inl s) = settles_ready s
   settles tasks (inr s) = settles_waiting tasks s
 
 -- ---- A ready task is placed
 
-module _ (after : List (List ℕ)) (stands : List Bool) (w : List (List ℕ)) (r r' : ℕ → Bool) (order : List ℕ) (none : ℕ → Type 0) (t : ℕ)
-    (k : Keeps after stands w r order none) (is : r t ≡ true) (empty : (u : ℕ) → none u → ⊥) where
+module _ (after : List (List ℕ)) (exists : List Bool) (w : List (List ℕ)) (r r' : ℕ → Bool) (order : List ℕ) (none : ℕ → Type 0) (t : ℕ)
+    (k : Keeps after exists w r order none) (is : r t ≡ true) (empty : (u : ℕ) → none u → ⊥) where
   pub is_next : ((u : ℕ) → r u ≡ true → t ≤ u) → IsNext after order t
   is_next least = record {
     known = k.ready_known t is;
     waits = λ h. not_both (k.marked t h) (k.ready_waits t is);
-    ready = λ p c. k.standing p (k.ready_after t p is c);
-    least = λ u known absent ready. elim (cases_Bool (stands_in stands u)) [
-      | inl s ↦ absurd (absent (k.standing u s))
+    ready = λ p c. k.existing p (k.ready_after t p is c);
+    least = λ u known absent ready. elim (cases_Bool (exists_in exists u)) [
+      | inl s ↦ absurd (absent (k.existing u s))
       | inr m ↦ elim (k.somewhere u known m) [
         | inl l ↦ absurd (empty u l)
         | inr (inl g) ↦ least u g
@@ -142,55 +142,55 @@ module _ (after : List (List ℕ)) (stands : List Bool) (w : List (List ℕ)) (r
   }
 
   pub places_it : r' t ≡ false → ((u : ℕ) → r' u ≡ true → r u ≡ true) → ((u : ℕ) → r u ≡ true → (u ≡ t) ⊎ (r' u ≡ true))
-      → Keeps after (set stands t true) (set w t []) r' (order ++ t ∷ []) (Contains (row w t))
+      → Keeps after (set exists t true) (set w t []) r' (order ++ t ∷ []) (Contains (row w t))
   places_it gone back split =
-      let lt : t < length stands = omega (arith, k.ready_known t is, k.marks) in
+      let lt : t < length exists = omega (arith, k.ready_known t is, k.marks) in
       let ltw : t < length w = omega (arith, k.ready_known t is, k.places) in
       let other : (u : ℕ) → Contains (row w t) u → u ≢ t = λ u h e. not_both (k.ready_after t t is (subst (λ v. Contains (row after v) t) e (k.waits_after t u h))) (k.ready_waits t is) in
-      let not_t : (u : ℕ) → stands_in (set stands t true) u ≡ false → u ≢ t = λ u h e. not_both (get_or-set_same stands t true false lt) (subst (λ v. stands_in (set stands t true) v ≡ false) e h) in
+      let not_t : (u : ℕ) → exists_in (set exists t true) u ≡ false → u ≢ t = λ u h e. not_both (get_or-set_same exists t true false lt) (subst (λ v. exists_in (set exists t true) v ≡ false) e h) in
       record {
-        marks = length-set stands t true ∙ k.marks;
+        marks = length-set exists t true ∙ k.marks;
         places = length-set w t [] ∙ k.places;
         marked = λ u h. elim (Contains-append_cases order (t ∷ []) u h) [
-          | inl o ↦ mark_kept stands t u lt (k.marked u o)
-          | inr n ↦ subst (λ v. stands_in (set stands t true) v ≡ true) (sym (one_contained t u n)) (get_or-set_same stands t true false lt)
+          | inl o ↦ mark_kept exists t u lt (k.marked u o)
+          | inr n ↦ subst (λ v. exists_in (set exists t true) v ≡ true) (sym (one_contained t u n)) (get_or-set_same exists t true false lt)
         ];
-        standing = λ u h. elim (cases_eq u t) [
+        existing = λ u h. elim (cases_eq u t) [
           | inl e ↦ subst (λ v. Contains (order ++ t ∷ []) v) (sym e) (Contains-push order t)
-          | inr n ↦ Contains-append_left order (t ∷ []) u (k.standing u (sym (mark_other stands t u n) ∙ h))
+          | inr n ↦ Contains-append_left order (t ∷ []) u (k.existing u (sym (mark_other exists t u n) ∙ h))
         ];
         closed = λ u p h c. elim (cases_eq u t) [
-          | inl e ↦ mark_kept stands t p lt (k.ready_after t p is (subst (λ v. Contains (row after v) p) e c))
-          | inr n ↦ mark_kept stands t p lt (k.closed u p (sym (mark_other stands t u n) ∙ h) c)
+          | inl e ↦ mark_kept exists t p lt (k.ready_after t p is (subst (λ v. Contains (row after v) p) e c))
+          | inr n ↦ mark_kept exists t p lt (k.closed u p (sym (mark_other exists t u n) ∙ h) c)
         ];
         ready_known = λ u h. k.ready_known u (back u h);
-        ready_waits = λ u h. mark_other stands t u (λ e. not_both h (subst (λ v. r' v ≡ false) (sym e) gone)) ∙ k.ready_waits u (back u h);
-        ready_after = λ u p h c. mark_kept stands t p lt (k.ready_after u p (back u h) c);
+        ready_waits = λ u h. mark_other exists t u (λ e. not_both h (subst (λ v. r' v ≡ false) (sym e) gone)) ∙ k.ready_waits u (back u h);
+        ready_after = λ u p h c. mark_kept exists t p lt (k.ready_after u p (back u h) c);
         waits_known = λ p u h. k.waits_known p u (row_emptied w t p u ltw h).1;
         waits_after = λ p u h. k.waits_after p u (row_emptied w t p u ltw h).1;
         loose_known = λ u l. k.waits_known t u l;
-        loose_waits = λ u l. mark_other stands t u (other u l) ∙ elim (cases_Bool (stands_in stands u)) [
+        loose_waits = λ u l. mark_other exists t u (other u l) ∙ elim (cases_Bool (exists_in exists u)) [
           | inl s ↦ not_both (k.closed u t s (k.waits_after t u l)) (k.ready_waits t is)
           | inr m ↦ m
         ];
         somewhere = λ u known h.
             let n = not_t u h in
-            elim (k.somewhere u known (sym (mark_other stands t u n) ∙ h)) [
+            elim (k.somewhere u known (sym (mark_other exists t u n) ∙ h)) [
               | inl l ↦ absurd (empty u l)
               | inr (inl g) ↦ elim (split u g) [ inl e ↦ absurd (n e) | inr g' ↦ inr (inl g') ]
               | inr (inr q) ↦ elim (cases_eq q.0 t) [
                 | inl e ↦ inl (subst (λ v. Contains (row w v) u) e q.3)
-                | inr np ↦ inr (inr (q.0, q.1, mark_other stands t q.0 np ∙ q.2, subst (λ xs. Contains xs u) (sym (get_or-set_other w t q.0 [] [] np)) q.3))
+                | inr np ↦ inr (inr (q.0, q.1, mark_other exists t q.0 np ∙ q.2, subst (λ xs. Contains xs u) (sym (get_or-set_other w t q.0 [] [] np)) q.3))
               ]
             ];
       }
 
 -- ---- Nothing is ready
 
-pub is_whole : (after : List (List ℕ)) (stands : List Bool) (w : List (List ℕ)) (r : ℕ → Bool) (order : List ℕ) (none : ℕ → Type 0) → Keeps after stands w r order none
+pub is_whole : (after : List (List ℕ)) (exists : List Bool) (w : List (List ℕ)) (r : ℕ → Bool) (order : List ℕ) (none : ℕ → Type 0) → Keeps after exists w r order none
     → ((u : ℕ) → none u → ⊥) → ((u : ℕ) → r u ≡ true → ⊥) → (u : ℕ) → u < length after → (Contains order u → ⊥) → IsReady after order u → ⊥
-is_whole after stands w r order none k empty no_ready u known absent ready = elim (cases_Bool (stands_in stands u)) [
-  | inl s ↦ absent (k.standing u s)
+is_whole after exists w r order none k empty no_ready u known absent ready = elim (cases_Bool (exists_in exists u)) [
+  | inl s ↦ absent (k.existing u s)
   | inr m ↦ elim (k.somewhere u known m) [
     | inl l ↦ empty u l
     | inr (inl g) ↦ no_ready u g
@@ -208,7 +208,7 @@ row_more (x ∷ ws) (suc k) h = row_more ws k (λ j. h (suc j))
 
 -- ---- How many are not placed yet
 
-pub fewer : (stands : List Bool) (t : ℕ) → t < length stands → stands_in stands t ≡ false → missing (set stands t true) < missing stands
+pub fewer : (exists : List Bool) (t : ℕ) → t < length exists → exists_in exists t ≡ false → missing (set exists t true) < missing exists
 fewer [] t lt h = absurd (omega (arith, lt))
 fewer (true ∷ bs) zero lt h = not_both refl h
 fewer (false ∷ bs) zero lt h = omega arith
@@ -237,13 +237,13 @@ was_there false c d e h = sym e ∙ h
 
 -- ---- Loose tasks, in other words
 
-pub loosen : (after : List (List ℕ)) (stands : List Bool) (w : List (List ℕ)) (r : ℕ → Bool) (order : List ℕ) (loose loose' : ℕ → Type 0)
-    → Keeps after stands w r order loose → ((u : ℕ) → loose u → loose' u) → ((u : ℕ) → loose' u → loose u) → Keeps after stands w r order loose'
-loosen after stands w r order loose loose' k on back = record {
+pub loosen : (after : List (List ℕ)) (exists : List Bool) (w : List (List ℕ)) (r : ℕ → Bool) (order : List ℕ) (loose loose' : ℕ → Type 0)
+    → Keeps after exists w r order loose → ((u : ℕ) → loose u → loose' u) → ((u : ℕ) → loose' u → loose u) → Keeps after exists w r order loose'
+loosen after exists w r order loose loose' k on back = record {
   marks = k.marks;
   places = k.places;
   marked = k.marked;
-  standing = k.standing;
+  existing = k.existing;
   closed = k.closed;
   ready_known = k.ready_known;
   ready_waits = k.ready_waits;

@@ -81,8 +81,8 @@ equal_of Greater e = absurd (let f : Greater ≡ Less = e in cc)
 none_in : (k : ℕ) → Contains [] k → ⊥
 none_in k c = omega (arith, c.1)
 
-texts_apart : (t : List ℕ) → is_lt (byte_order t t) ≡ false
-texts_apart t = ap is_lt (equal_of (byte_order t t) (nat_list_cmp_total.antisymm t t))
+texts_distinct : (t : List ℕ) → is_lt (byte_order t t) ≡ false
+texts_distinct t = ap is_lt (equal_of (byte_order t t) (nat_list_cmp_total.antisymm t t))
 
 -- one more task comes before those so far, if there are any
 pub task_lesser : (tasks : List Planned) (numbers : List ℕ) (i k : ℕ) → i < length numbers → k ≡ get_or numbers i k → (least : Option ℕ)
@@ -92,14 +92,14 @@ task_lesser tasks numbers i k lt is None none first = record {
   is_in = (take_grows numbers i k k lt is).1 (inr refl);
   least = λ other c. elim ((take_grows numbers i k other lt is).0 c) [
     | inl before ↦ absurd (none_in other (subst (λ ks. Contains ks other) none before))
-    | inr e ↦ ap (λ n. is_lt (byte_order (path_at tasks n) (path_at tasks k))) (sym e) ∙ texts_apart (path_at tasks k)
+    | inr e ↦ ap (λ n. is_lt (byte_order (path_at tasks n) (path_at tasks k))) (sym e) ∙ texts_distinct (path_at tasks k)
   ];
 }
 task_lesser tasks numbers i k lt is (Some least) reported first = record {
   is_in = (take_grows numbers i k k lt is).1 (inr refl);
   least = λ other c. elim ((take_grows numbers i k other lt is).0 c) [
     | inl before ↦ texts_weak.chain (path_at tasks other) (path_at tasks least) (path_at tasks k) (reported.least other before) (texts_weak.one_way (path_at tasks k) (path_at tasks least) (sym first))
-    | inr e ↦ ap (λ n. is_lt (byte_order (path_at tasks n) (path_at tasks k))) (sym e) ∙ texts_apart (path_at tasks k)
+    | inr e ↦ ap (λ n. is_lt (byte_order (path_at tasks n) (path_at tasks k))) (sym e) ∙ texts_distinct (path_at tasks k)
   ];
 }
 
@@ -118,10 +118,10 @@ task_passed tasks numbers i k lt is (Some least) reported first = record {
 
 -- ---- The conflicts of one place
 
-apart_by : (o u v : Ordering) → o ≡ Equal → v ≡ Equal → is_lt u ≡ false → is_lt (ordering_then o (ordering_then u v)) ≡ false
-apart_by o Less v e f h = absurd (false≢true (sym h))
-apart_by o Equal v e f h = ap (λ w. is_lt (ordering_then w v)) e ∙ ap is_lt f
-apart_by o Greater v e f h = ap (λ w. is_lt (ordering_then w Greater)) e
+separate_by : (o u v : Ordering) → o ≡ Equal → v ≡ Equal → is_lt u ≡ false → is_lt (ordering_then o (ordering_then u v)) ≡ false
+separate_by o Less v e f h = absurd (false≢true (sym h))
+separate_by o Equal v e f h = ap (λ w. is_lt (ordering_then w v)) e ∙ ap is_lt f
+separate_by o Greater v e f h = ap (λ w. is_lt (ordering_then w Greater)) e
 
 same_text : (a b : List ℕ) → a ≡ b → byte_order a b ≡ Equal
 same_text a b e = ap (λ t. byte_order t b) e ∙ equal_of (byte_order b b) (nat_list_cmp_total.antisymm b b)
@@ -132,7 +132,7 @@ pub least_there : (tasks : List Planned) (places : List TaskPlace) (at : TaskPla
 least_there tasks places at others met is_task is_place h = record {
   meets = record { other = met.other; other_in = h.is_in; is_task = ap (path_at tasks) is_task; is_other = refl; is_place = is_place };
   least = λ m there.
-      apart_by (byte_order m.task (path_at tasks met.task)) (byte_order m.other (path_at tasks met.other)) (byte_order m.place (place_at places met.place))
+      separate_by (byte_order m.task (path_at tasks met.task)) (byte_order m.other (path_at tasks met.other)) (byte_order m.place (place_at places met.place))
       (same_text m.task (path_at tasks met.task) (there.is_task ∙ ap (path_at tasks) (sym is_task)))
       (same_text m.place (place_at places met.place) (there.is_place ∙ sym is_place))
       (ap (λ p. is_lt (byte_order p (path_at tasks met.other))) there.is_other ∙ h.least there.other there.other_in);

@@ -181,9 +181,9 @@ none_again f words word none fresh = elim (has_path words word) as (λ b. has_pa
   | false ↦ λ e. fresh e
 ] refl
   where
-    empty_front : {X : Type 0} (xs ys : List X) → xs ++ ys ≡ [] → xs ≡ []
-    empty_front [] ys e = refl
-    empty_front (x ∷ xs) ys e = absurd (let long = ap length e in omega (arith, long))
+    empty_prefix : {X : Type 0} (xs ys : List X) → xs ++ ys ≡ [] → xs ≡ []
+    empty_prefix [] ys e = refl
+    empty_prefix (x ∷ xs) ys e = absurd (let long = ap length e in omega (arith, long))
 
     empty_back : {X : Type 0} (xs ys : List X) → xs ++ ys ≡ [] → ys ≡ []
     empty_back [] ys e = e
@@ -192,5 +192,5 @@ none_again f words word none fresh = elim (has_path words word) as (λ b. has_pa
     among : (ws : List Text) → flat_map f ws ≡ [] → has_path ws word ≡ true → f word ≡ []
     among [] e h = not_true h
     among (w ∷ ws) e h = split_or (bytes_eq word w) (has_path ws word) h
-        (λ k. ap f ((bytes_decides word w).0 k) ∙ empty_front (f w) (flat_map f ws) e)
+        (λ k. ap f ((bytes_decides word w).0 k) ∙ empty_prefix (f w) (flat_map f ws) e)
         (λ k. among ws (empty_back (f w) (flat_map f ws) e) k)

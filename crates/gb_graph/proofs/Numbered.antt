@@ -21,7 +21,7 @@ use Rattle.gb_graph.proofs.Numbers.{in_of, of_in, both}
 use Rattle.gb_graph.specs.declared.met.Search.TheVariants.{Overlaps, OwnInputs, Undeclared}
 use Rattle.gb_graph.specs.declared.places.TaskPlace.{TaskPlace}
 use Rattle.gb_graph.specs.Places.{AreSamePlaces, with_places, places_from}
-use Rattle.gb_graph.specs.Conflicts.{IsMet, TellChains}
+use Rattle.gb_graph.specs.Conflicts.{IsMet, GiveChains}
 use Rattle.gb_graph.proofs.Bridges.{At, at_in, in_at, at_get, at_map, of_at_map, parted, around, any_in, some_in, of_row, into_row, into_placed, outputs_mapped}
 use Rattle.gb_graph.proofs.Planned.{one_path}
 
@@ -98,9 +98,9 @@ module _ (plan : Plan) (once : no_repeats (order plan) ≡ true) where
         let parts = parted (outputs_of plan) at.number (path_at plan at.task, at.place) here in
         let is : (path_at plan at.task, at.place) ≡ (m.task, m.place) = λ i. (sym met.is_task i, sym met.is_place i) in
         record {
-          front = parts.0;
+          prefix = parts.0;
           back = parts.1;
-          stands = parts.2 ∙ ap (λ (o : Path × Place). parts.0 ++ o ∷ parts.1) is;
+          exists = parts.2 ∙ ap (λ (o : Path × Place). parts.0 ++ o ∷ parts.1) is;
           overlapped =
               any_in (λ (o : Path × Place). bytes_eq o.0 m.other && overlaps m.place o.1) (parts.0 ++ parts.1) (path_at plan output.task, output.place)
               (parts.3 output.number (path_at plan output.task, output.place) there (differ at.number output.number met.met.counted))
@@ -111,11 +111,11 @@ module _ (plan : Plan) (once : no_repeats (order plan) ≡ true) where
 
     pub of_overlap : (chains : List (List ℕ)) (m : Conflict) → IsOverlap plan m → IsMet Overlaps chains plan outputs outputs m
     of_overlap chains m h =
-        let some = some_in (λ (o : Path × Place). bytes_eq o.0 m.other && overlaps m.place o.1) (h.front ++ h.back) h.overlapped in
+        let some = some_in (λ (o : Path × Place). bytes_eq o.0 m.other && overlaps m.place o.1) (h.prefix ++ h.back) h.overlapped in
         let y = some.0 in
-        let two = around h.front h.back (m.task, m.place) y some.1 in
-        let at = into_out two.0 (m.task, m.place) (subst (λ (os : List (Path × Place)). At os two.0 (m.task, m.place)) (sym h.stands) two.2) in
-        let output = into_out two.1 y (subst (λ (os : List (Path × Place)). At os two.1 y) (sym h.stands) two.3) in
+        let two = around h.prefix h.back (m.task, m.place) y some.1 in
+        let at = into_out two.0 (m.task, m.place) (subst (λ (os : List (Path × Place)). At os two.0 (m.task, m.place)) (sym h.exists) two.2) in
+        let output = into_out two.1 y (subst (λ (os : List (Path × Place)). At os two.1 y) (sym h.exists) two.3) in
         record {
           at = at.0;
           at_in = at.1;
@@ -214,14 +214,14 @@ module _ (plan : Plan) (once : no_repeats (order plan) ≡ true) where
             is_place = sym read.7;
           }
 
-      module _ (chains : List (List ℕ)) (reported : TellChains plan chains) where
+      module _ (chains : List (List ℕ)) (reported : GiveChains plan chains) where
         pub chain : (t b : ℕ) (z w : Planned) → At plan t z → At plan b w → (bit_in (row chains t) b ≡ 1) ↔ IsAfter plan z.task w.task.path
         chain t b z w at bt =
-            let tell = reported t b z (low_of t z at) (low_of b w bt) in
+            let report = reported t b z (low_of t z at) (low_of b w bt) in
             let is : get_or plan t z ≡ z = (at_get plan t z z at).1 in
             let path = path_of b w bt in (
-              λ h. subst (λ p. IsAfter plan z.task p) path (subst (λ (y : Planned). IsAfter plan y.task (path_at plan b)) is (tell.0 h)),
-              λ h. tell.1 (subst (λ (y : Planned). IsAfter plan y.task (path_at plan b)) (sym is) (subst (λ p. IsAfter plan z.task p) (sym path) h)),
+              λ h. subst (λ p. IsAfter plan z.task p) path (subst (λ (y : Planned). IsAfter plan y.task (path_at plan b)) is (report.0 h)),
+              λ h. report.1 (subst (λ (y : Planned). IsAfter plan y.task (path_at plan b)) (sym is) (subst (λ p. IsAfter plan z.task p) (sym path) h)),
             )
 
         pub to_undeclared : (m : Conflict) → IsMet Undeclared chains plan outputs roots m → IsUndeclared plan m

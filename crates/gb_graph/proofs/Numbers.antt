@@ -10,7 +10,7 @@ use Rattle.gb_plan.specs.Task.{Path, has_path}
 use Rattle.gb_plan.proofs.Tests.{not_true, not_false, or_right}
 use Rattle.gb_plan.proofs.Same.{In}
 use Rattle.gb_graph.specs.Order.{IsNext, InOrder, begins, goes_on}
-use Rattle.gb_graph.specs.Ranked.{AreApart}
+use Rattle.gb_graph.specs.Ranked.{AreDistinct}
 
 -- ---- Of three
 
@@ -49,10 +49,10 @@ of_in x [] i = absurd i
 of_in x (y ∷ ys) (inl e) = (0, omega arith, sym e)
 of_in x (y ∷ ys) (inr i) = let c = of_in x ys i in (suc c.0, omega (arith, c.1), c.2)
 
-pub in_front : {X : Type 0} (z : X) (xs ys : List X) → In z xs → In z (xs ++ ys)
-in_front z [] ys i = absurd i
-in_front z (x ∷ xs) ys (inl e) = inl e
-in_front z (x ∷ xs) ys (inr i) = inr (in_front z xs ys i)
+pub in_prefix : {X : Type 0} (z : X) (xs ys : List X) → In z xs → In z (xs ++ ys)
+in_prefix z [] ys i = absurd i
+in_prefix z (x ∷ xs) ys (inl e) = inl e
+in_prefix z (x ∷ xs) ys (inr i) = inr (in_prefix z xs ys i)
 
 pub in_back : {X : Type 0} (z : X) (xs ys : List X) → In z ys → In z (xs ++ ys)
 in_back z [] ys i = i
@@ -67,9 +67,9 @@ pub among : (k : ℕ) (ks : List ℕ) → In k ks ⊎ ¬ In k ks
 among k [] = inr (λ i. i)
 among k (j ∷ js) = elim (cases_eq k j) [
   | inl e ↦ inl (inl e)
-  | inr apart ↦ elim (among k js) [
+  | inr separate ↦ elim (among k js) [
     | inl i ↦ inl (inr i)
-    | inr lacks ↦ inr (λ i. elim i [ inl e ↦ apart e | inr later ↦ lacks later ])
+    | inr lacks ↦ inr (λ i. elim i [ inl e ↦ separate e | inr later ↦ lacks later ])
   ]
 ]
 
@@ -108,24 +108,24 @@ of_mapped path (j ∷ js) p h =
 
 -- ---- Numbers that occur once
 
-pub apart_parts : (xs ys : List ℕ) → AreApart (xs ++ ys) → (k : ℕ) → In k xs → In k ys → ⊥
-apart_parts [] ys apart k i j = i
-apart_parts (x ∷ xs) ys apart k (inl e) j = apart.0 (of_in x (xs ++ ys) (in_back x xs ys (subst (λ v. In v ys) e j)))
-apart_parts (x ∷ xs) ys apart k (inr i) j = apart_parts xs ys apart.1 k i j
+pub separate_parts : (xs ys : List ℕ) → AreDistinct (xs ++ ys) → (k : ℕ) → In k xs → In k ys → ⊥
+separate_parts [] ys separate k i j = i
+separate_parts (x ∷ xs) ys separate k (inl e) j = separate.0 (of_in x (xs ++ ys) (in_back x xs ys (subst (λ v. In v ys) e j)))
+separate_parts (x ∷ xs) ys separate k (inr i) j = separate_parts xs ys separate.1 k i j
 
-pub apart_both : (xs ys : List ℕ) → AreApart xs → AreApart ys → ((k : ℕ) → In k xs → In k ys → ⊥) → AreApart (xs ++ ys)
-apart_both [] ys a b h = b
-apart_both (x ∷ xs) ys a b h = (
+pub separate_both : (xs ys : List ℕ) → AreDistinct xs → AreDistinct ys → ((k : ℕ) → In k xs → In k ys → ⊥) → AreDistinct (xs ++ ys)
+separate_both [] ys a b h = b
+separate_both (x ∷ xs) ys a b h = (
   λ c. elim (in_either x xs ys (in_of (xs ++ ys) x c)) [ inl i ↦ a.0 (of_in x xs i) | inr j ↦ h x (inl refl) j ],
-  apart_both xs ys a.1 b (λ k i j. h k (inr i) j),
+  separate_both xs ys a.1 b (λ k i j. h k (inr i) j),
 )
 
-pub apart_push : (xs : List ℕ) (x : ℕ) → AreApart xs → ¬ Contains xs x → AreApart (xs ++ x ∷ [])
-apart_push xs x a lacks = apart_both xs (x ∷ []) a (λ c. omega (arith, c.1), tt) (λ k i j. elim j [ inl e ↦ lacks (of_in x xs (subst (λ v. In v xs) e i)) | inr f ↦ f ])
+pub separate_push : (xs : List ℕ) (x : ℕ) → AreDistinct xs → ¬ Contains xs x → AreDistinct (xs ++ x ∷ [])
+separate_push xs x a lacks = separate_both xs (x ∷ []) a (λ c. omega (arith, c.1), tt) (λ k i j. elim j [ inl e ↦ lacks (of_in x xs (subst (λ v. In v xs) e i)) | inr f ↦ f ])
 
-pub in_order_apart : (table : List (List ℕ)) (numbers : List ℕ) → InOrder table numbers → AreApart numbers
-in_order_apart table numbers begins = tt
-in_order_apart table numbers (goes_on {standing = standing} {task = task} order next) = apart_push standing task (in_order_apart table standing order) next.waits
+pub in_order_separate : (table : List (List ℕ)) (numbers : List ℕ) → InOrder table numbers → AreDistinct numbers
+in_order_separate table numbers begins = tt
+in_order_separate table numbers (goes_on {existing = existing} {task = task} order next) = separate_push existing task (in_order_separate table existing order) next.waits
 
 -- ---- Each of an order is the next one
 
@@ -135,27 +135,27 @@ same_head x y xs ys e = ap (λ l. get_or l 0 0) e
 pub same_tail : (x y : ℕ) (xs ys : List ℕ) → x ∷ xs ≡ y ∷ ys → xs ≡ ys
 same_tail x y xs ys e = ap (λ l. drop 1 l) e
 
-pub not_nil : {A : Type 0} (front : List ℕ) (t : ℕ) (back : List ℕ) → [] ≡ front ++ t ∷ back → A
+pub not_nil : {A : Type 0} (prefix : List ℕ) (t : ℕ) (back : List ℕ) → [] ≡ prefix ++ t ∷ back → A
 not_nil [] t back e = not_false (ap is_empty e)
-not_nil (x ∷ front) t back e = not_false (ap is_empty e)
+not_nil (x ∷ prefix) t back e = not_false (ap is_empty e)
 
-last_split : (xs : List ℕ) (x : ℕ) (front : List ℕ) (t : ℕ) (back : List ℕ) → xs ++ x ∷ [] ≡ front ++ t ∷ back
-    → ((front ≡ xs) × (t ≡ x)) ⊎ ((more : List ℕ) × (xs ≡ front ++ t ∷ more))
+last_split : (xs : List ℕ) (x : ℕ) (prefix : List ℕ) (t : ℕ) (back : List ℕ) → xs ++ x ∷ [] ≡ prefix ++ t ∷ back
+    → ((prefix ≡ xs) × (t ≡ x)) ⊎ ((more : List ℕ) × (xs ≡ prefix ++ t ∷ more))
 last_split [] x [] t back e = inl (refl, sym (same_head x t [] back e))
-last_split [] x (f ∷ front) t back e = not_nil front t back (same_tail x f [] (front ++ t ∷ back) e)
+last_split [] x (f ∷ prefix) t back e = not_nil prefix t back (same_tail x f [] (prefix ++ t ∷ back) e)
 last_split (y ∷ ys) x [] t back e = inr (ys, ap (λ h. h ∷ ys) (same_head y t (ys ++ x ∷ []) back e))
-last_split (y ∷ ys) x (f ∷ front) t back e =
-    let head = same_head y f (ys ++ x ∷ []) (front ++ t ∷ back) e in
-    elim (last_split ys x front t back (same_tail y f (ys ++ x ∷ []) (front ++ t ∷ back) e)) [
+last_split (y ∷ ys) x (f ∷ prefix) t back e =
+    let head = same_head y f (ys ++ x ∷ []) (prefix ++ t ∷ back) e in
+    elim (last_split ys x prefix t back (same_tail y f (ys ++ x ∷ []) (prefix ++ t ∷ back) e)) [
       | inl same ↦ inl (λ i. sym head i ∷ same.0 i, same.1)
       | inr more ↦ inr (more.0, λ i. head i ∷ more.1 i)
     ]
 
-pub next_at : (table : List (List ℕ)) (numbers : List ℕ) → InOrder table numbers → (front : List ℕ) (t : ℕ) (back : List ℕ) → numbers ≡ front ++ t ∷ back → IsNext table front t
-next_at table numbers begins front t back e = not_nil front t back e
-next_at table numbers (goes_on {standing = standing} {task = task} order next) front t back e = elim (last_split standing task front t back e) [
-  | inl same ↦ subst (λ fs. IsNext table fs t) (sym same.0) (subst (λ k. IsNext table standing k) (sym same.1) next)
-  | inr more ↦ next_at table standing order front t more.0 more.1
+pub next_at : (table : List (List ℕ)) (numbers : List ℕ) → InOrder table numbers → (prefix : List ℕ) (t : ℕ) (back : List ℕ) → numbers ≡ prefix ++ t ∷ back → IsNext table prefix t
+next_at table numbers begins prefix t back e = not_nil prefix t back e
+next_at table numbers (goes_on {existing = existing} {task = task} order next) prefix t back e = elim (last_split existing task prefix t back e) [
+  | inl same ↦ subst (λ fs. IsNext table fs t) (sym same.0) (subst (λ k. IsNext table existing k) (sym same.1) next)
+  | inr more ↦ next_at table existing order prefix t more.0 more.1
 ]
 
 pub grouped : {X : Type 0} (xs : List X) (x : X) (ys : List X) → xs ++ x ∷ ys ≡ (xs ++ x ∷ []) ++ ys
@@ -167,10 +167,10 @@ regrouped [] x ys zs = refl
 regrouped (w ∷ xs) x ys zs = ap (λ v. w ∷ v) (regrouped xs x ys zs)
 
 -- the element at an index does not occur before it
-pub apart_take : (xs : List ℕ) (i d : ℕ) → AreApart xs → i < length xs → ¬ Contains (take i xs) (get_or xs i d)
-apart_take [] i d apart lt c = omega (arith, lt)
-apart_take (x ∷ xs) zero d apart lt c = omega (arith, c.1)
-apart_take (x ∷ xs) (suc i) d apart lt c = elim (in_of (x ∷ take i xs) (get_or xs i d) c) [
-  | inl e ↦ apart.0 (subst (λ v. Contains xs v) e (Contains-get_or xs i d (omega (arith, lt))))
-  | inr j ↦ apart_take xs i d apart.1 (omega (arith, lt)) (of_in (get_or xs i d) (take i xs) j)
+pub separate_take : (xs : List ℕ) (i d : ℕ) → AreDistinct xs → i < length xs → ¬ Contains (take i xs) (get_or xs i d)
+separate_take [] i d separate lt c = omega (arith, lt)
+separate_take (x ∷ xs) zero d separate lt c = omega (arith, c.1)
+separate_take (x ∷ xs) (suc i) d separate lt c = elim (in_of (x ∷ take i xs) (get_or xs i d) c) [
+  | inl e ↦ separate.0 (subst (λ v. Contains xs v) e (Contains-get_or xs i d (omega (arith, lt))))
+  | inr j ↦ separate_take xs i d separate.1 (omega (arith, lt)) (of_in (get_or xs i d) (take i xs) j)
 ]

@@ -13,10 +13,10 @@ use Rattle.gb_plan.proofs.Tests.{not_true, at_member}
 use Rattle.gb_plan.proofs.Chains.{ready_here, stuck_rest}
 use Rattle.gb_plan.proofs.Same.{In}
 use Rattle.gb_graph.specs.Order.{row}
-use Rattle.gb_graph.specs.Ranked.{TellAfter}
+use Rattle.gb_graph.specs.Ranked.{GiveAfter}
 use Rattle.gb_graph.specs.Chains as chains
 use Rattle.gb_graph.specs.Chains.{bit_in}
-use Rattle.gb_graph.specs.Conflicts.{TellChains}
+use Rattle.gb_graph.specs.Conflicts.{GiveChains}
 use Rattle.gb_graph.specs.Circle.{path_at}
 use Rattle.gb_graph.proofs.Edges.{one_number, at_path}
 use Rattle.gb_graph.proofs.Firsts.{element}
@@ -27,23 +27,23 @@ use Rattle.gb_graph.proofs.Numbers.{in_of}
 
 -- the elements before an index
 abbrev pub before_at : List Planned → ℕ → List Path → List Path
-before_at [] i standing = standing
-before_at (z ∷ zs) zero standing = standing
-before_at (z ∷ zs) (suc i) standing = before_at zs i (standing ++ z.task.path ∷ [])
+before_at [] i existing = existing
+before_at (z ∷ zs) zero existing = existing
+before_at (z ∷ zs) (suc i) existing = before_at zs i (existing ++ z.task.path ∷ [])
 
 -- each is ready when those before it are placed
-ready_at : (plan : Plan) (standing : List Path) (zs : List Planned) (i : ℕ) (d : Planned) → stuck plan standing zs ≡ [] → i < length zs
-    → is_ready plan (before_at zs i standing) (get_or zs i d).task ≡ true
-ready_at plan standing [] i d none lt = absurd (omega (arith, lt))
-ready_at plan standing (z ∷ zs) zero d none lt = ready_here plan standing z zs none
-ready_at plan standing (z ∷ zs) (suc i) d none lt = ready_at plan (standing ++ z.task.path ∷ []) zs i d (stuck_rest plan standing z zs none) (omega (arith, lt))
+ready_at : (plan : Plan) (existing : List Path) (zs : List Planned) (i : ℕ) (d : Planned) → stuck plan existing zs ≡ [] → i < length zs
+    → is_ready plan (before_at zs i existing) (get_or zs i d).task ≡ true
+ready_at plan existing [] i d none lt = absurd (omega (arith, lt))
+ready_at plan existing (z ∷ zs) zero d none lt = ready_here plan existing z zs none
+ready_at plan existing (z ∷ zs) (suc i) d none lt = ready_at plan (existing ++ z.task.path ∷ []) zs i d (stuck_rest plan existing z zs none) (omega (arith, lt))
 
-of_before : (zs : List Planned) (i : ℕ) (standing : List Path) (p : Path) → has_path (before_at zs i standing) p ≡ true
-    → (has_path standing p ≡ true) ⊎ ((j : ℕ) × (j < i) × (j < length zs) × (get_or (order zs) j [] ≡ p))
-of_before [] i standing p h = inl h
-of_before (z ∷ zs) zero standing p h = inl h
-of_before (z ∷ zs) (suc i) standing p h = elim (of_before zs i (standing ++ z.task.path ∷ []) p h) [
-  | inl o ↦ split_or (has_path standing p) (bytes_eq p z.task.path) (sym (has_push standing z.task.path p) ∙ o)
+of_before : (zs : List Planned) (i : ℕ) (existing : List Path) (p : Path) → has_path (before_at zs i existing) p ≡ true
+    → (has_path existing p ≡ true) ⊎ ((j : ℕ) × (j < i) × (j < length zs) × (get_or (order zs) j [] ≡ p))
+of_before [] i existing p h = inl h
+of_before (z ∷ zs) zero existing p h = inl h
+of_before (z ∷ zs) (suc i) existing p h = elim (of_before zs i (existing ++ z.task.path ∷ []) p h) [
+  | inl o ↦ split_or (has_path existing p) (bytes_eq p z.task.path) (sym (has_push existing z.task.path p) ∙ o)
       (λ e. inl e)
       (λ e. inr (0, omega arith, omega arith, sym ((bytes_decides p z.task.path).0 e)))
   | inr at ↦ inr (suc at.0, omega (arith, at.1), omega (arith, at.2), at.3)
@@ -62,7 +62,7 @@ module _ (plan : Plan) (once : no_repeats (order plan) ≡ true) where
   pub one_path : (i j : ℕ) → i < length plan → j < length plan → path_at plan i ≡ path_at plan j → i ≡ j
   one_path i j li lj e = one_number (order plan) once i j (omega (arith, li, same_length)) (omega (arith, lj, same_length)) e
 
-  module _ (table : List (List ℕ)) (reported : TellAfter plan table) where
+  module _ (table : List (List ℕ)) (reported : GiveAfter plan table) where
     -- the tasks that a task comes after are before it, where all get ready
     pub lower : stuck plan [] plan ≡ [] → (t b : ℕ) → Contains (row table t) b → b < t
     lower none t b c =
@@ -70,9 +70,9 @@ module _ (plan : Plan) (once : no_repeats (order plan) ≡ true) where
         let d = (element plan t known.0).0 in
         let z = get_or plan t d in
         let y = get_or plan b d in
-        let stands = at_member (has_path (before_at plan t [])) (after plan z.task) y.task.path (ready_at plan [] plan t d none known.0)
+        let exists = at_member (has_path (before_at plan t [])) (after plan z.task) y.task.path (ready_at plan [] plan t d none known.0)
         (after_so plan z y (in_plan d b known.1) ((reported.reported t b d).0 c).2) in
-        elim (of_before plan t [] y.task.path stands) [
+        elim (of_before plan t [] y.task.path exists) [
           | inl no_more ↦ not_true no_more
           | inr at ↦ (let same = one_path at.0 b at.2 known.1 (at.3 ∙ sym (path_is d b known.1)) in omega (arith, at.1, same))
         ]
@@ -114,7 +114,7 @@ module _ (plan : Plan) (once : no_repeats (order plan) ≡ true) where
         subst (chains.IsAfter table t) (one_path at.0 b at.2 low at.1) at.3
 
     pub chains_reported : (numbers : List ℕ) → ((t : ℕ) → t < length table → Contains numbers t) → (found : List (List ℕ))
-        → ((t b : ℕ) → Contains numbers t → (bit_in (row found t) b ≡ 1) ↔ chains.IsAfter table t b) → TellChains plan found
+        → ((t b : ℕ) → Contains numbers t → (bit_in (row found t) b ≡ 1) ↔ chains.IsAfter table t b) → GiveChains plan found
     chains_reported numbers all found bits t b d lt low =
         let bit = bits t b (all t (omega (arith, lt, reported.each))) in
         (λ h. to_path d t b (bit.0 h), λ h. bit.1 (of_path d t b lt low h))

@@ -26,9 +26,9 @@ err_so {X} {E} P r y z is same holds = subst (λ (v : Result X E). IfErr v P) (s
 
 -- ---- The first of several
 
-pub first_front : {X : Type 0} (xs ys : List X) (x : X) → first_of xs ≡ Some x → first_of (xs ++ ys) ≡ Some x
-first_front [] ys x e = absurd (let f : None ≡ Some x = e in cc)
-first_front (y ∷ xs) ys x e = e
+pub first_prefix : {X : Type 0} (xs ys : List X) (x : X) → first_of xs ≡ Some x → first_of (xs ++ ys) ≡ Some x
+first_prefix [] ys x e = absurd (let f : None ≡ Some x = e in cc)
+first_prefix (y ∷ xs) ys x e = e
 
 pub first_back : {X : Type 0} (xs ys : List X) (x : X) → xs ≡ [] → first_of ys ≡ Some x → first_of (xs ++ ys) ≡ Some x
 first_back xs ys x none e = ap (λ v. first_of (v ++ ys)) none ∙ e
@@ -40,7 +40,7 @@ first_at f xs i x y lt is none e =
     ap (λ v. first_of (flat_map f v)) (sym (take-append-drop i xs))
     ∙ ap first_of (flat_map-append f (take i xs) (drop i xs))
     ∙ first_back (flat_map f (take i xs)) (flat_map f (drop i xs)) y none
-    (ap (λ v. first_of (flat_map f v)) (drop-cons xs i x lt ∙ ap (λ v. v ∷ drop (suc i) xs) (sym is)) ∙ first_front (f x) (flat_map f (drop (suc i) xs)) y e)
+    (ap (λ v. first_of (flat_map f v)) (drop-cons xs i x lt ∙ ap (λ v. v ∷ drop (suc i) xs) (sym is)) ∙ first_prefix (f x) (flat_map f (drop (suc i) xs)) y e)
 
 -- one more of a list
 pub flat_more : {X Y : Type 0} (f : X → List Y) (xs : List X) (i : ℕ) (x : X) → i < length xs → x ≡ get_or xs i x → flat_map f (take (i + 1) xs) ≡ flat_map f (take i xs) ++ f x
@@ -103,7 +103,7 @@ module _ (registry : Registry) (requested excluded : List Text) where
       none = ap first_of (flat_map-append (word_faults registry) words excluded ∙ (λ i. f i ++ g i))
 
   pub requested_fault : (fault : Fault) → is_empty words ≡ false → first_of (faults_of words) ≡ Some fault → request_of registry requested excluded ≡ Err fault
-  requested_fault fault e f = asked_fault fault e (ap first_of (flat_map-append (word_faults registry) words excluded) ∙ first_front (faults_of words) (faults_of excluded) fault f)
+  requested_fault fault e f = asked_fault fault e (ap first_of (flat_map-append (word_faults registry) words excluded) ∙ first_prefix (faults_of words) (faults_of excluded) fault f)
 
   pub excluded_fault : (fault : Fault) → is_empty words ≡ false → faults_of words ≡ [] → first_of (faults_of excluded) ≡ Some fault → request_of registry requested excluded ≡ Err fault
   excluded_fault fault e f g = asked_fault fault e (ap first_of (flat_map-append (word_faults registry) words excluded) ∙ first_back (faults_of words) (faults_of excluded) fault f g)

@@ -39,8 +39,8 @@ sorted_rising row sorted text i j le lt h =
     let y : Place = (get_or row j no_place).place in
     let at_i : place_at row i ≡ x = get_or-map (λ (at : TaskPlace). at.place) row i no_place [] (omega (arith, le, lt)) in
     let at_j : place_at row j ≡ y = get_or-map (λ (at : TaskPlace). at.place) row j no_place [] lt in
-    let apart : is_before y x ≡ false = first_decides (byte_order y x) (nat_cmp (get_or row j no_place).task (get_or row i no_place).task) (sorted_far places_before places_weak row sorted i j no_place le lt) in
+    let separate : is_before y x ≡ false = first_decides (byte_order y x) (nat_cmp (get_or row j no_place).task (get_or row i no_place).task) (sorted_far places_before places_weak row sorted i j no_place le lt) in
     elim (cases_Bool (is_before (place_at row i) text)) [
       | inl t ↦ t
-      | inr f ↦ not_both (ap (λ p. is_before p text) (sym at_j) ∙ h) (texts_weak.chain y x text apart (ap (λ p. is_before p text) (sym at_i) ∙ f))
+      | inr f ↦ not_both (ap (λ p. is_before p text) (sym at_j) ∙ h) (texts_weak.chain y x text separate (ap (λ p. is_before p text) (sym at_i) ∙ f))
     ]

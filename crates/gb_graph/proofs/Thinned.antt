@@ -15,16 +15,16 @@ use Rattle.gb_graph.specs.declared.met.Search.{Search}
 use Rattle.gb_graph.specs.declared.met.Search.TheVariants.{Overlaps, OwnInputs, Undeclared}
 use Rattle.gb_graph.specs.declared.places.TaskPlace.{TaskPlace}
 use Rattle.gb_graph.specs.Conflicts.{IsMet, counts}
-use Rattle.gb_graph.specs.Places.{AreSamePlaces, IsRising, IsSame, IsThinned, StandsTwice, is_before, place_at}
+use Rattle.gb_graph.specs.Places.{AreSamePlaces, IsRising, IsSame, IsThinned, OccursTwice, is_before, place_at}
 use Rattle.gb_graph.proofs.Numbered.{differ_so}
 
 -- ---- A row that is thinned, one place after another
 
 -- it is in the thinned row, or twice under other numbers
-abbrev pub Stands : List TaskPlace → TaskPlace → Type 0
-Stands thinned at = Contains thinned at ⊎ StandsTwice thinned at
+abbrev pub IsKept : List TaskPlace → TaskPlace → Type 0
+IsKept thinned at = Contains thinned at ⊎ OccursTwice thinned at
 
-twice_more : (thinned : List TaskPlace) (next at : TaskPlace) → StandsTwice thinned at → StandsTwice (thinned ++ next ∷ []) at
+twice_more : (thinned : List TaskPlace) (next at : TaskPlace) → OccursTwice thinned at → OccursTwice (thinned ++ next ∷ []) at
 twice_more thinned next at t = record {
   one = t.one;
   other = t.other;
@@ -35,9 +35,9 @@ twice_more thinned next at t = record {
   two = t.two;
 }
 
-pub stands_more : (thinned : List TaskPlace) (next at : TaskPlace) → Stands thinned at → Stands (thinned ++ next ∷ []) at
-stands_more thinned next at (inl c) = inl (Contains-append_left thinned (next ∷ []) at c)
-stands_more thinned next at (inr t) = inr (twice_more thinned next at t)
+pub exists_more : (thinned : List TaskPlace) (next at : TaskPlace) → IsKept thinned at → IsKept (thinned ++ next ∷ []) at
+exists_more thinned next at (inl c) = inl (Contains-append_left thinned (next ∷ []) at c)
+exists_more thinned next at (inr t) = inr (twice_more thinned next at t)
 
 -- what was left is what comes next, or comes later
 pub next_of : (next : TaskPlace) (rest whole : List TaskPlace) (at : TaskPlace) → whole ≡ next ∷ rest → Contains whole at → (at ≡ next) ⊎ Contains rest at
@@ -79,15 +79,15 @@ rising_without xs x ys rising text i j le lt before = elim (cases_order i j) [
 pub record IsSoFar (whole thinned rest : List TaskPlace) : Type 0 where
   pub within : (at : TaskPlace) → Contains thinned at → Contains whole at
   pub rest_in : (at : TaskPlace) → Contains rest at → Contains whole at
-  pub stands : (at : TaskPlace) → Contains whole at → Contains rest at ⊎ Stands thinned at
+  pub exists : (at : TaskPlace) → Contains whole at → Contains rest at ⊎ IsKept thinned at
   pub rising : IsRising whole → IsRising (thinned ++ rest)
 
-pub so_far_left : (whole thinned rest before : List TaskPlace) (next : TaskPlace) → before ≡ next ∷ rest → StandsTwice thinned next → IsSoFar whole thinned before → IsSoFar whole thinned rest
+pub so_far_left : (whole thinned rest before : List TaskPlace) (next : TaskPlace) → before ≡ next ∷ rest → OccursTwice thinned next → IsSoFar whole thinned before → IsSoFar whole thinned rest
 so_far_left whole thinned rest before next is twice old = record {
   within = old.within;
   rest_in = λ at c. old.rest_in at (later_in next rest before at is c);
-  stands = λ at c. elim (old.stands at c) [
-    | inl came ↦ elim (next_of next rest before at is came) [ inl e ↦ inr (inr (subst (StandsTwice thinned) (sym e) twice)) | inr later ↦ inl later ]
+  exists = λ at c. elim (old.exists at c) [
+    | inl came ↦ elim (next_of next rest before at is came) [ inl e ↦ inr (inr (subst (OccursTwice thinned) (sym e) twice)) | inr later ↦ inl later ]
     | inr s ↦ inr s
   ];
   rising = λ r. rising_without thinned next rest (subst (λ xs. IsRising (thinned ++ xs)) is (old.rising r));
@@ -97,9 +97,9 @@ pub so_far_kept : (whole thinned rest before : List TaskPlace) (next : TaskPlace
 so_far_kept whole thinned rest before next is old = record {
   within = λ at c. elim (Contains-push_cases thinned next at c) [ inl o ↦ old.within at o | inr e ↦ old.rest_in at (subst (Contains before) e (next_in next rest before is)) ];
   rest_in = λ at c. old.rest_in at (later_in next rest before at is c);
-  stands = λ at c. elim (old.stands at c) [
+  exists = λ at c. elim (old.exists at c) [
     | inl came ↦ elim (next_of next rest before at is came) [ inl e ↦ inr (inl (subst (Contains (thinned ++ next ∷ [])) (sym e) (Contains-push thinned next))) | inr later ↦ inl later ]
-    | inr s ↦ inr (stands_more thinned next at s)
+    | inr s ↦ inr (exists_more thinned next at s)
   ];
   rising = λ r. subst IsRising (sym (append_assoc thinned (next ∷ []) rest)) (subst (λ xs. IsRising (thinned ++ xs)) is (old.rising r));
 }
@@ -107,7 +107,7 @@ so_far_kept whole thinned rest before next is old = record {
 pub all_thinned : (whole thinned rest : List TaskPlace) → rest ≡ [] → IsSoFar whole thinned rest → IsThinned whole thinned
 all_thinned whole thinned rest none old = record {
   within = old.within;
-  stands = λ at c. elim (old.stands at c) [ inl came ↦ absurd (let left = subst (λ xs. Contains xs at) none came in omega (arith, left.1)) | inr s ↦ s ];
+  exists = λ at c. elim (old.exists at c) [ inl came ↦ absurd (let left = subst (λ xs. Contains xs at) none came in omega (arith, left.1)) | inr s ↦ s ];
 }
 
 pub all_rising : (whole thinned rest : List TaskPlace) → rest ≡ [] → IsSoFar whole thinned rest → IsRising whole → IsRising thinned
@@ -117,7 +117,7 @@ all_rising whole thinned rest none old r = subst IsRising (append-nil thinned) (
 pub thinned_same : (whole moved thinned : List TaskPlace) → AreSamePlaces whole moved → IsThinned moved thinned → IsThinned whole thinned
 thinned_same whole moved thinned same t = record {
   within = λ at c. (same at).0 (t.within at c);
-  stands = λ at c. t.stands at ((same at).1 c);
+  exists = λ at c. t.exists at ((same at).1 c);
 }
 
 -- ---- Conflicts
@@ -129,7 +129,7 @@ record Kept (thinned : List TaskPlace) (at : TaskPlace) : Type 0 where
   same : IsSame kept at
 
 kept_of : (whole thinned : List TaskPlace) → IsThinned whole thinned → (at : TaskPlace) → Contains whole at → Kept thinned at
-kept_of whole thinned t at c = elim (t.stands at c) [
+kept_of whole thinned t at c = elim (t.exists at c) [
   | inl h ↦ record { kept = at; kept_in = h; same = (refl, refl) }
   | inr two ↦ record { kept = two.one; kept_in = two.one_in; same = two.one_same }
 ]
@@ -151,7 +151,7 @@ pair_by_task search chains by_task whole thinned t outputs kept u at output c d 
 
 pair_of : (search : Search) (chains : List (List ℕ)) (whole thinned : List TaskPlace) → IsThinned whole thinned → (outputs kept : List TaskPlace) → IsThinned outputs kept
     → (at output : TaskPlace) → Contains whole at → Contains outputs output → counts search chains at output ≡ true → Pair search chains thinned kept at output
-pair_of Overlaps chains whole thinned t outputs kept u at output c d counted = elim (u.stands output d) [
+pair_of Overlaps chains whole thinned t outputs kept u at output c d counted = elim (u.exists output d) [
   | inr two ↦
       let p = kept_of whole thinned t at c in
       elim (cases_eq p.kept.number two.one.number) [
@@ -160,15 +160,15 @@ pair_of Overlaps chains whole thinned t outputs kept u at output c d counted = e
           out = record { kept = two.other; kept_in = two.other_in; same = two.other_same };
           counted = differ_so p.kept.number two.other.number (λ f. two.two (sym e ∙ f));
         }
-        | inr apart ↦ record {
+        | inr separate ↦ record {
           place = p;
           out = record { kept = two.one; kept_in = two.one_in; same = two.one_same };
-          counted = differ_so p.kept.number two.one.number apart;
+          counted = differ_so p.kept.number two.one.number separate;
         }
       ]
   | inl here ↦
       let o : Kept kept output = record { kept = output; kept_in = here; same = (refl, refl) } in
-      elim (t.stands at c) [
+      elim (t.exists at c) [
         | inl there ↦ record { place = record { kept = at; kept_in = there; same = (refl, refl) }; out = o; counted = counted }
         | inr two ↦ elim (cases_eq two.one.number output.number) [
           | inl e ↦ record {
@@ -176,10 +176,10 @@ pair_of Overlaps chains whole thinned t outputs kept u at output c d counted = e
             out = o;
             counted = differ_so two.other.number output.number (λ f. two.two (e ∙ sym f));
           }
-          | inr apart ↦ record {
+          | inr separate ↦ record {
             place = record { kept = two.one; kept_in = two.one_in; same = two.one_same };
             out = o;
-            counted = differ_so two.one.number output.number apart;
+            counted = differ_so two.one.number output.number separate;
           }
         ]
       ]

@@ -10,7 +10,7 @@ execution_reported numbers n reported k = (
   λ h. elim (Contains-push_cases numbers n k h) [ inl o ↦ (let lt = (reported k).0 o in omega (arith, lt)) | inr e ↦ omega (arith, e) ],
   λ lt. elim (cases_eq k n) [
     | inl e ↦ subst (λ v. Contains (numbers ++ n ∷ []) v) (sym e) (Contains-push numbers n)
-    | inr apart ↦ Contains-append_left numbers (n ∷ []) k ((reported k).1 (omega (arith, lt, apart)))
+    | inr separate ↦ Contains-append_left numbers (n ∷ []) k ((reported k).1 (omega (arith, lt, separate)))
   ],
 )
 

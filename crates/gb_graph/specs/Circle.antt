@@ -6,8 +6,8 @@ use Rattle.gb_plan.specs.declared.plan.Planned.{Planned}
 use Rattle.gb_plan.specs.Task.{Path}
 use Rattle.gb_plan.specs.Graph.{order}
 use Rattle.gb_graph.specs.Order.{row}
-use Rattle.gb_graph.specs.Settled.{stands_in}
-use Rattle.gb_graph.specs.Ranked.{AreApart}
+use Rattle.gb_graph.specs.Settled.{exists_in}
+use Rattle.gb_graph.specs.Ranked.{AreDistinct}
 
 -- the path of the task of this number
 abbrev pub path_at : List Planned → ℕ → Path
@@ -17,8 +17,8 @@ path_at tasks number = slice_index_or (order tasks) number []
 pub record IsLeastNumber (tasks : List Planned) (numbers : List ℕ) (marks : List Bool)
     (number : ℕ) : Type 0 where
   pub is_in : Contains numbers number
-  pub marked : stands_in marks number ≡ true
-  pub least : (other : ℕ) → Contains numbers other → stands_in marks other ≡ true
+  pub marked : exists_in marks number ≡ true
+  pub least : (other : ℕ) → Contains numbers other → exists_in marks other ≡ true
       → is_lt (byte_order (path_at tasks other) (path_at tasks number)) ≡ false
 
 -- the second is the least marked number that the first comes after
@@ -35,9 +35,9 @@ pub data LeadsTo (steps : ℕ → ℕ → Type 0) : ℕ → List ℕ → ℕ →
 pub record IsTrail (tasks : List Planned) (after : List (List ℕ)) (marks : List Bool) (start : ℕ)
     (trail : List ℕ) (back : ℕ) : Type 0 where
   pub leads : LeadsTo (IsNextNumber tasks after marks) start trail back
-  pub apart : AreApart trail
+  pub separate : AreDistinct trail
   pub comes_back : Contains trail back
-  pub marked : (number : ℕ) → Contains trail number → stands_in marks number ≡ true
+  pub marked : (number : ℕ) → Contains trail number → exists_in marks number ≡ true
 
 -- The circle that the trail from the least of these leads into, starting with the least number of the
 -- circle.
@@ -49,5 +49,5 @@ pub record IsRound (tasks : List Planned) (after : List (List ℕ)) (marks : Lis
   pub from_least : IsLeastNumber tasks numbers marks start
   pub comes_to : LeadsTo (IsNextNumber tasks after marks) start way first
   pub goes_round : LeadsTo (IsNextNumber tasks after marks) first circle first
-  pub once : AreApart circle
+  pub once : AreDistinct circle
   pub least_first : IsLeastNumber tasks circle marks first

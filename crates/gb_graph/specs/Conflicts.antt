@@ -20,8 +20,8 @@ use Rattle.gb_graph.specs.declared.tables.Tables.{Tables}
 use Rattle.gb_graph.specs.Places.{IsRising, IsThinned, place_at, places_from, with_places}
 
 -- the rows have the tasks that each comes after by a chain
-abbrev pub TellChains : List Planned → List (List ℕ) → Type 0
-TellChains tasks chains = (task before : ℕ) (d : Planned) → task < length tasks → before < length tasks
+abbrev pub GiveChains : List Planned → List (List ℕ) → Type 0
+GiveChains tasks chains = (task before : ℕ) (d : Planned) → task < length tasks → before < length tasks
     → (bit_in (row chains task) before ≡ 1)
     ↔ IsAfter tasks (slice_index_or tasks task d).task (path_at tasks before)
 
@@ -113,7 +113,7 @@ Meets plan Undeclared conflict = IsUndeclared plan conflict
 
 -- the chains of these tasks, their outputs in order, and their roots, thinned
 pub record AreTables (tasks : List Planned) (tables : Tables) : Type 0 where
-  pub chains : TellChains tasks (rows tables.chains.items)
+  pub chains : GiveChains tasks (rows tables.chains.items)
   pub rising : IsRising tables.outputs.items
   pub outputs : IsThinned (with_places [] (places_from output_places 0 tasks)) tables.outputs.items
   pub roots : IsThinned (with_places [] (places_from roots_of 0 tasks)) tables.roots.items

@@ -12,21 +12,21 @@ row after task = slice_index_or after task []
 
 -- all tasks that a task comes after are placed
 abbrev pub IsReady : List (List ℕ) → List ℕ → ℕ → Type 0
-IsReady after standing task = (before : ℕ) → Contains (row after task) before → Contains standing before
+IsReady after existing task = (before : ℕ) → Contains (row after task) before → Contains existing before
 
 -- the least of the ready tasks that are not placed yet
-pub record IsNext (after : List (List ℕ)) (standing : List ℕ) (task : ℕ) : Type 0 where
+pub record IsNext (after : List (List ℕ)) (existing : List ℕ) (task : ℕ) : Type 0 where
   pub known : task < length after
-  pub waits : ¬ Contains standing task
-  pub ready : IsReady after standing task
-  pub least : (other : ℕ) → other < length after → ¬ Contains standing other → IsReady after standing other
+  pub waits : ¬ Contains existing task
+  pub ready : IsReady after existing task
+  pub least : (other : ℕ) → other < length after → ¬ Contains existing other → IsReady after existing other
       → task ≤ other
 
 -- each is the next one when those before it are placed
 pub data InOrder (after : List (List ℕ)) : List ℕ → Type 0 where
   begins : InOrder after []
-  goes_on : {standing : List ℕ} {task : ℕ} → InOrder after standing → IsNext after standing task
-      → InOrder after (standing ++ task ∷ [])
+  goes_on : {existing : List ℕ} {task : ℕ} → InOrder after existing → IsNext after existing task
+      → InOrder after (existing ++ task ∷ [])
 
 -- in order, until no task is ready
 pub record IsOrder (after : List (List ℕ)) (order : List ℕ) : Type 0 where

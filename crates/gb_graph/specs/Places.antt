@@ -51,7 +51,7 @@ abbrev pub IsSame : TaskPlace → TaskPlace → Type 0
 IsSame at other = (at.task ≡ other.task) × (at.place ≡ other.place)
 
 -- the row has the same place of the same task under two numbers
-pub record StandsTwice (row : List TaskPlace) (at : TaskPlace) : Type 0 where
+pub record OccursTwice (row : List TaskPlace) (at : TaskPlace) : Type 0 where
   pub one : TaskPlace
   pub other : TaskPlace
   pub one_in : Contains row one
@@ -63,4 +63,4 @@ pub record StandsTwice (row : List TaskPlace) (at : TaskPlace) : Type 0 where
 -- each of the row is also in the thinned one, or occurs there twice under other numbers
 pub record IsThinned (row thinned : List TaskPlace) : Type 0 where
   pub within : (at : TaskPlace) → Contains thinned at → Contains row at
-  pub stands : (at : TaskPlace) → Contains row at → Contains thinned at ⊎ StandsTwice thinned at
+  pub exists : (at : TaskPlace) → Contains row at → Contains thinned at ⊎ OccursTwice thinned at

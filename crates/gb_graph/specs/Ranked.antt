@@ -8,7 +8,7 @@ use Rattle.std.specs.declared.cmp.Ordering.{Ordering}
 use Rattle.gb_core.specs.Lists.{byte_order}
 use Rattle.gb_plan.specs.declared.plan.Planned.{Planned}
 use Rattle.gb_plan.specs.Task.{Path, has_path}
-use Rattle.gb_plan.specs.Graph.{order, precedes, no_repeats, stands_in_order}
+use Rattle.gb_plan.specs.Graph.{order, precedes, no_repeats, is_in_order}
 use Rattle.gb_graph.specs.Order.{row, IsOrder}
 
 -- each occurs once, and precedes those after it
@@ -25,7 +25,7 @@ comes_after planned before =
     || has_path planned.task.must_run_after before.task.path
 
 -- the rows have the numbers of the tasks that each comes after
-pub record TellAfter (tasks : List Planned) (after : List (List ℕ)) : Type 0 where
+pub record GiveAfter (tasks : List Planned) (after : List (List ℕ)) : Type 0 where
   pub each : length after ≡ length tasks
   pub known : (task before : ℕ) → Contains (row after task) before
       → (task < length tasks) × (before < length tasks)
@@ -34,13 +34,13 @@ pub record TellAfter (tasks : List Planned) (after : List (List ℕ)) : Type 0 w
       × IsTrue (comes_after (slice_index_or tasks task d) (slice_index_or tasks before d)))
 
 -- no number occurs twice
-abbrev pub AreApart : List ℕ → Type 0
-AreApart [] = Unit {0}
-AreApart (number ∷ numbers) = (¬ Contains numbers number) × AreApart numbers
+abbrev pub AreDistinct : List ℕ → Type 0
+AreDistinct [] = Unit {0}
+AreDistinct (number ∷ numbers) = (¬ Contains numbers number) × AreDistinct numbers
 
 -- the numbers below `count` that are not among these, each once
 pub record AreOthers (count : ℕ) (numbers others : List ℕ) : Type 0 where
-  pub apart : AreApart others
+  pub separate : AreDistinct others
   pub within : (number : ℕ) → Contains others number → (number < count) × (¬ Contains numbers number)
   pub back : (number : ℕ) → number < count → ¬ Contains numbers number → Contains others number
 
@@ -53,7 +53,7 @@ pub record AreSame (tasks plan : List Planned) : Type 0 where
 pub record IsArranged (tasks plan : List Planned) : Type 0 where
   pub same : AreSame tasks plan
   pub once : no_repeats (order plan) ≡ true
-  pub in_order : stands_in_order plan [] plan ≡ true
+  pub in_order : is_in_order plan [] plan ≡ true
 
 -- by word, then by path
 abbrev pub rank_order : Planned → Planned → Ordering
@@ -70,8 +70,8 @@ abbrev pub number_at : Numbers → Path → Option ℕ
 number_at numbers path = lookup (bytes_eq path) numbers
 
 -- each of these paths has its number, and no other path has one
-abbrev pub TellNumbers : List Path → Numbers → Type 0
-TellNumbers paths numbers = (path : Path) (number : ℕ) → (number_at numbers path ≡ Some number)
+abbrev pub GiveNumbers : List Path → Numbers → Type 0
+GiveNumbers paths numbers = (path : Path) (number : ℕ) → (number_at numbers path ≡ Some number)
     ↔ ((number < length paths) × (slice_index_or paths number [] ≡ path))
 
 -- the numbers of the paths that have one
@@ -92,7 +92,7 @@ edges_from numbers first (planned ∷ tasks) =
     edges_at numbers first planned ++ edges_from numbers (first + 1) tasks
 
 -- the edges pair each task by number with the tasks that it comes after
-pub record TellEdges (tasks : List Planned) (edges : List (ℕ × ℕ)) : Type 0 where
+pub record GiveEdges (tasks : List Planned) (edges : List (ℕ × ℕ)) : Type 0 where
   pub known : (task before : ℕ) → Contains edges (task, before)
       → (task < length tasks) × (before < length tasks)
   pub reported : (task before : ℕ) (d : Planned) → Contains edges (task, before)
@@ -106,6 +106,6 @@ pub record HoldEdges (count : ℕ) (edges : List (ℕ × ℕ)) (after : List (Li
 
 -- what each task comes after, the numbers of the tasks that are in order, and the others
 pub record AreRanks (tasks : List Planned) (after : List (List ℕ)) (order others : List ℕ) : Type 0 where
-  pub reported : TellAfter tasks after
+  pub reported : GiveAfter tasks after
   pub is_order : IsOrder after order
   pub are_others : AreOthers (length tasks) order others

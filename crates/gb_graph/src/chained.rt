@@ -2,7 +2,7 @@
 ghost use Rattle.std.specs.Prelude.{◌≡◌, ◌<◌, ℕ, [], length, true, Contains, IfOk};
 ghost use Rattle.gb_plan.specs.Graph.{order, no_repeats, stuck};
 ghost use Rattle.gb_graph.specs.Order.{rows, row, InOrder};
-ghost use Rattle.gb_graph.specs.Conflicts.{TellChains};
+ghost use Rattle.gb_graph.specs.Conflicts.{GiveChains};
 
 use crate::chains::chains_of;
 use crate::ranked::after_of;
@@ -27,7 +27,7 @@ fn in_turn(alloc: Global, after: &[Vec<usize>]) -> Result<Vec<usize>, AllocError
 pub fn chains_in(alloc: Global, tasks: &[Planned]) -> Result<Vec<Vec<u64>>, AllocError>
     requires once { no_repeats (order tasks.now) ≡ true }
     requires ready { stuck tasks.now [] tasks.now ≡ [] }
-    ensures { IfOk result (λ chains. TellChains tasks.now (rows chains.items)) }
+    ensures { IfOk result (λ chains. GiveChains tasks.now (rows chains.items)) }
 {
     let after = after_of(alloc, tasks)?;
     let order = in_turn(alloc, after.as_slice())?;

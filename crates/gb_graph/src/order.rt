@@ -5,21 +5,21 @@ ghost use Rattle.std.specs.Prelude.{OnOk, IfOk, vec_len};
 ghost use Rattle.std.specs.BTreeSet.{contains};
 ghost use Rattle.std.specs.Ordering.{nat_cmp};
 ghost use Rattle.gb_graph.specs.Order.{rows, row, AreTasks, IsOrder};
-ghost use Rattle.gb_graph.specs.Settled.{IsSettled, stands_in};
+ghost use Rattle.gb_graph.specs.Settled.{IsSettled, exists_in};
 
 use std::alloc::{AllocError, Global};
 use std::collections::BTreeSet;
 use std::mem;
 
 /// The first task of a row that is not placed yet.
-fn first_open(row: &[usize], stands: &[bool]) -> Option<usize>
-    requires known { (before : ℕ) → Contains row.now before → before < length stands.now }
+fn first_open(row: &[usize], exists: &[bool]) -> Option<usize>
+    requires known { (before : ℕ) → Contains row.now before → before < length exists.now }
     ensures cases { MatchOption result
-        ((before : ℕ) → Contains row.now before → stands_in stands.now before ≡ true)
-        (λ missing. Contains row.now missing × (stands_in stands.now missing ≡ false)) }
+        ((before : ℕ) → Contains row.now before → exists_in exists.now before ≡ true)
+        (λ missing. Contains row.now missing × (exists_in exists.now missing ≡ false)) }
 {
     for before in row {
-        if !stands[*before] {
+        if !exists[*before] {
             return Some(*before);
         }
     }
@@ -27,40 +27,40 @@ fn first_open(row: &[usize], stands: &[bool]) -> Option<usize>
 }
 
 /// A task of a row that is not placed yet. The search starts where the last one was found.
-fn open_from(row: &[usize], stands: &[bool], cursor: &mut usize) -> Option<usize>
-    requires known { (before : ℕ) → Contains row.now before → before < length stands.now }
+fn open_from(row: &[usize], exists: &[bool], cursor: &mut usize) -> Option<usize>
+    requires known { (before : ℕ) → Contains row.now before → before < length exists.now }
     ensures cases { MatchOption result
-        ((before : ℕ) → Contains row.now before → stands_in stands.now before ≡ true)
-        (λ missing. Contains row.now missing × (stands_in stands.now missing ≡ false)) }
+        ((before : ℕ) → Contains row.now before → exists_in exists.now before ≡ true)
+        (λ missing. Contains row.now missing × (exists_in exists.now missing ≡ false)) }
 {
     for at in *cursor..row.len() {
-        if !stands[row[at]] {
+        if !exists[row[at]] {
             *cursor = at;
             return Some(row[at]);
         }
     }
-    first_open(row, stands)
+    first_open(row, exists)
 }
 
 /// Adds a task to the ready ones, or to the waiting list of a task for which it waits.
 fn settle(
     after: &[Vec<usize>],
-    stands: &[bool],
+    exists: &[bool],
     waiting: &mut Vec<Vec<usize>>,
     ready: &mut BTreeSet<usize>,
     cursor: &mut usize,
     task: usize,
 ) -> Result<(), AllocError>
     requires tasks { AreTasks (rows after.now) }
-    requires marks { length stands.now ≡ length after.now }
+    requires marks { length exists.now ≡ length after.now }
     requires places { vec_len waiting.old ≡ length after.now }
     requires known { task < length after.now }
     ensures settled { OnOk result
-        (IsSettled (rows after.now) stands.now (rows waiting.old.items) (rows waiting.new.items)
+        (IsSettled (rows after.now) exists.now (rows waiting.old.items) (rows waiting.new.items)
         (contains nat_cmp ready.old) (contains nat_cmp ready.new) task) }
     ensures places { vec_len waiting.new ≡ length after.now }
 {
-    match open_from(&after[task], stands, cursor) {
+    match open_from(&after[task], exists, cursor) {
         Some(missing) => waiting[missing].push(task)?,
         None => {
             ready.insert(task)?;
@@ -75,7 +75,7 @@ pub fn order_of(alloc: Global, after: &[Vec<usize>]) -> Result<Vec<usize>, Alloc
     requires tasks { AreTasks (rows after.now) }
     ensures order { IfOk result (λ order. IsOrder (rows after.now) order.items) }
 {
-    let mut stands = vec![in alloc; false; after.len()]?;
+    let mut exists = vec![in alloc; false; after.len()]?;
     let mut cursors = vec![in alloc; 0; after.len()]?;
     let mut waiting = Vec::new(alloc);
     for _ in after {
@@ -86,7 +86,7 @@ pub fn order_of(alloc: Global, after: &[Vec<usize>]) -> Result<Vec<usize>, Alloc
     for task in 0..after.len() {
         settle(
             after,
-            &stands,
+            &exists,
             &mut waiting,
             &mut ready,
             &mut cursors[task],
@@ -95,12 +95,12 @@ pub fn order_of(alloc: Global, after: &[Vec<usize>]) -> Result<Vec<usize>, Alloc
     }
     while let Some(task) = ready.pop_first() {
         order.push(task)?;
-        stands[task] = true;
+        exists[task] = true;
         let waiters = mem::replace(&mut waiting[task], Vec::new(alloc));
         for waiter in &waiters {
             settle(
                 after,
-                &stands,
+                &exists,
                 &mut waiting,
                 &mut ready,
                 &mut cursors[*waiter],

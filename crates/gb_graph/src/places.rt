@@ -3,7 +3,7 @@ ghost use Rattle.std.specs.Prelude.{◌≡◌, ◌↔◌, ◌∷◌, [], map, If
 ghost use Rattle.std.specs.Bool.{OnTrue};
 ghost use Rattle.std.specs.List.{flat_map};
 ghost use Rattle.gb_plan.specs.Task.{roots_of, output_places};
-ghost use Rattle.gb_graph.specs.Places.{AreSamePlaces, IsRising, IsSame, IsThinned, StandsTwice, by_place};
+ghost use Rattle.gb_graph.specs.Places.{AreSamePlaces, IsRising, IsSame, IsThinned, OccursTwice, by_place};
 ghost use Rattle.gb_graph.specs.Places.{by_task, places_from, with_places};
 
 use gb_core::place::Place;
@@ -128,7 +128,7 @@ fn is_same(a: &TaskPlace, b: &TaskPlace) -> bool
 /// Whether the last two entries of a row are the same place of the same task as this one, under two
 /// numbers.
 fn ends_in_two(row: &[TaskPlace], at: &TaskPlace) -> bool
-    ensures { OnTrue result (StandsTwice row.now at.now) }
+    ensures { OnTrue result (OccursTwice row.now at.now) }
 {
     match row {
         [.., one, other] => is_same(one, at) && is_same(other, at) && one.number != other.number,

@@ -6,7 +6,7 @@ ghost use Rattle.gb_plan.specs.declared.plan.Planned.{Planned};
 ghost use Rattle.gb_plan.specs.Graph.{Request, IsSchedule, order, stuck};
 ghost use Rattle.gb_plan.specs.Refusal.{IsCircle, IsRefused, request_of};
 ghost use Rattle.gb_graph.specs.Order.{rows};
-ghost use Rattle.gb_graph.specs.Settled.{stands_in};
+ghost use Rattle.gb_graph.specs.Settled.{exists_in};
 ghost use Rattle.gb_graph.specs.Ranked.{AreRanked, AreRanks};
 
 use crate::arrange::{Ranks, in_order, rank, ranks_of};
@@ -23,7 +23,7 @@ fn marks_of(alloc: Global, count: usize, numbers: &[usize]) -> Result<Vec<bool>,
     requires { (number : ℕ) → Contains numbers.now number → number < count }
     ensures each { IfOk result (λ marks. length marks.items ≡ count) }
     ensures reported { IfOk result (λ marks. (number : ℕ) →
-        (stands_in marks.items number ≡ true) ↔ Contains numbers.now number) }
+        (exists_in marks.items number ≡ true) ↔ Contains numbers.now number) }
 {
     let mut marks = vec![in alloc; false; count]?;
     for number in numbers {

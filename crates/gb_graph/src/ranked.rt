@@ -5,7 +5,7 @@ ghost use Rattle.std.specs.Prelude.{IfOk, OnOk, slice_index_or};
 ghost use Rattle.gb_plan.specs.declared.plan.Planned.{Planned};
 ghost use Rattle.gb_plan.specs.Graph.{order, no_repeats};
 ghost use Rattle.gb_graph.specs.Order.{rows};
-ghost use Rattle.gb_graph.specs.Ranked.{AreApart, AreOthers, HoldEdges, TellAfter, TellEdges, TellNumbers};
+ghost use Rattle.gb_graph.specs.Ranked.{AreDistinct, AreOthers, HoldEdges, GiveAfter, GiveEdges, GiveNumbers};
 ghost use Rattle.gb_graph.specs.Ranked.{edges_at, edges_from, numbers_in};
 
 use crate::by_path::Numbers;
@@ -16,7 +16,7 @@ use std::alloc::{AllocError, Global};
 /// The number of each task by its path.
 pub fn numbers_of<'a>(alloc: Global, tasks: &'a [Planned]) -> Result<Numbers<'a>, AllocError>
     requires { no_repeats (order tasks.now) ≡ true }
-    ensures { IfOk result (λ numbers. TellNumbers (order tasks.now) numbers) }
+    ensures { IfOk result (λ numbers. GiveNumbers (order tasks.now) numbers) }
 {
     let mut numbers = Numbers::new(alloc);
     for number in 0..tasks.len() {
@@ -77,7 +77,7 @@ fn add_edges(
 /// Each task by number, paired with each task that it comes after.
 fn edges_of(alloc: Global, tasks: &[Planned]) -> Result<Vec<(usize, usize)>, AllocError>
     requires { no_repeats (order tasks.now) ≡ true }
-    ensures { IfOk result (λ edges. TellEdges tasks.now edges.items) }
+    ensures { IfOk result (λ edges. GiveEdges tasks.now edges.items) }
 {
     let numbers = numbers_of(alloc, tasks)?;
     let mut edges = Vec::new(alloc);
@@ -109,7 +109,7 @@ fn rows_of(
 /// For each task the numbers of the tasks that it comes after.
 pub(crate) fn after_of(alloc: Global, tasks: &[Planned]) -> Result<Vec<Vec<usize>>, AllocError>
     requires { no_repeats (order tasks.now) ≡ true }
-    ensures { IfOk result (λ after. TellAfter tasks.now (rows after.items)) }
+    ensures { IfOk result (λ after. GiveAfter tasks.now (rows after.items)) }
 {
     let edges = edges_of(alloc, tasks)?;
     rows_of(alloc, tasks.len(), edges.as_slice())
@@ -124,13 +124,13 @@ pub(crate) fn others_of(
     requires { (number : ℕ) → Contains numbers.now number → number < count }
     ensures { IfOk result (λ others. AreOthers count numbers.now others.items) }
 {
-    let mut stands = vec![in alloc; false; count]?;
+    let mut exists = vec![in alloc; false; count]?;
     for number in numbers {
-        stands[*number] = true;
+        exists[*number] = true;
     }
     let mut others = Vec::new(alloc);
     for number in 0..count {
-        if !stands[number] {
+        if !exists[number] {
             others.push(number)?;
         }
     }
@@ -154,7 +154,7 @@ pub(crate) fn tasks_at(
     numbers: &[usize],
 ) -> Result<Vec<Planned>, AllocError>
     requires known { (number : ℕ) → Contains numbers.now number → number < length tasks.items }
-    requires apart { AreApart numbers.now }
+    requires separate { AreDistinct numbers.now }
     ensures { (d : Planned) → IfOk result
         (λ placed. placed.items ≡ map (λ number. slice_index_or tasks.items number d) numbers.now) }
 {

@@ -7,20 +7,20 @@ use std::alloc::{AllocError, Global};
 
 /// Marks the tasks that are not marked yet.
 fn mark_all(
-    stands: &mut [bool],
+    exists: &mut [bool],
     words: &mut [usize],
     fresh: &mut Vec<usize>,
     tasks: &[usize],
     word: usize,
 ) -> Result<(), AllocError>
-    requires known { (task : ℕ) → Contains tasks.now task → task < length stands.old }
-    requires each { length words.old ≡ length stands.old }
-    ensures { OnOk result (IsMarked stands.old stands.new words.old words.new
+    requires known { (task : ℕ) → Contains tasks.now task → task < length exists.old }
+    requires each { length words.old ≡ length exists.old }
+    ensures { OnOk result (IsMarked exists.old exists.new words.old words.new
         fresh.old.items fresh.new.items tasks.now word) }
 {
     for task in tasks {
-        if !stands[*task] {
-            stands[*task] = true;
+        if !exists[*task] {
+            exists[*task] = true;
             words[*task] = word;
             fresh.push(*task)?;
         }
@@ -32,23 +32,23 @@ fn mark_all(
 fn spread(
     alloc: Global,
     table: &[Vec<usize>],
-    stands: &mut [bool],
+    exists: &mut [bool],
     words: &mut [usize],
     starts: &[usize],
     word: usize,
 ) -> Result<(), AllocError>
     requires tasks { AreTasks (rows table.now) }
     requires known { (task : ℕ) → Contains starts.now task → task < length table.now }
-    requires marks { length stands.old ≡ length table.now }
+    requires marks { length exists.old ≡ length table.now }
     requires each { length words.old ≡ length table.now }
-    requires closed { IsClosed (rows table.now) stands.old }
+    requires closed { IsClosed (rows table.now) exists.old }
     ensures { OnOk result (IsSpread (rows table.now) starts.now word
-        stands.old stands.new words.old words.new) }
+        exists.old exists.new words.old words.new) }
 {
     let mut fresh = Vec::new(alloc);
-    mark_all(stands, words, &mut fresh, starts, word)?;
+    mark_all(exists, words, &mut fresh, starts, word)?;
     while let Some(task) = fresh.pop() {
-        mark_all(stands, words, &mut fresh, &table[task], word)?;
+        mark_all(exists, words, &mut fresh, &table[task], word)?;
     }
     Ok(())
 }
@@ -67,10 +67,10 @@ pub fn first_starts(
         → Reaches (rows table.now) (row (rows starts.now) index) task
         → IsFirstStart (rows table.now) (rows starts.now) task (slice_index found.items task)) }
 {
-    let mut stands = vec![in alloc; false; table.len()]?;
+    let mut exists = vec![in alloc; false; table.len()]?;
     let mut words = vec![in alloc; 0; table.len()]?;
     for word in 0..starts.len() {
-        spread(alloc, table, &mut stands, &mut words, &starts[word], word)?;
+        spread(alloc, table, &mut exists, &mut words, &starts[word], word)?;
     }
     Ok(words)
 }

@@ -6,7 +6,7 @@ ghost use Rattle.gb_core.specs.Lists.{byte_order};
 ghost use Rattle.gb_plan.specs.Graph.{Request, IsFirstWord, no_repeats};
 ghost use Rattle.gb_graph.specs.Order.{rows};
 ghost use Rattle.gb_graph.specs.Queue.{paths_in};
-ghost use Rattle.gb_graph.specs.Ranked.{TellNumbers, numbers_in};
+ghost use Rattle.gb_graph.specs.Ranked.{GiveNumbers, numbers_in};
 ghost use Rattle.gb_graph.specs.Words.{AreDone, AreWorded, brought_rows};
 
 use crate::by_path::Numbers;
@@ -20,7 +20,7 @@ use std::collections::BTreeSet;
 
 fn numbers_of<'a>(alloc: Global, tasks: &'a [TaskDeclaration]) -> Result<Numbers<'a>, AllocError>
     requires { no_repeats (paths_in tasks.now) ≡ true }
-    ensures { IfOk result (λ numbers. TellNumbers (paths_in tasks.now) numbers) }
+    ensures { IfOk result (λ numbers. GiveNumbers (paths_in tasks.now) numbers) }
 {
     let mut numbers = Numbers::new(alloc);
     for number in 0..tasks.len() {

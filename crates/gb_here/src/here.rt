@@ -2,7 +2,7 @@
 ghost use Rattle.std.specs.Prelude.{◌≤◌, IfOk};
 
 use crate::lock::locks_for;
-use crate::refused::tell_refused;
+use crate::refused::print_refusal;
 use crate::words::command_words;
 use gb_action::actions::Actions;
 use gb_action::table::{ActionTable, TableFault};
@@ -89,5 +89,5 @@ fn refused<R: Print + AllocGlobal>(rt: &R, fault: TableFault) -> Result<u8, Allo
     let Ok(mut writer) = BufWriter::new(rt.alloc(), io::writer(rt)) else {
         return Err(AllocError);
     };
-    Ok(tell_refused(&mut writer, fault))
+    Ok(print_refusal(&mut writer, fault))
 }

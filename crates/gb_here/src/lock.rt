@@ -1,7 +1,7 @@
 //! One build at a time in a folder, and in the folders of its projects.
 ghost use Rattle.std.specs.Prelude.{◌≡◌, codes, map, not, string_bytes, IfOk};
 ghost use Rattle.gb_words.specs.Command.{flag_in, rows_in};
-ghost use Rattle.gb_words.specs.Faults.{TellsFirst};
+ghost use Rattle.gb_words.specs.Faults.{ReportsFirst};
 ghost use Rattle.gb_words.specs.Words.{words_faults};
 
 use crate::words::command_words;
@@ -71,7 +71,7 @@ fn refused(fault: &Fault) -> Result<bool, AllocError> {
 pub fn is_build(alloc: Global, words: Vec<String>) -> Result<bool, Fault>
     ensures asked { IfOk result (λ is_build.
         is_build ≡ not (flag_in (codes "dry-run") (rows_in (map string_bytes words.items)))) }
-    ensures faults { TellsFirst (words_faults (map string_bytes words.items)) result }
+    ensures faults { ReportsFirst (words_faults (map string_bytes words.items)) result }
 {
     let asked = read(alloc, words)?;
     Ok(!asked.options.dry_run)

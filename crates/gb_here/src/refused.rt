@@ -8,7 +8,7 @@ use gb_command::run::UNPRINTED;
 use std::io::Write;
 
 /// Prints why there is no table, and returns the exit status of a refusal.
-pub(crate) fn tell_refused<W: Write>(writer: &mut W, fault: TableFault) -> u8
+pub(crate) fn print_refusal<W: Write>(writer: &mut W, fault: TableFault) -> u8
     ensures { result ≡ UNPRINTED }
 {
     let _ = print_refused(writer, fault);

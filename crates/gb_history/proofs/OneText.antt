@@ -64,7 +64,7 @@ key_of (object members) = key_in members
 key_of other = []
 
 differ : {A : Type 0} (one other : Data) → bytes_eq (key_of one) (key_of other) ≡ false → one ≡ other → A
-differ one other apart e = absurd (true≢false (sym ((bytes_decides (key_of one) (key_of other)).1 (ap key_of e)) ∙ apart))
+differ one other separate e = absurd (true≢false (sym ((bytes_decides (key_of one) (key_of other)).1 (ap key_of e)) ∙ separate))
 
 value_back : (v w : Value) → value_json v ≡ value_json w → v ≡ w
 value_back (values.Text a) (values.Text b) e = let same : a ≡ b = cc in ap values.Text same

@@ -12,7 +12,7 @@ use Rattle.gb_core.specs.Name.{is_name, is_name_byte, is_letter}
 use Rattle.gb_core.specs.Path.{is_task_path}
 use Rattle.gb_core.proofs.TaskPaths.{name_bytes}
 use Rattle.gb_core.proofs.BySegments.{begins}
-use Rattle.gb_history.specs.Places.{slashed, record_place, PlacesAreApart, NoPlaceBeneath}
+use Rattle.gb_history.specs.Places.{slashed, record_place, PlacesAreDistinct, NoPlaceBeneath}
 
 -- of ASCII, and neither a slash nor a dot
 abbrev IsPlain : ℕ → Type 0
@@ -109,8 +109,8 @@ before_dot (a ∷ one) (b ∷ other) x y p q e =
     let more : slashed one ≡ slashed other = r.0 in
     (cc (head, more), r.1)
 
-pub apart : PlacesAreApart
-apart one other p q e =
+pub separate : PlacesAreDistinct
+separate one other p q e =
     let inner : slashed one ++ codes ".record" ≡ slashed other ++ codes ".record" = append_cancel_left (codes ".gb/tasks") _ _ e in
     let r = before_dot one other (codes "record") (codes "record") (path_plain one p) (path_plain other q) inner in
     slashed_back one other (path_plain one p) (path_plain other q) r.0

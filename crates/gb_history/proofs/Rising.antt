@@ -82,19 +82,19 @@ is_sorted-take (suc n) (e ∷ es) h =
     let parts = and_parts (below_all byte_order e.0 es) (is_sorted byte_order es) h in
     both _ _ (below_take e.0 n es parts.0) (is_sorted-take n es parts.1)
 
-last_above : {V : Type 0} (y : List ℕ) (front : List (List ℕ × V)) (last : List ℕ × V) → below_all byte_order y (front ++ last ∷ []) ≡ true → byte_order y last.0 ≡ Less
+last_above : {V : Type 0} (y : List ℕ) (prefix : List (List ℕ × V)) (last : List ℕ × V) → below_all byte_order y (prefix ++ last ∷ []) ≡ true → byte_order y last.0 ≡ Less
 last_above y [] last h = less _ (and_parts (is_lt (byte_order y last.0)) true h).0
-last_above y (e ∷ front) last h = last_above y front last (and_parts (is_lt (byte_order y e.0)) (below_all byte_order y (front ++ last ∷ [])) h).1
+last_above y (e ∷ prefix) last h = last_above y prefix last (and_parts (is_lt (byte_order y e.0)) (below_all byte_order y (prefix ++ last ∷ [])) h).1
 
 -- an entry above all others is appended
-pub insert_behind : {V : Type 0} (front : List (List ℕ × V)) (last : List ℕ × V) → is_sorted byte_order (front ++ last ∷ []) ≡ true
-    → insert_entry byte_order front last.0 last.1 ≡ front ++ last ∷ []
-insert_behind [] last h = refl
-insert_behind (e ∷ front) last h =
-    let parts = and_parts (below_all byte_order e.0 (front ++ last ∷ [])) (is_sorted byte_order (front ++ last ∷ [])) h in
+pub insert_after : {V : Type 0} (prefix : List (List ℕ × V)) (last : List ℕ × V) → is_sorted byte_order (prefix ++ last ∷ []) ≡ true
+    → insert_entry byte_order prefix last.0 last.1 ≡ prefix ++ last ∷ []
+insert_after [] last h = refl
+insert_after (e ∷ prefix) last h =
+    let parts = and_parts (below_all byte_order e.0 (prefix ++ last ∷ [])) (is_sorted byte_order (prefix ++ last ∷ [])) h in
     let high : byte_order last.0 e.0 ≡ Greater =
-    nat_list_cmp_total.antisymm last.0 e.0 ∙ ap ordering_reverse (last_above e.0 front last parts.0) in
-    rw high (ap (λ l. e ∷ l) (insert_behind front last parts.1))
+    nat_list_cmp_total.antisymm last.0 e.0 ∙ ap ordering_reverse (last_above e.0 prefix last parts.0) in
+    rw high (ap (λ l. e ∷ l) (insert_after prefix last parts.1))
 
 -- what holds of all values holds of them with one more
 pub all_inserted : {V : Type 0} (P : V → Type 0) (es : List (List ℕ × V)) (k : List ℕ) (v : V) → AllByRecursion (λ e. P e.1) es → P v

@@ -19,9 +19,9 @@ item_written f xs i d now next whole h here done =
     rw (add-one, here) (append_assoc now _ _ ∙ ap (λ (ys : List _). now ++ rest_tokens f ys) (sym (drop-cons xs i d h)) ∙ done)
 
 -- what is written after other tokens
-pub behind : {T E : Type 0} (r : Result T E) (old now new first later : List Token) → now ≡ old ++ first → OnOk r (new ≡ now ++ later) → OnOk r (new ≡ old ++ (first ++ later))
-behind (Ok t) old now new first later e h = h ∙ ap (λ ts. ts ++ later) e ∙ append_assoc old first later
-behind (Err x) old now new first later e h = tt
+pub following : {T E : Type 0} (r : Result T E) (old now new first later : List Token) → now ≡ old ++ first → OnOk r (new ≡ now ++ later) → OnOk r (new ≡ old ++ (first ++ later))
+following (Ok t) old now new first later e h = h ∙ ap (λ ts. ts ++ later) e ∙ append_assoc old first later
+following (Err x) old now new first later e h = tt
 
 pub on_ok : {T E : Type 0} (r : Result T E) {P : Type 0} → P → OnOk r P
 on_ok (Ok t) p = p

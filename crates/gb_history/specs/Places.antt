@@ -11,8 +11,8 @@ slashed path = map (λ byte. if byte == 58 then 47 else byte) path
 abbrev pub record_place : List ℕ → List ℕ
 record_place path = codes ".gb/tasks" ++ slashed path ++ codes ".record"
 
-abbrev pub PlacesAreApart : Type 0
-PlacesAreApart =
+abbrev pub PlacesAreDistinct : Type 0
+PlacesAreDistinct =
     (one other : List ℕ) → IsTrue (is_task_path one) → IsTrue (is_task_path other)
     → record_place one ≡ record_place other → one ≡ other
 

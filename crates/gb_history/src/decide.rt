@@ -130,13 +130,13 @@ fn changes_since(
 {
     let mut lists = ChangeLists::new(alloc);
     for (at, before) in old.iter().enumerate() {
-        tell(&mut lists, alloc, incremental, before, &new[at])?;
+        report(&mut lists, alloc, incremental, before, &new[at])?;
     }
     Ok(lists)
 }
 
 /// Appends the changes of a property, where it is incremental.
-fn tell(
+fn report(
     lists: &mut ChangeLists,
     alloc: Global,
     incremental: &[Name],

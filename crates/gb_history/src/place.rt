@@ -2,7 +2,7 @@
 ghost use Rattle.std.specs.Prelude.{◌≡◌, ◌++◌, map, false, IfOk, IsErrOf, IsTrue, OnOk};
 ghost use Rattle.gb_core.specs.Path.{is_task_path};
 ghost use Rattle.gb_core.specs.Place.{is_place};
-ghost use Rattle.gb_history.specs.Places.{slashed, record_place, PlacesAreApart, NoPlaceBeneath};
+ghost use Rattle.gb_history.specs.Places.{slashed, record_place, PlacesAreDistinct, NoPlaceBeneath};
 
 use gb_core::path::TaskPath;
 use gb_core::place::{Place, PlaceFault};
@@ -44,8 +44,8 @@ pub fn record_place(alloc: Global, path: &TaskPath) -> Result<Place, PlaceFault>
 }
 
 /// Two tasks have two places.
-pub fn places_are_apart()
-    ensures { PlacesAreApart }
+pub fn places_are_distinct()
+    ensures { PlacesAreDistinct }
 {}
 
 /// No record's place lies under another's.

@@ -10,8 +10,8 @@ use Rattle.gb_core.specs.Lists.{byte_order}
 use Rattle.gb_action.specs.Files.{Tree, Trees, file_at, tree_at}
 use Rattle.gb_action.specs.Changes.{changes_between}
 use Rattle.gb_action.specs.Meanings.{Making, Printing}
-use Rattle.gb_action.specs.Outputs.{written_at, stands_at, left_at, is_named, is_removed, names_only}
-use Rattle.gb_action.specs.Replies.{Answers, CarriesOver, FollowsOn, TellsChangesFrom, made_for}
+use Rattle.gb_action.specs.Outputs.{written_at, exists_at, left_at, is_named, is_removed, names_only}
+use Rattle.gb_action.specs.Replies.{Answers, CarriesOver, FollowsOn, DescribesChangesFrom, made_for}
 use Rattle.gb_action.specs.Shapes.{source, target}
 use Rattle.gb_action.specs.declared.change.Change.{Change}
 use Rattle.gb_action.specs.declared.change.Change.TheVariants.{Added, Modified, Removed}
@@ -47,13 +47,13 @@ tree_ordered (tree ∷ trees) name h =
     ]
 
 -- whether or not `src` has a list, its changes are known
-pub source_reported : (old : Trees) (request : Request) → TellsChangesFrom old request → source_changes request.changes.lists ≡ changes_between (tree_at old source) (tree_at request.files source)
-source_reported old request tells = by (find byte_order source request.changes.lists) refl
+pub source_reported : (old : Trees) (request : Request) → DescribesChangesFrom old request → source_changes request.changes.lists ≡ changes_between (tree_at old source) (tree_at request.files source)
+source_reported old request shows = by (find byte_order source request.changes.lists) refl
   where
     by : (o : Option (List Change)) → find byte_order source request.changes.lists ≡ o → unwrap_or o [] ≡ changes_between (tree_at old source) (tree_at request.files source)
-    by (Some list) e = tells.reported source list e
+    by (Some list) e = shows.reported source list e
     by None e =
-        let same : tree_at old source ≡ tree_at request.files source = ap (λ (o : Option Tree). unwrap_or o []) (tells.same_others source e) in
+        let same : tree_at old source ≡ tree_at request.files source = ap (λ (o : Option Tree). unwrap_or o []) (shows.same_others source e) in
         sym (unchanged (tree_at request.files source)) ∙ ap (λ tree. changes_between tree (tree_at request.files source)) (sym same)
 
 -- ---- The outputs that are named
@@ -83,17 +83,17 @@ module _ (outputs : List OutputFiles) (declared : list_any (λ (output : OutputF
   removes_declared (Removed path ∷ changes) = both (is_output target) _ declared (removes_declared changes)
 
   module _ (edit : List ℕ → List ℕ) (files : Tree) where
-    rewritten_there : (path : List ℕ) (standing contents : Option (List ℕ)) → written_there (rewritten edit path standing contents) ≡ true
-    rewritten_there path standing None = refl
-    rewritten_there path standing (Some bytes) =
-        elim (holds standing (edit bytes)) as (λ b. written_there (if b then [] else file_of path (edit bytes) ∷ []) ≡ true) [
+    rewritten_there : (path : List ℕ) (existing contents : Option (List ℕ)) → written_there (rewritten edit path existing contents) ≡ true
+    rewritten_there path existing None = refl
+    rewritten_there path existing (Some bytes) =
+        elim (holds existing (edit bytes)) as (λ b. written_there (if b then [] else file_of path (edit bytes) ∷ []) ≡ true) [
           | true ↦ refl
           | false ↦ both (is_output target) true declared refl
         ]
 
     change_there : (change : Change) → written_there (writes_for edit outputs files change) ≡ true
-    change_there (Added path) = rewritten_there path (stands_at outputs target path) (file_at files path)
-    change_there (Modified path) = rewritten_there path (stands_at outputs target path) (file_at files path)
+    change_there (Added path) = rewritten_there path (exists_at outputs target path) (file_at files path)
+    change_there (Modified path) = rewritten_there path (exists_at outputs target path) (file_at files path)
     change_there (Removed path) = refl
 
     pub writes_declared : (changes : List Change) → written_there (flat_map (writes_for edit outputs files) changes) ≡ true
@@ -119,28 +119,28 @@ module _ (edit : List Value → List ℕ → List ℕ) where
       abbrev was : Tree
       was = tree_at old source
 
-      stood : (output path : List ℕ) → stands_at request.outputs output path ≡ written_at (by_file (edit request.args) was) output path
-      stood output path = follows.stands output path ∙ ap (λ files. written_at files output path) (sym (same_ok follows.was_made))
+      existed : (output path : List ℕ) → exists_at request.outputs output path ≡ written_at (by_file (edit request.args) was) output path
+      existed output path = follows.exists output path ∙ ap (λ files. written_at files output path) (sym (same_ok follows.was_made))
 
       writes_are : reply.writes ≡ flat_map (writes_for (edit request.args) request.outputs now) (changes_between was now)
-      writes_are = is.writes changed ∙ ap (flat_map (writes_for (edit request.args) request.outputs now)) (source_reported old request follows.tells)
+      writes_are = is.writes changed ∙ ap (flat_map (writes_for (edit request.args) request.outputs now)) (source_reported old request follows.shows)
 
       removes_are : reply.removes ≡ flat_map removes_for (changes_between was now)
-      removes_are = is.removes changed ∙ ap (flat_map removes_for) (source_reported old request follows.tells)
+      removes_are = is.removes changed ∙ ap (flat_map removes_for) (source_reported old request follows.shows)
 
       after_is : written_at (by_file (edit request.args) now) output path ≡ written_at after output path
       after_is = ap (λ files. written_at files output path) (same_ok makes_after)
 
       carried : left_at reply request.outputs output path ≡ written_at after output path
       carried =
-          ap (λ writes. option_or (written_at writes output path) (if is_removed reply.removes output path then None else stands_at request.outputs output path)) writes_are
-          ∙ ap (λ removes. option_or (written_at (flat_map (writes_for (edit request.args) request.outputs now) (changes_between was now)) output path) (if is_removed removes output path then None else stands_at request.outputs output path)) removes_are
-          ∙ carries (edit request.args) request.outputs was now (tree_ordered old source follows.tells.ordered) ordered stood output path
+          ap (λ writes. option_or (written_at writes output path) (if is_removed reply.removes output path then None else exists_at request.outputs output path)) writes_are
+          ∙ ap (λ removes. option_or (written_at (flat_map (writes_for (edit request.args) request.outputs now) (changes_between was now)) output path) (if is_removed removes output path then None else exists_at request.outputs output path)) removes_are
+          ∙ carries (edit request.args) request.outputs was now (tree_ordered old source follows.shows.ordered) ordered existed output path
           ∙ after_is
 
-      frugal : is_named reply output path ≡ true → stands_at request.outputs output path ≡ written_at after output path → ⊥
+      frugal : is_named reply output path ≡ true → exists_at request.outputs output path ≡ written_at after output path → ⊥
       frugal named same =
-          is_frugal (edit request.args) request.outputs was now (tree_ordered old source follows.tells.ordered) ordered stood output path
+          is_frugal (edit request.args) request.outputs was now (tree_ordered old source follows.shows.ordered) ordered existed output path
           (subst (λ removes. is_named (record { removes = removes; writes = flat_map (writes_for (edit request.args) request.outputs now) (changes_between was now); lines = reply.lines }) output path ≡ true) removes_are
           (subst (λ writes. is_named (record { removes = reply.removes; writes = writes; lines = reply.lines }) output path ≡ true) writes_are named))
           (same ∙ sym after_is)

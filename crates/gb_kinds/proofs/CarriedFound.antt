@@ -10,7 +10,7 @@ use Rattle.gb_action.specs.Files.{Tree, file_at}
 use Rattle.gb_action.specs.declared.change.Change.{Change}
 use Rattle.gb_kinds.specs.Carried.{as_files, holds_in, is_carried, is_line_of, is_looked_at, is_of_change, lines_where, path_of, reported_at, IsCarried, IsEntry}
 use Rattle.gb_kinds.specs.Words.{path_line}
-use Rattle.gb_kinds.proofs.CarriedLines.{are_lines, at_path, first_is, lines_cut, on, path_is_line, second_is, tells}
+use Rattle.gb_kinds.proofs.CarriedLines.{are_lines, at_path, first_is, lines_cut, on, path_is_line, second_is, shows}
 use Rattle.gb_kinds.proofs.LinesWhere.{reported_so_far}
 use Rattle.gb_kinds.proofs.WordFiles.{both}
 
@@ -30,42 +30,42 @@ of_changes : (test : List ℕ → Bool) (changes : List Change) → list_any (λ
 of_changes test [] = refl
 of_changes test (change ∷ changes) = ap (λ b. test (path_of change) || b) (of_changes test changes)
 
-module _ (standing : Tree) (changes : List Change) (files index new : Tree) (gone looked_at words : List ℕ → Bool) (sorted : IsTrue (is_sorted byte_order standing))
+module _ (existing : Tree) (changes : List Change) (files index new : Tree) (gone looked_at words : List ℕ → Bool) (sorted : IsTrue (is_sorted byte_order existing))
     (lines : (line : List ℕ) → gone line ≡ is_of_change changes line)
     (held : (word : List ℕ) → words word ≡ list_any (λ (c : Change). holds_in (file_at files (path_of c)) word) changes)
     (news : (word : List ℕ) → file_at new word ≡ lines_where (λ (f : List ℕ × List ℕ). holds_in (file_at files f.0) word) (as_files changes))
-    (looks : (word : List ℕ) → looked_at word ≡ (words word || list_any (λ (f : List ℕ × List ℕ). bytes_eq f.0 word && list_any gone (lines_of f.1)) standing))
+    (looks : (word : List ℕ) → looked_at word ≡ (words word || list_any (λ (f : List ℕ × List ℕ). bytes_eq f.0 word && list_any gone (lines_of f.1)) existing))
     (changed_paths : IsTrue (list_all (λ (c : Change). is_rel_path (path_of c)) changes)) where
-  looked : (word : List ℕ) → looked_at word ≡ is_looked_at standing changes files word
+  looked : (word : List ℕ) → looked_at word ≡ is_looked_at existing changes files word
   looked word =
       looks word
-      ∙ ap (λ b. b || list_any (λ (f : List ℕ × List ℕ). bytes_eq f.0 word && list_any gone (lines_of f.1)) standing) (held word)
+      ∙ ap (λ b. b || list_any (λ (f : List ℕ × List ℕ). bytes_eq f.0 word && list_any gone (lines_of f.1)) existing) (held word)
       ∙ ap (λ b. list_any (λ (c : Change). holds_in (file_at files (path_of c)) word) changes || b)
-      (at_path word (λ reported. list_any gone (lines_of reported)) standing (subst T (sym sorted) tt) ∙ by (file_at standing word) ∙ same_any gone (is_of_change changes) lines (reported_at standing word))
+      (at_path word (λ reported. list_any gone (lines_of reported)) existing (subst T (sym sorted) tt) ∙ by (file_at existing word) ∙ same_any gone (is_of_change changes) lines (reported_at existing word))
     where
       by : (o : Option (List ℕ)) → on (λ reported. list_any gone (lines_of reported)) o ≡ list_any gone (lines_of (unwrap_or o []))
       by None = ap (list_any gone) (sym lines-nil)
       by (Some reported) = refl
 
-  carried : (word line : List ℕ) → is_line_of (unwrap_or (file_at standing word) []) gone (unwrap_or (file_at new word) []) line ≡ is_carried standing changes files word line
+  carried : (word line : List ℕ) → is_line_of (unwrap_or (file_at existing word) []) gone (unwrap_or (file_at new word) []) line ≡ is_carried existing changes files word line
   carried word line =
       let chosen = λ (f : List ℕ × List ℕ). holds_in (file_at files f.0) word in
-      ap (λ b. (list_any (bytes_eq line) (reported_at standing word) && not b) || list_any (bytes_eq line) (lines_of (unwrap_or (file_at new word) []))) (lines line)
-      ∙ ap (λ b. (list_any (bytes_eq line) (reported_at standing word) && not (is_of_change changes line)) || b)
+      ap (λ b. (list_any (bytes_eq line) (reported_at existing word) && not b) || list_any (bytes_eq line) (lines_of (unwrap_or (file_at new word) []))) (lines line)
+      ∙ ap (λ b. (list_any (bytes_eq line) (reported_at existing word) && not (is_of_change changes line)) || b)
       (ap (λ o. list_any (bytes_eq line) (lines_of (unwrap_or o []))) (news word)
       ∙ ap (λ reported. list_any (bytes_eq line) (lines_of reported)) (reported_so_far chosen (as_files changes))
       ∙ ap (list_any (bytes_eq line)) (lines_cut chosen (as_files changes) (changed_lines changes changed_paths))
-      ∙ tells chosen line (as_files changes)
+      ∙ shows chosen line (as_files changes)
       ∙ of_changes (λ path. bytes_eq (path_line path) line && holds_in (file_at files path) word) changes)
 
   pub is_found : IsTrue (is_sorted byte_order index)
-      → ((word : List ℕ) → looked_at word ≡ true → IsEntry (is_line_of (unwrap_or (file_at standing word) []) gone (unwrap_or (file_at new word) [])) (file_at index word))
+      → ((word : List ℕ) → looked_at word ≡ true → IsEntry (is_line_of (unwrap_or (file_at existing word) []) gone (unwrap_or (file_at new word) [])) (file_at index word))
       → ((word : List ℕ) → looked_at word ≡ false → file_at index word ≡ None)
-      → IsTrue (is_sorted byte_order files) → IsTrue (list_all (λ (f : List ℕ × List ℕ). is_rel_path f.0) files) → IsCarried standing changes files looked_at index
+      → IsTrue (is_sorted byte_order files) → IsTrue (list_all (λ (f : List ℕ × List ℕ). is_rel_path f.0) files) → IsCarried existing changes files looked_at index
   is_found ordered entries others in_order paths = record {
     looked = looked;
     ordered = ordered;
-    entries = λ word at. same_entry (is_line_of (unwrap_or (file_at standing word) []) gone (unwrap_or (file_at new word) [])) (is_carried standing changes files word) (carried word) (file_at index word) (entries word (looked word ∙ at));
+    entries = λ word at. same_entry (is_line_of (unwrap_or (file_at existing word) []) gone (unwrap_or (file_at new word) [])) (is_carried existing changes files word) (carried word) (file_at index word) (entries word (looked word ∙ at));
     others = λ word at. others word (looked word ∙ at);
     in_order = in_order;
     paths = paths;

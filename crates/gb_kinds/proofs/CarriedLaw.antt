@@ -24,10 +24,10 @@ use Rattle.gb_core.proofs.Found.{tied_same, find-same, find-other}
 use Rattle.gb_core.proofs.Booleans.{left_false, right_false}
 use Rattle.gb_kinds.specs.Carried.{file_of_lines, holds_in, is_carried, is_looked_at, is_of_change, path_of, reported_at, IsCarried}
 use Rattle.gb_kinds.specs.ByFile.{source_changes}
-use Rattle.gb_kinds.specs.Remade.{as_made, standing}
+use Rattle.gb_kinds.specs.Remade.{as_made, existing}
 use Rattle.gb_kinds.specs.Words.{holds_word, index_of, path_line}
 use Rattle.gb_kinds.proofs.CarriedFound.{same_any}
-use Rattle.gb_kinds.proofs.CarriedLines.{are_lines, at_path as one_at_path, first_is, is_one_line, lines_cut, on, path_is_line, second_is, tells}
+use Rattle.gb_kinds.proofs.CarriedLines.{are_lines, at_path as one_at_path, first_is, is_one_line, lines_cut, on, path_is_line, second_is, shows}
 use Rattle.gb_kinds.proofs.Carrying.{either, has_line, same_line}
 use Rattle.gb_kinds.proofs.ByFileAnswers.{same_ok, source_reported, tree_ordered}
 use Rattle.gb_kinds.proofs.FileLaw.{and_false, and_true, differs, itself, or_false, or_itself}
@@ -35,7 +35,7 @@ use Rattle.gb_kinds.proofs.Filtered.{filter_sorted, kept, kept_at, kept_none, li
 use Rattle.gb_kinds.proofs.LinesWhere.{reported_so_far}
 use Rattle.gb_kinds.proofs.Paths.{at_path}
 use Rattle.gb_kinds.proofs.RemadeAnswers.{IsRightAt}
-use Rattle.gb_kinds.proofs.RemadeLaw.{stood_at}
+use Rattle.gb_kinds.proofs.RemadeLaw.{existed_at}
 use Rattle.gb_kinds.proofs.WordFiles.{both, entry_of, index-entry, index-sorted}
 use Rattle.gb_kinds.proofs.Writing.{written_at-by_file}
 
@@ -83,10 +83,10 @@ all_names (file ∷ files) h = both _ _ (path_is_line file.0 (first_is (is_rel_p
 
 module _ (was now : Tree) (path : List ℕ) where
   elsewhere : (other : List ℕ) → other ≢ path → is_changed (change_at other (file_at was other) (file_at now other)) path ≡ false
-  elsewhere other apart = by (file_at was other) (file_at now other)
+  elsewhere other separate = by (file_at was other) (file_at now other)
     where
       none : (bytes_eq other path || false) ≡ false
-      none = or_false _ ∙ differs other path apart
+      none = or_false _ ∙ differs other path separate
 
       by : (o n : Option (List ℕ)) → is_changed (change_at other o n) path ≡ false
       by None None = refl
@@ -169,32 +169,32 @@ one_passes line test (other ∷ lines) there passes = by (bytes_eq line other) r
 -- ---- Lines of no path
 
 -- the line of a path is determined by its bytes except the last
-abbrev front : List ℕ → List ℕ
-front line = take (length line - 1) line
+abbrev prefix : List ℕ → List ℕ
+prefix line = take (length line - 1) line
 
-front_of : (path : List ℕ) → front (path_line path) ≡ path
-front_of path =
+prefix_of : (path : List ℕ) → prefix (path_line path) ≡ path
+prefix_of path =
     let shorter : length (path_line path) - 1 ≡ length path = omega (arith, length-append path (10 ∷ [])) in
     ap (λ n. take n (path_line path)) shorter ∙ take-append_seam path (10 ∷ [])
 
-module _ (line : List ℕ) (no_path : bytes_eq (path_line (front line)) line ≡ false) where
-  tells_none : (path : List ℕ) → bytes_eq (path_line path) line ≡ false
-  tells_none path = by (bytes_eq (path_line path) line) refl
+module _ (line : List ℕ) (no_path : bytes_eq (path_line (prefix line)) line ≡ false) where
+  reports_none : (path : List ℕ) → bytes_eq (path_line path) line ≡ false
+  reports_none path = by (bytes_eq (path_line path) line) refl
     where
       by : (b : Bool) → bytes_eq (path_line path) line ≡ b → b ≡ false
       by true e =
           let is : path_line path ≡ line = (bytes_decides (path_line path) line).0 e in
-          sym ((bytes_decides (path_line (front line)) line).1 (ap (λ l. path_line (front l)) (sym is) ∙ ap path_line (front_of path) ∙ is)) ∙ no_path
+          sym ((bytes_decides (path_line (prefix line)) line).1 (ap (λ l. path_line (prefix l)) (sym is) ∙ ap path_line (prefix_of path) ∙ is)) ∙ no_path
       by false e = refl
 
   none_of : {X : Type 0} (name : X → List ℕ) (test : X → Bool) (xs : List X) → list_any (λ x. bytes_eq (path_line (name x)) line && test x) xs ≡ false
   none_of name test [] = refl
-  none_of name test (x ∷ xs) = ap (λ b. (b && test x) || list_any (λ y. bytes_eq (path_line (name y)) line && test y) xs) (tells_none (name x)) ∙ none_of name test xs
+  none_of name test (x ∷ xs) = ap (λ b. (b && test x) || list_any (λ y. bytes_eq (path_line (name y)) line && test y) xs) (reports_none (name x)) ∙ none_of name test xs
 
 -- ---- The index
 
-module _ (standing index was now : Tree) (changes : List Change) (looked_at : List ℕ → Bool) (reported : changes ≡ changes_between was now)
-    (before : IsTrue (is_sorted byte_order was)) (stood : (word : List ℕ) → file_at standing word ≡ entry_of word was) (is : IsCarried standing changes now looked_at index) where
+module _ (existing index was now : Tree) (changes : List Change) (looked_at : List ℕ → Bool) (reported : changes ≡ changes_between was now)
+    (before : IsTrue (is_sorted byte_order was)) (existed : (word : List ℕ) → file_at existing word ≡ entry_of word was) (is : IsCarried existing changes now looked_at index) where
   old_lines : are_lines was ≡ true
   old_lines = all_lines was (λ q bytes old. path_is_line q (path q bytes old (file_at now q) refl))
     where
@@ -205,8 +205,8 @@ module _ (standing index was now : Tree) (changes : List Change) (looked_at : Li
   abbrev holds : List ℕ → List ℕ × List ℕ → Bool
   holds word file = holds_word word file.1
 
-  reported_then : (word : List ℕ) → reported_at standing word ≡ map (λ (f : List ℕ × List ℕ). path_line f.0) (filter (holds word) was)
-  reported_then word = ap (λ o. lines_of (unwrap_or o [])) (stood word) ∙ ap lines_of (reported_so_far (holds word) was) ∙ lines_cut (holds word) was old_lines
+  reported_then : (word : List ℕ) → reported_at existing word ≡ map (λ (f : List ℕ × List ℕ). path_line f.0) (filter (holds word) was)
+  reported_then word = ap (λ o. lines_of (unwrap_or o [])) (existed word) ∙ ap lines_of (reported_so_far (holds word) was) ∙ lines_cut (holds word) was old_lines
 
   -- whether a tree has the line of a path for a word
   at_line : (word p : List ℕ) (files : Tree) → IsTrue (is_sorted byte_order files) → list_any (λ (f : List ℕ × List ℕ). bytes_eq (path_line f.0) (path_line p) && holds word f) files ≡ holds_in (file_at files p) word
@@ -223,19 +223,19 @@ module _ (standing index was now : Tree) (changes : List Change) (looked_at : Li
   unchanged p e = stays was now p (ap (λ cs. is_changed cs p) (sym reported) ∙ e)
 
   -- a line is carried exactly if a current file has it
-  members : (word line : List ℕ) → is_carried standing changes now word line ≡ list_any (bytes_eq line) (map (λ (f : List ℕ × List ℕ). path_line f.0) (filter (holds word) now))
+  members : (word line : List ℕ) → is_carried existing changes now word line ≡ list_any (bytes_eq line) (map (λ (f : List ℕ × List ℕ). path_line f.0) (filter (holds word) now))
   members word line =
-      ap (λ b. (b && not (is_of_change changes line)) || news line) (ap (list_any (bytes_eq line)) (reported_then word) ∙ tells (holds word) line was)
-      ∙ by (bytes_eq (path_line (front line)) line) refl
-      ∙ sym (tells (holds word) line now)
+      ap (λ b. (b && not (is_of_change changes line)) || news line) (ap (list_any (bytes_eq line)) (reported_then word) ∙ shows (holds word) line was)
+      ∙ by (bytes_eq (path_line (prefix line)) line) refl
+      ∙ sym (shows (holds word) line now)
     where
       news : List ℕ → Bool
       news l = list_any (λ (c : Change). bytes_eq (path_line (path_of c)) l && holds_in (file_at now (path_of c)) word) changes
 
-      tree_tells : Tree → List ℕ → Bool
-      tree_tells files l = list_any (λ (f : List ℕ × List ℕ). bytes_eq (path_line f.0) l && holds word f) files
+      tree_shows : Tree → List ℕ → Bool
+      tree_shows files l = list_any (λ (f : List ℕ × List ℕ). bytes_eq (path_line f.0) l && holds word f) files
 
-      of_line : (p : List ℕ) → ((tree_tells was (path_line p) && not (is_of_change changes (path_line p))) || news (path_line p)) ≡ tree_tells now (path_line p)
+      of_line : (p : List ℕ) → ((tree_shows was (path_line p) && not (is_of_change changes (path_line p))) || news (path_line p)) ≡ tree_shows now (path_line p)
       of_line p =
           ap (λ b. (b && not (is_of_change changes (path_line p))) || news (path_line p)) (at_line word p was before)
           ∙ ap (λ b. (holds_in (file_at was p) word && not b) || news (path_line p)) (line_of_change p changes)
@@ -247,15 +247,15 @@ module _ (standing index was now : Tree) (changes : List Change) (looked_at : Li
           either_way true e = ap (λ b. b || holds_in (file_at now p) word) (and_false _ false refl)
           either_way false e = or_false _ ∙ and_true _ true refl ∙ ap (λ o. holds_in o word) (unchanged p e)
 
-      by : (b : Bool) → bytes_eq (path_line (front line)) line ≡ b → ((tree_tells was line && not (is_of_change changes line)) || news line) ≡ tree_tells now line
-      by true e = subst (λ l. ((tree_tells was l && not (is_of_change changes l)) || news l) ≡ tree_tells now l) ((bytes_decides (path_line (front line)) line).0 e) (of_line (front line))
+      by : (b : Bool) → bytes_eq (path_line (prefix line)) line ≡ b → ((tree_shows was line && not (is_of_change changes line)) || news line) ≡ tree_shows now line
+      by true e = subst (λ l. ((tree_shows was l && not (is_of_change changes l)) || news l) ≡ tree_shows now l) ((bytes_decides (path_line (prefix line)) line).0 e) (of_line (prefix line))
       by false e =
           ap (λ b. (b && not (is_of_change changes line)) || news line) (none_of line e (λ (f : List ℕ × List ℕ). f.0) (holds word) was)
           ∙ none_of line e path_of (λ (c : Change). holds_in (file_at now (path_of c)) word) changes
           ∙ sym (none_of line e (λ (f : List ℕ × List ℕ). f.0) (holds word) now)
 
   -- a word that is examined has its file
-  pub looked_entry : (word : List ℕ) → is_looked_at standing changes now word ≡ true → file_at index word ≡ entry_of word now
+  pub looked_entry : (word : List ℕ) → is_looked_at existing changes now word ≡ true → file_at index word ≡ entry_of word now
   looked_entry word at =
       let entry = is.entries word at in
       entry.joined
@@ -263,14 +263,14 @@ module _ (standing index was now : Tree) (changes : List Change) (looked_at : Li
       ∙ sym (lines_are (holds word) now)
 
   -- at any other word the existing file is right
-  module _ (word : List ℕ) (at : is_looked_at standing changes now word ≡ false) where
+  module _ (word : List ℕ) (at : is_looked_at existing changes now word ≡ false) where
     held_before : (p : List ℕ) → is_changed changes p ≡ true → holds_in (file_at was p) word ≡ false
     held_before p changed = by (holds_in (file_at was p) word) refl
       where
         by : (b : Bool) → holds_in (file_at was p) word ≡ b → b ≡ false
         by true e =
-            sym (one_passes (path_line p) (is_of_change changes) (reported_at standing word)
-            (ap (list_any (bytes_eq (path_line p))) (reported_then word) ∙ tells (holds word) (path_line p) was ∙ at_line word p was before ∙ e)
+            sym (one_passes (path_line p) (is_of_change changes) (reported_at existing word)
+            (ap (list_any (bytes_eq (path_line p))) (reported_then word) ∙ shows (holds word) (path_line p) was ∙ at_line word p was before ∙ e)
             (line_of_change p changes ∙ changed))
             ∙ right_false (list_any (λ (c : Change). holds_in (file_at now (path_of c)) word) changes) _ at
         by false e = refl
@@ -288,9 +288,9 @@ module _ (standing index was now : Tree) (changes : List Change) (looked_at : Li
         by p true e = kept_none word (file_at was p) (held_before p e) ∙ sym (kept_none word (file_at now p) (held_now p e))
         by p false e = ap (kept word) (unchanged p e)
 
-    pub other_entry : file_at standing word ≡ entry_of word now
+    pub other_entry : file_at existing word ≡ entry_of word now
     other_entry =
-        stood word
+        existed word
         ∙ lines_are (holds word) was
         ∙ ap (λ (files : Tree). file_of_lines (map (λ (f : List ℕ × List ℕ). path_line f.0) files)) same_files
         ∙ sym (lines_are (holds word) now)
@@ -300,9 +300,9 @@ module _ (standing index was now : Tree) (changes : List Change) (looked_at : Li
 abbrev index_makes : Making
 index_makes arguments values trees = Ok (as_made (index_of (tree_at trees source)))
 
-module _ (request : Request) (index : Tree) (looked_at : BTreeSet (List ℕ)) (is : IsCarried (standing request.outputs) (source_changes request.changes.lists) (tree_at request.files source) (contains byte_order looked_at) index) where
+module _ (request : Request) (index : Tree) (looked_at : BTreeSet (List ℕ)) (is : IsCarried (existing request.outputs) (source_changes request.changes.lists) (tree_at request.files source) (contains byte_order looked_at) index) where
   pub follows-is_right : (old : Trees) → FollowsOn index_makes request old → (path : List ℕ) → IsRightAt request.outputs index looked_at.keys (index_of (tree_at request.files source)) path
-  follows-is_right old follows path = by (is_looked_at (standing request.outputs) changes now path) refl
+  follows-is_right old follows path = by (is_looked_at (existing request.outputs) changes now path) refl
     where
       was : Tree
       was = tree_at old source
@@ -313,10 +313,10 @@ module _ (request : Request) (index : Tree) (looked_at : BTreeSet (List ℕ)) (i
       changes : List Change
       changes = source_changes request.changes.lists
 
-      stood : (word : List ℕ) → file_at (standing request.outputs) word ≡ entry_of word was
-      stood word =
-          sym (stood_at request.outputs target word)
-          ∙ follows.stands target word
+      existed : (word : List ℕ) → file_at (existing request.outputs) word ≡ entry_of word was
+      existed word =
+          sym (existed_at request.outputs target word)
+          ∙ follows.exists target word
           ∙ ap (λ files. written_at files target word) (sym (same_ok follows.was_made))
           ∙ written_at-by_file (λ bytes. bytes) target word (index_of was) (index-sorted was)
           ∙ same (file_at (index_of was) word)
@@ -327,14 +327,14 @@ module _ (request : Request) (index : Tree) (looked_at : BTreeSet (List ℕ)) (i
           same (Some x) = refl
 
       reported : changes ≡ changes_between was now
-      reported = source_reported old request follows.tells
+      reported = source_reported old request follows.shows
 
       before : IsTrue (is_sorted byte_order was)
-      before = tree_ordered old source follows.tells.ordered
+      before = tree_ordered old source follows.shows.ordered
 
-      there : (b : Bool) → is_looked_at (standing request.outputs) changes now path ≡ b → list_any (bytes_eq path) looked_at.keys ≡ b
+      there : (b : Bool) → is_looked_at (existing request.outputs) changes now path ≡ b → list_any (bytes_eq path) looked_at.keys ≡ b
       there b e = has_line looked_at path ∙ is.looked path ∙ e
 
-      by : (b : Bool) → is_looked_at (standing request.outputs) changes now path ≡ b → IsRightAt request.outputs index looked_at.keys (index_of now) path
-      by true e = inl (there true e, looked_entry (standing request.outputs) index was now changes (contains byte_order looked_at) reported before stood is path e ∙ sym (index-entry now path))
-      by false e = inr (there false e, is.others path e, other_entry (standing request.outputs) index was now changes (contains byte_order looked_at) reported before stood is path e ∙ sym (index-entry now path))
+      by : (b : Bool) → is_looked_at (existing request.outputs) changes now path ≡ b → IsRightAt request.outputs index looked_at.keys (index_of now) path
+      by true e = inl (there true e, looked_entry (existing request.outputs) index was now changes (contains byte_order looked_at) reported before existed is path e ∙ sym (index-entry now path))
+      by false e = inr (there false e, is.others path e, other_entry (existing request.outputs) index was now changes (contains byte_order looked_at) reported before existed is path e ∙ sym (index-entry now path))

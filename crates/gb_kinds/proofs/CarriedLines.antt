@@ -107,9 +107,9 @@ module _ (chosen : List ℕ × List ℕ → Bool) where
       by false later = later
 
   -- a line among them
-  pub tells : (line : List ℕ) (files : Tree) → list_any (bytes_eq line) (map (λ (f : List ℕ × List ℕ). path_line f.0) (filter chosen files)) ≡ list_any (λ (f : List ℕ × List ℕ). bytes_eq (path_line f.0) line && chosen f) files
-  tells line [] = refl
-  tells line (file ∷ files) = by (chosen file) ∙ ap (λ b. (bytes_eq (path_line file.0) line && chosen file) || b) (tells line files)
+  pub shows : (line : List ℕ) (files : Tree) → list_any (bytes_eq line) (map (λ (f : List ℕ × List ℕ). path_line f.0) (filter chosen files)) ≡ list_any (λ (f : List ℕ × List ℕ). bytes_eq (path_line f.0) line && chosen f) files
+  shows line [] = refl
+  shows line (file ∷ files) = by (chosen file) ∙ ap (λ b. (bytes_eq (path_line file.0) line && chosen file) || b) (shows line files)
     where
       none : (b : Bool) → (b && false) ≡ false
       none true = refl

@@ -29,11 +29,11 @@ same_line path other = by (bytes_eq path other) refl
   where
     by : (b : Bool) → bytes_eq path other ≡ b → bytes_eq (path_line path) (path_line other) ≡ b
     by true e = (bytes_decides (path_line path) (path_line other)).1 (ap path_line ((bytes_decides path other).0 e))
-    by false e = apart (bytes_eq (path_line path) (path_line other)) refl
+    by false e = separate (bytes_eq (path_line path) (path_line other)) refl
       where
-        apart : (c : Bool) → bytes_eq (path_line path) (path_line other) ≡ c → c ≡ false
-        apart true is = sym ((bytes_decides path other).1 (append_cancel_right path other (10 ∷ []) ((bytes_decides (path_line path) (path_line other)).0 is))) ∙ e
-        apart false is = refl
+        separate : (c : Bool) → bytes_eq (path_line path) (path_line other) ≡ c → c ≡ false
+        separate true is = sym ((bytes_decides path other).1 (append_cancel_right path other (10 ∷ []) ((bytes_decides (path_line path) (path_line other)).0 is))) ∙ e
+        separate false is = refl
 
 -- a key that is added to a set
 pub or_more : (key other : List ℕ) (before : Bool) → cond (eq_by_cmp byte_order key other) true before ≡ (before || bytes_eq key other)
@@ -134,8 +134,8 @@ module _ (Is : List ℕ → Option (List ℕ) → Type 0) (has : List ℕ → Bo
   here : list_any (eq_by_cmp byte_order word) (word ∷ rest) ≡ true
   here = ap (λ b. b || list_any (eq_by_cmp byte_order word) rest) (named word ∙ (bytes_decides word word).1 refl)
 
-  apart : (q : List ℕ) → bytes_eq word q ≡ false → file_at after q ≡ file_at before q
-  apart q e = adds q ∙ ap (λ b. if b then option_or (file_of_lines lines) (file_at before q) else file_at before q) e
+  separate : (q : List ℕ) → bytes_eq word q ≡ false → file_at after q ≡ file_at before q
+  separate q e = adds q ∙ ap (λ b. if b then option_or (file_of_lines lines) (file_at before q) else file_at before q) e
 
   in_rest : (q : List ℕ) (b : Bool) → list_any (eq_by_cmp byte_order q) rest ≡ b → bytes_eq word q ≡ false → list_any (eq_by_cmp byte_order q) (word ∷ rest) ≡ b
   in_rest q b e other = ap (λ x. x || list_any (eq_by_cmp byte_order q) rest) (named q ∙ other) ∙ e
@@ -151,10 +151,10 @@ module _ (Is : List ℕ → Option (List ℕ) → Type 0) (has : List ℕ → Bo
   within_later q e = within q (in_rest q true e (not_again q e))
 
   pub left_later : (q : List ℕ) → list_any (eq_by_cmp byte_order q) rest ≡ true → file_at after q ≡ None
-  left_later q e = apart q (not_again q e) ∙ left q (in_rest q true e (not_again q e))
+  left_later q e = separate q (not_again q e) ∙ left q (in_rest q true e (not_again q e))
 
   pub others_later : (q : List ℕ) → has q ≡ false → file_at after q ≡ None
-  others_later q e = apart q (by (bytes_eq word q) refl) ∙ others q e
+  others_later q e = separate q (by (bytes_eq word q) refl) ∙ others q e
     where
       by : (b : Bool) → bytes_eq word q ≡ b → b ≡ false
       by true same = sym (within word here) ∙ ap has ((bytes_decides word q).0 same) ∙ e
@@ -168,7 +168,7 @@ module _ (Is : List ℕ → Option (List ℕ) → Type 0) (has : List ℕ → Bo
           let is_word : word ≡ q = (bytes_decides word q).0 same in
           subst (λ x. Is x (file_at after x)) is_word
           (subst (Is word) (sym (adds word ∙ ap (λ b. if b then option_or (file_of_lines lines) (file_at before word) else file_at before word) ((bytes_decides word word).1 refl) ∙ ap (option_or (file_of_lines lines)) (left word here) ∙ or_none (file_of_lines lines))) is)
-      by false same = subst (Is q) (sym (apart q same)) (entries q e (in_rest q false gone same))
+      by false same = subst (Is q) (sym (separate q same)) (entries q e (in_rest q false gone same))
 
 -- ---- Files that were visited
 

@@ -9,7 +9,7 @@ use Rattle.std.specs.FinMap.Entries.{is_sorted}
 use Rattle.gb_core.specs.Lists.{byte_order}
 use Rattle.gb_action.specs.Files.{Tree, file_at}
 use Rattle.gb_action.specs.Changes.{change_at, changes_between}
-use Rattle.gb_action.specs.Outputs.{written_at, stands_at, is_removed}
+use Rattle.gb_action.specs.Outputs.{written_at, exists_at, is_removed}
 use Rattle.gb_action.specs.Shapes.{target}
 use Rattle.gb_action.specs.declared.change.Change.{Change}
 use Rattle.gb_action.specs.declared.change.Change.TheVariants.{Added, Modified}
@@ -56,18 +56,18 @@ some_none x e = true≢false (ap is_some e)
 
 module _ (output path : List ℕ) where
   elsewhere : (other bytes : List ℕ) → other ≢ path → written_at (file_of other bytes ∷ []) output path ≡ None
-  elsewhere other bytes apart = ap (λ b. if b then Some bytes else None) (and_false (bytes_eq target output) (bytes_eq other path) (differs other path apart))
+  elsewhere other bytes separate = ap (λ b. if b then Some bytes else None) (and_false (bytes_eq target output) (bytes_eq other path) (differs other path separate))
 
   here : (bytes : List ℕ) → written_at (file_of path bytes ∷ []) output path ≡ (if bytes_eq target output then Some bytes else None)
   here bytes = ap (λ b. if b then Some bytes else None) (and_true (bytes_eq target output) (bytes_eq path path) (itself path))
 
-  rewritten-elsewhere : (edit : List ℕ → List ℕ) (other : List ℕ) (standing contents : Option (List ℕ)) → other ≢ path → written_at (rewritten edit other standing contents) output path ≡ None
-  rewritten-elsewhere edit other standing None apart = refl
-  rewritten-elsewhere edit other standing (Some bytes) apart = by (holds standing (edit bytes))
+  rewritten-elsewhere : (edit : List ℕ → List ℕ) (other : List ℕ) (existing contents : Option (List ℕ)) → other ≢ path → written_at (rewritten edit other existing contents) output path ≡ None
+  rewritten-elsewhere edit other existing None separate = refl
+  rewritten-elsewhere edit other existing (Some bytes) separate = by (holds existing (edit bytes))
     where
       by : (b : Bool) → written_at (if b then [] else file_of other (edit bytes) ∷ []) output path ≡ None
       by true = refl
-      by false = elsewhere other (edit bytes) apart
+      by false = elsewhere other (edit bytes) separate
 
   alone : (files : List Written) → written_at (files ++ []) output path ≡ written_at files output path
   alone files = written_at-append files [] output path
@@ -92,12 +92,12 @@ module _ (edit : List ℕ → List ℕ) (outputs : List OutputFiles) (old new : 
       ∙ list_any-append (λ (gone : OutputPath). bytes_eq gone.output output && bytes_eq gone.path path) (flat_map removes_for xs) (flat_map removes_for ys)
 
   wrote-elsewhere : (other : List ℕ) → other ≢ path → wrote (change_at other (file_at old other) (file_at new other)) ≡ None
-  wrote-elsewhere other apart = by (file_at old other) (file_at new other)
+  wrote-elsewhere other separate = by (file_at old other) (file_at new other)
     where
       put : wrote (Added other ∷ []) ≡ None
       put =
-          alone output path (rewritten edit other (stands_at outputs target other) (file_at new other))
-          ∙ rewritten-elsewhere output path edit other (stands_at outputs target other) (file_at new other) apart
+          alone output path (rewritten edit other (exists_at outputs target other) (file_at new other))
+          ∙ rewritten-elsewhere output path edit other (exists_at outputs target other) (file_at new other) separate
 
       by : (o n : Option (List ℕ)) → wrote (change_at other o n) ≡ None
       by None None = refl
@@ -110,12 +110,12 @@ module _ (edit : List ℕ → List ℕ) (outputs : List OutputFiles) (old new : 
           same false = put
 
   removed-elsewhere : (other : List ℕ) → other ≢ path → removed (change_at other (file_at old other) (file_at new other)) ≡ false
-  removed-elsewhere other apart = by (file_at old other) (file_at new other)
+  removed-elsewhere other separate = by (file_at old other) (file_at new other)
     where
       by : (o n : Option (List ℕ)) → removed (change_at other o n) ≡ false
       by None None = refl
       by None (Some y) = refl
-      by (Some x) None = or_false _ ∙ and_false (bytes_eq target output) (bytes_eq other path) (differs other path apart)
+      by (Some x) None = or_false _ ∙ and_false (bytes_eq target output) (bytes_eq other path) (differs other path separate)
       by (Some x) (Some y) = same (bytes_eq x y)
         where
           same : (b : Bool) → removed (if b then [] else Modified other ∷ []) ≡ false
@@ -194,45 +194,45 @@ module _ (edit : List ℕ → List ℕ) (path output : List ℕ) where
       by true is = true≢false (sym is)
       by false is = new (bytes_eq (edit x) (edit y)) refl is
         where
-          apart : (t : Bool) → bytes_eq (edit x) (edit y) ≡ false → (is_some (if t then Some (edit y) else None) || false) ≡ true → (if t then Some (edit x) else None) ≡ (if t then Some (edit y) else None) → ⊥
-          apart true other put e = true≢false (sym ((bytes_decides (edit x) (edit y)).1 (some_same (edit x) (edit y) e)) ∙ other)
-          apart false other put e = true≢false (sym put)
+          separate : (t : Bool) → bytes_eq (edit x) (edit y) ≡ false → (is_some (if t then Some (edit y) else None) || false) ≡ true → (if t then Some (edit x) else None) ≡ (if t then Some (edit y) else None) → ⊥
+          separate true other put e = true≢false (sym ((bytes_decides (edit x) (edit y)).1 (some_same (edit x) (edit y) e)) ∙ other)
+          separate false other put e = true≢false (sym put)
 
           new : (b : Bool) → bytes_eq (edit x) (edit y) ≡ b → (is_some (written_at (if b then [] else file_of path (edit y) ∷ []) output path) || false) ≡ true → ⊥
           new true other put = true≢false (sym put)
-          new false other put = apart (bytes_eq target output) other (sym (ap (λ w. is_some w || false) (here output path (edit y))) ∙ put) same
+          new false other put = separate (bytes_eq target output) other (sym (ap (λ w. is_some w || false) (here output path (edit y))) ∙ put) same
 
 -- ---- All of a reply
 
 module _ (edit : List ℕ → List ℕ) (outputs : List OutputFiles) (old new : Tree)
     (before : IsTrue (is_sorted byte_order old)) (after : IsTrue (is_sorted byte_order new))
-    (stands : (output path : List ℕ) → stands_at outputs output path ≡ written_at (by_file edit old) output path) (output path : List ℕ) where
-  stood : stands_at outputs output path ≡ made edit path output (file_at old path)
-  stood = stands output path ∙ written_at-by_file edit output path old before
+    (exists : (output path : List ℕ) → exists_at outputs output path ≡ written_at (by_file edit old) output path) (output path : List ℕ) where
+  existed : exists_at outputs output path ≡ made edit path output (file_at old path)
+  existed = exists output path ∙ written_at-by_file edit output path old before
 
-  stood_here : stands_at outputs target path ≡ option_map edit (file_at old path)
-  stood_here = stands target path ∙ written_at-by_file edit target path old before
+  existed_here : exists_at outputs target path ≡ option_map edit (file_at old path)
+  existed_here = exists target path ∙ written_at-by_file edit target path old before
 
   written : wrote edit outputs old new output path (change_at path (file_at old path) (file_at new path)) ≡ written_at (changed edit path output (file_at old path) (file_at new path)) output path
   written = by (file_at old path) (file_at new path) refl refl
     where
-      put : (standing contents : Option (List ℕ)) → stands_at outputs target path ≡ standing → file_at new path ≡ contents
-          → wrote edit outputs old new output path (Added path ∷ []) ≡ written_at (rewritten edit path standing contents) output path
-      put standing contents p q =
-          alone output path (rewritten edit path (stands_at outputs target path) (file_at new path))
+      put : (existing contents : Option (List ℕ)) → exists_at outputs target path ≡ existing → file_at new path ≡ contents
+          → wrote edit outputs old new output path (Added path ∷ []) ≡ written_at (rewritten edit path existing contents) output path
+      put existing contents p q =
+          alone output path (rewritten edit path (exists_at outputs target path) (file_at new path))
           ∙ ap (λ s. written_at (rewritten edit path s (file_at new path)) output path) p
-          ∙ ap (λ s. written_at (rewritten edit path standing s) output path) q
+          ∙ ap (λ s. written_at (rewritten edit path existing s) output path) q
 
       by : (o n : Option (List ℕ)) → file_at old path ≡ o → file_at new path ≡ n
           → wrote edit outputs old new output path (change_at path o n) ≡ written_at (changed edit path output o n) output path
       by None None p q = refl
-      by None (Some y) p q = put None (Some y) (stood_here ∙ ap (option_map edit) p) q
+      by None (Some y) p q = put None (Some y) (existed_here ∙ ap (option_map edit) p) q
       by (Some x) None p q = refl
       by (Some x) (Some y) p q = same (bytes_eq x y)
         where
           same : (b : Bool) → wrote edit outputs old new output path (if b then [] else Modified path ∷ []) ≡ written_at (if b then [] else where_new path (Some (edit x)) (edit y)) output path
           same true = refl
-          same false = put (Some (edit x)) (Some y) (stood_here ∙ ap (option_map edit) p) q
+          same false = put (Some (edit x)) (Some y) (existed_here ∙ ap (option_map edit) p) q
 
   wrote_is : wrote edit outputs old new output path (changes_between old new) ≡ written_at (changed edit path output (file_at old path) (file_at new path)) output path
   wrote_is = wrote-at_path edit outputs old new output path ∙ written
@@ -240,18 +240,18 @@ module _ (edit : List ℕ → List ℕ) (outputs : List OutputFiles) (old new : 
   removed_is : removed edit outputs old new output path (changes_between old new) ≡ gone edit path output (file_at old path) (file_at new path)
   removed_is = removed-at_path edit outputs old new output path
 
-  pub carries : option_or (written_at (flat_map (writes_for edit outputs new) (changes_between old new)) output path) (if is_removed (flat_map removes_for (changes_between old new)) output path then None else stands_at outputs output path)
+  pub carries : option_or (written_at (flat_map (writes_for edit outputs new) (changes_between old new)) output path) (if is_removed (flat_map removes_for (changes_between old new)) output path then None else exists_at outputs output path)
       ≡ written_at (by_file edit new) output path
   carries =
-      ap (λ w. option_or w (if is_removed (flat_map removes_for (changes_between old new)) output path then None else stands_at outputs output path)) wrote_is
-      ∙ ap (λ b. option_or (written_at (changed edit path output (file_at old path) (file_at new path)) output path) (if b then None else stands_at outputs output path)) removed_is
-      ∙ ap (λ s. option_or (written_at (changed edit path output (file_at old path) (file_at new path)) output path) (if gone edit path output (file_at old path) (file_at new path) then None else s)) stood
+      ap (λ w. option_or w (if is_removed (flat_map removes_for (changes_between old new)) output path then None else exists_at outputs output path)) wrote_is
+      ∙ ap (λ b. option_or (written_at (changed edit path output (file_at old path) (file_at new path)) output path) (if b then None else exists_at outputs output path)) removed_is
+      ∙ ap (λ s. option_or (written_at (changed edit path output (file_at old path) (file_at new path)) output path) (if gone edit path output (file_at old path) (file_at new path) then None else s)) existed
       ∙ leaves edit path output (file_at old path) (file_at new path)
       ∙ sym (written_at-by_file edit output path new after)
 
   pub is_frugal : (is_some (written_at (flat_map (writes_for edit outputs new) (changes_between old new)) output path) || is_removed (flat_map removes_for (changes_between old new)) output path) ≡ true
-      → stands_at outputs output path ≢ written_at (by_file edit new) output path
+      → exists_at outputs output path ≢ written_at (by_file edit new) output path
   is_frugal named same =
       names_differences edit path output (file_at old path) (file_at new path)
       (sym (ap (λ w. is_some w || removed edit outputs old new output path (changes_between old new)) wrote_is ∙ ap (λ b. is_some (written_at (changed edit path output (file_at old path) (file_at new path)) output path) || b) removed_is) ∙ named)
-      (sym stood ∙ same ∙ written_at-by_file edit output path new after)
+      (sym existed ∙ same ∙ written_at-by_file edit output path new after)

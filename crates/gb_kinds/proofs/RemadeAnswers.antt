@@ -8,7 +8,7 @@ use Rattle.std.specs.FinMap.Entries.{is_sorted}
 use Rattle.gb_core.specs.Lists.{byte_order}
 use Rattle.gb_action.specs.Files.{Tree, Trees, file_at, tree_at}
 use Rattle.gb_action.specs.Meanings.{Making}
-use Rattle.gb_action.specs.Outputs.{written_at, stands_at, left_at, is_named, is_removed, names_only}
+use Rattle.gb_action.specs.Outputs.{written_at, exists_at, left_at, is_named, is_removed, names_only}
 use Rattle.gb_action.specs.Replies.{Answers, CarriesOver, FollowsOn, made_for}
 use Rattle.gb_action.specs.Shapes.{source, target}
 use Rattle.gb_action.specs.declared.output.OutputFiles.{OutputFiles}
@@ -17,10 +17,10 @@ use Rattle.gb_action.specs.declared.reply.Written.{Written}
 use Rattle.gb_action.specs.declared.request.Request.{Request}
 use Rattle.gb_kinds.specs.Builtin.{prints_changes}
 use Rattle.gb_kinds.specs.ByFile.{file_of, holds, where_new}
-use Rattle.gb_kinds.specs.Remade.{as_made, outdated, renewed, standing, IsRemade}
+use Rattle.gb_kinds.specs.Remade.{as_made, outdated, renewed, existing, IsRemade}
 use Rattle.gb_kinds.proofs.ByFileAnswers.{all_declared, both, removed_there, same_ok, written_there, is_output}
 use Rattle.gb_kinds.proofs.FileLaw.{itself}
-use Rattle.gb_kinds.proofs.RemadeLaw.{gone, leaves, names_differences, new_at, stood_at, wrote}
+use Rattle.gb_kinds.proofs.RemadeLaw.{gone, leaves, names_differences, new_at, existed_at, wrote}
 use Rattle.gb_kinds.proofs.Writing.{written_at-by_file}
 
 true_T : (b : Bool) → IsTrue b → T b
@@ -29,9 +29,9 @@ true_T b e = subst T (sym e) tt
 -- ---- The outputs that are named
 
 module _ (outputs : List OutputFiles) (declared : list_any (λ (output : OutputFiles). bytes_eq output.name target) outputs ≡ true) where
-  one_there : (path : List ℕ) (stood : Option (List ℕ)) (bytes : List ℕ) → written_there outputs declared (where_new path stood bytes) ≡ true
-  one_there path stood bytes =
-      elim (holds stood bytes) as (λ b. written_there outputs declared (if b then [] else file_of path bytes ∷ []) ≡ true) [
+  one_there : (path : List ℕ) (existed : Option (List ℕ)) (bytes : List ℕ) → written_there outputs declared (where_new path existed bytes) ≡ true
+  one_there path existed bytes =
+      elim (holds existed bytes) as (λ b. written_there outputs declared (if b then [] else file_of path bytes ∷ []) ≡ true) [
         | true ↦ refl
         | false ↦ both outputs declared (is_output outputs declared target) true declared refl
       ]
@@ -39,15 +39,15 @@ module _ (outputs : List OutputFiles) (declared : list_any (λ (output : OutputF
   renewed_there : (made : Tree) → written_there outputs declared (renewed outputs made) ≡ true
   renewed_there [] = refl
   renewed_there (file ∷ made) =
-      list_all-append (λ (written : Written). is_output outputs declared written.output) (where_new file.0 (stands_at outputs target file.0) file.1) (renewed outputs made)
-      ∙ both outputs declared _ _ (one_there file.0 (stands_at outputs target file.0) file.1) (renewed_there made)
+      list_all-append (λ (written : Written). is_output outputs declared written.output) (where_new file.0 (exists_at outputs target file.0) file.1) (renewed outputs made)
+      ∙ both outputs declared _ _ (one_there file.0 (exists_at outputs target file.0) file.1) (renewed_there made)
 
   outdated_there : (made : Tree) (paths : List (List ℕ)) → removed_there outputs declared (outdated outputs made paths) ≡ true
   outdated_there made [] = refl
   outdated_there made (path ∷ paths) = by (stale path) (outdated_there made paths)
     where
       stale : List ℕ → Bool
-      stale p = is_some (stands_at outputs target p) && not (is_some (file_at made p))
+      stale p = is_some (exists_at outputs target p) && not (is_some (file_at made p))
 
       by : (b : Bool) → removed_there outputs declared (outdated outputs made paths) ≡ true
           → removed_there outputs declared (map (λ (p : List ℕ). record { output = target; path = p }) (if b then path ∷ filter stale paths else filter stale paths)) ≡ true
@@ -60,19 +60,19 @@ module _ (outputs : List OutputFiles) (declared : list_any (λ (output : OutputF
 abbrev pub IsRightAt : List OutputFiles → Tree → List (List ℕ) → Tree → List ℕ → Type 0
 IsRightAt outputs made looked_at now path =
     ((list_any (bytes_eq path) looked_at ≡ true) × (file_at made path ≡ file_at now path))
-    ⊎ ((list_any (bytes_eq path) looked_at ≡ false) × (file_at made path ≡ None) × (file_at (standing outputs) path ≡ file_at now path))
+    ⊎ ((list_any (bytes_eq path) looked_at ≡ false) × (file_at made path ≡ None) × (file_at (existing outputs) path ≡ file_at now path))
 
 module _ (outputs : List OutputFiles) (made : Tree) (looked_at : List (List ℕ)) (now : Tree) (path : List ℕ) where
-  abbrev stood_there : Option (List ℕ)
-  stood_there = stands_at outputs target path
+  abbrev existed_there : Option (List ℕ)
+  existed_there = exists_at outputs target path
 
   nothing_new : (o : Option (List ℕ)) → new_at o o ≡ None
   nothing_new None = refl
   nothing_new (Some bytes) = ap (λ b. if b then None else Some bytes) (itself bytes)
 
-  right_new : IsRightAt outputs made looked_at now path → new_at stood_there (file_at made path) ≡ new_at stood_there (file_at now path)
-  right_new (inl (there, same)) = ap (new_at stood_there) same
-  right_new (inr (apart, none, same)) = ap (new_at stood_there) none ∙ sym (ap (new_at stood_there) (sym (stood_at outputs target path ∙ same)) ∙ nothing_new stood_there)
+  right_new : IsRightAt outputs made looked_at now path → new_at existed_there (file_at made path) ≡ new_at existed_there (file_at now path)
+  right_new (inl (there, same)) = ap (new_at existed_there) same
+  right_new (inr (separate, none, same)) = ap (new_at existed_there) none ∙ sym (ap (new_at existed_there) (sym (existed_at outputs target path ∙ same)) ∙ nothing_new existed_there)
 
   not_gone : (b : Bool) → (b && not b) ≡ false
   not_gone true = refl
@@ -83,12 +83,12 @@ module _ (outputs : List OutputFiles) (made : Tree) (looked_at : List (List ℕ)
   flipped (p ∷ paths) = ap (λ b. b || list_any (λ (q : List ℕ). bytes_eq q path) paths) (nat_list_eq_equiv.symm p path) ∙ ap (λ b. bytes_eq path p || b) (flipped paths)
 
   right_gone : IsRightAt outputs made looked_at now path
-      → (list_any (λ (p : List ℕ). bytes_eq p path) looked_at && (is_some stood_there && not (is_some (file_at made path)))) ≡ (is_some stood_there && not (is_some (file_at now path)))
+      → (list_any (λ (p : List ℕ). bytes_eq p path) looked_at && (is_some existed_there && not (is_some (file_at made path)))) ≡ (is_some existed_there && not (is_some (file_at now path)))
   right_gone (inl (there, same)) =
-      ap (λ b. b && (is_some stood_there && not (is_some (file_at made path)))) (flipped looked_at ∙ there) ∙ ap (λ o. is_some stood_there && not (is_some o)) same
-  right_gone (inr (apart, none, same)) =
-      ap (λ b. b && (is_some stood_there && not (is_some (file_at made path)))) (flipped looked_at ∙ apart)
-      ∙ sym (ap (λ o. is_some stood_there && not (is_some o)) (sym (stood_at outputs target path ∙ same)) ∙ not_gone (is_some stood_there))
+      ap (λ b. b && (is_some existed_there && not (is_some (file_at made path)))) (flipped looked_at ∙ there) ∙ ap (λ o. is_some existed_there && not (is_some o)) same
+  right_gone (inr (separate, none, same)) =
+      ap (λ b. b && (is_some existed_there && not (is_some (file_at made path)))) (flipped looked_at ∙ separate)
+      ∙ sym (ap (λ o. is_some existed_there && not (is_some o)) (sym (existed_at outputs target path ∙ same)) ∙ not_gone (is_some existed_there))
 
 -- ---- Answers
 
@@ -114,26 +114,26 @@ module _ (make : Tree → Tree) (sorted : (tree : Tree) → IsTrue (is_sorted by
       at : IsRightAt request.outputs remade looked_at now path
       at = right changed old follows path
 
-      abbrev stood : Option (List ℕ)
-      stood = stands_at request.outputs target path
+      abbrev existed : Option (List ℕ)
+      existed = exists_at request.outputs target path
 
-      same : bytes_eq target output ≡ true → stands_at request.outputs output path ≡ stood
-      same e = ap (λ name. stands_at request.outputs name path) (sym ((bytes_decides target output).0 e))
+      same : bytes_eq target output ≡ true → exists_at request.outputs output path ≡ existed
+      same e = ap (λ name. exists_at request.outputs name path) (sym ((bytes_decides target output).0 e))
 
-      alone : bytes_eq target output ≡ false → stands_at request.outputs output path ≡ None
+      alone : bytes_eq target output ≡ false → exists_at request.outputs output path ≡ None
       alone e =
-          follows.stands output path
+          follows.exists output path
           ∙ ap (λ files. written_at files output path) (sym (same_ok follows.was_made))
           ∙ made_at (tree_at old source) output path
           ∙ ap (λ b. if b then file_at (make (tree_at old source)) path else None) e
 
-      written : written_at reply.writes output path ≡ (if bytes_eq target output then new_at stood (file_at now path) else None)
+      written : written_at reply.writes output path ≡ (if bytes_eq target output then new_at existed (file_at now path) else None)
       written =
           ap (λ writes. written_at writes output path) (is_remade.writes changed)
           ∙ wrote request.outputs output path remade (true_T _ (in_order changed))
           ∙ ap (λ o. if bytes_eq target output then o else None) (right_new request.outputs remade looked_at now path at)
 
-      removed : is_removed reply.removes output path ≡ (bytes_eq target output && (is_some stood && not (is_some (file_at now path))))
+      removed : is_removed reply.removes output path ≡ (bytes_eq target output && (is_some existed && not (is_some (file_at now path))))
       removed =
           ap (λ removes. is_removed removes output path) (is_remade.removes changed)
           ∙ gone request.outputs output path remade looked_at
@@ -144,15 +144,15 @@ module _ (make : Tree → Tree) (sorted : (tree : Tree) → IsTrue (is_sorted by
 
       carried : left_at reply request.outputs output path ≡ written_at after output path
       carried =
-          ap (λ w. option_or w (if is_removed reply.removes output path then None else stands_at request.outputs output path)) written
-          ∙ ap (λ b. option_or (if bytes_eq target output then new_at stood (file_at now path) else None) (if b then None else stands_at request.outputs output path)) removed
-          ∙ leaves (bytes_eq target output) stood (stands_at request.outputs output path) (file_at now path) same alone
+          ap (λ w. option_or w (if is_removed reply.removes output path then None else exists_at request.outputs output path)) written
+          ∙ ap (λ b. option_or (if bytes_eq target output then new_at existed (file_at now path) else None) (if b then None else exists_at request.outputs output path)) removed
+          ∙ leaves (bytes_eq target output) existed (exists_at request.outputs output path) (file_at now path) same alone
           ∙ after_is
 
-      frugal : is_named reply output path ≡ true → stands_at request.outputs output path ≡ written_at after output path → ⊥
+      frugal : is_named reply output path ≡ true → exists_at request.outputs output path ≡ written_at after output path → ⊥
       frugal named equal =
-          names_differences (bytes_eq target output) stood (stands_at request.outputs output path) (file_at now path) same alone
-          (subst (λ b. (is_some (if bytes_eq target output then new_at stood (file_at now path) else None) || b) ≡ true) removed (subst (λ w. (is_some w || is_removed reply.removes output path) ≡ true) written named))
+          names_differences (bytes_eq target output) existed (exists_at request.outputs output path) (file_at now path) same alone
+          (subst (λ b. (is_some (if bytes_eq target output then new_at existed (file_at now path) else None) || b) ≡ true) removed (subst (λ w. (is_some w || is_removed reply.removes output path) ≡ true) written named))
           (equal ∙ sym after_is)
 
     carries_over : request.changes.incremental ≡ true → CarriesOver makes request reply

@@ -6,52 +6,52 @@ use Rattle.std.specs.Cmp.Lexicographic.{bytes_decides}
 use Rattle.std.specs.FinMap.Entries.{below_all, is_sorted}
 use Rattle.gb_core.specs.Lists.{byte_order}
 use Rattle.gb_action.specs.Files.{Tree, file_at}
-use Rattle.gb_action.specs.Outputs.{written_at, files_of, stands_at, is_removed}
+use Rattle.gb_action.specs.Outputs.{written_at, files_of, exists_at, is_removed}
 use Rattle.gb_action.specs.Shapes.{target}
 use Rattle.gb_action.specs.declared.output.OutputFiles.{OutputFiles}
 use Rattle.gb_core.proofs.Found.{find-same, find-other}
 use Rattle.gb_kinds.specs.ByFile.{file_of, holds, where_new}
-use Rattle.gb_kinds.specs.Remade.{outdated, renewed, standing}
+use Rattle.gb_kinds.specs.Remade.{outdated, renewed, existing}
 use Rattle.gb_kinds.proofs.FileLaw.{and_false, and_true, itself, some_none, some_same}
 use Rattle.gb_kinds.proofs.Writing.{below, first, or_none, second, written_at-append}
 
 -- the write for an existing file and a file to be made
 abbrev pub new_at : Option (List ℕ) → Option (List ℕ) → Option (List ℕ)
-new_at stood None = None
-new_at stood (Some bytes) = if holds stood bytes then None else Some bytes
+new_at existed None = None
+new_at existed (Some bytes) = if holds existed bytes then None else Some bytes
 
 nowhere : (t : Bool) → ◌≡◌ {A = Option (List ℕ)} None (if t then None else None)
 nowhere true = refl
 nowhere false = refl
 
 module _ (outputs : List OutputFiles) (output path : List ℕ) where
-  pub stood_at : stands_at outputs target path ≡ file_at (standing outputs) path
-  stood_at = by (files_of outputs target)
+  pub existed_at : exists_at outputs target path ≡ file_at (existing outputs) path
+  existed_at = by (files_of outputs target)
     where
       by : (o : Option Tree) → option_and_then (λ files. file_at files path) o ≡ file_at (unwrap_or o []) path
       by None = refl
       by (Some files) = refl
 
-  elsewhere : (other : List ℕ) (stood : Option (List ℕ)) (bytes : List ℕ) → bytes_eq other path ≡ false → written_at (where_new other stood bytes) output path ≡ None
-  elsewhere other stood bytes apart = by (holds stood bytes)
+  elsewhere : (other : List ℕ) (existed : Option (List ℕ)) (bytes : List ℕ) → bytes_eq other path ≡ false → written_at (where_new other existed bytes) output path ≡ None
+  elsewhere other existed bytes separate = by (holds existed bytes)
     where
       by : (b : Bool) → written_at (if b then [] else file_of other bytes ∷ []) output path ≡ None
       by true = refl
-      by false = ap (λ b. if b then Some bytes else None) (and_false (bytes_eq target output) (bytes_eq other path) apart)
+      by false = ap (λ b. if b then Some bytes else None) (and_false (bytes_eq target output) (bytes_eq other path) separate)
 
-  here : (stood : Option (List ℕ)) (bytes : List ℕ) → written_at (where_new path stood bytes) output path ≡ (if bytes_eq target output then new_at stood (Some bytes) else None)
-  here stood bytes = by (holds stood bytes)
+  here : (existed : Option (List ℕ)) (bytes : List ℕ) → written_at (where_new path existed bytes) output path ≡ (if bytes_eq target output then new_at existed (Some bytes) else None)
+  here existed bytes = by (holds existed bytes)
     where
       by : (b : Bool) → written_at (if b then [] else file_of path bytes ∷ []) output path ≡ (if bytes_eq target output then (if b then None else Some bytes) else None)
       by true = nowhere (bytes_eq target output)
       by false = ap (λ b. if b then Some bytes else None) (and_true (bytes_eq target output) (bytes_eq path path) (itself path))
 
   -- the write at the path
-  pub wrote : (made : Tree) → T (is_sorted byte_order made) → written_at (renewed outputs made) output path ≡ (if bytes_eq target output then new_at (stands_at outputs target path) (file_at made path) else None)
+  pub wrote : (made : Tree) → T (is_sorted byte_order made) → written_at (renewed outputs made) output path ≡ (if bytes_eq target output then new_at (exists_at outputs target path) (file_at made path) else None)
   wrote [] h = nowhere (bytes_eq target output)
   wrote (file ∷ made) h =
-      written_at-append (where_new file.0 (stands_at outputs target file.0) file.1) (renewed outputs made) output path
-      ∙ ap (λ w. option_or w (written_at (where_new file.0 (stands_at outputs target file.0) file.1) output path)) (wrote made (second (below_all byte_order file.0 made) _ h))
+      written_at-append (where_new file.0 (exists_at outputs target file.0) file.1) (renewed outputs made) output path
+      ∙ ap (λ w. option_or w (written_at (where_new file.0 (exists_at outputs target file.0) file.1) output path)) (wrote made (second (below_all byte_order file.0 made) _ h))
       ∙ by (bytes_eq file.0 path) refl
     where
       over : (t : Bool) (o : Option (List ℕ)) → option_or (if t then None else None) (if t then o else None) ≡ (if t then o else None)
@@ -59,27 +59,27 @@ module _ (outputs : List OutputFiles) (output path : List ℕ) where
       over false o = refl
 
       by : (b : Bool) → bytes_eq file.0 path ≡ b
-          → option_or (if bytes_eq target output then new_at (stands_at outputs target path) (file_at made path) else None) (written_at (where_new file.0 (stands_at outputs target file.0) file.1) output path)
-          ≡ (if bytes_eq target output then new_at (stands_at outputs target path) (file_at (file ∷ made) path) else None)
+          → option_or (if bytes_eq target output then new_at (exists_at outputs target path) (file_at made path) else None) (written_at (where_new file.0 (exists_at outputs target file.0) file.1) output path)
+          ≡ (if bytes_eq target output then new_at (exists_at outputs target path) (file_at (file ∷ made) path) else None)
       by true e =
           let is : file.0 ≡ path = (bytes_decides file.0 path).0 e in
           let absent : file_at made path ≡ None = subst (λ q. file_at made q ≡ None) is (below file.0 made (first (below_all byte_order file.0 made) _ h)) in
-          ap (λ q. option_or (if bytes_eq target output then new_at (stands_at outputs target path) (file_at made path) else None) (written_at (where_new q (stands_at outputs target q) file.1) output path)) is
-          ∙ ap (λ o. option_or (if bytes_eq target output then new_at (stands_at outputs target path) o else None) (written_at (where_new path (stands_at outputs target path) file.1) output path)) absent
-          ∙ ap (option_or (if bytes_eq target output then None else None)) (here (stands_at outputs target path) file.1)
-          ∙ over (bytes_eq target output) (new_at (stands_at outputs target path) (Some file.1))
-          ∙ ap (λ o. if bytes_eq target output then new_at (stands_at outputs target path) o else None) (sym (find-same path file made is))
+          ap (λ q. option_or (if bytes_eq target output then new_at (exists_at outputs target path) (file_at made path) else None) (written_at (where_new q (exists_at outputs target q) file.1) output path)) is
+          ∙ ap (λ o. option_or (if bytes_eq target output then new_at (exists_at outputs target path) o else None) (written_at (where_new path (exists_at outputs target path) file.1) output path)) absent
+          ∙ ap (option_or (if bytes_eq target output then None else None)) (here (exists_at outputs target path) file.1)
+          ∙ over (bytes_eq target output) (new_at (exists_at outputs target path) (Some file.1))
+          ∙ ap (λ o. if bytes_eq target output then new_at (exists_at outputs target path) o else None) (sym (find-same path file made is))
       by false e =
           let other : file.0 ≢ path = λ is. true≢false (sym ((bytes_decides file.0 path).1 is) ∙ e) in
-          ap (option_or (if bytes_eq target output then new_at (stands_at outputs target path) (file_at made path) else None)) (elsewhere file.0 (stands_at outputs target file.0) file.1 e)
-          ∙ or_none (if bytes_eq target output then new_at (stands_at outputs target path) (file_at made path) else None)
-          ∙ ap (λ o. if bytes_eq target output then new_at (stands_at outputs target path) o else None) (sym (find-other path file made other))
+          ap (option_or (if bytes_eq target output then new_at (exists_at outputs target path) (file_at made path) else None)) (elsewhere file.0 (exists_at outputs target file.0) file.1 e)
+          ∙ or_none (if bytes_eq target output then new_at (exists_at outputs target path) (file_at made path) else None)
+          ∙ ap (λ o. if bytes_eq target output then new_at (exists_at outputs target path) o else None) (sym (find-other path file made other))
 
   -- the path is removed
   module _ (made : Tree) where
     -- a file exists at it, and none is made
     abbrev stale : List ℕ → Bool
-    stale p = is_some (stands_at outputs target p) && not (is_some (file_at made p))
+    stale p = is_some (exists_at outputs target p) && not (is_some (file_at made p))
 
     pub gone : (paths : List (List ℕ)) → is_removed (outdated outputs made paths) output path ≡ (bytes_eq target output && (list_any (λ p. bytes_eq p path) paths && stale path))
     gone [] = sym (and_false (bytes_eq target output) false refl)
@@ -120,12 +120,12 @@ module _ (outputs : List OutputFiles) (output path : List ℕ) where
 
 -- ---- One path, by the existing file and the file made there
 
-module _ (t : Bool) (stood there made : Option (List ℕ)) (same : t ≡ true → there ≡ stood) (alone : t ≡ false → there ≡ None) where
+module _ (t : Bool) (existed there made : Option (List ℕ)) (same : t ≡ true → there ≡ existed) (alone : t ≡ false → there ≡ None) where
   abbrev wrote_at : Bool → Option (List ℕ)
-  wrote_at b = if b then new_at stood made else None
+  wrote_at b = if b then new_at existed made else None
 
   abbrev gone_at : Bool → Bool
-  gone_at b = b && (is_some stood && not (is_some made))
+  gone_at b = b && (is_some existed && not (is_some made))
 
   and_not : (b : Bool) → (b && false) ≡ false
   and_not true = refl
@@ -145,7 +145,7 @@ module _ (t : Bool) (stood there made : Option (List ℕ)) (same : t ≡ true �
           equal false e = refl
 
       by : (b : Bool) → t ≡ b → option_or (wrote_at b) (if gone_at b then None else there) ≡ (if b then made else None)
-      by true e = ap (λ o. option_or (new_at stood made) (if is_some stood && not (is_some made) then None else o)) (same e) ∙ known stood made
+      by true e = ap (λ o. option_or (new_at existed made) (if is_some existed && not (is_some made) then None else o)) (same e) ∙ known existed made
       by false e = alone e
 
   pub names_differences : (is_some (wrote_at t) || gone_at t) ≡ true → there ≢ (if t then made else None)
@@ -158,5 +158,5 @@ module _ (t : Bool) (stood there made : Option (List ℕ)) (same : t ≡ true �
       known (Some x) (Some y) named is = true≢false (sym named ∙ ap (λ b. is_some (if b then None else Some y) || false) ((bytes_decides x y).1 (some_same x y is)))
 
       by : (b : Bool) → t ≡ b → (is_some (wrote_at b) || gone_at b) ≡ true → there ≢ (if b then made else None)
-      by true e named is = known stood made named (sym (same e) ∙ is)
+      by true e named is = known existed made named (sym (same e) ∙ is)
       by false e named is = true≢false (sym named)

@@ -35,8 +35,8 @@ entry_of word files = lines_where (λ file. holds_word word file.1) files
 -- ---- The index
 
 -- entries as files
-abbrev pub seen : List (List ℕ × Vec ℕ Global) → Tree
-seen entries = map (λ (e : List ℕ × Vec ℕ Global). (e.0, e.1.items)) entries
+abbrev pub observed : List (List ℕ × Vec ℕ Global) → Tree
+observed entries = map (λ (e : List ℕ × Vec ℕ Global). (e.0, e.1.items)) entries
 
 abbrev pub items : Vec ℕ Global → List ℕ
 items v = v.items
@@ -69,7 +69,7 @@ module _ (word : List ℕ) (before after : Index) (key : List ℕ) (lines : Vec 
       by true = refl
       by false = sym (found other before.entries)
 
-pub is_found : (q : List ℕ) (es : Entries) → is_some (lookup (is_at (byte_order q)) es) ≡ is_some (file_at (seen es) q)
+pub is_found : (q : List ℕ) (es : Entries) → is_some (lookup (is_at (byte_order q)) es) ≡ is_some (file_at (observed es) q)
 is_found q es = by (lookup (is_at (byte_order q)) es) ∙ ap is_some (sym (found q es))
   where
     by : (o : Option (Vec ℕ Global)) → is_some o ≡ is_some (option_map items o)

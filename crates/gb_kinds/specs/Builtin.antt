@@ -158,7 +158,7 @@ abbrev pub builtin_names : List (List ℕ × ℕ × ℕ)
 builtin_names = text_names ++ file_names ++ one_file_names
 
 -- a closure that may be called under `pre`, and whose result then satisfies `post`, implements the kind
-pub record StandsFor (number : ℕ) (pre : Global → Bor Request → Type 0)
+pub record Implements (number : ℕ) (pre : Global → Bor Request → Type 0)
     (post : Global → Bor Request → Result Reply ActionFault → Type 0) : Type 0 where
   pub callable : (alloc : Global) (request : Bor Request) → IsAsked (builtin_shape number) request.now
       → pre alloc request

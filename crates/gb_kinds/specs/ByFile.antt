@@ -6,7 +6,7 @@ use Rattle.std.specs.FinMap.Entries.{find}
 use Rattle.gb_core.specs.Lists.{byte_order}
 use Rattle.gb_action.specs.Files.{Tree, file_at, tree_at}
 use Rattle.gb_action.specs.Changes.{Changes}
-use Rattle.gb_action.specs.Outputs.{stands_at}
+use Rattle.gb_action.specs.Outputs.{exists_at}
 use Rattle.gb_action.specs.Shapes.{source, target}
 use Rattle.gb_action.specs.declared.change.Change.{Change}
 use Rattle.gb_action.specs.declared.change.Change.TheVariants.{Added, Modified, Removed}
@@ -57,23 +57,23 @@ change_line (Removed path) = codes "REMOVED " ++ path
 
 abbrev pub holds : Option (List ℕ) → List ℕ → Bool
 holds None bytes = false
-holds (Some standing) bytes = bytes_eq standing bytes
+holds (Some existing) bytes = bytes_eq existing bytes
 
 -- a file to write, unless the output already has it
 abbrev pub where_new : List ℕ → Option (List ℕ) → List ℕ → List Written
-where_new path standing bytes = if holds standing bytes then [] else file_of path bytes ∷ []
+where_new path existing bytes = if holds existing bytes then [] else file_of path bytes ∷ []
 
 -- the file to write at a path, given the existing file and the current file of the source
 abbrev pub rewritten : (List ℕ → List ℕ) → List ℕ → Option (List ℕ) → Option (List ℕ) → List Written
-rewritten edit path standing None = []
-rewritten edit path standing (Some bytes) = where_new path standing (edit bytes)
+rewritten edit path existing None = []
+rewritten edit path existing (Some bytes) = where_new path existing (edit bytes)
 
 -- the writes for a change
 abbrev pub writes_for : (List ℕ → List ℕ) → List OutputFiles → Tree → Change → List Written
 writes_for edit outputs files (Added path) =
-    rewritten edit path (stands_at outputs target path) (file_at files path)
+    rewritten edit path (exists_at outputs target path) (file_at files path)
 writes_for edit outputs files (Modified path) =
-    rewritten edit path (stands_at outputs target path) (file_at files path)
+    rewritten edit path (exists_at outputs target path) (file_at files path)
 writes_for edit outputs files (Removed path) = []
 
 -- the removals for a change

@@ -13,7 +13,7 @@ use Rattle.gb_action.specs.declared.change.Change.{Change}
 use Rattle.gb_action.specs.declared.change.Change.TheVariants.{Added, Modified, Removed}
 use Rattle.gb_action.specs.declared.request.Request.{Request}
 use Rattle.gb_kinds.specs.ByFile.{source_changes}
-use Rattle.gb_kinds.specs.Remade.{standing}
+use Rattle.gb_kinds.specs.Remade.{existing}
 use Rattle.gb_kinds.specs.Words.{holds_word, index_of, path_line}
 
 abbrev pub path_of : Change → List ℕ
@@ -77,15 +77,15 @@ pub record IsCarried (old : Tree) (changes : List Change) (files : Tree) (looked
 pub record IsIndexFor (request : Request) (looked_at : List ℕ → Bool) (index : Tree) : Type 0 where
   pub in_full : request.changes.incremental ≡ false → index ≡ index_of (tree_at request.files source)
   pub carried : request.changes.incremental ≡ true
-      → IsCarried (standing request.outputs) (source_changes request.changes.lists)
+      → IsCarried (existing request.outputs) (source_changes request.changes.lists)
       (tree_at request.files source) looked_at index
 
 -- ---- As it is computed
 
 -- the line exists and is not gone, or it is new
 abbrev pub is_line_of : List ℕ → (List ℕ → Bool) → List ℕ → List ℕ → Bool
-is_line_of stood gone new line =
-    (list_any (bytes_eq line) (lines_of stood) && not (gone line)) || list_any (bytes_eq line) (lines_of new)
+is_line_of existed gone new line =
+    (list_any (bytes_eq line) (lines_of existed) && not (gone line)) || list_any (bytes_eq line) (lines_of new)
 
 -- the changed paths as those of files
 abbrev pub as_files : List Change → Tree

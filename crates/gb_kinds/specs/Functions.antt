@@ -129,7 +129,7 @@ output value arguments =
 
 abbrev pub concat : Value → Value → Arguments → Result Value Refusal
 concat left right arguments =
-    of_text left (λ front. of_text right (λ back. alone arguments (values.Text (front ++ back))))
+    of_text left (λ prefix. of_text right (λ back. alone arguments (values.Text (prefix ++ back))))
 
 abbrev pub is_true : Value → Arguments → Result Bool Refusal
 is_true value arguments = of_truth value (alone arguments)

@@ -2,7 +2,7 @@
 use Rattle.std.specs.Prelude.{◌≡◌, ℕ, not, ◌&&◌, true, false, List, [], map, unwrap_or, is_some}
 use Rattle.std.specs.List.{filter, flat_map}
 use Rattle.gb_action.specs.Files.{Tree, file_at}
-use Rattle.gb_action.specs.Outputs.{files_of, stands_at}
+use Rattle.gb_action.specs.Outputs.{files_of, exists_at}
 use Rattle.gb_action.specs.Shapes.{target}
 use Rattle.gb_action.specs.declared.output.OutputFiles.{OutputFiles}
 use Rattle.gb_action.specs.declared.reply.OutputPath.{OutputPath}
@@ -16,18 +16,18 @@ abbrev pub as_made : Tree → List Written
 as_made made = by_file (λ bytes. bytes) made
 
 -- the existing files of the output that kinds write
-abbrev pub standing : List OutputFiles → Tree
-standing outputs = unwrap_or (files_of outputs target) []
+abbrev pub existing : List OutputFiles → Tree
+existing outputs = unwrap_or (files_of outputs target) []
 
 -- the paths among these at which a file exists and none is made
 abbrev pub outdated : List OutputFiles → Tree → List (List ℕ) → List OutputPath
 outdated outputs made paths =
     map (λ path. record { output = target; path = path })
-    (filter (λ path. is_some (stands_at outputs target path) && not (is_some (file_at made path))) paths)
+    (filter (λ path. is_some (exists_at outputs target path) && not (is_some (file_at made path))) paths)
 
 -- the files that the output does not have already
 abbrev pub renewed : List OutputFiles → Tree → List Written
-renewed outputs made = flat_map (λ file. where_new file.0 (stands_at outputs target file.0) file.1) made
+renewed outputs made = flat_map (λ file. where_new file.0 (exists_at outputs target file.0) file.1) made
 
 -- The reply of a kind that makes these files: all of them, or, if it examined only some paths, those that
 -- the output does not have already, and it removes the existing files at one of the paths that are no longer

@@ -3,7 +3,7 @@ ghost use Rattle.std.specs.Prelude.{◌≡◌, ◌≤◌};
 ghost use Rattle.gb_action.specs.Props.{Answers-prop};
 ghost use Rattle.gb_action.specs.Replies.{Answers};
 ghost use Rattle.gb_action.specs.Shapes.{IsAsked};
-ghost use Rattle.gb_kinds.specs.Builtin.{builtin_shape, builtin_makes, builtin_prints, StandsFor};
+ghost use Rattle.gb_kinds.specs.Builtin.{builtin_shape, builtin_makes, builtin_prints, Implements};
 
 use gb_action::actions::Actions;
 use gb_action::reply::{ActionFault, Reply};
@@ -40,7 +40,7 @@ impl StoredAction {
     pub fn new(kind: u16, version: u32, shape: Shape, run: Run) -> StoredAction
         requires positive { 1 ≤ version }
         requires shaped { shape ≡ builtin_shape kind }
-        requires stands { StandsFor kind (Run.pre run) (Run.post run) }
+        requires exists { Implements kind (Run.pre run) (Run.post run) }
         ensures kind { result.kind ≡ kind }
         ensures version { result.version ≡ version }
     {

@@ -94,9 +94,9 @@ fn changed_writes<E: FileMaker>(
     for change in changes {
         match change {
             Change::Added(path) | Change::Modified(path) => {
-                let standing = request.outputs.file_at(&output, path);
+                let existing = request.outputs.file_at(&output, path);
                 let contents = source::file_of(request, &name, path);
-                rewrite(alloc, &mut writes, edit, path, standing, contents)?;
+                rewrite(alloc, &mut writes, edit, path, existing, contents)?;
             }
             Change::Removed(_) => {}
         }
@@ -110,15 +110,15 @@ fn rewrite<E: FileMaker>(
     writes: &mut Writes,
     edit: &E,
     path: &RelPath,
-    standing: Option<&Bytes>,
+    existing: Option<&Bytes>,
     contents: Option<&Bytes>,
 ) -> Result<(), AllocError>
     ensures { OnOk result (writes.new ≡ writes.old ++ rewritten (E.edited edit.now) path.now
-        (option_copied standing.entry) (option_copied contents.entry)) }
+        (option_copied existing.entry) (option_copied contents.entry)) }
 {
     if let Some(bytes) = contents {
         let made = edit.apply(alloc, bytes.as_slice())?;
-        if !holds(standing, made.as_slice()) {
+        if !holds(existing, made.as_slice()) {
             writes.push(written(alloc, path, made)?)?;
         }
     }
@@ -126,10 +126,10 @@ fn rewrite<E: FileMaker>(
 }
 
 /// Whether the existing file has these bytes.
-pub fn holds(standing: Option<&Bytes>, bytes: &[u8]) -> bool
-    ensures { result ≡ holds (option_copied standing.entry) bytes.now }
+pub fn holds(existing: Option<&Bytes>, bytes: &[u8]) -> bool
+    ensures { result ≡ holds (option_copied existing.entry) bytes.now }
 {
-    match standing {
+    match existing {
         Some(found) => found.as_slice() == bytes,
         None => false,
     }

@@ -10,18 +10,18 @@ ghost use Rattle.bstr.specs.Text.{lines_of};
 ghost use Rattle.gb_core.specs.Place.{is_rel_path};
 ghost use Rattle.gb_core.specs.Lists.{byte_order};
 ghost use Rattle.gb_action.specs.Files.{file_at, tree_at};
-ghost use Rattle.gb_action.specs.Outputs.{stands_at};
+ghost use Rattle.gb_action.specs.Outputs.{exists_at};
 ghost use Rattle.gb_action.specs.Shapes.{source as source_is, target};
 ghost use Rattle.gb_kinds.specs.ByFile.{source_changes};
 ghost use Rattle.gb_kinds.specs.Carried.{as_files, file_of_lines, holds_in, is_line_of, is_of_change};
 ghost use Rattle.gb_kinds.specs.Carried.{lines_where, path_of, IsCarried, IsEntry};
-ghost use Rattle.gb_kinds.specs.Remade.{standing as standing_in};
+ghost use Rattle.gb_kinds.specs.Remade.{existing as existing_in};
 ghost use Rattle.gb_kinds.specs.Words.{index_files, path_line, with_path};
 
 use crate::index::{Index, add_path};
 use crate::line::Line;
 use crate::names::{output_name, source_name};
-use crate::remade::{Remade, standing};
+use crate::remade::{Remade, existing};
 use crate::source;
 use crate::words::{Words, words_of};
 use bstr::ByteSlice;
@@ -52,7 +52,7 @@ struct Changed {
 /// and one for each path.
 pub fn carried_index(alloc: Global, request: &Request) -> Result<Remade, AllocError>
     ensures { IfOk result (λ remade.
-        IsCarried (standing_in request.now.outputs) (source_changes request.now.changes.lists)
+        IsCarried (existing_in request.now.outputs) (source_changes request.now.changes.lists)
         (tree_at request.now.files source_is) (contains byte_order remade.looked_at)
         (index_files remade.made)) }
 {
@@ -65,7 +65,7 @@ pub fn carried_index(alloc: Global, request: &Request) -> Result<Remade, AllocEr
         words: mut looked_at,
         index,
     } = changed;
-    add_reported(alloc, &mut looked_at, standing(request, &output), &lines)?;
+    add_reported(alloc, &mut looked_at, existing(request, &output), &lines)?;
     let made = index_at(alloc, request, &looked_at, &lines, &index)?;
     Ok(Remade { looked_at, made })
 }
@@ -202,16 +202,16 @@ fn add_where_reported(
         || (bytes_eq word.now other
         && list_any (contains byte_order lines.now) (lines_of reported.now)))) }
 {
-    if tells_one(alloc, reported, lines)? {
+    if has_line(alloc, reported, lines)? {
         words.insert(word.copy()?)?;
     }
     Ok(())
 }
 
 /// Whether one of the lines is among these bytes.
-fn tells_one(alloc: Global, reported: &[u8], lines: &Lines) -> Result<bool, AllocError>
+fn has_line(alloc: Global, reported: &[u8], lines: &Lines) -> Result<bool, AllocError>
     ensures { IfOk result
-        (λ tells. tells ≡ list_any (contains byte_order lines.now) (lines_of reported.now)) }
+        (λ shows. shows ≡ list_any (contains byte_order lines.now) (lines_of reported.now)) }
 {
     for line in reported.lines_with_terminator() {
         if lines.contains(&Line::from_slice(alloc, line)?) {
@@ -231,7 +231,7 @@ fn index_at(
 ) -> Result<Index, AllocError>
     ensures ordered { IfOk result (λ index. IsTrue (is_sorted byte_order (index_files index))) }
     ensures entries { IfOk result (λ index. (word : _) → contains byte_order words.now word ≡ true
-        → IsEntry (is_line_of (unwrap_or (stands_at request.now.outputs target word) [])
+        → IsEntry (is_line_of (unwrap_or (exists_at request.now.outputs target word) [])
         (contains byte_order gone.now) (unwrap_or (file_at (index_files new.now) word) []))
         (file_at (index_files index) word)) }
     ensures others { IfOk result (λ index. (word : _) → contains byte_order words.now word ≡ false
@@ -240,16 +240,16 @@ fn index_at(
     let output = output_name(alloc)?;
     let mut index = BTreeMap::new(alloc);
     for word in words.iter() {
-        let stood = stood_at(request, &output, word);
-        let lines = carried_lines(alloc, stood, gone, reported_at(new, word))?;
+        let existed = existed_at(request, &output, word);
+        let lines = carried_lines(alloc, existed, gone, reported_at(new, word))?;
         add_entry(alloc, &mut index, word, &lines)?;
     }
     Ok(index)
 }
 
 /// The existing bytes at a word.
-fn stood_at<'a>(request: &'a Request, output: &Name, word: &RelPath) -> &'a [u8]
-    ensures { result.now ≡ unwrap_or (stands_at request.now.outputs output.now word.now) [] }
+fn existed_at<'a>(request: &'a Request, output: &Name, word: &RelPath) -> &'a [u8]
+    ensures { result.now ≡ unwrap_or (exists_at request.now.outputs output.now word.now) [] }
 {
     match request.outputs.file_at(output, word) {
         Some(bytes) => bytes.as_slice(),
@@ -268,12 +268,12 @@ fn reported_at<'a>(index: &'a Index, word: &RelPath) -> &'a [u8]
 }
 
 /// The existing lines without those that are gone, and the new ones.
-fn carried_lines(alloc: Global, stood: &[u8], gone: &Lines, new: &[u8]) -> Result<Lines, AllocError>
+fn carried_lines(alloc: Global, existed: &[u8], gone: &Lines, new: &[u8]) -> Result<Lines, AllocError>
     ensures { IfOk result (λ lines. (line : _)
-        → contains byte_order lines line ≡ is_line_of stood.now (contains byte_order gone.now) new.now line) }
+        → contains byte_order lines line ≡ is_line_of existed.now (contains byte_order gone.now) new.now line) }
 {
     let mut lines = BTreeSet::new(alloc);
-    add_others(alloc, &mut lines, stood, gone)?;
+    add_others(alloc, &mut lines, existed, gone)?;
     for line in new.lines_with_terminator() {
         lines.insert(Line::from_slice(alloc, line)?)?;
     }
@@ -284,16 +284,16 @@ fn carried_lines(alloc: Global, stood: &[u8], gone: &Lines, new: &[u8]) -> Resul
 fn add_others(
     alloc: Global,
     lines: &mut Lines,
-    stood: &[u8],
+    existed: &[u8],
     gone: &Lines,
 ) -> Result<(), AllocError>
     ensures { OnOk result ((line : _)
         → contains byte_order lines.new line
         ≡ (contains byte_order lines.old line
-        || (list_any (bytes_eq line) (lines_of stood.now)
+        || (list_any (bytes_eq line) (lines_of existed.now)
         && not (contains byte_order gone.now line)))) }
 {
-    for line in stood.lines_with_terminator() {
+    for line in existed.lines_with_terminator() {
         let line = Line::from_slice(alloc, line)?;
         if !gone.contains(&line) {
             lines.insert(line)?;

@@ -240,8 +240,8 @@ pub fn concat(
     ensures { IsReply result (concat left.now right.now arguments.now) }
 {
     match (left, right, arguments) {
-        (Value::Text(front), Value::Text(back), []) => {
-            let mut text = String::from_str(alloc, front.as_str())?;
+        (Value::Text(prefix), Value::Text(back), []) => {
+            let mut text = String::from_str(alloc, prefix.as_str())?;
             text.push_str(back.as_str())?;
             Ok(Value::Text(Text::new(text)?))
         }

@@ -72,8 +72,8 @@ fn renewed(alloc: Global, request: &Request, made: Index) -> Result<Writes, Allo
     let output = output_name(alloc)?;
     let mut writes = Writes::new(alloc);
     for (path, bytes) in made {
-        let standing = request.outputs.file_at(&output, &path);
-        if !holds(standing, bytes.as_slice()) {
+        let existing = request.outputs.file_at(&output, &path);
+        if !holds(existing, bytes.as_slice()) {
             writes.push(Written {
                 output: output_name(alloc)?,
                 path,
@@ -114,7 +114,7 @@ fn is_made(made: &Index, path: &RelPath) -> bool
 }
 
 /// The files of an output.
-pub fn standing<'a>(request: &'a Request, output: &Name) -> &'a [(RelPath, Bytes)]
+pub fn existing<'a>(request: &'a Request, output: &Name) -> &'a [(RelPath, Bytes)]
     ensures files { result.now ≡ unwrap_or (files_of request.now.outputs output.now) [] }
     ensures ordered { IsTrue (is_sorted byte_order (unwrap_or (files_of request.now.outputs output.now) [])) }
 {

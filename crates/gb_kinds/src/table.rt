@@ -5,7 +5,7 @@
 ghost use Rattle.std.specs.Prelude.{◌≡◌, ◌++◌, ◌∷◌, [], ℕ, List, false, bytes_eq, IfErr, IfOk, OnOk, map};
 ghost use Rattle.std.specs.List.{list_any};
 ghost use Rattle.gb_action.specs.declared.table.TableFault.TheVariants.{OutOfMemory};
-ghost use Rattle.gb_kinds.specs.Builtin.{StandsFor, builtin_shape, builtin_names, text_names, file_names};
+ghost use Rattle.gb_kinds.specs.Builtin.{Implements, builtin_shape, builtin_names, text_names, file_names};
 
 use crate::builtin::{Run, StoredAction};
 use crate::shapes::{
@@ -32,16 +32,16 @@ pub fn action_table(
     concat: Run,
     add_file: Run,
 ) -> Result<ActionTable<StoredAction>, TableFault>
-    requires print_line { StandsFor PRINT_LINE (Run.pre print_line) (Run.post print_line) }
-    requires write_text { StandsFor WRITE_TEXT (Run.pre write_text) (Run.post write_text) }
-    requires fail { StandsFor FAIL (Run.pre fail) (Run.post fail) }
-    requires copy_files { StandsFor COPY_FILES (Run.pre copy_files) (Run.post copy_files) }
-    requires replace_tokens { StandsFor REPLACE_TOKENS (Run.pre replace_tokens) (Run.post replace_tokens) }
-    requires keep_lines { StandsFor KEEP_LINES (Run.pre keep_lines) (Run.post keep_lines) }
-    requires sums { StandsFor SUMS (Run.pre sums) (Run.post sums) }
-    requires word_index { StandsFor WORD_INDEX (Run.pre word_index) (Run.post word_index) }
-    requires concat { StandsFor CONCAT (Run.pre concat) (Run.post concat) }
-    requires add_file { StandsFor ADD_FILE (Run.pre add_file) (Run.post add_file) }
+    requires print_line { Implements PRINT_LINE (Run.pre print_line) (Run.post print_line) }
+    requires write_text { Implements WRITE_TEXT (Run.pre write_text) (Run.post write_text) }
+    requires fail { Implements FAIL (Run.pre fail) (Run.post fail) }
+    requires copy_files { Implements COPY_FILES (Run.pre copy_files) (Run.post copy_files) }
+    requires replace_tokens { Implements REPLACE_TOKENS (Run.pre replace_tokens) (Run.post replace_tokens) }
+    requires keep_lines { Implements KEEP_LINES (Run.pre keep_lines) (Run.post keep_lines) }
+    requires sums { Implements SUMS (Run.pre sums) (Run.post sums) }
+    requires word_index { Implements WORD_INDEX (Run.pre word_index) (Run.post word_index) }
+    requires concat { Implements CONCAT (Run.pre concat) (Run.post concat) }
+    requires add_file { Implements ADD_FILE (Run.pre add_file) (Run.post add_file) }
     ensures ok { IfOk result (λ table.
         map {B = List ℕ × ℕ × ℕ} (λ e. (e.0, e.1.kind, e.1.version)) table ≡ builtin_names) }
     ensures err { IfErr result (λ fault. fault ≡ OutOfMemory) }
@@ -69,9 +69,9 @@ fn add_text_kinds(
     write_text: Run,
     fail: Run,
 ) -> Result<(), TableFault>
-    requires print_line { StandsFor PRINT_LINE (Run.pre print_line) (Run.post print_line) }
-    requires write_text { StandsFor WRITE_TEXT (Run.pre write_text) (Run.post write_text) }
-    requires fail { StandsFor FAIL (Run.pre fail) (Run.post fail) }
+    requires print_line { Implements PRINT_LINE (Run.pre print_line) (Run.post print_line) }
+    requires write_text { Implements WRITE_TEXT (Run.pre write_text) (Run.post write_text) }
+    requires fail { Implements FAIL (Run.pre fail) (Run.post fail) }
     requires before { map {B = List ℕ × ℕ × ℕ} (λ e. (e.0, e.1.kind, e.1.version)) table.old ≡ [] }
     ensures ok { OnOk result (map {B = List ℕ × ℕ × ℕ} (λ e. (e.0, e.1.kind, e.1.version)) table.new
         ≡ text_names) }
@@ -107,11 +107,11 @@ fn add_file_kinds(
     sums: Run,
     word_index: Run,
 ) -> Result<(), TableFault>
-    requires copy_files { StandsFor COPY_FILES (Run.pre copy_files) (Run.post copy_files) }
-    requires replace_tokens { StandsFor REPLACE_TOKENS (Run.pre replace_tokens) (Run.post replace_tokens) }
-    requires keep_lines { StandsFor KEEP_LINES (Run.pre keep_lines) (Run.post keep_lines) }
-    requires sums { StandsFor SUMS (Run.pre sums) (Run.post sums) }
-    requires word_index { StandsFor WORD_INDEX (Run.pre word_index) (Run.post word_index) }
+    requires copy_files { Implements COPY_FILES (Run.pre copy_files) (Run.post copy_files) }
+    requires replace_tokens { Implements REPLACE_TOKENS (Run.pre replace_tokens) (Run.post replace_tokens) }
+    requires keep_lines { Implements KEEP_LINES (Run.pre keep_lines) (Run.post keep_lines) }
+    requires sums { Implements SUMS (Run.pre sums) (Run.post sums) }
+    requires word_index { Implements WORD_INDEX (Run.pre word_index) (Run.post word_index) }
     requires before { map {B = List ℕ × ℕ × ℕ} (λ e. (e.0, e.1.kind, e.1.version)) table.old ≡ text_names }
     ensures ok { OnOk result (map {B = List ℕ × ℕ × ℕ} (λ e. (e.0, e.1.kind, e.1.version)) table.new
         ≡ text_names ++ file_names) }
@@ -160,8 +160,8 @@ fn add_one_file_kinds(
     concat: Run,
     add_file: Run,
 ) -> Result<(), TableFault>
-    requires concat { StandsFor CONCAT (Run.pre concat) (Run.post concat) }
-    requires add_file { StandsFor ADD_FILE (Run.pre add_file) (Run.post add_file) }
+    requires concat { Implements CONCAT (Run.pre concat) (Run.post concat) }
+    requires add_file { Implements ADD_FILE (Run.pre add_file) (Run.post add_file) }
     requires before { map {B = List ℕ × ℕ × ℕ} (λ e. (e.0, e.1.kind, e.1.version)) table.old
         ≡ text_names ++ file_names }
     ensures ok { OnOk result (map {B = List ℕ × ℕ × ℕ} (λ e. (e.0, e.1.kind, e.1.version)) table.new
@@ -190,7 +190,7 @@ fn add(
     run: Run,
 ) -> Result<(), TableFault>
     requires shaped { IfOk shape (λ shape. shape ≡ builtin_shape kind) }
-    requires stands { StandsFor kind (Run.pre run) (Run.post run) }
+    requires exists { Implements kind (Run.pre run) (Run.post run) }
     requires other { list_any (λ e. bytes_eq e.0 name.now)
         (map {B = List ℕ × ℕ × ℕ} (λ e. (e.0, e.1.kind, e.1.version)) table.old) ≡ false }
     ensures ok { OnOk result (map {B = List ℕ × ℕ × ℕ} (λ e. (e.0, e.1.kind, e.1.version)) table.new

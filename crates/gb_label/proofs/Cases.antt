@@ -51,13 +51,13 @@ hindered_at_outputs task folder before after fault runs acts inputs (inr first) 
 pub cannot_before : (task : Task) (old now : Contents) (first second third : ℕ) (fault : Fault) → now ≡ old → first ≤ second → second ≤ third
     → CannotRead second third (listing_faults task now) fault → CannotRead first third (listing_faults task old) fault
 cannot_before task old now first second third fault same le more (inl machine) = inl (machine_before first second third fault le more machine)
-cannot_before task old now first second third fault same le more (inr odd) =
-    inr (ap (λ folder. first_of (listing_faults task folder)) (sym same) ∙ odd)
+cannot_before task old now first second third fault same le more (inr special) =
+    inr (ap (λ folder. first_of (listing_faults task folder)) (sym same) ∙ special)
 
 -- the first of a prefix is the first of all
-pub first_in_front : {X : Type 0} (xs ys : List X) (x : X) → first_of xs ≡ Some x → first_of (xs ++ ys) ≡ Some x
-first_in_front [] ys x is = none_some is
-first_in_front (z ∷ xs) ys x is = is
+pub first_in_prefix : {X : Type 0} (xs ys : List X) (x : X) → first_of xs ≡ Some x → first_of (xs ++ ys) ≡ Some x
+first_in_prefix [] ys x is = none_some is
+first_in_prefix (z ∷ xs) ys x is = is
 
 -- if it has no fault, its source decides
 pub by_source : (task : Task) (folder : Contents) (dry : Bool) → task.runs ≡ true → is_empty task.actions ≡ false → input_faults task folder ≡ []

@@ -3,7 +3,7 @@ use Rattle.std.specs.Prelude.{ℕ, ◌≡◌, ◌⊎◌, ◌++◌, ◌||◌, Boo
 use Rattle.std.specs.List.{AllByRecursion, filter, flat_map, list_any}
 use Rattle.std.proofs.Common.{refl, sym, ap, subst, ◌∙◌, inl, inr, cond}
 use Rattle.gb_core.specs.Lists.{first_of}
-use Rattle.gb_folder.specs.Files.{Contents, Files, Place, is_empty, is_odd_under, is_own, places_under}
+use Rattle.gb_folder.specs.Files.{Contents, Files, Place, is_empty, is_special_under, is_own, places_under}
 use Rattle.gb_meaning.specs.Tree.{listing_faults, reported_of_tree}
 use Rattle.gb_meaning.proofs.Common.{none_some, some_same}
 use Rattle.gb_plan.proofs.Tests.{not_false}
@@ -13,7 +13,7 @@ use Rattle.gb_plan.specs.declared.task.TaskDeclaration.{TaskDeclaration as Task}
 use Rattle.gb_report.specs.declared.fault.Fault.{Fault}
 use Rattle.gb_report.specs.declared.fault.Fault.TheVariants as faults
 use Rattle.gb_run.proofs.Placed.{none_after}
-use Rattle.gb_tree.specs.Tree.{Entries, entries_from, odd_roots, output_entries, output_faults, output_listing_faults, too_large, too_many}
+use Rattle.gb_tree.specs.Tree.{Entries, entries_from, special_roots, output_entries, output_faults, output_listing_faults, too_large, too_many}
 use Rattle.gb_tree.specs.declared.fault.TreeFault.{TreeFault}
 use Rattle.gb_tree.specs.declared.fault.TreeFault.TheVariants as trees
 use Rattle.gb_tree.proofs.Holding.{all_append}
@@ -42,42 +42,42 @@ many name entries = by _
     by false = tt
 
 -- the faults of reading an output without an unsupported entry
-one : (folder : Contents) (output : Output) → is_odd_under folder output.place ≡ false → AllByRecursion IsGrown (print_faults folder output)
+one : (folder : Contents) (output : Output) → is_special_under folder output.place ≡ false → AllByRecursion IsGrown (print_faults folder output)
 one folder output none =
     reported (output_faults output.name output.place folder)
     (all_append Grown (output_listing_faults output.name output.place folder) _ (listing (is_own output.place)) (large folder.files _))
   where
-    odd : odd_roots folder (output.place ∷ []) ≡ []
-    odd = ap (λ b. map trees.BadFileName (cond b (output.place ∷ []) [])) none
+    special : special_roots folder (output.place ∷ []) ≡ []
+    special = ap (λ b. map trees.BadFileName (cond b (output.place ∷ []) [])) none
 
-    listing : (own : Bool) → AllByRecursion Grown (if own then [] else odd_roots folder (output.place ∷ []) ++ too_many output.name (entries_from output.place (places_under folder.files output.place)))
+    listing : (own : Bool) → AllByRecursion Grown (if own then [] else special_roots folder (output.place ∷ []) ++ too_many output.name (entries_from output.place (places_under folder.files output.place)))
     listing true = tt
-    listing false = all_append Grown (odd_roots folder (output.place ∷ [])) _ (subst (AllByRecursion Grown) (sym odd) tt) (many output.name _)
+    listing false = all_append Grown (special_roots folder (output.place ∷ [])) _ (subst (AllByRecursion Grown) (sym special) tt) (many output.name _)
 
 -- the first output has no unsupported entry, nor have the others
-pub odd_parts : (folder : Contents) (output : Output) (outputs : List Output)
-    → map reported_of_tree (odd_roots folder (map (λ (o : Output). o.place) (output ∷ outputs))) ≡ []
-    → (is_odd_under folder output.place ≡ false) × (map reported_of_tree (odd_roots folder (map (λ (o : Output). o.place) outputs)) ≡ [])
-odd_parts folder output outputs none = by (is_odd_under folder output.place) refl none
+pub special_parts : (folder : Contents) (output : Output) (outputs : List Output)
+    → map reported_of_tree (special_roots folder (map (λ (o : Output). o.place) (output ∷ outputs))) ≡ []
+    → (is_special_under folder output.place ≡ false) × (map reported_of_tree (special_roots folder (map (λ (o : Output). o.place) outputs)) ≡ [])
+special_parts folder output outputs none = by (is_special_under folder output.place) refl none
   where
     places : List Place
     places = map (λ (o : Output). o.place) outputs
 
-    by : (b : Bool) → is_odd_under folder output.place ≡ b
-        → map reported_of_tree (map trees.BadFileName (cond b (output.place ∷ filter (is_odd_under folder) places) (filter (is_odd_under folder) places))) ≡ []
-        → (is_odd_under folder output.place ≡ false) × (map reported_of_tree (odd_roots folder places) ≡ [])
+    by : (b : Bool) → is_special_under folder output.place ≡ b
+        → map reported_of_tree (map trees.BadFileName (cond b (output.place ∷ filter (is_special_under folder) places) (filter (is_special_under folder) places))) ≡ []
+        → (is_special_under folder output.place ≡ false) × (map reported_of_tree (special_roots folder places) ≡ [])
     by true is e = not_false (sym (ap is_empty e))
     by false is e = (is, e)
 
-all : (folder : Contents) (outputs : List Output) → map reported_of_tree (odd_roots folder (map (λ (o : Output). o.place) outputs)) ≡ []
+all : (folder : Contents) (outputs : List Output) → map reported_of_tree (special_roots folder (map (λ (o : Output). o.place) outputs)) ≡ []
     → AllByRecursion IsGrown (flat_map (print_faults folder) outputs)
 all folder [] none = tt
 all folder (output ∷ outputs) none =
-    let p = odd_parts folder output outputs none in
+    let p = special_parts folder output outputs none in
     all_append IsGrown (print_faults folder output) _ (one folder output p.0) (all folder outputs p.1)
 
-abbrev odd_reported : Contents → List Output → List Fault
-odd_reported folder outputs = map reported_of_tree (odd_roots folder (map (λ output. output.place) outputs))
+abbrev special_reported : Contents → List Output → List Fault
+special_reported folder outputs = map reported_of_tree (special_roots folder (map (λ output. output.place) outputs))
 
 -- the first of grown ones and of others
 split : (fs gs : List Fault) (fault : Fault) → AllByRecursion IsGrown fs → first_of (fs ++ gs) ≡ Some fault → IsGrown fault ⊎ (first_of gs ≡ Some fault)
@@ -86,24 +86,24 @@ split (f ∷ fs) gs fault grown first = inl (subst IsGrown (some_same first) gro
 
 module _ (folder : Contents) (output : Output) (outputs : List Output) where
   -- the faults of listing outputs, by whether the first has an unsupported entry
-  odd_if : (b : Bool) → is_odd_under folder output.place ≡ b
-      → odd_reported folder (output ∷ outputs) ≡ cond b (faults.BadFileName output.place ∷ odd_reported folder outputs) (odd_reported folder outputs)
-  odd_if b is = ap (λ c. map reported_of_tree (map trees.BadFileName (cond c (output.place ∷ others) others))) is ∙ by_test b
+  special_if : (b : Bool) → is_special_under folder output.place ≡ b
+      → special_reported folder (output ∷ outputs) ≡ cond b (faults.BadFileName output.place ∷ special_reported folder outputs) (special_reported folder outputs)
+  special_if b is = ap (λ c. map reported_of_tree (map trees.BadFileName (cond c (output.place ∷ others) others))) is ∙ by_test b
     where
       others : List Place
-      others = filter (is_odd_under folder) (map (λ (o : Output). o.place) outputs)
+      others = filter (is_special_under folder) (map (λ (o : Output). o.place) outputs)
 
       by_test : (c : Bool) → map reported_of_tree (map trees.BadFileName (cond c (output.place ∷ others) others))
-          ≡ cond c (faults.BadFileName output.place ∷ odd_reported folder outputs) (odd_reported folder outputs)
+          ≡ cond c (faults.BadFileName output.place ∷ special_reported folder outputs) (special_reported folder outputs)
       by_test true = refl
       by_test false = refl
 
   -- an unsupported entry at an output that is not the tool's own is the first fault of reading it
-  first_if : (rest : List Fault) → is_own output.place ≡ false → is_odd_under folder output.place ≡ true
+  first_if : (rest : List Fault) → is_own output.place ≡ false → is_special_under folder output.place ≡ true
       → first_of (print_faults folder output ++ rest) ≡ Some (faults.BadFileName output.place)
-  first_if rest own odd =
-      ap (λ b. first_of (map reported_of_tree ((if b then [] else (odd_roots folder (output.place ∷ []) ++ many_of)) ++ large_of) ++ rest)) own
-      ∙ ap (λ b. first_of (map reported_of_tree ((map trees.BadFileName (cond b (output.place ∷ []) []) ++ many_of) ++ large_of) ++ rest)) odd
+  first_if rest own special =
+      ap (λ b. first_of (map reported_of_tree ((if b then [] else (special_roots folder (output.place ∷ []) ++ many_of)) ++ large_of) ++ rest)) own
+      ∙ ap (λ b. first_of (map reported_of_tree ((map trees.BadFileName (cond b (output.place ∷ []) []) ++ many_of) ++ large_of) ++ rest)) special
     where
       many_of : List TreeFault
       many_of = too_many output.name (entries_from output.place (places_under folder.files output.place))
@@ -115,40 +115,40 @@ module _ (folder : Contents) (output : Output) (outputs : List Output) where
 abbrev pub Foreign : List Output → Type 0
 Foreign outputs = list_any (λ output. is_own output.place) outputs ≡ false
 
-apart : (a b : Bool) → (a || b) ≡ false → (a ≡ false) × (b ≡ false)
-apart true b e = not_false e
-apart false b e = (refl, e)
+separate : (a b : Bool) → (a || b) ≡ false → (a ≡ false) × (b ≡ false)
+separate true b e = not_false e
+separate false b e = (refl, e)
 
 -- the fault of reading outputs is that they have grown, or the first fault of listing them
 first_reported : (folder : Contents) (outputs : List Output) (fault : Fault) → Foreign outputs → first_of (flat_map (print_faults folder) outputs) ≡ Some fault
-    → IsGrown fault ⊎ (first_of (odd_reported folder outputs) ≡ Some fault)
+    → IsGrown fault ⊎ (first_of (special_reported folder outputs) ≡ Some fault)
 first_reported folder [] fault own first = none_some first
 first_reported folder (output ∷ outputs) fault own first =
-    by (first_reported folder outputs fault (apart (is_own output.place) _ own).1) (is_odd_under folder output.place) refl
+    by (first_reported folder outputs fault (separate (is_own output.place) _ own).1) (is_special_under folder output.place) refl
   where
-    by : (first_of (flat_map (print_faults folder) outputs) ≡ Some fault → IsGrown fault ⊎ (first_of (odd_reported folder outputs) ≡ Some fault))
-        → (b : Bool) → is_odd_under folder output.place ≡ b → IsGrown fault ⊎ (first_of (odd_reported folder (output ∷ outputs)) ≡ Some fault)
-    by next true odd =
-        inr (ap first_of (odd_if folder output outputs true odd) ∙ sym (first_if folder output outputs (flat_map (print_faults folder) outputs) (apart (is_own output.place) _ own).0 odd) ∙ first)
+    by : (first_of (flat_map (print_faults folder) outputs) ≡ Some fault → IsGrown fault ⊎ (first_of (special_reported folder outputs) ≡ Some fault))
+        → (b : Bool) → is_special_under folder output.place ≡ b → IsGrown fault ⊎ (first_of (special_reported folder (output ∷ outputs)) ≡ Some fault)
+    by next true special =
+        inr (ap first_of (special_if folder output outputs true special) ∙ sym (first_if folder output outputs (flat_map (print_faults folder) outputs) (separate (is_own output.place) _ own).0 special) ∙ first)
     by next false none = elim (split (print_faults folder output) (flat_map (print_faults folder) outputs) fault (one folder output none) first) [
       | inl grown ↦ inl grown
       | inr later ↦ elim (next later) [
         | inl grown ↦ inl grown
-        | inr odd ↦ inr (ap first_of (odd_if folder output outputs false none) ∙ odd)
+        | inr special ↦ inr (ap first_of (special_if folder output outputs false none) ∙ special)
       ]
     ]
 
 -- outputs that can be read can be listed
-pub none_reported : (folder : Contents) (outputs : List Output) → Foreign outputs → flat_map (print_faults folder) outputs ≡ [] → odd_reported folder outputs ≡ []
+pub none_reported : (folder : Contents) (outputs : List Output) → Foreign outputs → flat_map (print_faults folder) outputs ≡ [] → special_reported folder outputs ≡ []
 none_reported folder [] own none = refl
 none_reported folder (output ∷ outputs) own none =
-    by (none_reported folder outputs (apart (is_own output.place) _ own).1 (none_after (print_faults folder output) (flat_map (print_faults folder) outputs) none))
-    (is_odd_under folder output.place) refl
+    by (none_reported folder outputs (separate (is_own output.place) _ own).1 (none_after (print_faults folder output) (flat_map (print_faults folder) outputs) none))
+    (is_special_under folder output.place) refl
   where
-    by : odd_reported folder outputs ≡ [] → (b : Bool) → is_odd_under folder output.place ≡ b → odd_reported folder (output ∷ outputs) ≡ []
-    by next true odd =
-        none_some (ap first_of (sym none) ∙ first_if folder output outputs (flat_map (print_faults folder) outputs) (apart (is_own output.place) _ own).0 odd)
-    by next false fine = odd_if folder output outputs false fine ∙ next
+    by : special_reported folder outputs ≡ [] → (b : Bool) → is_special_under folder output.place ≡ b → special_reported folder (output ∷ outputs) ≡ []
+    by next true special =
+        none_some (ap first_of (sym none) ∙ first_if folder output outputs (flat_map (print_faults folder) outputs) (separate (is_own output.place) _ own).0 special)
+    by next false fine = special_if folder output outputs false fine ∙ next
 
 -- Why outputs are not read: they have grown, or the fault of listing them.
 abbrev pub CannotPrint : Task → Contents → ℕ → ℕ → Fault → Type 0
@@ -165,7 +165,7 @@ pub cannot_print : (task : Task) (folder : Contents) (before after : ℕ) (fault
 cannot_print task folder before after fault own (inl machine) = inr (inl machine)
 cannot_print task folder before after fault own (inr first) = elim (first_reported folder task.outputs fault own first) [
   | inl grown ↦ inl (grown, some_first (flat_map (print_faults folder) task.outputs) fault first)
-  | inr odd ↦ inr (inr odd)
+  | inr special ↦ inr (inr special)
 ]
 
 -- if they were listed before, they have grown
@@ -193,11 +193,11 @@ listing_is_not : (task : Task) (folder : Contents) (before after : ℕ) (fault :
     → is_large fault ≡ false
 listing_is_not task folder before after fault (inl (inl memory)) = ap is_large memory
 listing_is_not task folder before after fault (inl (inr device)) = ap is_large device.1
-listing_is_not task folder before after fault (inr first) = odd (filter (is_odd_under folder) (output_places task)) first
+listing_is_not task folder before after fault (inr first) = special (filter (is_special_under folder) (output_places task)) first
   where
-    odd : (places : List Place) → first_of (map reported_of_tree (map trees.BadFileName places)) ≡ Some fault → is_large fault ≡ false
-    odd [] first = none_some first
-    odd (place ∷ places) first = ap is_large (sym (some_same first))
+    special : (places : List Place) → first_of (map reported_of_tree (map trees.BadFileName places)) ≡ Some fault → is_large fault ≡ false
+    special [] first = none_some first
+    special (place ∷ places) first = ap is_large (sym (some_same first))
 
 -- a fault of growth is one of the outputs
 pub has_grown : (task : Task) (folder : Contents) (before after : ℕ) (fault : Fault) → IsGrown fault → CannotPrint task folder before after fault

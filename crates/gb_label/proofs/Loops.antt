@@ -29,11 +29,11 @@ map_more f xs i x less is = ap (map f) (take_more xs i x less ∙ ap (λ z. take
 pub first_of_all : {X Y : Type 0} (f : X → List Y) (xs : List X) (i : ℕ) (x : X) (y : Y) → i < length xs → x ≡ get_or xs i x → flat_map f (take i xs) ≡ []
     → first_of (f x) ≡ Some y → first_of (flat_map f xs) ≡ Some y
 first_of_all f [] i x y less is none h = absurd (omega (arith, less))
-first_of_all {Y = Y} f (z ∷ xs) zero x y less is none h = behind (f z) (flat_map f xs) y (ap (λ w. first_of (f w)) (sym is) ∙ h)
+first_of_all {Y = Y} f (z ∷ xs) zero x y less is none h = following (f z) (flat_map f xs) y (ap (λ w. first_of (f w)) (sym is) ∙ h)
   where
-    behind : (ys zs : List Y) (y : Y) → first_of ys ≡ Some y → first_of (ys ++ zs) ≡ Some y
-    behind [] zs y e = none_some e
-    behind (w ∷ ys) zs y e = e
+    following : (ys zs : List Y) (y : Y) → first_of ys ≡ Some y → first_of (ys ++ zs) ≡ Some y
+    following [] zs y e = none_some e
+    following (w ∷ ys) zs y e = e
 first_of_all {Y = Y} f (z ∷ xs) (suc i) x y less is none h =
     let parts = empty (f z) (flat_map f (take i xs)) none in
     ap (λ ys. first_of (ys ++ flat_map f xs)) parts.0 ∙ first_of_all f xs i x y (omega (arith, less)) is parts.1 h

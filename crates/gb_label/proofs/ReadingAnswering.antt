@@ -3,15 +3,15 @@ use Rattle.std.proofs.Common.{arith, ◌≡◌, ◌<◌, ◌++◌, ℕ, zero, su
 use Rattle.std.specs.List.{AllByRecursion, AllZip, zip}
 use Rattle.gb_action.specs.Files.{Trees}
 use Rattle.gb_action.specs.declared.output.OutputFiles.{OutputFiles}
-use Rattle.gb_folder.proofs.Asked.{asks_nothing, asks_then}
-use Rattle.gb_folder.specs.Calls.{Asks, Call, no_change}
+use Rattle.gb_folder.proofs.Asked.{requests_nothing, requests_then}
+use Rattle.gb_folder.specs.Calls.{Requests, Call, no_change}
 use Rattle.gb_folder.specs.Files.{Files, Tearing}
 use Rattle.gb_plan.specs.declared.task.FileProperty.{FileProperty}
 use Rattle.gb_plan.specs.declared.task.Output.{Output}
 use Rattle.gb_plan.specs.declared.task.TaskDeclaration.{TaskDeclaration as Task}
-use Rattle.gb_tree.proofs.Answering.{all_seen_longer, all_zip_more, entries_longer, output_entries_longer, tree_longer}
-use Rattle.gb_tree.specs.Answered.{IsTreeRead, WereSeen}
-use Rattle.gb_tree.specs.Reading.{entries_seen}
+use Rattle.gb_tree.proofs.Answering.{all_observed_longer, all_zip_more, entries_longer, output_entries_longer, tree_longer}
+use Rattle.gb_tree.specs.Answered.{IsTreeRead, WereObserved}
+use Rattle.gb_tree.specs.Reading.{entries_observed}
 use Rattle.gb_label.specs.ReadingAnswered.{AreInputsAnswered, AreInputsRead, AreOutputsAnswered, AreOutputsRead, IsInputAnswered, IsInputRead, IsOutputAnswered, IsOutputRead}
 use Rattle.gb_label.specs.Reading.{Read}
 
@@ -49,88 +49,88 @@ firsts_made R S (x ∷ xs) [] made all so_far = absurd all
 firsts_made R S (x ∷ xs) (y ∷ ys) [] all so_far = absurd so_far
 firsts_made R S (x ∷ xs) (y ∷ ys) (z ∷ made) all so_far = (so_far.0, firsts_made R S xs ys made all.1 so_far.1)
 
-module _ {F : Type 0} {failures : F → ℕ} {may_leave : F → Tearing} {asked : F → Call → F → Type 0} where
+module _ {F : Type 0} {failures : F → ℕ} {may_leave : F → Tearing} {allowed : F → Call → F → Type 0} where
   -- ---- One property, and one output
 
-  pub input_longer : {first old new end : F} → Asks failures may_leave asked no_change first old → Asks failures may_leave asked no_change new end
-      → (property : FileProperty) (reading : Read) → IsInputAnswered failures may_leave asked old new property reading
-      → IsInputAnswered failures may_leave asked first end property reading
-  input_longer before behind property reading was = (
-    entries_longer before behind property.naming property.roots property.include property.exclude (entries_seen reading.1) was.0,
-    all_seen_longer before behind reading.1 was.1,
+  pub input_longer : {first old new end : F} → Requests failures may_leave allowed no_change first old → Requests failures may_leave allowed no_change new end
+      → (property : FileProperty) (reading : Read) → IsInputAnswered failures may_leave allowed old new property reading
+      → IsInputAnswered failures may_leave allowed first end property reading
+  input_longer before following property reading was = (
+    entries_longer before following property.naming property.roots property.include property.exclude (entries_observed reading.1) was.0,
+    all_observed_longer before following reading.1 was.1,
   )
 
-  pub output_longer : {first old new end : F} → Asks failures may_leave asked no_change first old → Asks failures may_leave asked no_change new end
-      → (output : Output) (reading : Read) → IsOutputAnswered failures may_leave asked old new output reading
-      → IsOutputAnswered failures may_leave asked first end output reading
-  output_longer before behind output reading was =
-      (output_entries_longer before behind output.place (entries_seen reading.1) was.0, all_seen_longer before behind reading.1 was.1)
+  pub output_longer : {first old new end : F} → Requests failures may_leave allowed no_change first old → Requests failures may_leave allowed no_change new end
+      → (output : Output) (reading : Read) → IsOutputAnswered failures may_leave allowed old new output reading
+      → IsOutputAnswered failures may_leave allowed first end output reading
+  output_longer before following output reading was =
+      (output_entries_longer before following output.place (entries_observed reading.1) was.0, all_observed_longer before following reading.1 was.1)
 
-  pub tree_read_longer : {first old new end : F} → Asks failures may_leave asked no_change first old → Asks failures may_leave asked no_change new end
-      → (property : FileProperty) (tree : List ℕ × Files) → IsInputRead failures may_leave asked old new property tree
-      → IsInputRead failures may_leave asked first end property tree
-  tree_read_longer before behind property tree was = (
+  pub tree_read_longer : {first old new end : F} → Requests failures may_leave allowed no_change first old → Requests failures may_leave allowed no_change new end
+      → (property : FileProperty) (tree : List ℕ × Files) → IsInputRead failures may_leave allowed old new property tree
+      → IsInputRead failures may_leave allowed first end property tree
+  tree_read_longer before following property tree was = (
     was.0,
-    entries_longer before behind property.naming property.roots property.include property.exclude was.0 was.1,
-    tree_longer before behind was.0 tree.1 was.2,
+    entries_longer before following property.naming property.roots property.include property.exclude was.0 was.1,
+    tree_longer before following was.0 tree.1 was.2,
   )
 
-  pub files_read_longer : {first old new end : F} → Asks failures may_leave asked no_change first old → Asks failures may_leave asked no_change new end
-      → (output : Output) (seen : OutputFiles) → IsOutputRead failures may_leave asked old new output seen
-      → IsOutputRead failures may_leave asked first end output seen
-  files_read_longer before behind output seen was = (
+  pub files_read_longer : {first old new end : F} → Requests failures may_leave allowed no_change first old → Requests failures may_leave allowed no_change new end
+      → (output : Output) (observed : OutputFiles) → IsOutputRead failures may_leave allowed old new output observed
+      → IsOutputRead failures may_leave allowed first end output observed
+  files_read_longer before following output observed was = (
     was.0,
-    output_entries_longer before behind output.place was.0 was.1,
-    tree_longer before behind was.0 seen.files was.2,
+    output_entries_longer before following output.place was.0 was.1,
+    tree_longer before following was.0 observed.files was.2,
   )
 
   -- one that was answered, and is completed later
-  pub input_completed : {first old mid new : F} → Asks failures may_leave asked no_change old mid → Asks failures may_leave asked no_change mid new
+  pub input_completed : {first old mid new : F} → Requests failures may_leave allowed no_change old mid → Requests failures may_leave allowed no_change mid new
       → (property : FileProperty) (reading : Read) (tree : List ℕ × Files)
-      → (WereSeen failures may_leave asked first mid reading.1 → IsTreeRead failures may_leave asked first new (entries_seen reading.1) tree.1)
-      → IsInputAnswered failures may_leave asked first old property reading → IsInputRead failures may_leave asked first new property tree
+      → (WereObserved failures may_leave allowed first mid reading.1 → IsTreeRead failures may_leave allowed first new (entries_observed reading.1) tree.1)
+      → IsInputAnswered failures may_leave allowed first old property reading → IsInputRead failures may_leave allowed first new property tree
   input_completed {first = first} before now property reading tree completes was = (
-    entries_seen reading.1,
-    entries_longer (asks_nothing first) (asks_then before now) property.naming property.roots property.include property.exclude (entries_seen reading.1) was.0,
-    completes (all_seen_longer (asks_nothing first) before reading.1 was.1),
+    entries_observed reading.1,
+    entries_longer (requests_nothing first) (requests_then before now) property.naming property.roots property.include property.exclude (entries_observed reading.1) was.0,
+    completes (all_observed_longer (requests_nothing first) before reading.1 was.1),
   )
 
-  pub output_completed : {first old mid new : F} → Asks failures may_leave asked no_change old mid → Asks failures may_leave asked no_change mid new
-      → (output : Output) (reading : Read) (seen : OutputFiles)
-      → (WereSeen failures may_leave asked first mid reading.1 → IsTreeRead failures may_leave asked first new (entries_seen reading.1) seen.files)
-      → IsOutputAnswered failures may_leave asked first old output reading → IsOutputRead failures may_leave asked first new output seen
-  output_completed {first = first} before now output reading seen completes was = (
-    entries_seen reading.1,
-    output_entries_longer (asks_nothing first) (asks_then before now) output.place (entries_seen reading.1) was.0,
-    completes (all_seen_longer (asks_nothing first) before reading.1 was.1),
+  pub output_completed : {first old mid new : F} → Requests failures may_leave allowed no_change old mid → Requests failures may_leave allowed no_change mid new
+      → (output : Output) (reading : Read) (observed : OutputFiles)
+      → (WereObserved failures may_leave allowed first mid reading.1 → IsTreeRead failures may_leave allowed first new (entries_observed reading.1) observed.files)
+      → IsOutputAnswered failures may_leave allowed first old output reading → IsOutputRead failures may_leave allowed first new output observed
+  output_completed {first = first} before now output reading observed completes was = (
+    entries_observed reading.1,
+    output_entries_longer (requests_nothing first) (requests_then before now) output.place (entries_observed reading.1) was.0,
+    completes (all_observed_longer (requests_nothing first) before reading.1 was.1),
   )
 
   -- ---- All of a task
 
-  pub inputs_longer : {first old new end : F} → Asks failures may_leave asked no_change first old → Asks failures may_leave asked no_change new end
-      → (task : Task) (readings : List Read) → AreInputsAnswered failures may_leave asked old new task readings
-      → AreInputsAnswered failures may_leave asked first end task readings
-  inputs_longer {first = first} {old = old} {new = new} {end = end} before behind task readings were =
-      all_zip_more (IsInputAnswered failures may_leave asked old new) (IsInputAnswered failures may_leave asked first end) (input_longer before behind)
+  pub inputs_longer : {first old new end : F} → Requests failures may_leave allowed no_change first old → Requests failures may_leave allowed no_change new end
+      → (task : Task) (readings : List Read) → AreInputsAnswered failures may_leave allowed old new task readings
+      → AreInputsAnswered failures may_leave allowed first end task readings
+  inputs_longer {first = first} {old = old} {new = new} {end = end} before following task readings were =
+      all_zip_more (IsInputAnswered failures may_leave allowed old new) (IsInputAnswered failures may_leave allowed first end) (input_longer before following)
       task.files readings were
 
-  pub outputs_longer : {first old new end : F} → Asks failures may_leave asked no_change first old → Asks failures may_leave asked no_change new end
-      → (task : Task) (readings : List Read) → AreOutputsAnswered failures may_leave asked old new task readings
-      → AreOutputsAnswered failures may_leave asked first end task readings
-  outputs_longer {first = first} {old = old} {new = new} {end = end} before behind task readings were =
-      all_zip_more (IsOutputAnswered failures may_leave asked old new) (IsOutputAnswered failures may_leave asked first end) (output_longer before behind)
+  pub outputs_longer : {first old new end : F} → Requests failures may_leave allowed no_change first old → Requests failures may_leave allowed no_change new end
+      → (task : Task) (readings : List Read) → AreOutputsAnswered failures may_leave allowed old new task readings
+      → AreOutputsAnswered failures may_leave allowed first end task readings
+  outputs_longer {first = first} {old = old} {new = new} {end = end} before following task readings were =
+      all_zip_more (IsOutputAnswered failures may_leave allowed old new) (IsOutputAnswered failures may_leave allowed first end) (output_longer before following)
       task.outputs readings were
 
-  pub trees_longer : {first old new end : F} → Asks failures may_leave asked no_change first old → Asks failures may_leave asked no_change new end
-      → (task : Task) (trees : Trees) → AreInputsRead failures may_leave asked old new task trees
-      → AreInputsRead failures may_leave asked first end task trees
-  trees_longer {first = first} {old = old} {new = new} {end = end} before behind task trees were =
-      all_zip_more (IsInputRead failures may_leave asked old new) (IsInputRead failures may_leave asked first end) (tree_read_longer before behind)
+  pub trees_longer : {first old new end : F} → Requests failures may_leave allowed no_change first old → Requests failures may_leave allowed no_change new end
+      → (task : Task) (trees : Trees) → AreInputsRead failures may_leave allowed old new task trees
+      → AreInputsRead failures may_leave allowed first end task trees
+  trees_longer {first = first} {old = old} {new = new} {end = end} before following task trees were =
+      all_zip_more (IsInputRead failures may_leave allowed old new) (IsInputRead failures may_leave allowed first end) (tree_read_longer before following)
       task.files trees were
 
-  pub files_longer : {first old new end : F} → Asks failures may_leave asked no_change first old → Asks failures may_leave asked no_change new end
-      → (task : Task) (seen : List OutputFiles) → AreOutputsRead failures may_leave asked old new task seen
-      → AreOutputsRead failures may_leave asked first end task seen
-  files_longer {first = first} {old = old} {new = new} {end = end} before behind task seen were =
-      all_zip_more (IsOutputRead failures may_leave asked old new) (IsOutputRead failures may_leave asked first end) (files_read_longer before behind)
-      task.outputs seen were
+  pub files_longer : {first old new end : F} → Requests failures may_leave allowed no_change first old → Requests failures may_leave allowed no_change new end
+      → (task : Task) (observed : List OutputFiles) → AreOutputsRead failures may_leave allowed old new task observed
+      → AreOutputsRead failures may_leave allowed first end task observed
+  files_longer {first = first} {old = old} {new = new} {end = end} before following task observed were =
+      all_zip_more (IsOutputRead failures may_leave allowed old new) (IsOutputRead failures may_leave allowed first end) (files_read_longer before following)
+      task.outputs observed were

@@ -9,8 +9,8 @@ use Rattle.gb_meaning.specs.Tree.{has_no_source, tree_of, trees_of}
 use Rattle.gb_plan.specs.declared.task.FileProperty.{FileProperty}
 use Rattle.gb_plan.specs.declared.task.TaskDeclaration.{TaskDeclaration as Task}
 use Rattle.gb_tree.specs.Prints.{digests_of}
-use Rattle.gb_tree.specs.Reading.{digests_seen}
-use Rattle.gb_tree.specs.declared.kept.SeenFile.{SeenFile}
+use Rattle.gb_tree.specs.Reading.{digests_observed}
+use Rattle.gb_tree.specs.declared.kept.ScannedFile.{ScannedFile}
 use Rattle.gb_label.specs.Reading.{Read, digests_in, prints_read}
 use Rattle.gb_label.specs.Looking.{gives_no_source, lacks_source}
 
@@ -85,12 +85,12 @@ reasons_read : (properties : List FileProperty) (readings : List Read)
 reasons_read [] readings = refl
 reasons_read (property ∷ properties) [] = refl
 reasons_read (property ∷ properties) (reading ∷ readings) =
-    ap (λ b. (not property.skip_when_empty || b) && list_all gives_no_source (zip properties (prints_read readings))) (none_seen reading.1)
+    ap (λ b. (not property.skip_when_empty || b) && list_all gives_no_source (zip properties (prints_read readings))) (none_observed reading.1)
     ∙ ap (λ b. (not property.skip_when_empty || is_empty reading.1) && b) (reasons_read properties readings)
   where
-    none_seen : (files : List SeenFile) → is_empty (digests_seen files) ≡ is_empty files
-    none_seen [] = refl
-    none_seen (file ∷ files) = refl
+    none_observed : (files : List ScannedFile) → is_empty (digests_observed files) ≡ is_empty files
+    none_observed [] = refl
+    none_observed (file ∷ files) = refl
 
 pub source_read : (properties : List FileProperty) (readings : List Read) → lacks_source properties (prints_read readings) ≡ lacks_source properties readings
 source_read properties readings = ap (λ b. list_any (λ property. property.skip_when_empty) properties && b) (reasons_read properties readings)

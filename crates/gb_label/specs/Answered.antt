@@ -21,19 +21,19 @@ use Rattle.gb_label.specs.declared.prepare.Prepared.TheVariants as prepared
 -- inputs were answered that give the task no source
 abbrev pub WasSourceless : {F : Type 0} → (F → ℕ) → (F → Tearing) → (F → Call → F → Type 0) → F → F → Task
     → Type 0
-WasSourceless failures may_leave asked old new task =
-    (inputs : List Read) × AreInputsAnswered failures may_leave asked old new task inputs
+WasSourceless failures may_leave allowed old new task =
+    (inputs : List Read) × AreInputsAnswered failures may_leave allowed old new task inputs
     × (lacks_source task.files inputs ≡ true)
 
 -- If its record is to decide, its inputs were answered, and if it has no source they were found so.
 abbrev pub WasLookedAt : {F : Type 0} → (F → ℕ) → (F → Tearing) → (F → Call → F → Type 0) → F → F → Task
     → Look → Type 0
-WasLookedAt failures may_leave asked old new task looks.Skips = ⊤
-WasLookedAt failures may_leave asked old new task looks.HasNoActions = ⊤
-WasLookedAt failures may_leave asked old new task looks.HasNoSource =
-    WasSourceless failures may_leave asked old new task
-WasLookedAt failures may_leave asked old new task (looks.Goes inputs) =
-    AreInputsAnswered failures may_leave asked old new task inputs.items
+WasLookedAt failures may_leave allowed old new task looks.Skips = ⊤
+WasLookedAt failures may_leave allowed old new task looks.HasNoActions = ⊤
+WasLookedAt failures may_leave allowed old new task looks.HasNoSource =
+    WasSourceless failures may_leave allowed old new task
+WasLookedAt failures may_leave allowed old new task (looks.Goes inputs) =
+    AreInputsAnswered failures may_leave allowed old new task inputs.items
 
 -- The record that was read finds the task up to date on inputs and outputs with these digests.
 pub record IsFoundCurrent (options : Options) (task : Task) (last : Option Record)
@@ -48,22 +48,22 @@ pub record IsFoundCurrent (options : Options) (task : Task) (last : Option Recor
 -- found so on exactly these and these inputs.
 abbrev pub WasDecided : {F : Type 0} → (F → ℕ) → (F → Tearing) → (F → Call → F → Type 0) → F → F → Options
     → Task → Option Record → List Read → Decision → List Read → Type 0
-WasDecided failures may_leave asked old new options task last inputs decisions.UpToDate outputs =
-    AreOutputs task outputs × AreOutputsAnswered failures may_leave asked old new task outputs
+WasDecided failures may_leave allowed old new options task last inputs decisions.UpToDate outputs =
+    AreOutputs task outputs × AreOutputsAnswered failures may_leave allowed old new task outputs
     × IsFoundCurrent options task last (prints_read inputs) (prints_read outputs)
-WasDecided failures may_leave asked old new options task last inputs (decisions.Incremental changes) outputs =
-    AreOutputsAnswered failures may_leave asked old new task outputs
-WasDecided failures may_leave asked old new options task last inputs decisions.Full outputs = ⊤
+WasDecided failures may_leave allowed old new options task last inputs (decisions.Incremental changes) outputs =
+    AreOutputsAnswered failures may_leave allowed old new task outputs
+WasDecided failures may_leave allowed old new options task last inputs decisions.Full outputs = ⊤
 
 -- an execution is prepared on the basis of what was answered
 abbrev pub WasPrepared : {F : Type 0} → (F → ℕ) → (F → Tearing) → (F → Call → F → Type 0) → F → F → Options
     → Task → Option Record → Prepared → Type 0
-WasPrepared failures may_leave asked old new options task last prepared.Skips = ⊤
-WasPrepared failures may_leave asked old new options task last prepared.HasNoActions = ⊤
-WasPrepared failures may_leave asked old new options task last prepared.HasNoSource =
-    WasSourceless failures may_leave asked old new task
-WasPrepared failures may_leave asked old new options task last (prepared.Decided decision basis seen) =
-    AreInputs task seen.inputs.items
-    × AreInputsAnswered failures may_leave asked old new task seen.inputs.items
-    × WasDecided failures may_leave asked old new options task last seen.inputs.items decision
-    seen.outputs.items
+WasPrepared failures may_leave allowed old new options task last prepared.Skips = ⊤
+WasPrepared failures may_leave allowed old new options task last prepared.HasNoActions = ⊤
+WasPrepared failures may_leave allowed old new options task last prepared.HasNoSource =
+    WasSourceless failures may_leave allowed old new task
+WasPrepared failures may_leave allowed old new options task last (prepared.Decided decision basis observed) =
+    AreInputs task observed.inputs.items
+    × AreInputsAnswered failures may_leave allowed old new task observed.inputs.items
+    × WasDecided failures may_leave allowed old new options task last observed.inputs.items decision
+    observed.outputs.items

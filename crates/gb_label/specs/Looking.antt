@@ -9,7 +9,7 @@ use Rattle.gb_plan.specs.declared.task.FileProperty.{FileProperty}
 use Rattle.gb_plan.specs.declared.task.TaskDeclaration.{TaskDeclaration as Task}
 use Rattle.gb_report.specs.declared.fault.Fault.{Fault}
 use Rattle.gb_store.specs.Faults.{IsOfMachine}
-use Rattle.gb_label.specs.Reading.{AreInputs, AreInputsSeen, digests_in, prints_read}
+use Rattle.gb_label.specs.Reading.{AreInputs, AreInputsObserved, digests_in, prints_read}
 use Rattle.gb_label.specs.declared.look.Look.{Look}
 use Rattle.gb_label.specs.declared.look.Look.TheVariants as looks
 
@@ -32,7 +32,7 @@ IsCase task folder looks.HasNoSource = early_case task folder ≡ Some HasNoSour
 IsCase task folder (looks.Goes inputs) =
     (input_faults task folder ≡ []) × (has_no_source task folder.files ≡ false)
     × (prints_read inputs.items ≡ digests_in (trees_of task folder.files))
-    × AreInputsSeen task folder.files inputs.items
+    × AreInputsObserved task folder.files inputs.items
 
 -- what may be found of the task over any folder
 abbrev pub MayBe : Task → Look → Type 0

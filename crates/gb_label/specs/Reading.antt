@@ -19,9 +19,9 @@ use Rattle.gb_report.specs.declared.fault.Fault.{Fault}
 use Rattle.gb_store.specs.Faults.{IsOfMachine}
 use Rattle.gb_tree.specs.Prints.{digests_of}
 use Rattle.gb_tree.specs.Property.{entries_of}
-use Rattle.gb_tree.specs.Reading.{AreSeen, digests_seen}
+use Rattle.gb_tree.specs.Reading.{AreObserved, digests_observed}
 use Rattle.gb_tree.specs.Tree.{files_from, output_entries, output_faults}
-use Rattle.gb_tree.specs.declared.kept.SeenFile.{SeenFile}
+use Rattle.gb_tree.specs.declared.kept.ScannedFile.{ScannedFile}
 
 -- the machine failed between these counts, or it is the first of these faults
 abbrev pub CannotRead : ℕ → ℕ → List Fault → Fault → Type 0
@@ -47,16 +47,16 @@ print_faults folder output = map reported_of_tree (output_faults output.name out
 
 -- the files of a property or an output as they were read, with its name
 abbrev pub Read : Type 0
-Read = List ℕ × List SeenFile
+Read = List ℕ × List ScannedFile
 
 -- the digests that were taken then
 abbrev pub prints_read : List Read → List Prints
-prints_read readings = map (λ reading. (reading.0, digests_seen reading.1)) readings
+prints_read readings = map (λ reading. (reading.0, digests_observed reading.1)) readings
 
 -- each file that was read is where the test says
 abbrev pub AreWithin : (Place → Bool) → List Read → Type 0
 AreWithin test readings =
-    AllByRecursion (λ reading. AllByRecursion (λ seen. IsTrue (test seen.place)) reading.1) readings
+    AllByRecursion (λ reading. AllByRecursion (λ observed. IsTrue (test observed.place)) reading.1) readings
 
 -- the readings are of the task's file properties, in their order, and of files at their roots
 pub record AreInputs (task : Task) (readings : List Read) : Type 0 where
@@ -69,33 +69,33 @@ pub record AreOutputs (task : Task) (readings : List Read) : Type 0 where
   pub within : AreWithin (is_output_of task) readings
 
 -- the property's files are as they were read
-abbrev pub IsPropertySeen : Files → FileProperty → Read → Type 0
-IsPropertySeen files property reading =
+abbrev pub IsPropertyObserved : Files → FileProperty → Read → Type 0
+IsPropertyObserved files property reading =
     let entries = entries_of property.naming property.roots property.include property.exclude files in
-    AreSeen files entries reading.1
+    AreObserved files entries reading.1
 
 -- the output's files are
-abbrev pub IsOutputSeen : Files → Output → Read → Type 0
-IsOutputSeen files output reading = AreSeen files (output_entries files output.place) reading.1
+abbrev pub IsOutputObserved : Files → Output → Read → Type 0
+IsOutputObserved files output reading = AreObserved files (output_entries files output.place) reading.1
 
 -- the files of each of the task's file properties are
-abbrev pub AreInputsSeen : Task → Files → List Read → Type 0
-AreInputsSeen task files readings = AllZip (IsPropertySeen files) task.files readings
+abbrev pub AreInputsObserved : Task → Files → List Read → Type 0
+AreInputsObserved task files readings = AllZip (IsPropertyObserved files) task.files readings
 
 -- those of each of its outputs are
-abbrev pub AreOutputsSeen : Task → Files → List Read → Type 0
-AreOutputsSeen task files readings = AllZip (IsOutputSeen files) task.outputs readings
+abbrev pub AreOutputsObserved : Task → Files → List Read → Type 0
+AreOutputsObserved task files readings = AllZip (IsOutputObserved files) task.outputs readings
 
 -- ---- What is worked on
 
 -- an output with the files that are there, by their paths
-abbrev pub seen_of : Files → Output → OutputFiles
-seen_of files output =
+abbrev pub observed_of : Files → Output → OutputFiles
+observed_of files output =
     record { name = output.name; form = output.form; files = files_from files output.place }
 
 -- the digests of outputs' files, with their names
-abbrev pub prints_seen : List OutputFiles → List Prints
-prints_seen outputs = map (λ output. (output.name, digests_of output.files)) outputs
+abbrev pub prints_observed : List OutputFiles → List Prints
+prints_observed outputs = map (λ output. (output.name, digests_of output.files)) outputs
 
 -- an output with these digests, as it is recorded
 abbrev pub record_with : Output × Prints → OutputRecord

@@ -1,11 +1,11 @@
 //! Completes one reading for a run.
 ghost use Rattle.std.specs.Prelude.{◌≡◌, IsTrue, IfOk, IfErr};
 ghost use Rattle.std.specs.List.{AllByRecursion};
-ghost use Rattle.gb_folder.specs.Calls.{Asks, no_change};
+ghost use Rattle.gb_folder.specs.Calls.{Requests, no_change};
 ghost use Rattle.gb_store.specs.Faults.{Blames, BlamesOnly, IsOfMachine};
-ghost use Rattle.gb_tree.specs.Answered.{IsTreeRead, WereSeen};
+ghost use Rattle.gb_tree.specs.Answered.{IsTreeRead, WereObserved};
 ghost use Rattle.gb_tree.specs.Prints.{digests_of};
-ghost use Rattle.gb_tree.specs.Reading.{IsSeenIn, entries_seen};
+ghost use Rattle.gb_tree.specs.Reading.{IsObservedIn, entries_observed};
 ghost use Rattle.gb_tree.specs.Tree.{contents_at, is_among};
 
 use crate::fault::reported;
@@ -22,21 +22,21 @@ pub(crate) fn complete<F: Folder>(
     folder: &mut F,
     reading: Reading,
 ) -> Result<(Snapshot, Prints), Fault>
-    ensures asks { Asks F.failures F.may_leave F.asked no_change folder.old folder.new }
+    ensures requests { Requests F.failures F.may_leave F.allowed no_change folder.old folder.new }
     ensures blame { Blames result (F.failures folder.old) (F.failures folder.new) }
-    ensures blamed { BlamesOnly (is_among (entries_seen reading.1)) result }
-    ensures same { IsTrue F.tells → F.contents folder.new ≡ F.contents folder.old }
+    ensures blamed { BlamesOnly (is_among (entries_observed reading.1)) result }
+    ensures same { IsTrue F.faithful → F.contents folder.new ≡ F.contents folder.old }
     ensures named { IfOk result (λ made. made.0.0 ≡ reading.0) }
     ensures digests { IfOk result (λ made. made.1 ≡ (reading.0, digests_of made.0.1)) }
     // Over any folder: what was answered before, and what is answered now for the rest.
-    ensures answered { (first : _) → Asks F.failures F.may_leave F.asked no_change first folder.old
-        → WereSeen F.failures F.may_leave F.asked first folder.old reading.1
-        → IfOk result (λ made. IsTreeRead F.failures F.may_leave F.asked first folder.new
-        (entries_seen reading.1) made.0.1) }
-    ensures tree { IsTrue F.tells → AllByRecursion (IsSeenIn (F.contents folder.old).files) reading.1
+    ensures answered { (first : _) → Requests F.failures F.may_leave F.allowed no_change first folder.old
+        → WereObserved F.failures F.may_leave F.allowed first folder.old reading.1
+        → IfOk result (λ made. IsTreeRead F.failures F.may_leave F.allowed first folder.new
+        (entries_observed reading.1) made.0.1) }
+    ensures tree { IsTrue F.faithful → AllByRecursion (IsObservedIn (F.contents folder.old).files) reading.1
         → IfOk result
-        (λ made. made.0.1 ≡ contents_at (F.contents folder.old).files (entries_seen reading.1)) }
-    ensures err { IsTrue F.tells → AllByRecursion (IsSeenIn (F.contents folder.old).files) reading.1
+        (λ made. made.0.1 ≡ contents_at (F.contents folder.old).files (entries_observed reading.1)) }
+    ensures err { IsTrue F.faithful → AllByRecursion (IsObservedIn (F.contents folder.old).files) reading.1
         → IfErr result (IsOfMachine (F.failures folder.old) (F.failures folder.new)) }
 {
     match reading.completed(alloc, folder) {

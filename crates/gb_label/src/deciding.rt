@@ -1,7 +1,7 @@
 //! The decision on a task by its record.
 ghost use Rattle.std.specs.Prelude.{◌≡◌, ◌⊎◌, [], false, map, Some, IsTrue, IfOk, IfErr, OnOk, option_copied};
 ghost use Rattle.std.specs.List.{flat_map, list_any};
-ghost use Rattle.gb_folder.specs.Calls.{Asks, no_change};
+ghost use Rattle.gb_folder.specs.Calls.{Requests, no_change};
 ghost use Rattle.gb_folder.specs.Files.{is_empty, is_own};
 ghost use Rattle.gb_history.specs.Decision.{DecidesFrom};
 ghost use Rattle.gb_history.specs.Record.{prints_in};
@@ -9,10 +9,10 @@ ghost use Rattle.gb_meaning.specs.Tree.{listing_faults, trees_of};
 ghost use Rattle.gb_plan.specs.Task.{is_output_of};
 ghost use Rattle.gb_store.specs.Faults.{Blames, BlamesOnly};
 ghost use Rattle.gb_label.specs.Answered.{WasDecided};
-ghost use Rattle.gb_label.specs.Deciding.{AreOutputsFor, AreOutputsSeenFor, GoesBy, HasNamesInOrder};
+ghost use Rattle.gb_label.specs.Deciding.{AreOutputsFor, AreOutputsObservedFor, GoesBy, HasNamesInOrder};
 ghost use Rattle.gb_label.specs.Deciding.{IsBasisIn, IsGrown, IsPresentOf, MayDecide};
 ghost use Rattle.gb_label.specs.ReadingAnswered.{AreOutputsAnswered};
-ghost use Rattle.gb_label.specs.Reading.{AreOutputs, AreOutputsSeen, CannotRead};
+ghost use Rattle.gb_label.specs.Reading.{AreOutputs, AreOutputsObserved, CannotRead};
 ghost use Rattle.gb_label.specs.Reading.{digests_in, print_faults, prints_read, recorded_of, records_with};
 
 use crate::listing::check_outputs;
@@ -78,7 +78,7 @@ pub fn decided<F: Folder>(
 ) -> Result<Verdict, Fault>
     requires in_order { HasNamesInOrder task.now }
     requires named { map (λ found. found.0) inputs.now ≡ map (λ property. property.name) task.now.files }
-    ensures asks { Asks F.failures F.may_leave F.asked no_change folder.old folder.new }
+    ensures requests { Requests F.failures F.may_leave F.allowed no_change folder.old folder.new }
     ensures blame { Blames result (F.failures folder.old) (F.failures folder.new) }
     ensures blamed { BlamesOnly (is_output_of task.now) result }
     // Over any folder: the decision follows from what it is based on.
@@ -88,17 +88,17 @@ pub fn decided<F: Folder>(
     ensures may_decide { IfOk result (λ found. MayDecide options task.now found.decision) }
     // Over any folder: if it may execute incrementally, its outputs were read.
     ensures read { IfOk result (λ found. AreOutputsFor task.now found.decision found.outputs.items) }
-    ensures answered { IfOk result (λ found. WasDecided F.failures F.may_leave F.asked folder.old folder.new
+    ensures answered { IfOk result (λ found. WasDecided F.failures F.may_leave F.allowed folder.old folder.new
         options task.now (option_copied old.entry) inputs.now found.decision found.outputs.items) }
-    ensures same { IsTrue F.tells → F.contents folder.new ≡ F.contents folder.old }
-    ensures based { IsTrue F.tells
+    ensures same { IsTrue F.faithful → F.contents folder.new ≡ F.contents folder.old }
+    ensures based { IsTrue F.faithful
         → prints_read inputs.now ≡ digests_in (trees_of task.now (F.contents folder.old).files)
         → IfOk result (λ found. IsBasisIn options task.now (F.contents folder.old) found.basis) }
-    ensures seen { IsTrue F.tells → IfOk result
-        (λ found. AreOutputsSeenFor task.now (F.contents folder.old).files found.decision
+    ensures observed { IsTrue F.faithful → IfOk result
+        (λ found. AreOutputsObservedFor task.now (F.contents folder.old).files found.decision
         found.outputs.items) }
-    ensures none_odd { IsTrue F.tells → OnOk result (listing_faults task.now (F.contents folder.old) ≡ []) }
-    ensures err { IsTrue F.tells → IfErr result (CannotRead (F.failures folder.old) (F.failures folder.new)
+    ensures none_special { IsTrue F.faithful → OnOk result (listing_faults task.now (F.contents folder.old) ≡ []) }
+    ensures err { IsTrue F.faithful → IfErr result (CannotRead (F.failures folder.old) (F.failures folder.new)
         (listing_faults task.now (F.contents folder.old))) }
 {
     let Some(run) = old else {
@@ -120,14 +120,14 @@ fn in_full<F: Folder>(
     task: &TaskDeclaration,
     cause: Cause,
 ) -> Result<Verdict, Fault>
-    ensures asks { Asks F.failures F.may_leave F.asked no_change folder.old folder.new }
+    ensures requests { Requests F.failures F.may_leave F.allowed no_change folder.old folder.new }
     ensures blame { Blames result (F.failures folder.old) (F.failures folder.new) }
     ensures blamed { BlamesOnly (is_output_of task.now) result }
-    ensures same { IsTrue F.tells → F.contents folder.new ≡ F.contents folder.old }
+    ensures same { IsTrue F.faithful → F.contents folder.new ≡ F.contents folder.old }
     ensures full { IfOk result (λ found.
         (found.decision ≡ Decision.Full) × (found.basis ≡ Basis.Recheck cause)) }
-    ensures none_odd { IsTrue F.tells → OnOk result (listing_faults task.now (F.contents folder.old) ≡ []) }
-    ensures err { IsTrue F.tells → IfErr result (CannotRead (F.failures folder.old) (F.failures folder.new)
+    ensures none_special { IsTrue F.faithful → OnOk result (listing_faults task.now (F.contents folder.old) ≡ []) }
+    ensures err { IsTrue F.faithful → IfErr result (CannotRead (F.failures folder.old) (F.failures folder.new)
         (listing_faults task.now (F.contents folder.old))) }
 {
     check_outputs(alloc, folder, task)?;
@@ -151,24 +151,24 @@ fn by_record<F: Folder>(
     requires in_order { HasNamesInOrder task.now }
     requires named { map (λ found. found.0) inputs.now ≡ map (λ property. property.name) task.now.files }
     requires counts { (options.rerun ≡ false) × (task.now.is_stale ≡ false) }
-    ensures asks { Asks F.failures F.may_leave F.asked no_change folder.old folder.new }
+    ensures requests { Requests F.failures F.may_leave F.allowed no_change folder.old folder.new }
     ensures blame { Blames result (F.failures folder.old) (F.failures folder.new) }
     ensures blamed { BlamesOnly (is_output_of task.now) result }
     ensures goes_by { IfOk result (λ found.
         GoesBy options task.now (Some run.now) found.decision found.basis) }
     ensures may_decide { IfOk result (λ found. MayDecide options task.now found.decision) }
     ensures read { IfOk result (λ found. AreOutputsFor task.now found.decision found.outputs.items) }
-    ensures answered { IfOk result (λ found. WasDecided F.failures F.may_leave F.asked folder.old folder.new
+    ensures answered { IfOk result (λ found. WasDecided F.failures F.may_leave F.allowed folder.old folder.new
         options task.now (Some run.now) inputs.now found.decision found.outputs.items) }
-    ensures same { IsTrue F.tells → F.contents folder.new ≡ F.contents folder.old }
-    ensures based { IsTrue F.tells
+    ensures same { IsTrue F.faithful → F.contents folder.new ≡ F.contents folder.old }
+    ensures based { IsTrue F.faithful
         → prints_read inputs.now ≡ digests_in (trees_of task.now (F.contents folder.old).files)
         → IfOk result (λ found. IsBasisIn options task.now (F.contents folder.old) found.basis) }
-    ensures seen { IsTrue F.tells → IfOk result
-        (λ found. AreOutputsSeenFor task.now (F.contents folder.old).files found.decision
+    ensures observed { IsTrue F.faithful → IfOk result
+        (λ found. AreOutputsObservedFor task.now (F.contents folder.old).files found.decision
         found.outputs.items) }
-    ensures none_odd { IsTrue F.tells → OnOk result (listing_faults task.now (F.contents folder.old) ≡ []) }
-    ensures err { IsTrue F.tells → IfErr result (CannotRead (F.failures folder.old) (F.failures folder.new)
+    ensures none_special { IsTrue F.faithful → OnOk result (listing_faults task.now (F.contents folder.old) ≡ []) }
+    ensures err { IsTrue F.faithful → IfErr result (CannotRead (F.failures folder.old) (F.failures folder.new)
         (listing_faults task.now (F.contents folder.old))) }
 {
     match read_listed(alloc, folder, task, room) {
@@ -195,19 +195,19 @@ fn read_listed<F: Folder>(
     task: &TaskDeclaration,
     mut room: u64,
 ) -> Result<Vec<Reading>, Fault>
-    ensures asks { Asks F.failures F.may_leave F.asked no_change folder.old folder.new }
+    ensures requests { Requests F.failures F.may_leave F.allowed no_change folder.old folder.new }
     ensures blame { Blames result (F.failures folder.old) (F.failures folder.new) }
     ensures blamed { BlamesOnly (is_output_of task.now) result }
-    ensures same { IsTrue F.tells → F.contents folder.new ≡ F.contents folder.old }
+    ensures same { IsTrue F.faithful → F.contents folder.new ≡ F.contents folder.old }
     ensures read { IfOk result (λ found. AreOutputs task.now found.items) }
-    ensures answered { IfOk result (λ found. AreOutputsAnswered F.failures F.may_leave F.asked
+    ensures answered { IfOk result (λ found. AreOutputsAnswered F.failures F.may_leave F.allowed
         folder.old folder.new task.now found.items) }
-    ensures prints { IsTrue F.tells → IfOk result (λ found. prints_read found.items
+    ensures prints { IsTrue F.faithful → IfOk result (λ found. prints_read found.items
         ≡ prints_in (map (recorded_of (F.contents folder.old).files) task.now.outputs)) }
-    ensures seen { IsTrue F.tells → IfOk result
-        (λ found. AreOutputsSeen task.now (F.contents folder.old).files found.items) }
-    ensures none_odd { IsTrue F.tells → OnOk result (listing_faults task.now (F.contents folder.old) ≡ []) }
-    ensures err { IsTrue F.tells → IfErr result (λ fault.
+    ensures observed { IsTrue F.faithful → IfOk result
+        (λ found. AreOutputsObserved task.now (F.contents folder.old).files found.items) }
+    ensures none_special { IsTrue F.faithful → OnOk result (listing_faults task.now (F.contents folder.old) ≡ []) }
+    ensures err { IsTrue F.faithful → IfErr result (λ fault.
         (IsGrown fault
         × (is_empty (flat_map (print_faults (F.contents folder.old)) task.now.outputs) ≡ false))
         ⊎ CannotRead (F.failures folder.old) (F.failures folder.new)
@@ -227,19 +227,19 @@ fn read_checked<F: Folder>(
     task: &TaskDeclaration,
     mut room: u64,
 ) -> Result<Vec<Reading>, Fault>
-    ensures asks { Asks F.failures F.may_leave F.asked no_change folder.old folder.new }
+    ensures requests { Requests F.failures F.may_leave F.allowed no_change folder.old folder.new }
     ensures blame { Blames result (F.failures folder.old) (F.failures folder.new) }
     ensures blamed { BlamesOnly (is_output_of task.now) result }
-    ensures same { IsTrue F.tells → F.contents folder.new ≡ F.contents folder.old }
+    ensures same { IsTrue F.faithful → F.contents folder.new ≡ F.contents folder.old }
     ensures read { IfOk result (λ found. AreOutputs task.now found.items) }
-    ensures answered { IfOk result (λ found. AreOutputsAnswered F.failures F.may_leave F.asked
+    ensures answered { IfOk result (λ found. AreOutputsAnswered F.failures F.may_leave F.allowed
         folder.old folder.new task.now found.items) }
-    ensures prints { IsTrue F.tells → IfOk result (λ found. prints_read found.items
+    ensures prints { IsTrue F.faithful → IfOk result (λ found. prints_read found.items
         ≡ prints_in (map (recorded_of (F.contents folder.old).files) task.now.outputs)) }
-    ensures seen { IsTrue F.tells → IfOk result
-        (λ found. AreOutputsSeen task.now (F.contents folder.old).files found.items) }
-    ensures none_odd { IsTrue F.tells → OnOk result (listing_faults task.now (F.contents folder.old) ≡ []) }
-    ensures err { IsTrue F.tells → IfErr result (λ fault.
+    ensures observed { IsTrue F.faithful → IfOk result
+        (λ found. AreOutputsObserved task.now (F.contents folder.old).files found.items) }
+    ensures none_special { IsTrue F.faithful → OnOk result (listing_faults task.now (F.contents folder.old) ≡ []) }
+    ensures err { IsTrue F.faithful → IfErr result (λ fault.
         (IsGrown fault
         × (is_empty (flat_map (print_faults (F.contents folder.old)) task.now.outputs) ≡ false))
         ⊎ CannotRead (F.failures folder.old) (F.failures folder.new)

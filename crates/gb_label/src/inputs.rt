@@ -1,15 +1,15 @@
 //! The inputs of a task: read to decide its outcome, and completed for a run.
 ghost use Rattle.std.specs.Prelude.{◌≡◌, [], map, IsTrue, IfOk, IfErr, OnOk};
 ghost use Rattle.std.specs.List.{AllByRecursion};
-ghost use Rattle.gb_folder.specs.Calls.{Asks, no_change};
+ghost use Rattle.gb_folder.specs.Calls.{Requests, no_change};
 ghost use Rattle.gb_meaning.specs.Tree.{input_faults, tree_faults, tree_of, trees_of};
-ghost use Rattle.gb_plan.specs.Task.{seen_files};
+ghost use Rattle.gb_plan.specs.Task.{given_files};
 ghost use Rattle.gb_store.specs.Faults.{Blames, BlamesOnly, IsOfMachine};
 ghost use Rattle.gb_tree.specs.Prints.{digests_of};
 ghost use Rattle.gb_tree.specs.Property.{is_under_any};
-ghost use Rattle.gb_tree.specs.Reading.{digests_seen};
+ghost use Rattle.gb_tree.specs.Reading.{digests_observed};
 ghost use Rattle.gb_label.specs.ReadingAnswered.{AreInputsAnswered, AreInputsRead, IsInputAnswered};
-ghost use Rattle.gb_label.specs.Reading.{AreInputs, AreInputsSeen, CannotRead, IsPropertySeen};
+ghost use Rattle.gb_label.specs.Reading.{AreInputs, AreInputsObserved, CannotRead, IsPropertyObserved};
 ghost use Rattle.gb_label.specs.Reading.{digests_in, is_input_of, prints_read};
 
 use crate::completing::complete;
@@ -30,21 +30,21 @@ fn read_one<F: Folder>(
     property: &FileProperty,
     room: &mut u64,
 ) -> Result<Reading, Fault>
-    ensures asks { Asks F.failures F.may_leave F.asked no_change folder.old folder.new }
+    ensures requests { Requests F.failures F.may_leave F.allowed no_change folder.old folder.new }
     ensures blame { Blames result (F.failures folder.old) (F.failures folder.new) }
     ensures blamed { BlamesOnly (is_under_any property.now.roots) result }
-    ensures same { IsTrue F.tells → F.contents folder.new ≡ F.contents folder.old }
+    ensures same { IsTrue F.faithful → F.contents folder.new ≡ F.contents folder.old }
     ensures named { IfOk result (λ reading. reading.0 ≡ property.now.name) }
     ensures within { IfOk result
-        (λ reading. AllByRecursion (λ seen. IsTrue (is_under_any property.now.roots seen.place)) reading.1) }
+        (λ reading. AllByRecursion (λ observed. IsTrue (is_under_any property.now.roots observed.place)) reading.1) }
     ensures answered { IfOk result
-        (IsInputAnswered F.failures F.may_leave F.asked folder.old folder.new property.now) }
-    ensures digests { IsTrue F.tells → IfOk result (λ reading. digests_seen reading.1
+        (IsInputAnswered F.failures F.may_leave F.allowed folder.old folder.new property.now) }
+    ensures digests { IsTrue F.faithful → IfOk result (λ reading. digests_observed reading.1
         ≡ digests_of (tree_of property.now (F.contents folder.old).files)) }
-    ensures seen { IsTrue F.tells
-        → IfOk result (IsPropertySeen (F.contents folder.old).files property.now) }
-    ensures fit { IsTrue F.tells → OnOk result (tree_faults property.now (F.contents folder.old) ≡ []) }
-    ensures err { IsTrue F.tells → IfErr result
+    ensures observed { IsTrue F.faithful
+        → IfOk result (IsPropertyObserved (F.contents folder.old).files property.now) }
+    ensures fit { IsTrue F.faithful → OnOk result (tree_faults property.now (F.contents folder.old) ≡ []) }
+    ensures err { IsTrue F.faithful → IfErr result
         (CannotRead (F.failures folder.old) (F.failures folder.new) (tree_faults property.now
         (F.contents folder.old))) }
 {
@@ -72,20 +72,20 @@ pub(crate) fn read_inputs<F: Folder>(
     task: &TaskDeclaration,
     room: &mut u64,
 ) -> Result<Vec<Reading>, Fault>
-    ensures asks { Asks F.failures F.may_leave F.asked no_change folder.old folder.new }
+    ensures requests { Requests F.failures F.may_leave F.allowed no_change folder.old folder.new }
     ensures blame { Blames result (F.failures folder.old) (F.failures folder.new) }
     ensures blamed { BlamesOnly (is_input_of task.now) result }
     ensures read { IfOk result (λ readings. AreInputs task.now readings.items) }
     // Over any folder: the files are those that calls answered, and so are their digests and bytes.
-    ensures answered { IfOk result (λ readings. AreInputsAnswered F.failures F.may_leave F.asked
+    ensures answered { IfOk result (λ readings. AreInputsAnswered F.failures F.may_leave F.allowed
         folder.old folder.new task.now readings.items) }
-    ensures same { IsTrue F.tells → F.contents folder.new ≡ F.contents folder.old }
-    ensures prints { IsTrue F.tells → IfOk result (λ readings.
+    ensures same { IsTrue F.faithful → F.contents folder.new ≡ F.contents folder.old }
+    ensures prints { IsTrue F.faithful → IfOk result (λ readings.
         prints_read readings.items ≡ digests_in (trees_of task.now (F.contents folder.old).files)) }
-    ensures seen { IsTrue F.tells → IfOk result
-        (λ readings. AreInputsSeen task.now (F.contents folder.old).files readings.items) }
-    ensures fit { IsTrue F.tells → OnOk result (input_faults task.now (F.contents folder.old) ≡ []) }
-    ensures err { IsTrue F.tells → IfErr result
+    ensures observed { IsTrue F.faithful → IfOk result
+        (λ readings. AreInputsObserved task.now (F.contents folder.old).files readings.items) }
+    ensures fit { IsTrue F.faithful → OnOk result (input_faults task.now (F.contents folder.old) ≡ []) }
+    ensures err { IsTrue F.faithful → IfErr result
         (CannotRead (F.failures folder.old) (F.failures folder.new) (input_faults task.now
         (F.contents folder.old))) }
 {
@@ -115,21 +115,21 @@ pub fn complete_inputs<F: Folder>(
     readings: Vec<Reading>,
 ) -> Result<Inputs, Fault>
     requires { AreInputs task.now readings.items }
-    ensures asks { Asks F.failures F.may_leave F.asked no_change folder.old folder.new }
+    ensures requests { Requests F.failures F.may_leave F.allowed no_change folder.old folder.new }
     ensures blame { Blames result (F.failures folder.old) (F.failures folder.new) }
     ensures blamed { BlamesOnly (is_input_of task.now) result }
     // Over any folder: the names of the properties, and the digests of the very trees.
-    ensures named { IfOk result (λ inputs. map (λ tree. tree.0) inputs.trees ≡ seen_files task.now.files) }
+    ensures named { IfOk result (λ inputs. map (λ tree. tree.0) inputs.trees ≡ given_files task.now.files) }
     ensures digests { IfOk result (λ inputs. inputs.prints.items ≡ digests_in inputs.trees) }
     // Also: what was answered before, with what is answered now for the rest.
-    ensures answered { (first : _) → Asks F.failures F.may_leave F.asked no_change first folder.old
-        → AreInputsAnswered F.failures F.may_leave F.asked first folder.old task.now readings.items
-        → IfOk result (λ inputs. AreInputsRead F.failures F.may_leave F.asked first folder.new task.now
+    ensures answered { (first : _) → Requests F.failures F.may_leave F.allowed no_change first folder.old
+        → AreInputsAnswered F.failures F.may_leave F.allowed first folder.old task.now readings.items
+        → IfOk result (λ inputs. AreInputsRead F.failures F.may_leave F.allowed first folder.new task.now
         inputs.trees) }
-    ensures same { IsTrue F.tells → F.contents folder.new ≡ F.contents folder.old }
-    ensures trees { IsTrue F.tells → AreInputsSeen task.now (F.contents folder.old).files readings.items
+    ensures same { IsTrue F.faithful → F.contents folder.new ≡ F.contents folder.old }
+    ensures trees { IsTrue F.faithful → AreInputsObserved task.now (F.contents folder.old).files readings.items
         → IfOk result (λ inputs. inputs.trees ≡ trees_of task.now (F.contents folder.old).files) }
-    ensures err { IsTrue F.tells → AreInputsSeen task.now (F.contents folder.old).files readings.items
+    ensures err { IsTrue F.faithful → AreInputsObserved task.now (F.contents folder.old).files readings.items
         → IfErr result (IsOfMachine (F.failures folder.old) (F.failures folder.new)) }
 {
     let mut trees = Snapshots::new(alloc);

@@ -1,7 +1,7 @@
 //! The cases that are decided before any record is considered.
 ghost use Rattle.std.specs.Prelude.{◌≡◌, ◌||◌, true, false, length, IsTrue, IfOk, IfErr, OnErr};
 ghost use Rattle.std.specs.List.{list_all, list_any, zip};
-ghost use Rattle.gb_folder.specs.Calls.{Asks, no_change};
+ghost use Rattle.gb_folder.specs.Calls.{Requests, no_change};
 ghost use Rattle.gb_folder.specs.Files.{is_empty};
 ghost use Rattle.gb_plan.specs.Task.{is_output_of};
 ghost use Rattle.gb_store.specs.Faults.{Blames, BlamesOnly};
@@ -74,15 +74,15 @@ fn look_at_files<F: Folder>(
 ) -> Result<Look, Fault>
     requires runs { task.now.runs ≡ true }
     requires acts { is_empty task.now.actions ≡ false }
-    ensures asks { Asks F.failures F.may_leave F.asked no_change folder.old folder.new }
+    ensures requests { Requests F.failures F.may_leave F.allowed no_change folder.old folder.new }
     ensures blame { Blames result (F.failures folder.old) (F.failures folder.new) }
     ensures blamed { BlamesOnly (λ place. is_input_of task.now place || is_output_of task.now place) result }
     ensures may_be { IfOk result (MayBe task.now) }
     ensures answered { IfOk result
-        (WasLookedAt F.failures F.may_leave F.asked folder.old folder.new task.now) }
-    ensures same { IsTrue F.tells → F.contents folder.new ≡ F.contents folder.old }
-    ensures case { IsTrue F.tells → IfOk result (IsCase task.now (F.contents folder.old)) }
-    ensures err { IsTrue F.tells → IfErr result
+        (WasLookedAt F.failures F.may_leave F.allowed folder.old folder.new task.now) }
+    ensures same { IsTrue F.faithful → F.contents folder.new ≡ F.contents folder.old }
+    ensures case { IsTrue F.faithful → IfOk result (IsCase task.now (F.contents folder.old)) }
+    ensures err { IsTrue F.faithful → IfErr result
         (IsHindered task.now (F.contents folder.old) (F.failures folder.old) (F.failures folder.new)) }
 {
     let inputs = read_inputs(alloc, folder, task, &mut room)?;
@@ -102,18 +102,18 @@ pub fn looked_at<F: Folder>(
     task: &TaskDeclaration,
     room: u64,
 ) -> Result<Look, Fault>
-    ensures asks { Asks F.failures F.may_leave F.asked no_change folder.old folder.new }
+    ensures requests { Requests F.failures F.may_leave F.allowed no_change folder.old folder.new }
     ensures blame { Blames result (F.failures folder.old) (F.failures folder.new) }
     ensures blamed { BlamesOnly (λ place. is_input_of task.now place || is_output_of task.now place) result }
     // Over any folder: which of them it may be, and that nothing is read if it is skipped or has no
     // actions.
     ensures may_be { IfOk result (MayBe task.now) }
     ensures answered { IfOk result
-        (WasLookedAt F.failures F.may_leave F.asked folder.old folder.new task.now) }
+        (WasLookedAt F.failures F.may_leave F.allowed folder.old folder.new task.now) }
     ensures reads { OnErr result ((task.now.runs ≡ true) × (is_empty task.now.actions ≡ false)) }
-    ensures same { IsTrue F.tells → F.contents folder.new ≡ F.contents folder.old }
-    ensures case { IsTrue F.tells → IfOk result (IsCase task.now (F.contents folder.old)) }
-    ensures err { IsTrue F.tells → IfErr result
+    ensures same { IsTrue F.faithful → F.contents folder.new ≡ F.contents folder.old }
+    ensures case { IsTrue F.faithful → IfOk result (IsCase task.now (F.contents folder.old)) }
+    ensures err { IsTrue F.faithful → IfErr result
         (IsHindered task.now (F.contents folder.old) (F.failures folder.old) (F.failures folder.new)) }
 {
     if !task.runs {

@@ -3,17 +3,17 @@
 ghost use Rattle.std.specs.Prelude.{◌≡◌, [], map, IsTrue, IfOk, IfErr, OnOk};
 ghost use Rattle.std.specs.List.{AllByRecursion, flat_map};
 ghost use Rattle.gb_core.specs.Place.{is_under};
-ghost use Rattle.gb_folder.specs.Calls.{Asks, no_change};
+ghost use Rattle.gb_folder.specs.Calls.{Requests, no_change};
 ghost use Rattle.gb_history.specs.Record.{prints_in};
-ghost use Rattle.gb_plan.specs.Task.{is_output_of, seen_outputs};
+ghost use Rattle.gb_plan.specs.Task.{is_output_of, given_outputs};
 ghost use Rattle.gb_store.specs.Faults.{Blames, BlamesOnly, IsOfMachine};
-ghost use Rattle.gb_tree.specs.Answered.{IsTreeRead, WereSeen};
+ghost use Rattle.gb_tree.specs.Answered.{IsTreeRead, WereObserved};
 ghost use Rattle.gb_tree.specs.Prints.{digests_of};
-ghost use Rattle.gb_tree.specs.Reading.{IsSeenIn, digests_seen, entries_seen};
+ghost use Rattle.gb_tree.specs.Reading.{IsObservedIn, digests_observed, entries_observed};
 ghost use Rattle.gb_tree.specs.Tree.{contents_at, files_from, is_among};
 ghost use Rattle.gb_label.specs.ReadingAnswered.{AreOutputsAnswered, AreOutputsRead, IsOutputAnswered};
-ghost use Rattle.gb_label.specs.Reading.{AreOutputs, AreOutputsSeen, CannotRead, IsOutputSeen, print_faults};
-ghost use Rattle.gb_label.specs.Reading.{prints_read, prints_seen, recorded_of, records_with, seen_of};
+ghost use Rattle.gb_label.specs.Reading.{AreOutputs, AreOutputsObserved, CannotRead, IsOutputObserved, print_faults};
+ghost use Rattle.gb_label.specs.Reading.{prints_read, prints_observed, recorded_of, records_with, observed_of};
 
 use crate::completing::complete;
 use crate::fault::reported;
@@ -34,20 +34,20 @@ fn read_one<F: Folder>(
     output: &Output,
     room: &mut u64,
 ) -> Result<Reading, Fault>
-    ensures asks { Asks F.failures F.may_leave F.asked no_change folder.old folder.new }
+    ensures requests { Requests F.failures F.may_leave F.allowed no_change folder.old folder.new }
     ensures blame { Blames result (F.failures folder.old) (F.failures folder.new) }
     ensures blamed { BlamesOnly (λ at. is_under at output.now.place) result }
-    ensures same { IsTrue F.tells → F.contents folder.new ≡ F.contents folder.old }
+    ensures same { IsTrue F.faithful → F.contents folder.new ≡ F.contents folder.old }
     ensures named { IfOk result (λ reading. reading.0 ≡ output.now.name) }
     ensures within { IfOk result
-        (λ reading. AllByRecursion (λ seen. IsTrue (is_under seen.place output.now.place)) reading.1) }
+        (λ reading. AllByRecursion (λ observed. IsTrue (is_under observed.place output.now.place)) reading.1) }
     ensures answered { IfOk result
-        (IsOutputAnswered F.failures F.may_leave F.asked folder.old folder.new output.now) }
-    ensures digests { IsTrue F.tells → IfOk result (λ reading. digests_seen reading.1
+        (IsOutputAnswered F.failures F.may_leave F.allowed folder.old folder.new output.now) }
+    ensures digests { IsTrue F.faithful → IfOk result (λ reading. digests_observed reading.1
         ≡ digests_of (files_from (F.contents folder.old).files output.now.place)) }
-    ensures seen { IsTrue F.tells → IfOk result (IsOutputSeen (F.contents folder.old).files output.now) }
-    ensures fit { IsTrue F.tells → OnOk result (print_faults (F.contents folder.old) output.now ≡ []) }
-    ensures err { IsTrue F.tells → IfErr result
+    ensures observed { IsTrue F.faithful → IfOk result (IsOutputObserved (F.contents folder.old).files output.now) }
+    ensures fit { IsTrue F.faithful → OnOk result (print_faults (F.contents folder.old) output.now ≡ []) }
+    ensures err { IsTrue F.faithful → IfErr result
         (CannotRead (F.failures folder.old) (F.failures folder.new) (print_faults
         (F.contents folder.old) output.now)) }
 {
@@ -66,21 +66,21 @@ pub fn read_outputs<F: Folder>(
     task: &TaskDeclaration,
     room: &mut u64,
 ) -> Result<Vec<Reading>, Fault>
-    ensures asks { Asks F.failures F.may_leave F.asked no_change folder.old folder.new }
+    ensures requests { Requests F.failures F.may_leave F.allowed no_change folder.old folder.new }
     ensures blame { Blames result (F.failures folder.old) (F.failures folder.new) }
     ensures blamed { BlamesOnly (is_output_of task.now) result }
     ensures read { IfOk result (λ readings. AreOutputs task.now readings.items) }
     // Over any folder: the files are those that calls answered, and so are their digests and bytes.
-    ensures answered { IfOk result (λ readings. AreOutputsAnswered F.failures F.may_leave F.asked
+    ensures answered { IfOk result (λ readings. AreOutputsAnswered F.failures F.may_leave F.allowed
         folder.old folder.new task.now readings.items) }
-    ensures same { IsTrue F.tells → F.contents folder.new ≡ F.contents folder.old }
-    ensures prints { IsTrue F.tells → IfOk result (λ readings. prints_read readings.items
+    ensures same { IsTrue F.faithful → F.contents folder.new ≡ F.contents folder.old }
+    ensures prints { IsTrue F.faithful → IfOk result (λ readings. prints_read readings.items
         ≡ prints_in (map (recorded_of (F.contents folder.old).files) task.now.outputs)) }
-    ensures seen { IsTrue F.tells → IfOk result
-        (λ readings. AreOutputsSeen task.now (F.contents folder.old).files readings.items) }
-    ensures fit { IsTrue F.tells → OnOk result (flat_map (print_faults
+    ensures observed { IsTrue F.faithful → IfOk result
+        (λ readings. AreOutputsObserved task.now (F.contents folder.old).files readings.items) }
+    ensures fit { IsTrue F.faithful → OnOk result (flat_map (print_faults
         (F.contents folder.old)) task.now.outputs ≡ []) }
-    ensures err { IsTrue F.tells → IfErr result (CannotRead (F.failures folder.old) (F.failures folder.new)
+    ensures err { IsTrue F.faithful → IfErr result (CannotRead (F.failures folder.old) (F.failures folder.new)
         (flat_map (print_faults (F.contents folder.old)) task.now.outputs)) }
 {
     let mut readings = Vec::new(alloc);
@@ -94,7 +94,7 @@ pub fn read_outputs<F: Folder>(
 #[derive(Drop)]
 pub struct Outputs {
     /// The files at the outputs.
-    pub seen: OutputSnapshots,
+    pub observed: OutputSnapshots,
     /// The digests of these very files.
     pub prints: Vec<Prints>,
 }
@@ -106,31 +106,31 @@ fn complete_one<F: Folder>(
     output: &Output,
     reading: Reading,
 ) -> Result<(OutputFiles, Prints), Fault>
-    ensures asks { Asks F.failures F.may_leave F.asked no_change folder.old folder.new }
+    ensures requests { Requests F.failures F.may_leave F.allowed no_change folder.old folder.new }
     ensures blame { Blames result (F.failures folder.old) (F.failures folder.new) }
-    ensures blamed { BlamesOnly (is_among (entries_seen reading.1)) result }
-    ensures same { IsTrue F.tells → F.contents folder.new ≡ F.contents folder.old }
+    ensures blamed { BlamesOnly (is_among (entries_observed reading.1)) result }
+    ensures same { IsTrue F.faithful → F.contents folder.new ≡ F.contents folder.old }
     ensures named { IfOk result (λ made. made.0.name ≡ output.now.name) }
     ensures formed { IfOk result (λ made. made.0.form ≡ output.now.form) }
     ensures digests { IfOk result (λ made. made.1 ≡ (reading.0, digests_of made.0.files)) }
     // Over any folder: what was answered before, and what is answered now for the rest.
-    ensures answered { (first : _) → Asks F.failures F.may_leave F.asked no_change first folder.old
-        → WereSeen F.failures F.may_leave F.asked first folder.old reading.1
-        → IfOk result (λ made. IsTreeRead F.failures F.may_leave F.asked first folder.new
-        (entries_seen reading.1) made.0.files) }
-    ensures files { IsTrue F.tells → AllByRecursion (IsSeenIn (F.contents folder.old).files) reading.1
+    ensures answered { (first : _) → Requests F.failures F.may_leave F.allowed no_change first folder.old
+        → WereObserved F.failures F.may_leave F.allowed first folder.old reading.1
+        → IfOk result (λ made. IsTreeRead F.failures F.may_leave F.allowed first folder.new
+        (entries_observed reading.1) made.0.files) }
+    ensures files { IsTrue F.faithful → AllByRecursion (IsObservedIn (F.contents folder.old).files) reading.1
         → IfOk result
-        (λ made. made.0.files ≡ contents_at (F.contents folder.old).files (entries_seen reading.1)) }
-    ensures err { IsTrue F.tells → AllByRecursion (IsSeenIn (F.contents folder.old).files) reading.1
+        (λ made. made.0.files ≡ contents_at (F.contents folder.old).files (entries_observed reading.1)) }
+    ensures err { IsTrue F.faithful → AllByRecursion (IsObservedIn (F.contents folder.old).files) reading.1
         → IfErr result (IsOfMachine (F.failures folder.old) (F.failures folder.new)) }
 {
     let (tree, prints) = complete(alloc, folder, reading)?;
-    let seen = OutputFiles {
+    let observed = OutputFiles {
         name: output.name.copy()?,
         form: output.form,
         files: tree.into_files(),
     };
-    Ok((seen, prints))
+    Ok((observed, prints))
 }
 
 /// The whole files at a task's outputs: what was kept as it was read, and the rest as it is now,
@@ -143,33 +143,33 @@ pub fn complete_outputs<F: Folder>(
     readings: Vec<Reading>,
 ) -> Result<Outputs, Fault>
     requires { AreOutputs task.now readings.items }
-    ensures asks { Asks F.failures F.may_leave F.asked no_change folder.old folder.new }
+    ensures requests { Requests F.failures F.may_leave F.allowed no_change folder.old folder.new }
     ensures blame { Blames result (F.failures folder.old) (F.failures folder.new) }
     ensures blamed { BlamesOnly (is_output_of task.now) result }
     // Over any folder: the names and forms of the outputs, and the digests of the very files.
-    ensures formed { IfOk result (λ outputs. map (λ output. (output.name, output.form)) outputs.seen
-        ≡ seen_outputs task.now.outputs) }
-    ensures digests { IfOk result (λ outputs. outputs.prints.items ≡ prints_seen outputs.seen) }
+    ensures formed { IfOk result (λ outputs. map (λ output. (output.name, output.form)) outputs.observed
+        ≡ given_outputs task.now.outputs) }
+    ensures digests { IfOk result (λ outputs. outputs.prints.items ≡ prints_observed outputs.observed) }
     // Also: what was answered before, with what is answered now for the rest.
-    ensures answered { (first : _) → Asks F.failures F.may_leave F.asked no_change first folder.old
-        → AreOutputsAnswered F.failures F.may_leave F.asked first folder.old task.now readings.items
-        → IfOk result (λ outputs. AreOutputsRead F.failures F.may_leave F.asked first folder.new task.now
-        outputs.seen) }
-    ensures same { IsTrue F.tells → F.contents folder.new ≡ F.contents folder.old }
-    ensures files { IsTrue F.tells → AreOutputsSeen task.now (F.contents folder.old).files readings.items
+    ensures answered { (first : _) → Requests F.failures F.may_leave F.allowed no_change first folder.old
+        → AreOutputsAnswered F.failures F.may_leave F.allowed first folder.old task.now readings.items
+        → IfOk result (λ outputs. AreOutputsRead F.failures F.may_leave F.allowed first folder.new task.now
+        outputs.observed) }
+    ensures same { IsTrue F.faithful → F.contents folder.new ≡ F.contents folder.old }
+    ensures files { IsTrue F.faithful → AreOutputsObserved task.now (F.contents folder.old).files readings.items
         → IfOk result
-        (λ outputs. outputs.seen ≡ map (seen_of (F.contents folder.old).files) task.now.outputs) }
-    ensures err { IsTrue F.tells → AreOutputsSeen task.now (F.contents folder.old).files readings.items
+        (λ outputs. outputs.observed ≡ map (observed_of (F.contents folder.old).files) task.now.outputs) }
+    ensures err { IsTrue F.faithful → AreOutputsObserved task.now (F.contents folder.old).files readings.items
         → IfErr result (IsOfMachine (F.failures folder.old) (F.failures folder.new)) }
 {
-    let mut seen = OutputSnapshots::new(alloc);
+    let mut observed = OutputSnapshots::new(alloc);
     let mut prints = Vec::new(alloc);
     for (output, reading) in task.outputs.as_slice().iter().zip(readings) {
         let (files, found) = complete_one(alloc, folder, output, reading)?;
         prints.push(found)?;
-        seen.push(files)?;
+        observed.push(files)?;
     }
-    Ok(Outputs { seen, prints })
+    Ok(Outputs { observed, prints })
 }
 
 /// The outputs of a task with these digests, as they are recorded.

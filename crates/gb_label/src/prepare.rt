@@ -1,13 +1,13 @@
 //! The outcome of a task that starts, before anything is changed.
 ghost use Rattle.std.specs.Prelude.{◌≡◌, ◌||◌, true, false, IsTrue, IfOk, IfErr, OnErr, option_copied};
-ghost use Rattle.gb_folder.specs.Calls.{Asks, no_change};
+ghost use Rattle.gb_folder.specs.Calls.{Requests, no_change};
 ghost use Rattle.gb_folder.specs.Files.{is_empty};
 ghost use Rattle.gb_plan.specs.Task.{is_output_of};
 ghost use Rattle.gb_store.specs.Faults.{Blames, BlamesOnly};
 ghost use Rattle.gb_label.specs.Deciding.{HasNamesInOrder};
 ghost use Rattle.gb_label.specs.Looking.{IsHindered};
 ghost use Rattle.gb_label.specs.Answered.{WasPrepared};
-ghost use Rattle.gb_label.specs.Preparing.{GoesByAs, IsPrepared, IsRead, IsSeen, MayDecideAs, MayPrepare};
+ghost use Rattle.gb_label.specs.Preparing.{GoesByAs, IsPrepared, IsRead, IsObserved, MayDecideAs, MayPrepare};
 ghost use Rattle.gb_label.specs.Reading.{is_input_of};
 
 use crate::deciding::{Basis, decided};
@@ -32,12 +32,12 @@ pub enum Prepared {
     HasNoSource,
     /// None of these: it is up to date, or runs incrementally or in full. With the basis of that
     /// decision, and what was read for it.
-    Decided(Decision, Basis, Seen),
+    Decided(Decision, Basis, Observed),
 }
 
 /// What was read of a task for a decision.
 #[derive(Drop)]
-pub struct Seen {
+pub struct Observed {
     /// Its file properties.
     pub inputs: Vec<Reading>,
     /// Its outputs, if they were compared with its record; else nothing.
@@ -59,7 +59,7 @@ pub fn prepare<F: Folder>(
     follows: bool,
 ) -> Result<Prepared, Fault>
     requires in_order { HasNamesInOrder task.now }
-    ensures asks { Asks F.failures F.may_leave F.asked no_change folder.old folder.new }
+    ensures requests { Requests F.failures F.may_leave F.allowed no_change folder.old folder.new }
     ensures blame { Blames result (F.failures folder.old) (F.failures folder.new) }
     ensures blamed { BlamesOnly (λ place. is_input_of task.now place || is_output_of task.now place) result }
     // Over any folder: which it may be, when it may be up to date, and that nothing is read if it
@@ -68,17 +68,17 @@ pub fn prepare<F: Folder>(
     ensures may_decide { IfOk result (MayDecideAs options task.now) }
     ensures goes_by { IfOk result (GoesByAs options task.now (option_copied old.entry)) }
     ensures reads { OnErr result ((task.now.runs ≡ true) × (is_empty task.now.actions ≡ false)) }
-    ensures same { IsTrue F.tells → F.contents folder.new ≡ F.contents folder.old }
+    ensures same { IsTrue F.faithful → F.contents folder.new ≡ F.contents folder.old }
     // What a run is based on was read; and it is so in a folder whose contents are known.
     ensures read { IfOk result (IsRead task.now) }
     // Over any folder it is what calls answered; and what is up to date was found so on exactly
     // this.
-    ensures answered { IfOk result (WasPrepared F.failures F.may_leave F.asked folder.old folder.new options
+    ensures answered { IfOk result (WasPrepared F.failures F.may_leave F.allowed folder.old folder.new options
         task.now (option_copied old.entry)) }
-    ensures prepared { IsTrue F.tells → IfOk result
+    ensures prepared { IsTrue F.faithful → IfOk result
         (IsPrepared options task.now (F.contents folder.old) (option_copied old.entry)) }
-    ensures seen { IsTrue F.tells → IfOk result (IsSeen task.now (F.contents folder.old).files) }
-    ensures err { IsTrue F.tells → IfErr result
+    ensures observed { IsTrue F.faithful → IfOk result (IsObserved task.now (F.contents folder.old).files) }
+    ensures err { IsTrue F.faithful → IfErr result
         (IsHindered task.now (F.contents folder.old) (F.failures folder.old) (F.failures folder.new)) }
 {
     let room = input_room(task, options, old, follows);
@@ -90,7 +90,7 @@ pub fn prepare<F: Folder>(
             let room = output_room(task.files.as_slice(), follows);
             let found = decided(alloc, folder, task, options, old, inputs.as_slice(), room)?;
             let outputs = found.outputs;
-            Ok(Prepared::Decided(found.decision, found.basis, Seen { inputs, outputs }))
+            Ok(Prepared::Decided(found.decision, found.basis, Observed { inputs, outputs }))
         }
     }
 }

@@ -34,9 +34,9 @@ block_of_tail t m i tail low high =
     let a : ℕ = (i - w) * 64 in
     let n : ℕ = (block_count m - w) * 64 in
     let place : w * 64 + a ≡ i * 64 = omega arith in
-    let front : take (a + 64) t ≡ take (a + 64) (drop (w * 64) p) =
+    let prefix : take (a + 64) t ≡ take (a + 64) (drop (w * 64) p) =
     sym (take-take (a + 64) n t (omega arith)) ∙ ap (take (a + 64)) tail in
-    sym (drop-take a 64 t) ∙ ap (drop a) front ∙ drop-take a 64 (drop (w * 64) p)
+    sym (drop-take a 64 t) ∙ ap (drop a) prefix ∙ drop-take a 64 (drop (w * 64) p)
     ∙ ap (take 64) (drop-drop a (w * 64) p ∙ ap (λ (k : ℕ). drop k p) place)
 
 abbrev zeros : ℕ → List ℕ
@@ -76,12 +76,12 @@ tail_made m rest bits used end k eu ee er eb =
     let before : take (end - 8) s ≡ rest ++ 0x80 ∷ zs =
     ap (λ (n : ℕ). take n s) at ∙ subst (λ (u : ℕ). take (u + (z + 1)) (slice_set (rest ++ drop u (zeros 128)) u 0x80) ≡ rest ++ 0x80 ∷ zs)
     long (before_length rest z (omega arith)) in
-    let front : take end (put_mid (end - 8) k s bits) ≡ (rest ++ 0x80 ∷ zs) ++ bits =
+    let prefix : take end (put_mid (end - 8) k s bits) ≡ (rest ++ 0x80 ∷ zs) ++ bits =
     take-put_mid (end - 8) k s bits end (omega arith) (omega arith) ∙ ap (λ (x : List ℕ). x ++ bits) before in
     let pad : 0x80 ∷ zs ++ bits ≡ padding (length m) = rw (eb, eu) refl in
     let edge : w * 64 ≡ length m - used = omega arith in
     let back : drop (w * 64) (padded_message m) ≡ rest ++ padding (length m) =
     drop-append-le (w * 64) m (padding (length m)) (omega arith)
     ∙ ap (λ (x : List ℕ). x ++ padding (length m)) (ap (λ (n : ℕ). drop n m) edge ∙ sym er) in
-    ap (λ (n : ℕ). take n (put_mid (end - 8) k s bits)) all ∙ front ∙ append_assoc rest (0x80 ∷ zs) bits
+    ap (λ (n : ℕ). take n (put_mid (end - 8) k s bits)) all ∙ prefix ∙ append_assoc rest (0x80 ∷ zs) bits
     ∙ ap (λ (x : List ℕ). rest ++ x) pad ∙ sym back

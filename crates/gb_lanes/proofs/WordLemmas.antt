@@ -44,14 +44,14 @@ maj_by_four x y z =
     let p : ℕ = bit_and x y in
     let q : ℕ = bit_and x z in
     let r : ℕ = bit_and y z in
-    let front : bit_and (bit_xor x y) y ≡ bit_xor p y =
+    let prefix : bit_and (bit_xor x y) y ≡ bit_xor p y =
     and_comm (bit_xor x y) y ∙ and_xor y x y ∙ ap (λ n. bit_xor n (bit_and y y)) (and_comm y x)
     ∙ ap (bit_xor p) (and_self y) in
     let back : bit_and (bit_xor x y) z ≡ bit_xor q r =
     and_comm (bit_xor x y) z ∙ and_xor z x y ∙ ap (λ n. bit_xor n (bit_and z y)) (and_comm z x)
     ∙ ap (bit_xor q) (and_comm z y) in
     let parts : bit_and (bit_xor x y) (bit_xor y z) ≡ bit_xor (bit_xor p y) (bit_xor q r) =
-    and_xor (bit_xor x y) y z ∙ ap (λ n. bit_xor n (bit_and (bit_xor x y) z)) front
+    and_xor (bit_xor x y) y z ∙ ap (λ n. bit_xor n (bit_and (bit_xor x y) z)) prefix
     ∙ ap (bit_xor (bit_xor p y)) back in
     let gone : bit_xor y (bit_xor p y) ≡ p =
     ap (bit_xor y) (xor_comm p y) ∙ sym (xor_assoc y y p) ∙ ap (λ n. bit_xor n p) (xor_self y) ∙ xor_zero_l p in

@@ -46,9 +46,9 @@ stuck done rest left b whole here unknown so_far =
     ∙ ap (λ (m : Option ℕ). prefixed done (before m (unescaped rest))) unknown
 
 -- any other byte denotes itself
-pub stands : (done rest left : List ℕ) (b : ℕ) (whole : Option (List ℕ)) → left ≡ b ∷ rest → (b == 92) ≡ false → prefixed done (unescaped left) ≡ whole → prefixed (done ++ b ∷ []) (unescaped rest) ≡ whole
+pub exists : (done rest left : List ℕ) (b : ℕ) (whole : Option (List ℕ)) → left ≡ b ∷ rest → (b == 92) ≡ false → prefixed done (unescaped left) ≡ whole → prefixed (done ++ b ∷ []) (unescaped rest) ≡ whole
 unfolding unescaped
-stands done rest left b whole here other so_far =
+exists done rest left b whole here other so_far =
     one_more done b (unescaped rest)
     ∙ ap (λ (t : Option (List ℕ)). prefixed done t) (sym (plain b rest other))
     ∙ ap (λ (l : List ℕ). prefixed done (unescaped l)) (sym here)

@@ -9,8 +9,8 @@ use std::alloc::{AllocError, Global};
 
 /// The output for the files at and under the place.
 pub fn shown_files<F: Folder>(alloc: Global, folder: &mut F, place: &Place) -> Result<Vec<u8>, Stop>
-    ensures same { IsTrue F.tells → F.contents folder.new ≡ F.contents folder.old }
-    ensures shown { IsTrue F.tells → IfOk result (λ text.
+    ensures same { IsTrue F.faithful → F.contents folder.new ≡ F.contents folder.old }
+    ensures shown { IsTrue F.faithful → IfOk result (λ text.
         text.items ≡ shown_files (F.contents folder.old).files place.now) }
 {
     let places = folder.list(alloc, place)?;

@@ -190,7 +190,7 @@ Names = List (List ℕ)
 
 -- a heading whose name others have gets their number appended
 abbrev pub id_by : ℕ → List ℕ → List ℕ
-id_by seen name = if seen == 0 then name else name ++ 45 ∷ decimal seen
+id_by earlier name = if earlier == 0 then name else name ++ 45 ∷ decimal earlier
 
 abbrev pub id_of : Names → List ℕ → List ℕ
 id_of names name = id_by (count_by (bytes_eq name) names) name
@@ -399,16 +399,16 @@ begun_with others refs block text line (Some reference) =
     others (with_reference refs reference) blocks.Nothing text
 
 -- a line that begins a block may define a label, unless it ends code
-abbrev pub defined_behind : Block → List ℕ → Option (List ℕ × List ℕ × List ℕ)
-defined_behind block line = if is_code block then None else defined line
+abbrev pub defined_after : Block → List ℕ → Option (List ℕ × List ℕ × List ℕ)
+defined_after block line = if is_code block then None else defined line
 
-abbrev pub taken_apart : Refs → Block → List ℕ → List (List ℕ) → Refs × List ℕ
-taken_apart refs block text [] = (refs, text)
-taken_apart refs block text (line ∷ others) =
+abbrev pub with_labels_taken : Refs → Block → List ℕ → List (List ℕ) → Refs × List ℕ
+with_labels_taken refs block text [] = (refs, text)
+with_labels_taken refs block text (line ∷ others) =
     if goes_on block line
-    then taken_apart refs (kept_block block line) (text ++ (line ++ 10 ∷ [])) others
-    else begun_with (λ more next kept. taken_apart more next kept others) refs block text line
-    (defined_behind block line)
+    then with_labels_taken refs (kept_block block line) (text ++ (line ++ 10 ∷ [])) others
+    else begun_with (λ more next kept. with_labels_taken more next kept others) refs block text line
+    (defined_after block line)
 
 -- ---- Pages
 
@@ -417,7 +417,7 @@ abbrev pub page_by : Refs × List ℕ → List Piece
 page_by found = (blocks_of blocks_depth found.0 [] false found.1).0
 
 abbrev pub page_of : List ℕ → List Piece
-page_of text = page_by (taken_apart [] blocks.Nothing [] (lines_in text))
+page_of text = page_by (with_labels_taken [] blocks.Nothing [] (lines_in text))
 
 abbrev pub html : List ℕ → List ℕ
 html text = written (page_of text)

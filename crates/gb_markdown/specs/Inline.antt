@@ -46,9 +46,9 @@ first_is sign [] = false
 first_is sign (b ∷ rest) = b == sign
 
 -- the first byte of what follows, or the end of a line
-abbrev pub byte_behind : List ℕ → ℕ
-byte_behind [] = 10
-byte_behind (b ∷ rest) = b
+abbrev pub byte_after : List ℕ → ℕ
+byte_after [] = 10
+byte_after (b ∷ rest) = b
 
 -- this many bytes, unchanged; each token is paired with how many bytes after its first belong to it
 abbrev pub plain : ℕ → List ℕ → Meant × ℕ
@@ -72,13 +72,13 @@ spaced line =
 
 -- ---- Code
 
--- where the first run of this many backquotes begins; `seen` counts the backquotes directly before this
+-- where the first run of this many backquotes begins; `earlier` counts the backquotes directly before this
 -- position
 abbrev pub code_end : ℕ → ℕ → ℕ → List ℕ → Option ℕ
-code_end length seen at [] = if seen == length then Some (at - seen) else None
-code_end length seen at (b ∷ rest) =
-    if b == 96 then code_end length (seen + 1) (at + 1) rest
-    else if seen == length then Some (at - seen) else code_end length 0 (at + 1) rest
+code_end length earlier at [] = if earlier == length then Some (at - earlier) else None
+code_end length earlier at (b ∷ rest) =
+    if b == 96 then code_end length (earlier + 1) (at + 1) rest
+    else if earlier == length then Some (at - earlier) else code_end length 0 (at + 1) rest
 
 -- a space or the end of a line on both sides is left out, unless there is nothing else
 abbrev pub is_edge : ℕ → Bool
@@ -164,16 +164,16 @@ referring_to refs label rest inside None = referring refs label label rest
 referring_to refs label rest inside (Some end) =
     referring refs (named_by label (take end inside)) label (drop (end + 1) inside)
 
-abbrev pub behind_label : Refs → List ℕ → List ℕ → Option Aimed
-behind_label refs label [] = referring refs label label []
-behind_label refs label (b ∷ rest) =
+abbrev pub after_label : Refs → List ℕ → List ℕ → Option Aimed
+after_label refs label [] = referring refs label label []
+after_label refs label (b ∷ rest) =
     if b == 40 then aimed_at refs label (b ∷ rest) (target rest)
     else if b == 91 then referring_to refs label (b ∷ rest) rest (quote_end 93 false 0 rest)
     else referring refs label label (b ∷ rest)
 
 abbrev pub labelled : Refs → List ℕ → Option ℕ → Option Aimed
 labelled refs rest None = None
-labelled refs rest (Some end) = behind_label refs (take end rest) (drop (end + 1) rest)
+labelled refs rest (Some end) = after_label refs (take end rest) (drop (end + 1) rest)
 
 -- `label](target)`, `label][name]`, `label][]` or `label]`
 abbrev pub aimed : Refs → List ℕ → Option Aimed
@@ -240,7 +240,7 @@ signs_by sign before count after =
 
 abbrev pub signs_at : ℕ → ℕ → List ℕ → Signs
 signs_at sign before line =
-    signs_by sign before (run sign line) (byte_behind (drop (run sign line) line))
+    signs_by sign before (run sign line) (byte_after (drop (run sign line) line))
 
 abbrev pub with_left : ℕ → Signs → Signs
 with_left left signs =

@@ -88,9 +88,9 @@ fence indent sign body =
 
 -- a rule is one sign three times or more, and white space
 abbrev pub is_rule : ℕ → ℕ → List ℕ → Bool
-is_rule sign seen [] = nat_le 3 seen
-is_rule sign seen (b ∷ rest) =
-    if b == sign then is_rule sign (seen + 1) rest else if is_space b then is_rule sign seen rest else false
+is_rule sign earlier [] = nat_le 3 earlier
+is_rule sign earlier (b ∷ rest) =
+    if b == sign then is_rule sign (earlier + 1) rest else if is_space b then is_rule sign earlier rest else false
 
 -- an item has its words after one to four spaces, or no words; the width of its sign reaches up to them
 abbrev pub gap_of : ℕ → ℕ
@@ -114,20 +114,20 @@ abbrev pub number : List ℕ → List ℕ
 number digits =
     if run 48 digits == length digits then codes "0" else drop (run 48 digits) digits
 
-abbrev pub behind_number : ℕ → ℕ → List ℕ → List ℕ → List ℕ → Said
-behind_number indent length first [] body = Words body
-behind_number indent length first (b ∷ rest) body =
+abbrev pub after_number : ℕ → ℕ → List ℕ → List ℕ → List ℕ → Said
+after_number indent length first [] body = Words body
+after_number indent length first (b ∷ rest) body =
     if (b == 46 || b == 41) && (nat_lt 0 length && nat_lt length 10)
     then item b (indent + length + 1) (number first) rest body else Words body
 
 abbrev pub numbered : ℕ → List ℕ → Said
 numbered indent body =
     let length = prefix_len is_ascii_digit body in
-    behind_number indent length (take length body) (drop length body) body
+    after_number indent length (take length body) (drop length body) body
 
-abbrev pub said_behind : ℕ → List ℕ → Said
-said_behind indent [] = Nothing
-said_behind indent (b ∷ rest) =
+abbrev pub said_after : ℕ → List ℕ → Said
+said_after indent [] = Nothing
+said_after indent (b ∷ rest) =
     if b == 35 then heading (b ∷ rest)
     else if b == 62 then Quote (without_space rest)
     else if b == 96 || b == 126 then fence indent b (b ∷ rest)
@@ -141,4 +141,4 @@ unfoldable pub said : List ℕ → Said
 said line =
     if is_blank line then Nothing
     else if nat_lt 3 (run 32 line) then Indented (drop 4 line)
-    else said_behind (run 32 line) (drop (run 32 line) line)
+    else said_after (run 32 line) (drop (run 32 line) line)

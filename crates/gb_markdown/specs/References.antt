@@ -3,7 +3,7 @@ use Rattle.std.specs.Prelude.{ℕ, ◌+◌, ◌==◌, nat_lt, Bool, true, false,
 use Rattle.std.specs.Prelude.{if◌then◌else◌, map, take, drop, Option, None, Some, bytes_eq, is_some}
 use Rattle.std.specs.Char.{eq_ignore_ascii_case}
 use Rattle.gb_markdown.specs.Runs.{run, is_space, is_blank}
-use Rattle.gb_markdown.specs.Targets.{address, behind, quote_end, title}
+use Rattle.gb_markdown.specs.Targets.{address, following, quote_end, title}
 use Rattle.gb_markdown.specs.declared.references.Reference.{Reference}
 
 -- labels, each with an address and a title
@@ -41,10 +41,10 @@ abbrev pub defined_as : List ℕ → List ℕ → List ℕ × List ℕ → Optio
 defined_as label address found =
     if not (bytes_eq address []) && is_blank found.1 then Some (label, address, found.0) else None
 
-abbrev pub behind_colon : List ℕ → List ℕ → Option (List ℕ × List ℕ × List ℕ)
-behind_colon label [] = None
-behind_colon label (b ∷ rest) =
-    if b == 58 then defined_as label (address (behind rest)).0 (title (address (behind rest)).1) else None
+abbrev pub after_colon : List ℕ → List ℕ → Option (List ℕ × List ℕ × List ℕ)
+after_colon label [] = None
+after_colon label (b ∷ rest) =
+    if b == 58 then defined_as label (address (following rest)).0 (title (address (following rest)).1) else None
 
 -- a label has words, and no brackets in it except after backslashes
 abbrev pub is_label : List ℕ → Bool
@@ -53,7 +53,7 @@ is_label label = not (is_blank label) && not (is_some (quote_end 91 false 0 labe
 abbrev pub defined_to : List ℕ → Option ℕ → Option (List ℕ × List ℕ × List ℕ)
 defined_to rest None = None
 defined_to rest (Some end) =
-    if is_label (take end rest) then behind_colon (take end rest) (drop (end + 1) rest) else None
+    if is_label (take end rest) then after_colon (take end rest) (drop (end + 1) rest) else None
 
 abbrev pub defined_in : List ℕ → Option (List ℕ × List ℕ × List ℕ)
 defined_in [] = None

@@ -74,8 +74,8 @@ title line = if spaces line == 0 then ([], line) else title_in (drop (spaces lin
 
 -- ---- Targets
 
-abbrev pub behind : List ℕ → List ℕ
-behind line = drop (spaces line) line
+abbrev pub following : List ℕ → List ℕ
+following line = drop (spaces line) line
 
 -- the rest after a `)`
 abbrev pub closed : List ℕ → Option (List ℕ)
@@ -85,9 +85,9 @@ closed (b ∷ rest) = if b == 41 then Some rest else None
 -- the address, the title, and the rest after the `)`; white space may precede each
 abbrev pub target : List ℕ → Option (List ℕ × List ℕ × List ℕ)
 target line =
-    let address = address (behind line) in
+    let address = address (following line) in
     let title = title address.1 in
-    option_map (λ rest. (address.0, title.0, rest)) (closed (behind title.1))
+    option_map (λ rest. (address.0, title.0, rest)) (closed (following title.1))
 
 -- ---- Backslashes
 

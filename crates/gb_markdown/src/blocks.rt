@@ -15,7 +15,7 @@ ghost use Rattle.gb_markdown.specs.Blocks.{starts, is_item, item_width, item_wor
 ghost use Rattle.gb_markdown.specs.Blocks.{items, indented, quote_begun, quote_ended, table_or};
 ghost use Rattle.gb_markdown.specs.Blocks.{begun_names, finished, id_of, slug, blocks_of, html, with_name};
 
-use crate::gathered::taken_apart;
+use crate::gathered::with_labels_taken;
 use crate::line::{Fence, Line, Marker, has, read_line, words_of};
 use crate::page::{Element, close, code, named, numbered, open, text};
 use crate::references::Reference;
@@ -62,7 +62,7 @@ pub fn html(alloc: Global, source: &[u8]) -> Result<Vec<u8>, AllocError>
     ensures { IfOk result (λ page. page.items ≡ html source.now) }
 {
     let mut page = Vec::new(alloc);
-    let (references, text) = taken_apart(alloc, source)?;
+    let (references, text) = with_labels_taken(alloc, source)?;
     let mut names = Vec::new(alloc);
     blocks(
         alloc,

@@ -1,7 +1,7 @@
 //! The labels that a page defines, and its other lines.
 ghost use Rattle.std.specs.Prelude.{◌≡◌, ◌++◌, ◌∷◌, [], IfOk, OnOk};
 ghost use Rattle.std.specs.Option.{option_map};
-ghost use Rattle.gb_markdown.specs.Blocks.{begun_block, defined_behind, kept_block, taken_apart};
+ghost use Rattle.gb_markdown.specs.Blocks.{begun_block, defined_after, kept_block, with_labels_taken};
 ghost use Rattle.gb_markdown.specs.Blocks.{with_reference};
 ghost use Rattle.gb_markdown.specs.Lines.{said_by};
 ghost use Rattle.gb_markdown.specs.References.{meaning, meanings};
@@ -18,12 +18,12 @@ use std::alloc::{AllocError, Global};
 const MOST: usize = 512;
 
 /// The labels that a page defines, and its other lines.
-pub(crate) fn taken_apart(
+pub(crate) fn with_labels_taken(
     alloc: Global,
     source: &[u8],
 ) -> Result<(Vec<Reference<'_>>, Vec<u8>), AllocError>
     ensures { IfOk result (λ found. (meanings found.0.items, found.1.items)
-        ≡ taken_apart [] blocks.Nothing [] (lines_in source.now)) }
+        ≡ with_labels_taken [] blocks.Nothing [] (lines_in source.now)) }
 {
     let mut references = Vec::new(alloc);
     let mut text = Vec::new(alloc);
@@ -32,7 +32,7 @@ pub(crate) fn taken_apart(
         if goes_on(block, line) {
             add(&mut text, line)?;
             block = kept_block(block, line);
-        } else if let Some(reference) = defined_behind(block, line) {
+        } else if let Some(reference) = defined_after(block, line) {
             add_reference(&mut references, reference)?;
             block = Block::Nothing;
         } else {
@@ -44,8 +44,8 @@ pub(crate) fn taken_apart(
 }
 
 /// The label that a line defines if it does not continue the open block.
-fn defined_behind(block: Block, line: &[u8]) -> Option<Reference<'_>>
-    ensures { option_map meaning result ≡ defined_behind block line.now }
+fn defined_after(block: Block, line: &[u8]) -> Option<Reference<'_>>
+    ensures { option_map meaning result ≡ defined_after block line.now }
 {
     if is_code(block) { None } else { defined(line) }
 }

@@ -6,12 +6,12 @@ ghost use Rattle.gb_markdown.specs.Addresses.{link_address, page_address};
 ghost use Rattle.gb_markdown.specs.Pieces.{written, piece_text, Link, Picture};
 ghost use Rattle.gb_markdown.specs.References.{meanings};
 ghost use Rattle.gb_markdown.specs.Targets.{unescaped};
-ghost use Rattle.gb_markdown.specs.Inline.{meant_by, first_is, byte_behind, plain, escaped_in, spaced};
+ghost use Rattle.gb_markdown.specs.Inline.{meant_by, first_is, byte_after, plain, escaped_in, spaced};
 ghost use Rattle.gb_markdown.specs.Inline.{code_end};
 ghost use Rattle.gb_markdown.specs.Inline.{is_edge, stripped, code_of, coded, hidden, label_end};
 ghost use Rattle.gb_markdown.specs.Inline.{ends_label, is_no_label, brackets, aimed, linked};
 ghost use Rattle.gb_markdown.specs.Inline.{named_by, pictured, referring};
-ghost use Rattle.gb_markdown.specs.Inline.{token, tokens_of, shown, inline, behind_label, is_plain};
+ghost use Rattle.gb_markdown.specs.Inline.{token, tokens_of, shown, inline, after_label, is_plain};
 ghost use Rattle.gb_markdown.specs.Inline.{angled, led};
 ghost use Rattle.gb_markdown.specs.declared.inline.Nested.TheVariants as nested;
 
@@ -258,8 +258,8 @@ fn first_is(sign: u8, line: &[u8]) -> bool
 }
 
 /// The first byte of a text, or the end of a line.
-pub(crate) fn byte_behind(line: &[u8]) -> u8
-    ensures { result ≡ byte_behind line.now }
+pub(crate) fn byte_after(line: &[u8]) -> u8
+    ensures { result ≡ byte_after line.now }
 {
     match line.first() {
         None => b'\n',
@@ -302,18 +302,18 @@ fn code_end(count: usize, rest: &[u8]) -> Option<usize>
     ensures value { result ≡ code_end count 0 0 rest.now }
     ensures within { IfSome result (λ end. end ≤ length rest.now) }
 {
-    let mut seen: usize = 0;
+    let mut earlier: usize = 0;
     for (index, byte) in rest.iter().enumerate() {
         if *byte == b'`' {
-            seen += 1;
-        } else if seen == count {
-            return Some(index - seen);
+            earlier += 1;
+        } else if earlier == count {
+            return Some(index - earlier);
         } else {
-            seen = 0;
+            earlier = 0;
         }
     }
-    if seen == count {
-        Some(rest.len() - seen)
+    if earlier == count {
+        Some(rest.len() - earlier)
     } else {
         None
     }
@@ -356,10 +356,10 @@ pub(crate) fn linked<'a>(refs: &'a [Reference<'a>], rest: &'a [u8]) -> (Token<'a
 {
     match aimed(refs, rest) {
         None => (Token::Words(b"["), 0),
-        Some((label, target, behind)) => {
+        Some((label, target, following)) => {
             (
                 Token::Linked(label, target),
-                rest.len().saturating_sub(behind.len()),
+                rest.len().saturating_sub(following.len()),
             )
         }
     }
@@ -377,10 +377,10 @@ fn pictured<'a>(refs: &'a [Reference<'a>], rest: &'a [u8]) -> (Token<'a>, usize)
     }
     match aimed(refs, inside) {
         None => (Token::Words(b"!"), 0),
-        Some((label, target, behind)) => {
+        Some((label, target, following)) => {
             (
                 Token::Pictured(label, target),
-                rest.len().saturating_sub(behind.len()),
+                rest.len().saturating_sub(following.len()),
             )
         }
     }
@@ -395,20 +395,20 @@ fn aimed<'a>(refs: &'a [Reference<'a>], rest: &'a [u8]) -> Option<Aimed<'a>>
         ≡ aimed (meanings refs.now) rest.now }
 {
     let end = label_end(rest)?;
-    behind_label(refs, &rest[..end], &rest[end + 1..])
+    after_label(refs, &rest[..end], &rest[end + 1..])
 }
 
 /// A label and what is after it.
-fn behind_label<'a>(refs: &'a [Reference<'a>], label: &'a [u8], rest: &'a [u8]) -> Option<Aimed<'a>>
+fn after_label<'a>(refs: &'a [Reference<'a>], label: &'a [u8], rest: &'a [u8]) -> Option<Aimed<'a>>
     ensures { option_map (λ found. (found.0.now, found.1.address.now, found.1.title.now, found.2.now)) result
-        ≡ behind_label (meanings refs.now) label.now rest.now }
+        ≡ after_label (meanings refs.now) label.now rest.now }
 {
     let Some((first, inside)) = rest.split_first() else {
         return referring(refs, label, label, rest);
     };
     match first {
         b'(' => match read_target(inside) {
-            Some((target, behind)) => Some((label, target, behind)),
+            Some((target, following)) => Some((label, target, following)),
             None => referring(refs, label, label, rest),
         },
         b'[' => match quote_end(b']', inside) {

@@ -1,7 +1,7 @@
 //! How the lines of a page are parsed.
 ghost use Rattle.std.specs.Prelude.{◌≡◌, ◌∷◌, ◌<◌, ◌≤◌, length};
 ghost use Rattle.std.specs.List.{prefix_len};
-ghost use Rattle.gb_markdown.specs.Lines.{said_by, said, said_behind, without_space, headed};
+ghost use Rattle.gb_markdown.specs.Lines.{said_by, said, said_after, without_space, headed};
 ghost use Rattle.gb_markdown.specs.Lines.{without_signs, without_end};
 ghost use Rattle.gb_markdown.specs.Lines.{words_of, heading_of, heading, word, is_letter, has, fence};
 ghost use Rattle.gb_markdown.specs.Lines.{is_rule};
@@ -62,14 +62,14 @@ pub fn read_line(line: &[u8]) -> Line<'_>
     } else if indent > 3 {
         Line::Indented(&line[4..])
     } else {
-        read_behind(indent, &line[indent..])
+        read_after(indent, &line[indent..])
     }
 }
 
 /// Parses a line after this many spaces.
-fn read_behind(indent: usize, body: &[u8]) -> Line<'_>
+fn read_after(indent: usize, body: &[u8]) -> Line<'_>
     requires { indent < 4 }
-    ensures { said_by result ≡ said_behind indent body.now }
+    ensures { said_by result ≡ said_after indent body.now }
 {
     let Some((first, rest)) = body.split_first() else {
         return Line::Nothing;
@@ -235,15 +235,15 @@ fn rule_or_item<'a>(indent: usize, sign: u8, rest: &'a [u8], body: &'a [u8]) -> 
 fn is_rule(sign: u8, line: &[u8]) -> bool
     ensures { result ≡ is_rule sign 0 line.now }
 {
-    let mut seen: usize = 0;
+    let mut earlier: usize = 0;
     for byte in line {
         if *byte == sign {
-            seen += 1;
+            earlier += 1;
         } else if !is_space(*byte) {
             return false;
         }
     }
-    seen >= 3
+    earlier >= 3
 }
 
 /// An item after its sign, or words.

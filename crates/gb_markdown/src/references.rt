@@ -1,11 +1,11 @@
 //! Links by reference: lines `[label]: address "title"`, and what a label refers to.
 ghost use Rattle.std.specs.Prelude.{◌≡◌, ◌<◌, ◌≤◌, length, IfSome};
 ghost use Rattle.std.specs.Option.{option_map};
-ghost use Rattle.gb_markdown.specs.References.{behind_colon, defined, defined_as, defined_in, is_label};
+ghost use Rattle.gb_markdown.specs.References.{after_colon, defined, defined_as, defined_in, is_label};
 ghost use Rattle.gb_markdown.specs.References.{is_like, is_same, meaning, meanings, referred};
 
 use crate::runs::{is_blank, is_space, run};
-use crate::target::{Target, address, behind, quote_end, title};
+use crate::target::{Target, address, following, quote_end, title};
 
 /// A label that a page defines.
 #[derive(Clone, Copy)]
@@ -75,7 +75,7 @@ fn defined_in(body: &[u8]) -> Option<Reference<'_>>
     let end = quote_end(b']', rest)?;
     let label = &rest[..end];
     if is_label(label) {
-        behind_colon(label, &rest[end + 1..])
+        after_colon(label, &rest[end + 1..])
     } else {
         None
     }
@@ -89,14 +89,14 @@ fn is_label(label: &[u8]) -> bool
 }
 
 /// The definition of a label by the text after its brackets.
-fn behind_colon<'a>(label: &'a [u8], line: &'a [u8]) -> Option<Reference<'a>>
-    ensures { option_map meaning result ≡ behind_colon label.now line.now }
+fn after_colon<'a>(label: &'a [u8], line: &'a [u8]) -> Option<Reference<'a>>
+    ensures { option_map meaning result ≡ after_colon label.now line.now }
 {
     let (first, rest) = line.split_first()?;
     if *first != b':' {
         return None;
     }
-    let (address, rest) = address(behind(rest));
+    let (address, rest) = address(following(rest));
     let (title, rest) = title(rest);
     if !address.is_empty() && is_blank(rest) {
         Some(Reference {

@@ -21,22 +21,22 @@ pub(crate) fn id_of(alloc: Global, names: &[Vec<u8>], name: &[u8]) -> Result<Vec
 fn count(names: &[Vec<u8>], name: &[u8]) -> usize
     ensures { result ≡ count_by (bytes_eq name.now) (map (λ other. other.items) names.now) }
 {
-    let mut seen: usize = 0;
+    let mut earlier: usize = 0;
     for other in names {
         if name == other.as_slice() {
-            seen += 1;
+            earlier += 1;
         }
     }
-    seen
+    earlier
 }
 
 /// A name with a number appended, unless the number is 0.
-fn id_by(alloc: Global, seen: usize, name: &[u8]) -> Result<Vec<u8>, AllocError>
-    ensures { IfOk result (λ id. id.items ≡ id_by seen name.now) }
+fn id_by(alloc: Global, earlier: usize, name: &[u8]) -> Result<Vec<u8>, AllocError>
+    ensures { IfOk result (λ id. id.items ≡ id_by earlier name.now) }
 {
     let mut id = name.to_vec(alloc)?;
-    if seen != 0 {
-        let number = format!(in alloc; "-{seen}")?;
+    if earlier != 0 {
+        let number = format!(in alloc; "-{earlier}")?;
         id.extend_from_slice(number.as_bytes())?;
     }
     Ok(id)

@@ -8,7 +8,7 @@ ghost use Rattle.gb_markdown.specs.Inline.{left_after, matched_once, opening, op
 ghost use Rattle.gb_markdown.specs.Inline.{signs_by, signs_step, stop_of, stress_of, used, wide_of, with_end};
 ghost use Rattle.gb_markdown.specs.Inline.{with_left, with_signs};
 
-use crate::inline::{angled, byte_behind, hidden, linked};
+use crate::inline::{angled, byte_after, hidden, linked};
 use crate::page::{Element, close, open, text};
 use crate::references::Reference;
 use crate::runs::{is_space, run};
@@ -51,7 +51,7 @@ pub(crate) fn signs_at(sign: u8, before: u8, line: &[u8]) -> Signs
     ensures within { result.count ≤ length line.now }
 {
     let count = run(sign, line);
-    signs_by(sign, before, count, byte_behind(&line[count..]))
+    signs_by(sign, before, count, byte_after(&line[count..]))
 }
 
 /// So many signs between two bytes.

@@ -2,7 +2,7 @@
 ghost use Rattle.std.specs.Prelude.{◌≡◌, ◌<◌, ◌≤◌, ◌++◌, length, IfOk, IfSome, false};
 ghost use Rattle.std.specs.Option.{option_map};
 ghost use Rattle.gb_markdown.specs.Targets.{angle_end, address_end, in_signs, address, quote_end, quote_of};
-ghost use Rattle.gb_markdown.specs.Targets.{title_in, title, closed, behind, target, unescaped, unescape};
+ghost use Rattle.gb_markdown.specs.Targets.{title_in, title, closed, following, target, unescaped, unescape};
 ghost use Rattle.gb_markdown.specs.Targets.{is_hidden};
 ghost use Rattle.gb_markdown.specs.Targets.{ends_address, parentheses};
 
@@ -23,9 +23,9 @@ pub(crate) fn read_target(line: &[u8]) -> Option<(Target<'_>, &[u8])>
     ensures { option_map (λ found. (found.0.address.now, found.0.title.now, found.1.now)) result
         ≡ target line.now }
 {
-    let (address, rest) = address(behind(line));
+    let (address, rest) = address(following(line));
     let (title, rest) = title(rest);
-    let rest = closed(behind(rest))?;
+    let rest = closed(following(rest))?;
     Some((Target { address, title }, rest))
 }
 
@@ -38,8 +38,8 @@ fn closed(line: &[u8]) -> Option<&[u8]>
 }
 
 /// The text after white space.
-pub(crate) fn behind(line: &[u8]) -> &[u8]
-    ensures { result.now ≡ behind line.now }
+pub(crate) fn following(line: &[u8]) -> &[u8]
+    ensures { result.now ≡ following line.now }
 {
     &line[spaces(line)..]
 }

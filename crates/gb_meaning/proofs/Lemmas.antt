@@ -16,7 +16,7 @@ pub mod Plain
 pub mod Success
 pub mod Outlined
 pub mod Alone
-pub mod Seen
+pub mod Observed
 pub mod Sessions
 pub mod Current
 pub mod Agreeing

@@ -1,5 +1,5 @@
 pub mod Common
-pub mod Standing
+pub mod Existing
 pub mod RowKinds
 pub mod Rows
 pub mod Lemmas

@@ -6,7 +6,7 @@ use Rattle.gb_plan.specs.Graph.{no_repeats}
 use Rattle.gb_plan.specs.Ready.{Rows}
 use Rattle.gb_meaning.specs.Kinds.{Kinds}
 use Rattle.gb_meaning.specs.Events.{Setting}
-use Rattle.gb_meaning.specs.Headline.{Agrees, Stands, TearsAreSeen}
+use Rattle.gb_meaning.specs.Headline.{Agrees, HoldsMemory, TornWritesAreDetected}
 
 -- some kinds agree with each table in which no name occurs twice
 abbrev pub SomeKindsAgree : {S : Type 0} → Meanings S → Type 0
@@ -16,9 +16,9 @@ SomeKindsAgree {S = S} meanings =
 
 -- a device that never leaves anything
 abbrev pub leaves_nothing : Tearing
-leaves_nothing place stood next left = ⊥
+leaves_nothing place existed next left = ⊥
 
 -- The empty folder holds an empty memory, and what is never torn is recognised for what it is.
 pub record MemoryGrants (setting : Setting) : Type 0 where
-  pub stands : Stands setting (record { files = []; odd = [] }) []
-  pub tears : TearsAreSeen setting.says setting.record_place leaves_nothing
+  pub exists : HoldsMemory setting (record { files = []; special = [] }) []
+  pub tears : TornWritesAreDetected setting.says setting.record_place leaves_nothing

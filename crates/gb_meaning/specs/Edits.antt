@@ -2,7 +2,7 @@
 use Rattle.std.specs.Prelude.{ℕ, ◌≡◌, ◌≤◌, ◌<◌, ◌⊎◌, false, not, Option, None, Some, IsSome}
 use Rattle.std.specs.Prelude.{IsTrue, codes, length}
 use Rattle.gb_folder.specs.Files.{Place, Bytes, Contents, HasRisen, Tearing, file_at, files_where, is_blocked}
-use Rattle.gb_folder.specs.Files.{IsTorn, is_odd_under, is_own, places_under, with_file, without}
+use Rattle.gb_folder.specs.Files.{IsTorn, is_special_under, is_own, places_under, with_file, without}
 use Rattle.gb_folder.specs.Limits.{max_file}
 use Rattle.gb_report.specs.declared.fault.Fault.{Fault}
 use Rattle.gb_report.specs.declared.fault.Fault.TheVariants as faults
@@ -73,7 +73,7 @@ own_place = codes ".gb"
 abbrev pub IsNoListing : Shown → Fault → ℕ → Type 0
 IsNoListing old fault after =
     (fault ≡ faults.OutOfMemory) ⊎ ((fault ≡ faults.Device own_place) × HasRisen old.failures after)
-    ⊎ (IsTrue (is_odd_under old.contents own_place) × (fault ≡ faults.BadFileName own_place))
+    ⊎ (IsTrue (is_special_under old.contents own_place) × (fault ≡ faults.BadFileName own_place))
 
 -- All that the tool keeps for itself is lost. A refused loss either changed nothing, as it got no list of the
 -- files, or removed some first ones of them, and was stopped at the next.

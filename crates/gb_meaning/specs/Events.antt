@@ -90,38 +90,38 @@ is_touched_by task place =
     && (list_any (is_under place) (roots_of task) || is_output_of task place)
 
 -- what is at a place at some time of the task's run: nothing, what was there before, or what an action writes
-abbrev pub StandsInRun : Kinds → Task → Files → Place → Option Bytes → Type 0
-StandsInRun kinds task old place None = ⊤
-StandsInRun kinds task old place (Some bytes) =
+abbrev pub ExistsInRun : Kinds → Task → Files → Place → Option Bytes → Type 0
+ExistsInRun kinds task old place None = ⊤
+ExistsInRun kinds task old place (Some bytes) =
     (file_at old place ≡ Some bytes) ⊎ IsWritten kinds task old place bytes
 
 -- what the device may leave of what is at a place in the run and what is being written there
 abbrev pub IsTornInRun : Setting → Task → Files → Place → Option Bytes → Type 0
 IsTornInRun setting task old place left =
-    (stood : Option Bytes) × (next : Option Bytes) × StandsInRun setting.kinds task old place stood
-    × StandsInRun setting.kinds task old place next × setting.may_leave place stood next left
+    (existed : Option Bytes) × (next : Option Bytes) × ExistsInRun setting.kinds task old place existed
+    × ExistsInRun setting.kinds task old place next × setting.may_leave place existed next left
 
 -- Which faults of the machine may end the execution of a task, where these files are in `.gb`. Out of memory:
 -- at any time. The device: at a place of the task, where its failures rose in this execution, and the place
 -- has what it had at some time of the run, or is torn. An unwritten record: where the execution touches the
 -- record, and the device failed, no file can be there or the record is too long.
-abbrev pub may_come : Setting → Files → Options → May
-may_come setting own options task moment new faults.OutOfMemory = ⊤
-may_come setting own options task moment new (faults.Device place) =
+abbrev pub may_occur : Setting → Files → Options → May
+may_occur setting own options task moment new faults.OutOfMemory = ⊤
+may_occur setting own options task moment new (faults.Device place) =
     let old = moment.world.folder.files in
     let left = file_at new.world.folder.files place in
     HasRisen moment.failures new.failures × IsTrue (is_touched_by task place)
-    × (StandsInRun setting.kinds task old place left ⊎ IsTornInRun setting task old place left)
-may_come setting own options task moment new faults.HistoryNotWritten =
+    × (ExistsInRun setting.kinds task old place left ⊎ IsTornInRun setting task old place left)
+may_occur setting own options task moment new faults.HistoryNotWritten =
     TouchesRecord options task moment.world
     × (HasRisen moment.failures new.failures ⊎ IsTrue (is_record_shut_out setting own task.path)
     ⊎ IsTrue (is_record_too_long setting task moment.world.folder.files))
-may_come setting own options task moment new other = ⊥
+may_occur setting own options task moment new other = ⊥
 
 -- the rules of a build of the plan, where these files are in `.gb`
 abbrev pub rules_in : Setting → Files → Options → Plan → Rules
 rules_in setting own options plan =
-    record { kinds = setting.kinds; options = options; may = may_come setting own options; plan = plan }
+    record { kinds = setting.kinds; options = options; may = may_occur setting own options; plan = plan }
 
 -- a fault of the device names this place, and its failures rose
 abbrev pub IsDeviceFault : ℕ → ℕ → Place → Fault → Type 0
@@ -152,7 +152,7 @@ abbrev pub AreStarted : Report → Type 0
 AreStarted report = report.dry_run ≡ false → IsTrue (list_all (λ task. is_started task.outcome) report.tasks)
 
 -- A build from one state to another, where the contents so far satisfy the guard.
-pub record IsBuild (setting : Setting) (assumed : Guard) (seen : List Bytes) (old : State)
+pub record IsBuild (setting : Setting) (assumed : Guard) (observed : List Bytes) (old : State)
     (invocation : Invocation) (report : Report) (new : State) : Type 0 where
   pub plan : Plan
   pub planned : HasPlan setting (outside old.contents) invocation plan
@@ -161,11 +161,11 @@ pub record IsBuild (setting : Setting) (assumed : Guard) (seen : List Bytes) (ol
   pub elsewhere : AreRecordsOf setting plan (own_files old.contents) (own_files new.contents)
   -- in a dry run nothing there differs
   pub dry_keeps : IsTrue report.dry_run → own_files new.contents ≡ own_files old.contents
-  pub builds : Builds (rules_in setting (own_files old.contents) invocation.options plan) assumed seen
+  pub builds : Builds (rules_in setting (own_files old.contents) invocation.options plan) assumed observed
       (record { world = world_in old; failures = old.failures }) report.tasks
       (record { world = world_in new; failures = new.failures })
   -- Where no task failed, each was started, and the folder is what the tasks make from scratch.
-  pub success : assumed (seen ++ folder_contents (world_in old) ++ folder_contents (world_in new))
+  pub success : assumed (observed ++ folder_contents (world_in old) ++ folder_contents (world_in new))
       → has_failure report ≡ false →
       AreStarted report × (from_scratch setting.kinds invocation.options plan (outside old.contents)
       ≡ Some (outside new.contents).files)
@@ -199,8 +199,8 @@ IsNotBuilt registers old invocation fault after =
 -- ---- Losses
 
 -- the records after a refused loss: a task is remembered as before where its record is as before, else not
-abbrev pub KeepsWhatStands : Setting → State → State → Type 0
-KeepsWhatStands setting old new = (path : Path) → IsTrue (is_task_path path) →
+abbrev pub KeepsWhatExists : Setting → State → State → Type 0
+KeepsWhatExists setting old new = (path : Path) → IsTrue (is_task_path path) →
     ((file_at new.contents.files (setting.record_place path)
     ≡ file_at old.contents.files (setting.record_place path))
     × (recalled new.remembered path ≡ recalled old.remembered path))
@@ -210,28 +210,28 @@ KeepsWhatStands setting old new = (path : Path) → IsTrue (is_task_path path) �
 -- what is remembered after a loss: nothing; after a refused loss, the records that are as before
 abbrev pub RemembersAfter : Setting → State → Answer → State → Type 0
 RemembersAfter setting old answers.Edited new = new.remembered ≡ []
-RemembersAfter setting old answer new = KeepsWhatStands setting old new
+RemembersAfter setting old answer new = KeepsWhatExists setting old new
 
 -- ---- Steps
 
 abbrev pub InvokeStep : Setting → Guard → List Bytes → State → Invocation → Answer → State → Type 0
-InvokeStep setting assumed seen old invocation (answers.Built report) new =
-    IsBuild setting assumed seen old invocation report new
-InvokeStep setting assumed seen old invocation (answers.NotBuilt fault) new =
+InvokeStep setting assumed observed old invocation (answers.Built report) new =
+    IsBuild setting assumed observed old invocation report new
+InvokeStep setting assumed observed old invocation (answers.NotBuilt fault) new =
     IsNotBuilt setting.registers (shown_in old) invocation fault new.failures × (new.contents ≡ old.contents)
     × (new.remembered ≡ old.remembered)
-InvokeStep setting assumed seen old invocation answers.Edited new = ⊥
-InvokeStep setting assumed seen old invocation (answers.Refused fault) new = ⊥
+InvokeStep setting assumed observed old invocation answers.Edited new = ⊥
+InvokeStep setting assumed observed old invocation (answers.Refused fault) new = ⊥
 
 -- The event may have this result in the first state, and lead to the second.
 abbrev pub Step : Setting → Guard → List Bytes → State → Event → Answer → State → Type 0
-Step setting assumed seen old (events.Put place bytes) answer new =
+Step setting assumed observed old (events.Put place bytes) answer new =
     PutStep setting.may_leave place bytes (shown_in old) answer (shown_in new)
     × (new.remembered ≡ old.remembered)
-Step setting assumed seen old (events.Remove place) answer new =
+Step setting assumed observed old (events.Remove place) answer new =
     RemoveStep setting.may_leave place (shown_in old) answer (shown_in new)
     × (new.remembered ≡ old.remembered)
-Step setting assumed seen old events.Lost answer new =
+Step setting assumed observed old events.Lost answer new =
     LossStep setting.may_leave (shown_in old) answer (shown_in new) × RemembersAfter setting old answer new
-Step setting assumed seen old (events.Invoke invocation) answer new =
-    InvokeStep setting assumed seen old invocation answer new
+Step setting assumed observed old (events.Invoke invocation) answer new =
+    InvokeStep setting assumed observed old invocation answer new

@@ -9,13 +9,13 @@ use Rattle.gb_meaning.specs.declared.events.Answer.TheVariants as answers
 use Rattle.gb_meaning.specs.declared.events.Invocation.{Invocation}
 use Rattle.gb_folder.specs.Files.{Bytes, Contents}
 use Rattle.gb_meaning.specs.Memory.{Memory}
-use Rattle.gb_meaning.specs.TrueRecord.{AreApart, outside, memory_contents}
+use Rattle.gb_meaning.specs.TrueRecord.{AreCollisionFree, outside, memory_contents}
 use Rattle.gb_plan.specs.Graph.{Plan}
 use Rattle.gb_meaning.specs.Execution.{Guard}
 use Rattle.gb_meaning.specs.Scratch.{from_scratch}
 use Rattle.gb_meaning.specs.Edits.{Shown}
 use Rattle.gb_meaning.specs.Events.{AreStarted, Setting, State, Step, HasPlan, has_failure, world_in}
-use Rattle.gb_meaning.specs.Headline.{EventsHold, Stands, WentThrough, contents_outside, state_of}
+use Rattle.gb_meaning.specs.Headline.{EventsHold, HoldsMemory, WentThrough, contents_outside, state_of}
 
 -- all contents outside `.gb` at some states
 abbrev pub contents_of_all : List State → List Bytes
@@ -52,21 +52,21 @@ always contents = ⊤
 abbrev pub PlainRun : Setting → State → List State → List Event → List Answer → Shown → Type 0
 PlainRun setting old [] [] [] end = (old.failures ≤ end.failures) × (old.contents ≡ end.contents)
 PlainRun setting old (next ∷ states) (event ∷ rest) (answer ∷ others) end =
-    (old.failures ≤ next.failures) × ((seen : List Bytes) → Step setting always seen old event answer next)
-    × Stands setting next.contents next.remembered × PlainRun setting next states rest others end
+    (old.failures ≤ next.failures) × ((observed : List Bytes) → Step setting always observed old event answer next)
+    × HoldsMemory setting next.contents next.remembered × PlainRun setting next states rest others end
 PlainRun setting old states rest others end = ⊥
 
 -- no two contents at these states, or in the first records, share a digest
-abbrev pub AllApart : Setting → State → List State → Type 0
-AllApart setting start states =
-    AreApart setting.digest (memory_contents (world_in start) ++ contents_of_all (start ∷ states))
+abbrev pub AllCollisionFree : Setting → State → List State → Type 0
+AllCollisionFree setting start states =
+    AreCollisionFree setting.digest (memory_contents (world_in start) ++ contents_of_all (start ∷ states))
 
 -- This holds for each run, from the first state through those that it went through, if no two contents of
 -- these share a digest.
 abbrev pub HoldsOfRuns : Setting → (State → List State → List Event → List Answer → Shown → Type 0) → Type 0
 HoldsOfRuns setting Holds =
     (start : State) (states : List State) (all : List Event) (answered : List Answer) (end : Shown)
-    → WentThrough setting start states all answered end → AllApart setting start states
+    → WentThrough setting start states all answered end → AllCollisionFree setting start states
     → Holds start states all answered end
 
 -- each build in which no task failed is from scratch
@@ -82,10 +82,10 @@ ClearRunIsPlain setting = HoldsOfRuns setting (PlainRun setting)
 -- after each event the folder holds true records, and each build in which no task failed is from scratch.
 abbrev pub PromiseHolds : Setting → Shown → List Event → List Answer → Shown → Type 0
 PromiseHolds setting old all answered end =
-    (remembered : Memory) → Stands setting old.contents remembered →
+    (remembered : Memory) → HoldsMemory setting old.contents remembered →
     let start = state_of old remembered in
     (states : List State) × WentThrough setting start states all answered end
-    × (AllApart setting start states
+    × (AllCollisionFree setting start states
     → PlainRun setting start states all answered end × AllSucceed setting start states all answered end)
 
 -- what a run of any events promises

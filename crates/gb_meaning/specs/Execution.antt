@@ -106,7 +106,7 @@ InventsNothing kinds task fault old new =
 pub record IsGivenUp (kinds : Kinds) (task : Task) (fault : Fault) (old new : World) : Type 0 where
   pub files : DiffersOnlyAt (is_output_of task) old.folder.files new.folder.files
   pub invents_nothing : InventsNothing kinds task fault old new
-  pub odd : new.folder.odd ≡ old.folder.odd
+  pub special : new.folder.special ≡ old.folder.special
   pub memory : new.memory ≡ forget old.memory task.path
 
 -- the cause of a failure: the task itself, or the machine, which may fail at any moment of a build
@@ -235,14 +235,14 @@ abbrev pub TouchesRecord : Options → Task → World → Type 0
 TouchesRecord options task world = TouchesRecordIn options task world (early_case task world.folder)
 
 -- the state between two executions: the world, and how often the device has failed
-pub record Standing : Type 0 where
+pub record WorldState : Type 0 where
   pub world : World
   pub failures : ℕ
 
 -- which faults of the machine may end the execution of a task that begins at this moment and leaves this
 -- state
 abbrev pub May : Type 1
-May = Task → Moment → Standing → Fault → Type 0
+May = Task → Moment → WorldState → Fault → Type 0
 
 -- The rules of a build: what the kinds mean, its options, what the machine may do, and the plan.
 pub record Rules : Type 1 where
@@ -252,13 +252,13 @@ pub record Rules : Type 1 where
   pub plan : Plan
 
 -- a fault of the machine that may occur in the execution of the task
-abbrev pub IsOfMachine : Rules → Moment → Task → Outcome → Standing → Type 0
+abbrev pub IsOfMachine : Rules → Moment → Task → Outcome → WorldState → Type 0
 IsOfMachine rules moment task outcome new =
     (fault : Fault) × rules.may task moment new fault × (outcome ≡ outcomes.Failed fault)
 
 -- the execution of a started task: its outcome by the cases, or a fault of the machine
 pub record StartedExecution (rules : Rules) (moment : Moment) (task : Task) (report : TaskReport)
-    (new : Standing) : Type 0 where
+    (new : WorldState) : Type 0 where
   pub label : IsLabel rules.kinds rules.options rules.plan task moment report.outcome
       ⊎ IsOfMachine rules moment task report.outcome new
   pub leaves : Leaves rules.kinds rules.options task moment.world report.outcome new.world
@@ -277,7 +277,7 @@ pub record PassedOver (old : World) (report : TaskReport) (new : World) : Type 0
   pub unchanged : new ≡ old
 
 -- the execution of a planned task: it starts and is executed, or is passed over
-abbrev pub Execution : Rules → Moment → Planned → TaskReport → Standing → Type 0
+abbrev pub Execution : Rules → Moment → Planned → TaskReport → WorldState → Type 0
 Execution rules moment planned report new =
     (report.path ≡ planned.task.path) × (report.has_actions ≡ not (is_empty planned.task.actions))
     × ((DoesStart rules.options rules.plan moment planned × StartedExecution rules moment planned.task report
@@ -291,14 +291,14 @@ Guard = List Bytes → Type 0
 -- Files differ only at the task's output places; and where the contents so far satisfy the guard, this is the
 -- execution of the task.
 pub record GuardedExecution (rules : Rules) (is_assumed : Type 0) (moment : Moment) (planned : Planned)
-    (report : TaskReport) (new : Standing) : Type 0 where
+    (report : TaskReport) (new : WorldState) : Type 0 where
   pub folder : IsFolder new.world.folder.files
   pub files : DiffersOnlyAt (is_output_of planned.task) moment.world.folder.files new.world.folder.files
-  pub odd : new.world.folder.odd ≡ moment.world.folder.odd
+  pub special : new.world.folder.special ≡ moment.world.folder.special
   pub count : moment.failures ≤ new.failures
   pub execution : is_assumed → Execution rules moment planned report new
 
-abbrev pub moment_after : Moment → TaskReport → Standing → Moment
+abbrev pub moment_after : Moment → TaskReport → WorldState → Moment
 moment_after moment report new =
     record {
       world = new.world;
@@ -307,15 +307,15 @@ moment_after moment report new =
     }
 
 -- The tasks are executed in the order of the plan, each in the world that the one before it left.
-abbrev pub Executions : Rules → Guard → List Bytes → List Planned → Moment → List TaskReport → Standing
+abbrev pub Executions : Rules → Guard → List Bytes → List Planned → Moment → List TaskReport → WorldState
     → Type 0
-Executions rules assumed seen [] moment [] new = (new.world ≡ moment.world) × (moment.failures ≤ new.failures)
-Executions rules assumed seen [] moment (report ∷ reports) new = ⊥
-Executions rules assumed seen (planned ∷ rest) moment [] new = ⊥
-Executions rules assumed seen (planned ∷ rest) moment (report ∷ reports) new =
-    (next : Standing)
-    × GuardedExecution rules (assumed (seen ++ folder_contents moment.world)) moment planned report next
-    × Executions rules assumed (seen ++ folder_contents moment.world)
+Executions rules assumed observed [] moment [] new = (new.world ≡ moment.world) × (moment.failures ≤ new.failures)
+Executions rules assumed observed [] moment (report ∷ reports) new = ⊥
+Executions rules assumed observed (planned ∷ rest) moment [] new = ⊥
+Executions rules assumed observed (planned ∷ rest) moment (report ∷ reports) new =
+    (next : WorldState)
+    × GuardedExecution rules (assumed (observed ++ folder_contents moment.world)) moment planned report next
+    × Executions rules assumed (observed ++ folder_contents moment.world)
     rest (moment_after moment report next) reports new
 
 -- in a dry run each scheduled task is reported as skipped
@@ -330,14 +330,14 @@ dry_reports plan =
     }) plan
 
 -- the moment before the first execution
-abbrev pub first_moment : Standing → Moment
+abbrev pub first_moment : WorldState → Moment
 first_moment old = record { world = old.world; outcomes = []; failures = old.failures }
 
 -- A build of the plan, from the state before it to the state after it.
-abbrev pub Builds : Rules → Guard → List Bytes → Standing → List TaskReport → Standing → Type 0
-Builds rules assumed seen old reports new =
+abbrev pub Builds : Rules → Guard → List Bytes → WorldState → List TaskReport → WorldState → Type 0
+Builds rules assumed observed old reports new =
     (IsTrue rules.options.dry_run × (reports ≡ dry_reports rules.plan) × (new.world ≡ old.world))
-    ⊎ ((rules.options.dry_run ≡ false) × Executions rules assumed seen rules.plan (first_moment old) reports
+    ⊎ ((rules.options.dry_run ≡ false) × Executions rules assumed observed rules.plan (first_moment old) reports
     new)
 
 -- ---- What listeners are notified of

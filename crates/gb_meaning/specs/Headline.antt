@@ -25,8 +25,8 @@ use Rattle.gb_meaning.specs.Memory.{Memory}
 use Rattle.gb_plan.specs.Graph.{Registry, IsRegistry, build_folder}
 use Rattle.gb_meaning.specs.Execution.{Guard, heard_of}
 use Rattle.gb_history.specs.Record.{Record}
-use Rattle.gb_meaning.specs.TrueRecord.{RecordTexts, SaysNoRecord, AreApart}
-use Rattle.gb_meaning.specs.TrueRecord.{StandsFor, outside, memory_contents}
+use Rattle.gb_meaning.specs.TrueRecord.{RecordTexts, SaysNoRecord, AreCollisionFree}
+use Rattle.gb_meaning.specs.TrueRecord.{HoldsTrue, outside, memory_contents}
 use Rattle.gb_core.specs.Path.{is_task_path}
 use Rattle.gb_meaning.specs.Edits.{Shown}
 use Rattle.gb_meaning.specs.Events.{Setting, State, Step, world_in}
@@ -67,8 +67,8 @@ IsOfTool says path (Some bytes) = (said : Record) × says path said bytes
 
 -- Where the tool's write or removal was stopped, the old text is left, the new one, none, or one that is no
 -- record of its task.
-abbrev pub TearsAreSeen : RecordTexts → (Path → Place) → Tearing → Type 0
-TearsAreSeen says record_place may_leave =
+abbrev pub TornWritesAreDetected : RecordTexts → (Path → Place) → Tearing → Type 0
+TornWritesAreDetected says record_place may_leave =
     (path : Path) (old new left : Option Bytes) → IsTrue (is_task_path path) → IsOfTool says path new
     → may_leave (record_place path) old new left →
     (left ≡ old) ⊎ (left ≡ new) ⊎ SaysNoRecord says path left
@@ -107,12 +107,12 @@ is_of_build projects place =
 -- projects.
 abbrev pub KeepsElsewhere : Registry → Contents → Contents → Type 0
 KeepsElsewhere registry old new =
-    DiffersOnlyAt (is_of_build registry.projects) old.files new.files × (new.odd ≡ old.odd)
+    DiffersOnlyAt (is_of_build registry.projects) old.files new.files × (new.special ≡ old.special)
 
 -- a refused edit changes nothing; where the device failed, it changes at most the edit's place
 abbrev pub RefusedEditKeeps : Place → Fault → Contents → Contents → Type 0
 RefusedEditKeeps place (faults.Device at) old new =
-    DiffersOnlyAt (bytes_eq place) old.files new.files × (new.odd ≡ old.odd)
+    DiffersOnlyAt (bytes_eq place) old.files new.files × (new.special ≡ old.special)
 RefusedEditKeeps place fault old new = new ≡ old
 
 -- What an event may change, by its result: a done edit what it says, a loss `.gb`, a build what a build may
@@ -127,7 +127,7 @@ EventKeeps registers (events.Remove place) answers.Edited old new =
 EventKeeps registers (events.Remove place) (answers.Refused fault) old new =
     RefusedEditKeeps place fault old new
 EventKeeps registers events.Lost answer old new =
-    DiffersOnlyAt is_own old.files new.files × (new.odd ≡ old.odd)
+    DiffersOnlyAt is_own old.files new.files × (new.special ≡ old.special)
 EventKeeps registers (events.Invoke invocation) (answers.Built report) old new =
     (registry : Registry) × registers (outside old).files invocation.properties (Ok registry)
     × KeepsElsewhere registry old new
@@ -143,22 +143,22 @@ AllKeepElsewhere registers events answered old new = new ≡ old
 
 -- nothing was remembered when the event began, or no two of the contents share a digest
 abbrev pub IsClear : Setting → Memory → Guard
-IsClear setting remembered contents = IsTrue (is_empty remembered) ⊎ AreApart setting.digest contents
+IsClear setting remembered contents = IsTrue (is_empty remembered) ⊎ AreCollisionFree setting.digest contents
 
 abbrev pub contents_outside : Contents → List Bytes
 contents_outside folder = map (λ file. file.1) (outside folder).files
 
-abbrev pub Stands : Setting → Contents → Memory → Type 0
-Stands setting folder remembered =
-    StandsFor setting.kinds setting.digest setting.says setting.record_place folder remembered
+abbrev pub HoldsMemory : Setting → Contents → Memory → Type 0
+HoldsMemory setting folder remembered =
+    HoldsTrue setting.kinds setting.digest setting.says setting.record_place folder remembered
 
 -- the condition so far, and the one that an event from this state adds to it, for these contents
 abbrev pub StillClear : Setting → Type 0 → State → Guard
 StillClear setting clear old contents = clear × IsClear setting old.remembered contents
 
 -- all contents so far once the event has led from one state to another
-abbrev pub seen_with : List Bytes → State → State → List Bytes
-seen_with seen old new = seen ++ contents_outside old.contents ++ contents_outside new.contents
+abbrev pub observed_with : List Bytes → State → State → List Bytes
+observed_with observed old new = observed ++ contents_outside old.contents ++ contents_outside new.contents
 
 -- A run went through these states, one after each event, and the folder at its end shows the last one. Each
 -- event is a step, where the contents so far are clear (`IsClear`). After each event the folder holds the
@@ -166,20 +166,20 @@ seen_with seen old new = seen ++ contents_outside old.contents ++ contents_outsi
 -- clear.
 abbrev pub GoesThrough : Setting → Type 0 → List Bytes → State → List State → List Event → List Answer → Shown
     → Type 0
-GoesThrough setting clear seen old [] [] [] end =
+GoesThrough setting clear observed old [] [] [] end =
     (old.failures ≤ end.failures) × (old.contents ≡ end.contents)
-GoesThrough setting clear seen old (next ∷ states) (event ∷ rest) (answer ∷ others) end =
+GoesThrough setting clear observed old (next ∷ states) (event ∷ rest) (answer ∷ others) end =
     (old.failures ≤ next.failures)
-    × Step setting (StillClear setting clear old) seen old event answer next
-    × (StillClear setting clear old (seen_with seen old next) → Stands setting next.contents next.remembered)
-    × GoesThrough setting (StillClear setting clear old (seen_with seen old next))
-    (seen ++ contents_outside old.contents) next states rest others end
-GoesThrough setting clear seen old states rest others end = ⊥
+    × Step setting (StillClear setting clear old) observed old event answer next
+    × (StillClear setting clear old (observed_with observed old next) → HoldsMemory setting next.contents next.remembered)
+    × GoesThrough setting (StillClear setting clear old (observed_with observed old next))
+    (observed ++ contents_outside old.contents) next states rest others end
+GoesThrough setting clear observed old states rest others end = ⊥
 
 -- the run went through some states
 abbrev pub RunHolds : Setting → Type 0 → List Bytes → State → List Event → List Answer → Shown → Type 0
-RunHolds setting clear seen old all answered end =
-    (states : List State) × GoesThrough setting clear seen old states all answered end
+RunHolds setting clear observed old all answered end =
+    (states : List State) × GoesThrough setting clear observed old states all answered end
 
 -- A run of the events went through these states from a first one; its records count as contents so far.
 abbrev pub WentThrough : Setting → State → List State → List Event → List Answer → Shown → Type 0
@@ -194,7 +194,7 @@ state_of shown remembered =
 -- A run of the events holds for any true records that the old folder holds.
 abbrev pub EventsHold : Setting → Shown → List Event → List Answer → Shown → Type 0
 EventsHold setting old all answered end =
-    (remembered : Memory) → Stands setting old.contents remembered →
+    (remembered : Memory) → HoldsMemory setting old.contents remembered →
     (states : List State) × WentThrough setting (state_of old remembered) states all answered end
 
 -- ---- One invocation

@@ -22,7 +22,7 @@ use Rattle.gb_meaning.specs.Execution.{DoesStart, dry_reports}
 abbrev pub moment_by : List (Path × Outcome) → Moment
 moment_by ended =
     record {
-      world = record { folder = record { files = []; odd = [] }; memory = [] };
+      world = record { folder = record { files = []; special = [] }; memory = [] };
       outcomes = ended;
       failures = 0;
     }

@@ -10,8 +10,8 @@ use Rattle.gb_meaning.specs.declared.events.Answer.TheVariants as answers
 use Rattle.gb_meaning.specs.declared.events.Invocation.{Invocation}
 use Rattle.gb_meaning.specs.Edits.{Shown}
 use Rattle.gb_meaning.specs.Events.{HasPlan, Setting, State, has_failure, world_in}
-use Rattle.gb_meaning.specs.Headline.{Stands, WentThrough, is_of_device}
-use Rattle.gb_meaning.specs.Every.{AllApart}
+use Rattle.gb_meaning.specs.Headline.{HoldsMemory, WentThrough, is_of_device}
+use Rattle.gb_meaning.specs.Every.{AllCollisionFree}
 
 -- What such a result leaves is determined by what existed before: no task failed, no device stopped an edit,
 -- and no loss was cut short.
@@ -34,8 +34,8 @@ HaveOnePlan setting =
 -- of the one share a digest, whatever holds for the other.
 abbrev pub StatesAreOne : Setting → Type 0
 StatesAreOne setting =
-    HaveOnePlan setting → (start : State) → Stands setting start.contents start.remembered
+    HaveOnePlan setting → (start : State) → HoldsMemory setting start.contents start.remembered
     → (states others : List State) (all : List Event) (answered : List Answer) (end left : Shown)
     → AllZip IsSettled all answered
     → WentThrough setting start states all answered end → WentThrough setting start others all answered left
-    → AllApart setting start others → map world_in states ≡ map world_in others
+    → AllCollisionFree setting start others → map world_in states ≡ map world_in others

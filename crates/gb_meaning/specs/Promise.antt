@@ -11,12 +11,12 @@ use Rattle.gb_plan.specs.Graph.{Request, Plan, IsPlan, IsSound}
 use Rattle.gb_plan.specs.Task.{IsShaped}
 use Rattle.gb_plan.specs.declared.task.TaskDeclaration.{TaskDeclaration as Task}
 use Rattle.gb_report.specs.Outcome.{is_failed, is_started}
-use Rattle.gb_meaning.specs.Execution.{May, Rules, Standing, StartedExecution, Builds}
+use Rattle.gb_meaning.specs.Execution.{May, Rules, WorldState, StartedExecution, Builds}
 use Rattle.gb_meaning.specs.Label.{Moment}
 use Rattle.gb_meaning.specs.Made.{made_of}
 use Rattle.gb_meaning.specs.Tree.{trees_of}
 use Rattle.gb_meaning.specs.Scratch.{from_scratch}
-use Rattle.gb_meaning.specs.TrueRecord.{IsMade, AreApart}
+use Rattle.gb_meaning.specs.TrueRecord.{IsMade, AreCollisionFree}
 
 -- whatever the machine may do
 abbrev pub any_fault_comes : May
@@ -30,12 +30,12 @@ any_rules kinds options plan = record { kinds = kinds; options = options; may = 
 abbrev pub SuccessIsFromScratch : Type 0
 SuccessIsFromScratch =
     (kinds : Kinds) (options : Options) (digest : Bytes → List ℕ) (request : Request) (plan : Plan)
-    (seen : List Bytes) (old new : Standing) (reports : List TaskReport)
+    (observed : List Bytes) (old new : WorldState) (reports : List TaskReport)
     → IsPlan request plan → AllByRecursion (λ planned. IsShaped planned.task) plan
     → IsFolder old.world.folder.files → AllByRecursion (λ entry. IsMade kinds entry.1) old.world.memory
     → list_any (λ report. is_failed report.outcome) reports ≡ false
-    → AreApart digest (seen ++ folder_contents old.world ++ folder_contents new.world)
-    → Builds (any_rules kinds options plan) (AreApart digest) seen old reports new
+    → AreCollisionFree digest (observed ++ folder_contents old.world ++ folder_contents new.world)
+    → Builds (any_rules kinds options plan) (AreCollisionFree digest) observed old reports new
     → (options.dry_run ≡ false → IsTrue (list_all (λ report. is_started report.outcome) reports))
     × (from_scratch kinds options plan old.world.folder ≡ Some new.world.folder.files)
 
@@ -43,12 +43,12 @@ SuccessIsFromScratch =
 -- over the same contents.
 abbrev pub TruthIsKept : Type 0
 TruthIsKept =
-    (kinds : Kinds) (options : Options) (digest : Bytes → List ℕ) (plan : Plan) (seen : List Bytes)
-    (old new : Standing) (reports : List TaskReport)
+    (kinds : Kinds) (options : Options) (digest : Bytes → List ℕ) (plan : Plan) (observed : List Bytes)
+    (old new : WorldState) (reports : List TaskReport)
     → IsSound plan → IsFolder old.world.folder.files
     → AllByRecursion (λ entry. IsMade kinds entry.1) old.world.memory
-    → AreApart digest (seen ++ folder_contents old.world ++ folder_contents new.world)
-    → Builds (any_rules kinds options plan) (AreApart digest) seen old reports new
+    → AreCollisionFree digest (observed ++ folder_contents old.world ++ folder_contents new.world)
+    → Builds (any_rules kinds options plan) (AreCollisionFree digest) observed old reports new
     → AllByRecursion (λ entry. IsMade kinds entry.1) new.world.memory
 
 -- Whatever else failed in a build: a task with actions that is up to date changes nothing, and its outputs
@@ -56,7 +56,7 @@ TruthIsKept =
 abbrev pub UpToDateIsMade : Type 0
 UpToDateIsMade =
     (kinds : Kinds) (options : Options) (plan : Plan) (moment : Moment) (task : Task) (report : TaskReport)
-    (new : Standing)
+    (new : WorldState)
     → AllByRecursion (λ entry. IsMade kinds entry.1) moment.world.memory → is_empty task.actions ≡ false
     → report.outcome ≡ outcomes.UpToDate
     → StartedExecution (any_rules kinds options plan) moment task report new

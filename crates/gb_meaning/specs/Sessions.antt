@@ -11,8 +11,8 @@ use Rattle.gb_meaning.specs.declared.events.Answer.{Answer}
 use Rattle.gb_meaning.specs.Memory.{Memory}
 use Rattle.gb_meaning.specs.Edits.{Shown}
 use Rattle.gb_meaning.specs.Events.{Setting, State}
-use Rattle.gb_meaning.specs.Headline.{EventsHold, Registering, Stands, WentThrough, state_of}
-use Rattle.gb_meaning.specs.Every.{AllApart, AllSucceed, PlainRun}
+use Rattle.gb_meaning.specs.Headline.{EventsHold, Registering, HoldsMemory, WentThrough, state_of}
+use Rattle.gb_meaning.specs.Every.{AllCollisionFree, AllSucceed, PlainRun}
 
 -- One use of the tool: the folder that it found, the events and their results, and the folder that it left.
 pub record Session : Type 0 where
@@ -66,7 +66,7 @@ module _ (setting : Setting) (registers : ℕ → Registering) (may_leave : ℕ 
       let start = begins setting session remembered in
       (states : List State)
       × WentThrough (setting_at number) start states session.events session.answers session.end
-      × (AllApart setting start states
+      × (AllCollisionFree setting start states
       → PlainRun (setting_at number) start states session.events session.answers session.end
       × AllSucceed (setting_at number) start states session.events session.answers session.end
       × AllHold (suc number) (remembered_after start.remembered states) rest)
@@ -75,4 +75,4 @@ module _ (setting : Setting) (registers : ℕ → Registering) (may_leave : ℕ 
   abbrev pub HeadlineOfSessions : Type 0
   HeadlineOfSessions =
       (left : Contents) (sessions : List Session) → SessionsHold 0 left sessions →
-      (remembered : Memory) → Stands setting left remembered → AllHold 0 remembered sessions
+      (remembered : Memory) → HoldsMemory setting left remembered → AllHold 0 remembered sessions

@@ -7,7 +7,7 @@ use Rattle.gb_tree.specs.declared.fault.TreeFault.{TreeFault}
 use Rattle.gb_tree.specs.declared.fault.TreeFault.TheVariants as trees
 use Rattle.gb_folder.specs.Files.{is_empty, Files, Contents}
 use Rattle.gb_action.specs.Files.{Tree, Trees}
-use Rattle.gb_tree.specs.Tree.{odd_roots}
+use Rattle.gb_tree.specs.Tree.{special_roots}
 use Rattle.gb_tree.specs.Property.{tree_of as tree_by, tree_faults as faults_by}
 use Rattle.gb_plan.specs.declared.task.FileProperty.{FileProperty}
 use Rattle.gb_plan.specs.declared.task.TaskDeclaration.{TaskDeclaration as Task}
@@ -53,4 +53,4 @@ input_faults task folder = flat_map (λ property. tree_faults property folder) t
 
 -- the faults in listing its outputs: things at or under their places that no place can name
 abbrev pub listing_faults : Task → Contents → List Fault
-listing_faults task folder = map reported_of_tree (odd_roots folder (output_places task))
+listing_faults task folder = map reported_of_tree (special_roots folder (output_places task))

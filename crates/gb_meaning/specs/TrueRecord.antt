@@ -50,8 +50,8 @@ abbrev pub contents_of : Entry → List Bytes
 contents_of entry = contents_in entry.inputs ++ map (λ file. file.1) entry.files
 
 -- no two contents of the set share a digest
-abbrev pub AreApart : (Bytes → List ℕ) → List Bytes → Type 0
-AreApart digest contents =
+abbrev pub AreCollisionFree : (Bytes → List ℕ) → List Bytes → Type 0
+AreCollisionFree digest contents =
     (a b : Bytes) → Contains contents a → Contains contents b → digest a ≡ digest b → a ≡ b
 
 -- ---- The memory that a folder holds
@@ -76,7 +76,7 @@ Stores digest says path left (Some entry) =
     (bytes : Bytes) × (left ≡ Some bytes) × says path (record_of digest entry) bytes
 
 -- A folder holds the records of this memory, and all entries of it are true.
-pub record StandsFor (kinds : Kinds) (digest : Bytes → List ℕ) (says : RecordTexts)
+pub record HoldsTrue (kinds : Kinds) (digest : Bytes → List ℕ) (says : RecordTexts)
     (record_place : Path → Place) (folder : Contents) (memory : Memory) : Type 0 where
   pub is_folder : IsFolder folder.files
   pub in_order : IsTrue (is_sorted byte_order memory)

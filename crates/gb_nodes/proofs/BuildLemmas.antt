@@ -16,14 +16,14 @@ use Rattle.gb_registry.specs.Projects.{Path, absolute, crowd_faults, folder_text
 use Rattle.gb_script.specs.declared.script.Statement.{Statement}
 use Rattle.gb_declare.specs.Whole.{build_folder}
 use Rattle.gb_nodes.specs.Scripts.{build_faults}
-use Rattle.gb_nodes.specs.Standing.{BuildsArePlaces}
+use Rattle.gb_nodes.specs.InTable.{BuildsArePlaces}
 use Rattle.gb_nodes.proofs.FoundLemmas.{nil_both}
 
 -- a folder in a folder
 in_folder : (folder : List ℕ) → is_place folder ≡ true → length folder ≤ 896 → is_place (folder ++ 47 ∷ codes "build") ≡ true
 in_folder folder good short =
-    let front = left_of (nat_le (length folder) 1024 && list_all is_printable folder) (list_all is_segment (segments folder)) good in
-    let shown = right_of (nat_le (length folder) 1024) (list_all is_printable folder) front in
+    let prefix = left_of (nat_le (length folder) 1024 && list_all is_printable folder) (list_all is_segment (segments folder)) good in
+    let shown = right_of (nat_le (length folder) 1024) (list_all is_printable folder) prefix in
     let parts = right_of (nat_le (length folder) 1024 && list_all is_printable folder) (list_all is_segment (segments folder)) good in
     let long : length (folder ++ 47 ∷ codes "build") ≡ length folder + 6 = length-append folder (47 ∷ codes "build") in
     both_true (nat_le (length (folder ++ 47 ∷ codes "build")) 1024 && list_all is_printable (folder ++ 47 ∷ codes "build")) (list_all is_segment (segments (folder ++ 47 ∷ codes "build")))

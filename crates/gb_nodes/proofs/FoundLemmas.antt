@@ -10,10 +10,10 @@ use Rattle.gb_provider.specs.declared.expression.Node.{Node}
 use Rattle.gb_registry.specs.References.{name_faults}
 use Rattle.gb_nodes.specs.Site.{Site, property_node}
 use Rattle.gb_nodes.specs.Wrong.{known_faults, link_faults, making_faults, root_faults}
-use Rattle.gb_registry.proofs.Fine.{nil_back, nil_front}
+use Rattle.gb_registry.proofs.Fine.{nil_back, nil_prefix}
 
 pub nil_both : {X : Type 0} (xs ys : List X) → xs ≡ [] → ys ≡ [] → xs ++ ys ≡ []
-nil_both xs ys front back = ap (λ l. l ++ ys) front ∙ back
+nil_both xs ys prefix back = ap (λ l. l ++ ys) prefix ∙ back
 
 module _ {X Y : Type 0} (at_root : Root → List X) (at_link : Link → List X) (at_root' : Root → List Y) (at_link' : Link → List Y)
     (root_none : (r : Root) → at_root r ≡ [] → at_root' r ≡ []) (link_none : (l : Link) → at_link l ≡ [] → at_link' l ≡ []) where
@@ -21,7 +21,7 @@ module _ {X Y : Type 0} (at_root : Root → List X) (at_link : Link → List X) 
     pub tree_none : (tree : Tree) → found_in at_root at_link tree ≡ [] → found_in at_root' at_link' tree ≡ []
     tree_none (Chain root links) none =
         nil_both (found_at at_root' at_link' root) (found_along at_root' at_link' links)
-        (at_none root (nil_front (found_at at_root at_link root) (found_along at_root at_link links) none))
+        (at_none root (nil_prefix (found_at at_root at_link root) (found_along at_root at_link links) none))
         (along_none links (nil_back (found_at at_root at_link root) (found_along at_root at_link links) none))
 
     at_none : (root : Root) → found_at at_root at_link root ≡ [] → found_at at_root' at_link' root ≡ []
@@ -39,14 +39,14 @@ module _ {X Y : Type 0} (at_root : Root → List X) (at_link : Link → List X) 
     all_none NoTree none = refl
     all_none (AndTree tree trees) none =
         nil_both (found_in at_root' at_link' tree) (found_in_all at_root' at_link' trees)
-        (tree_none tree (nil_front (found_in at_root at_link tree) (found_in_all at_root at_link trees) none))
+        (tree_none tree (nil_prefix (found_in at_root at_link tree) (found_in_all at_root at_link trees) none))
         (all_none trees (nil_back (found_in at_root at_link tree) (found_in_all at_root at_link trees) none))
 
     along_none : (links : Links) → found_along at_root at_link links ≡ [] → found_along at_root' at_link' links ≡ []
     along_none NoLink none = refl
     along_none (AndLink link links) none =
         nil_both (found_by at_root' at_link' link) (found_along at_root' at_link' links)
-        (by_none link (nil_front (found_by at_root at_link link) (found_along at_root at_link links) none))
+        (by_none link (nil_prefix (found_by at_root at_link link) (found_along at_root at_link links) none))
         (along_none links (nil_back (found_by at_root at_link link) (found_along at_root at_link links) none))
 
     by_none : (link : Link) → found_by at_root at_link link ≡ [] → found_by at_root' at_link' link ≡ []
@@ -54,11 +54,11 @@ module _ {X Y : Type 0} (at_root : Root → List X) (at_link : Link → List X) 
     by_none (FlatMapBy f) none = link_none (FlatMapBy f) none
     by_none (ZipBy tree f) none =
         nil_both (found_in at_root' at_link' tree) (at_link' (ZipBy tree f))
-        (tree_none tree (nil_front (found_in at_root at_link tree) (at_link (ZipBy tree f)) none))
+        (tree_none tree (nil_prefix (found_in at_root at_link tree) (at_link (ZipBy tree f)) none))
         (link_none (ZipBy tree f) (nil_back (found_in at_root at_link tree) (at_link (ZipBy tree f)) none))
     by_none (Else tree) none =
         nil_both (found_in at_root' at_link' tree) (at_link' (Else tree))
-        (tree_none tree (nil_front (found_in at_root at_link tree) (at_link (Else tree)) none))
+        (tree_none tree (nil_prefix (found_in at_root at_link tree) (at_link (Else tree)) none))
         (link_none (Else tree) (nil_back (found_in at_root at_link tree) (at_link (Else tree)) none))
 
 -- ---- Expressions without a fault in a scope

@@ -22,8 +22,8 @@ swapped false true never x y z = refl
 swapped false false never x y z = refl
 
 -- a name that comes after another is not that one
-apart : (q k n : List ℕ) → byte_order k n ≡ Greater → is_eq (byte_order q k) ≡ true → is_eq (byte_order q n) ≡ true → ⊥
-apart q k n after a b =
+separate : (q k n : List ℕ) → byte_order k n ≡ Greater → is_eq (byte_order q k) ≡ true → is_eq (byte_order q n) ≡ true → ⊥
+separate q k n after a b =
     let one : q ≡ k = tied_same q k (equal (byte_order q k) a) in
     let other : q ≡ n = tied_same q n (equal (byte_order q n) b) in
     let tied : byte_order k n ≡ Equal = same_tied k n (sym one ∙ other) in
@@ -45,7 +45,7 @@ module _ {X : Type 0} (q : List ℕ) where
             ap (λ b. cond b (Some v) (at es)) (sym same) ∙ hidden (is_eq (byte_order q k)) (is_eq (byte_order q e.0)) same (Some v) (Some e.1) (at es)
         | Greater ↦ λ after.
             ap (cond (is_eq (byte_order q e.0)) (Some e.1)) (lookup_put es k v)
-            ∙ swapped (is_eq (byte_order q k)) (is_eq (byte_order q e.0)) (apart q k e.0 after) (Some v) (Some e.1) (at es)
+            ∙ swapped (is_eq (byte_order q k)) (is_eq (byte_order q e.0)) (separate q k e.0 after) (Some v) (Some e.1) (at es)
       ] refl
 
   -- one value more

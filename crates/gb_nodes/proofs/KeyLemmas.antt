@@ -14,7 +14,7 @@ use Rattle.gb_provider.proofs.SearchLemmas.{get_set_same, get_set_other}
 use Rattle.gb_registry.specs.Projects.{Path}
 use Rattle.gb_declare.specs.Circles.{is_named}
 use Rattle.gb_declare.specs.Partly.{renamed}
-use Rattle.gb_nodes.proofs.GrownLemmas.{ArePlain, at_front}
+use Rattle.gb_nodes.proofs.GrownLemmas.{ArePlain, at_prefix}
 
 -- a property by its project and its name
 abbrev pub Key : Type 0
@@ -62,9 +62,9 @@ module _ {M F Z : Type 0} where
 
   -- what is added has no key
   pub keys_grown : (nodes more rest : List (Expression M F Z)) → more ≡ nodes ++ rest → ArePlain (length nodes) more → HasKeysOf nodes more
-  keys_grown nodes more rest front plain x k at =
+  keys_grown nodes more rest prefix plain x k at =
       elim (nat_lt x (length nodes)) as (λ b. nat_lt x (length nodes) ≡ b → key_at nodes x ≡ Some k) [
-        | true ↦ λ here. ap key_of (sym (ap (λ l. slice_get l x) front ∙ at_front nodes rest x (ltb-true x (length nodes) here))) ∙ at
+        | true ↦ λ here. ap key_of (sym (ap (λ l. slice_get l x) prefix ∙ at_prefix nodes rest x (ltb-true x (length nodes) here))) ∙ at
         | false ↦ λ there.
             let found = keyed (slice_get more x) k at in
             let unnamed = plain x (OfProperty found.0) (ltb-false x (length nodes) there) found.1 in
@@ -73,12 +73,12 @@ module _ {M F Z : Type 0} where
       ] refl
 
   -- what is changed keeps its key
-  module _ (nodes : List (Expression M F Z)) (place : ℕ) (old new : Property) (stands : slice_get nodes place ≡ Some (OfProperty old)) where
+  module _ (nodes : List (Expression M F Z)) (place : ℕ) (old new : Property) (exists : slice_get nodes place ≡ Some (OfProperty old)) where
     abbrev pub changed_nodes : List (Expression M F Z)
     changed_nodes = slice_set nodes place (OfProperty new)
 
     pub at_change : slice_get changed_nodes place ≡ Some (OfProperty new)
-    at_change = get_set_same nodes place (OfProperty new) (slice_get_within nodes place (OfProperty old) stands)
+    at_change = get_set_same nodes place (OfProperty new) (slice_get_within nodes place (OfProperty old) exists)
 
     pub off_change : (x : ℕ) → x ≢ place → slice_get changed_nodes x ≡ slice_get nodes x
     off_change x other = get_set_other nodes place x (OfProperty new) (λ same. other (sym same))
@@ -88,7 +88,7 @@ module _ {M F Z : Type 0} where
         elim (x == place) as (λ b. (x == place) ≡ b → key_at nodes x ≡ Some k) [
           | true ↦ λ here.
               let is : x ≡ place = eqb-true x place here in
-              ap (key_at nodes) is ∙ ap key_of stands ∙ ap Some same ∙ sym (ap key_of at_change) ∙ ap (key_at changed_nodes) (sym is) ∙ at
+              ap (key_at nodes) is ∙ ap key_of exists ∙ ap Some same ∙ sym (ap key_of at_change) ∙ ap (key_at changed_nodes) (sym is) ∙ at
           | false ↦ λ there.
               let other : x ≢ place = λ is. (let clash : true ≡ false = sym (eq-eqb x place is) ∙ there in absurd (cc)) in
               ap key_of (sym (off_change x other)) ∙ at

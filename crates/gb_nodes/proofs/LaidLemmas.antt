@@ -56,27 +56,27 @@ module _ (P : List ℕ → Node → Type 0) where
         | false ↦ λ at found. found_is there name node all.1 found
       ] refl is
 
-pub at_place : {X : Type 0} (front : List X) (x : X) (rest : List X) (i : ℕ) → i ≡ length front → slice_get (front ++ x ∷ rest) i ≡ Some x
+pub at_place : {X : Type 0} (prefix : List X) (x : X) (rest : List X) (i : ℕ) → i ≡ length prefix → slice_get (prefix ++ x ∷ rest) i ≡ Some x
 at_place [] x rest zero is = refl
 at_place [] x rest (suc i) is = absurd (omega (arith, is))
-at_place (y ∷ front) x rest zero is = absurd (omega (arith, is))
-at_place (y ∷ front) x rest (suc i) is = at_place front x rest i (omega (arith, is))
+at_place (y ∷ prefix) x rest zero is = absurd (omega (arith, is))
+at_place (y ∷ prefix) x rest (suc i) is = at_place prefix x rest i (omega (arith, is))
 
 -- the node of a name is that of a position of the name
 abbrev IsNode : ℕ → List (List ℕ) → List ℕ → Node → Type 0
 IsNode n names name node = (k : ℕ) × (slice_get names k ≡ Some name) × (node.number ≡ n + k)
 
-named_are : (n : ℕ) (whole : List (List ℕ)) (front names : List (List ℕ)) (there : List (List ℕ × Node)) → whole ≡ front ++ names → AllAre (IsNode n whole) there
-    → AllAre (IsNode n whole) (named_from (n + length front) there names)
-named_are n whole front [] there is all = all
-named_are n whole front (name ∷ names) there is all =
-    let here : slice_get whole (length front) ≡ Some name = ap (λ w. slice_get w (length front)) is ∙ at_place front name names (length front) refl in
-    let next : whole ≡ (front ++ name ∷ []) ++ names = is ∙ sym (append_assoc front (name ∷ []) names) in
-    let count : n + length (front ++ name ∷ []) ≡ (n + length front) + 1 = omega (arith, length-append front (name ∷ [])) in
-    let node : Node = record { number = n + length front } in
-    let put = put_are (IsNode n whole) there name node (length front, here, refl) all in
+named_are : (n : ℕ) (whole : List (List ℕ)) (prefix names : List (List ℕ)) (there : List (List ℕ × Node)) → whole ≡ prefix ++ names → AllAre (IsNode n whole) there
+    → AllAre (IsNode n whole) (named_from (n + length prefix) there names)
+named_are n whole prefix [] there is all = all
+named_are n whole prefix (name ∷ names) there is all =
+    let here : slice_get whole (length prefix) ≡ Some name = ap (λ w. slice_get w (length prefix)) is ∙ at_place prefix name names (length prefix) refl in
+    let next : whole ≡ (prefix ++ name ∷ []) ++ names = is ∙ sym (append_assoc prefix (name ∷ []) names) in
+    let count : n + length (prefix ++ name ∷ []) ≡ (n + length prefix) + 1 = omega (arith, length-append prefix (name ∷ [])) in
+    let node : Node = record { number = n + length prefix } in
+    let put = put_are (IsNode n whole) there name node (length prefix, here, refl) all in
     subst (λ m. AllAre (IsNode n whole) (named_from m (insert_entry byte_order there name node) names)) count
-    (named_are n whole (front ++ name ∷ []) names (insert_entry byte_order there name node) next put)
+    (named_are n whole (prefix ++ name ∷ []) names (insert_entry byte_order there name node) next put)
 
 -- ---- The nodes of names
 
@@ -88,17 +88,17 @@ module _ {M F Z S A : Type 0} (tables : Tables M F Z S A) (source : Source) (all
     pub numbers : ℕ → ℕ
     pub part : IsPartOf numbers new whole
     pub agrees : (i : ℕ) → i < length nodes → numbers i ≡ number i
-    pub stands : (k : ℕ) (name : List ℕ) → slice_get names k ≡ Some name → numbers (length nodes + k) ≡ target name
+    pub exists : (k : ℕ) (name : List ℕ) → slice_get names k ≡ Some name → numbers (length nodes + k) ≡ target name
     pub count : length new ≡ length nodes + length names
 
-  stands_more : (n m : ℕ) (numbers : ℕ → ℕ) (names : List (List ℕ)) (name : List ℕ) → m ≡ n + 1 → numbers n ≡ target name
+  exists_more : (n m : ℕ) (numbers : ℕ → ℕ) (names : List (List ℕ)) (name : List ℕ) → m ≡ n + 1 → numbers n ≡ target name
       → ((k : ℕ) (other : List ℕ) → slice_get names k ≡ Some other → numbers (m + k) ≡ target other)
       → (k : ℕ) (other : List ℕ) → slice_get (name ∷ names) k ≡ Some other → numbers (n + k) ≡ target other
-  stands_more n m numbers names name more here rest zero other at =
+  exists_more n m numbers names name more here rest zero other at =
       let same : name ≡ other = cc in
       let none : n + 0 ≡ n = omega arith in
       ap numbers none ∙ here ∙ ap target same
-  stands_more n m numbers names name more here rest (suc k) other at =
+  exists_more n m numbers names name more here rest (suc k) other at =
       let count : n + suc k ≡ m + k = omega (arith, more) in
       ap numbers count ∙ rest k other at
 
@@ -110,7 +110,7 @@ module _ {M F Z S A : Type 0} (tables : Tables M F Z S A) (source : Source) (all
         numbers = number;
         part = subst (λ n. IsPartOf number n whole) (sym same) part;
         agrees = λ i below. refl;
-        stands = λ k name at. absurd (cc);
+        exists = λ k name at. absurd (cc);
         count = omega (arith, ap length same);
       }
   names_grow number nodes (name ∷ names) new is part unset =
@@ -122,7 +122,7 @@ module _ {M F Z S A : Type 0} (tables : Tables M F Z S A) (source : Source) (all
         numbers = rest.numbers;
         part = rest.part;
         agrees = λ i below. rest.agrees i (omega (arith, below, longer)) ∙ one.agrees i below;
-        stands = stands_more (length nodes) (length (nodes ++ e ∷ [])) rest.numbers names name longer (rest.agrees (length nodes) (omega (arith, longer)) ∙ one.stands) rest.stands;
+        exists = exists_more (length nodes) (length (nodes ++ e ∷ [])) rest.numbers names name longer (rest.agrees (length nodes) (omega (arith, longer)) ∙ one.exists) rest.exists;
         count = omega (arith, rest.count, longer);
       }
 
@@ -146,6 +146,6 @@ scripts_are_laid tables source all whole number nodes project given statements p
             omega (arith, at.2, below, grown.count);
         named = λ name node found.
             let at = found_is (IsNode n names) (named_from n [] names) name node every found in
-            ap grown.numbers at.2 ∙ grown.stands at.0 name at.1;
+            ap grown.numbers at.2 ∙ grown.exists at.0 name at.1;
       };
     }

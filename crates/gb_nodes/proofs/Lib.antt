@@ -11,5 +11,5 @@ pub mod FoundLemmas
 pub mod StageLemmas
 pub mod StatementLemmas
 pub mod ScriptLemmas
-pub mod StandingLemmas
+pub mod InTableLemmas
 pub mod BuildLemmas

@@ -11,7 +11,7 @@ use Rattle.gb_provider.specs.declared.expression.Expression.{Expression}
 use Rattle.gb_provider.specs.declared.expression.Node.{Node}
 use Rattle.gb_report.specs.declared.fault.Fault.{Fault}
 use Rattle.gb_registry.proofs.Firsts.{first_among, left_from}
-use Rattle.gb_registry.specs.Faults.{IsFirstFault, TellsFirst}
+use Rattle.gb_registry.specs.Faults.{IsFirstFault, ReportsFirst}
 use Rattle.gb_registry.specs.Wrong.{found_in, found_at, found_in_all, found_along, found_by}
 use Rattle.gb_script.specs.Tree.{Tree, Chain, Root, trees_of, Link, Links, links_of, root, links, links_size, tree_size}
 use Rattle.gb_script.specs.View.{link_of}
@@ -19,7 +19,7 @@ use Rattle.gb_script.specs.declared.expression.Step.{Step}
 use Rattle.std.specs.Borrow.{Bor}
 use Rattle.gb_declare.specs.Borrowed.{now_of}
 use Rattle.gb_nodes.specs.Site.{Site, AreThere}
-use Rattle.gb_nodes.specs.Nodes.{Made, IsMade, behind, tree_made, trees_made, link_made, links_made}
+use Rattle.gb_nodes.specs.Nodes.{Made, IsMade, following, tree_made, trees_made, link_made, links_made}
 use Rattle.gb_nodes.specs.Wrong.{root_faults, link_faults, making_faults}
 
 -- what is present stays present
@@ -72,8 +72,8 @@ module _ {M F Z S : Type 0} where
     same_one : made ≡ one_at new.nodes node.number
     same_one = ap (λ n. one_at n made.place) (sym is_made.nodes) ∙ ap (one_at new.nodes) (sym is_made.number)
 
-    same_row : (row : List Node) → behind (numbers_of row) made ≡ row_at new.nodes (numbers_of (row ++ node ∷ []))
-    same_row row = ap (behind (numbers_of row)) same_one ∙ ap (row_at new.nodes) (sym (numbers_last row node))
+    same_row : (row : List Node) → following (numbers_of row) made ≡ row_at new.nodes (numbers_of (row ++ node ∷ []))
+    same_row row = ap (following (numbers_of row)) same_one ∙ ap (row_at new.nodes) (sym (numbers_last row node))
 
   module _ (site : Site) (old new : Held M F Z S) (node : Node) (functions : Table M F Z S) (same : old.table ≡ functions) where
     module _ (trees : List Tree) (i : ℕ) (tree : Tree) (below : i < length trees) (is : tree ≡ get_or trees i tree) where
@@ -83,7 +83,7 @@ module _ {M F Z S : Type 0} where
           → all ≡ trees_made functions site (row_at new.nodes (numbers_of row')) (trees_of (drop (i + 1) trees))
       trees_on row row' all pushed is_made before =
           before ∙ ap (λ d. trees_made functions site (row_at old.nodes (numbers_of row)) (trees_of d)) (left_from trees i tree below is)
-          ∙ ap (λ f. trees_made functions site (behind (numbers_of row) (tree_made f site old.nodes tree)) (trees_of (drop (i + 1) trees))) (sym same)
+          ∙ ap (λ f. trees_made functions site (following (numbers_of row) (tree_made f site old.nodes tree)) (trees_of (drop (i + 1) trees))) (sym same)
           ∙ ap (λ r. trees_made functions site r (trees_of (drop (i + 1) trees))) (same_row old new node (tree_made old.table site old.nodes tree) is_made row)
           ∙ ap (λ r. trees_made functions site (row_at new.nodes (numbers_of r)) (trees_of (drop (i + 1) trees))) (sym pushed)
 
@@ -129,11 +129,11 @@ module _ {M F Z S : Type 0} where
 
     -- the faults of a tree whose source has none are those of its steps
     pub tree_reported : {X : Type 0} (tree : Tree) (r : Root) (ls : Links) (answer : Result X Fault) → r ≡ root tree → ls ≡ links tree → found_at (root_faults site) (by functions) r ≡ []
-        → TellsFirst (found_along (root_faults site) (by table) ls) answer → TellsFirst (making_faults means functions site tree) answer
+        → ReportsFirst (found_along (root_faults site) (by table) ls) answer → ReportsFirst (making_faults means functions site tree) answer
     tree_reported (Chain r' ls') r ls answer is_root is_links good reported =
         let whole : making_faults means functions site (Chain r' ls') ≡ found_along (root_faults site) (by table) ls =
         ap (λ x. found_at (root_faults site) (by functions) x ++ found_along (root_faults site) (by functions) ls') (sym is_root)
         ∙ nil_on (found_at (root_faults site) (by functions) r) (found_along (root_faults site) (by functions) ls') good
         ∙ ap (λ l. found_along (root_faults site) (by functions) l) (sym is_links)
         ∙ ap (λ f. found_along (root_faults site) (by f) ls) (sym same) in
-        subst (λ fs. TellsFirst fs answer) (sym whole) reported
+        subst (λ fs. ReportsFirst fs answer) (sym whole) reported

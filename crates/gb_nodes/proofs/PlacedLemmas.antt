@@ -12,8 +12,8 @@ use Rattle.gb_script.specs.Tree.{Tree, Chain, Root, TextOf, FlagOf, ListOf, Prop
 use Rattle.gb_declare.specs.Spots.{Spot, Written, Made, parts, root_parts, trees_parts, links_parts, link_parts}
 use Rattle.gb_declare.specs.Whole.{expression_at, number_of, spots, statement_spots, table_of, task_spots}
 use Rattle.gb_declare.specs.Declaring.{declared}
-use Rattle.gb_declare.proofs.SpotLemmas.{spot_stands}
-use Rattle.gb_nodes.specs.Grown.{Stands}
+use Rattle.gb_declare.proofs.SpotLemmas.{spot_in_table}
+use Rattle.gb_nodes.specs.Grown.{IsInTable}
 use Rattle.gb_nodes.proofs.LaidLemmas.{at_place}
 
 -- the spot is one of these
@@ -27,8 +27,8 @@ IsWritten (Written project root steps) = Unit {0}
 IsWritten (Made project task name tree) = ⊥
 
 both_all : {X : Type 0} (P : X → Type 0) (xs ys : List X) → AllByRecursion P xs → AllByRecursion P ys → AllByRecursion P (xs ++ ys)
-both_all P [] ys front back = back
-both_all P (x ∷ xs) ys front back = (front.0, both_all P xs ys front.1 back)
+both_all P [] ys prefix back = back
+both_all P (x ∷ xs) ys prefix back = (prefix.0, both_all P xs ys prefix.1 back)
 
 module _ (project : Path) where
   abbrev AreWritten : List Spot → Type 0
@@ -67,29 +67,29 @@ module _ (project : Path) where
 -- ---- Each is at its number
 
 module _ {M F Z S A : Type 0} (tables : Tables M F Z S A) (source : Source) (all : List Spot) where
-  pub written_stands : (project : Path) (root : Root) (steps : List Link) → IsAmong all (Written project root steps)
+  pub written_exists : (project : Path) (root : Root) (steps : List Link) → IsAmong all (Written project root steps)
       → slice_get (table_of tables source all) (number_of tables source all (Written project root steps)) ≡ Some (expression_at tables source all (Written project root steps))
-  written_stands project root steps among =
+  written_exists project root steps among =
       slice_get-map (expression_at tables source all) all (number_of tables source all (Written project root steps))
-      ∙ ap (option_map (expression_at tables source all)) (spot_stands all project root steps among.0 among.1)
+      ∙ ap (option_map (expression_at tables source all)) (spot_in_table all project root steps among.0 among.1)
 
-  spots_stand : (row : List Spot) → AllByRecursion IsWritten row → AllByRecursion (IsAmong all) row → AllByRecursion (Stands tables source all (table_of tables source all)) row
-  spots_stand [] written among = tt
-  spots_stand (Written project root steps ∷ row) written among = (λ _. written_stands project root steps among.0, spots_stand row written.1 among.1)
-  spots_stand (Made project task name tree ∷ row) written among = absurd written.0
+  spots_in_table : (row : List Spot) → AllByRecursion IsWritten row → AllByRecursion (IsAmong all) row → AllByRecursion (IsInTable tables source all (table_of tables source all)) row
+  spots_in_table [] written among = tt
+  spots_in_table (Written project root steps ∷ row) written among = (λ _. written_exists project root steps among.0, spots_in_table row written.1 among.1)
+  spots_in_table (Made project task name tree ∷ row) written among = absurd written.0
 
   -- the parts of an expression
-  pub parts_stand : (project : Path) (tree : Tree) → AllByRecursion (IsAmong all) (parts project tree) → AllByRecursion (Stands tables source all (table_of tables source all)) (parts project tree)
-  parts_stand project tree among = spots_stand (parts project tree) (parts_written project tree) among
+  pub parts_in_table : (project : Path) (tree : Tree) → AllByRecursion (IsAmong all) (parts project tree) → AllByRecursion (IsInTable tables source all (table_of tables source all)) (parts project tree)
+  parts_in_table project tree among = spots_in_table (parts project tree) (parts_written project tree) among
 
 -- ---- Spots in the middle of others
 
 -- each of some spots is among them and those around them
-pub middle : (front xs back : List Spot) → AllByRecursion (IsAmong (front ++ (xs ++ back))) xs
-middle front [] back = tt
-middle front (x ∷ xs) back = (
-  (length front, at_place front x (xs ++ back) (length front) refl),
-  subst (λ l. AllByRecursion (IsAmong l) xs) (append_assoc front (x ∷ []) (xs ++ back)) (middle (front ++ x ∷ []) xs back),
+pub middle : (prefix xs back : List Spot) → AllByRecursion (IsAmong (prefix ++ (xs ++ back))) xs
+middle prefix [] back = tt
+middle prefix (x ∷ xs) back = (
+  (length prefix, at_place prefix x (xs ++ back) (length prefix) refl),
+  subst (λ l. AllByRecursion (IsAmong l) xs) (append_assoc prefix (x ∷ []) (xs ++ back)) (middle (prefix ++ x ∷ []) xs back),
 )
 
 module _ {M F Z S A : Type 0} (tables : Tables M F Z S A) (source : Source) where
@@ -98,12 +98,12 @@ module _ {M F Z S A : Type 0} (tables : Tables M F Z S A) (source : Source) wher
   of_tasks = flat_map (λ task. task_spots task (declared tables source.names source.said task)) (tasks_of source.said)
 
   -- what a statement declares and assigns is among all
-  pub statement_among : (front back : List Said) (s : Said) → source.said ≡ front ++ s ∷ back → AllByRecursion (IsAmong (spots tables source)) (statement_spots s)
-  statement_among front back s split =
-      let before = flat_map statement_spots front in
+  pub statement_among : (prefix back : List Said) (s : Said) → source.said ≡ prefix ++ s ∷ back → AllByRecursion (IsAmong (spots tables source)) (statement_spots s)
+  statement_among prefix back s split =
+      let before = flat_map statement_spots prefix in
       let after = flat_map statement_spots back in
       let said : flat_map statement_spots source.said ≡ before ++ (statement_spots s ++ after) =
-      ap (flat_map statement_spots) split ∙ flat_map-append statement_spots front (s ∷ back) in
+      ap (flat_map statement_spots) split ∙ flat_map-append statement_spots prefix (s ∷ back) in
       let is : before ++ (statement_spots s ++ (after ++ of_tasks)) ≡ spots tables source =
       ap (λ l. before ++ l) (sym (append_assoc (statement_spots s) after of_tasks)) ∙ sym (append_assoc before (statement_spots s ++ after) of_tasks)
       ∙ ap (λ l. l ++ of_tasks) (sym said) in

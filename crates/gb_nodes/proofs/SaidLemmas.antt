@@ -30,8 +30,8 @@ same_bytes a = (bytes_eq-Decides a a).1 refl
 pub bytes_same : (a b : List ℕ) → bytes_eq a b ≡ true → a ≡ b
 bytes_same a b is = (bytes_eq-Decides a b).0 is
 
-pub bytes_apart : (a b : List ℕ) → (a ≡ b → ⊥) → bytes_eq a b ≡ false
-bytes_apart a b other =
+pub bytes_distinct : (a b : List ℕ) → (a ≡ b → ⊥) → bytes_eq a b ≡ false
+bytes_distinct a b other =
     elim (bytes_eq a b) as (λ t. bytes_eq a b ≡ t → t ≡ false) [
       | true ↦ λ is. absurd (other (bytes_same a b is))
       | false ↦ λ _. refl
@@ -48,9 +48,9 @@ script_more done project statement =
     ∙ ap (λ l. script_of done project ++ l) (own_script project project true (same_bytes project) (statement ∷ []))
 
 pub script_other : (done : List Said) (project other : Path) (statement : Statement) → bytes_eq project other ≡ false → script_of (done ++ says project statement ∷ []) other ≡ script_of done other
-script_other done project other statement apart =
+script_other done project other statement separate =
     script_of-append done (said_by (project, statement ∷ [])) other
-    ∙ ap (λ l. script_of done other ++ l) (own_script project other false apart (statement ∷ []))
+    ∙ ap (λ l. script_of done other ++ l) (own_script project other false separate (statement ∷ []))
     ∙ append-nil (script_of done other)
 
 -- ---- The effect of one more statement on a property
@@ -137,7 +137,7 @@ module _ {M F Z S A : Type 0} (tables : Tables M F Z S A) (source : Source) (all
               let untouched : IsUntouched name statement = left name (ap (λ p. Some (p, name)) (sym is)) in
               let grown : script_of more other ≡ script_of done other ++ statement ∷ [] = subst (λ p. script_of more p ≡ script_of done p ++ statement ∷ []) is (script_more done project statement) in
               ap (λ s. OfProperty (property_after other name s)) grown ∙ ap OfProperty (property_kept other name (script_of done other) statement untouched)
-          | false ↦ λ apart. ap (λ s. OfProperty (property_after other name s)) (script_other done project other statement apart)
+          | false ↦ λ separate. ap (λ s. OfProperty (property_after other name s)) (script_other done project other statement separate)
         ] refl
 
     kept_root : (other : Path) (root : Root) → IsLeft (expression_at tables (after done) all (Written other root [])) → expression_at tables (after more) all (Written other root []) ≡ expression_at tables (after done) all (Written other root [])

@@ -27,8 +27,8 @@ use Rattle.gb_declare.specs.Spots.{Spot, Written}
 use Rattle.gb_declare.specs.Whole.{statement_spots}
 use Rattle.gb_nodes.specs.Statements.{named_from, properties_made, unset_property}
 use Rattle.gb_nodes.proofs.GivenLemmas.{lookup_put}
-use Rattle.gb_nodes.proofs.GrownLemmas.{at_last, at_front}
-use Rattle.gb_registry.proofs.Fine.{nil_back, nil_front}
+use Rattle.gb_nodes.proofs.GrownLemmas.{at_last, at_prefix}
+use Rattle.gb_registry.proofs.Fine.{nil_back, nil_prefix}
 use Rattle.gb_nodes.proofs.KeyLemmas.{AreOnce, Key, key_at, key_of, keyed}
 use Rattle.gb_nodes.proofs.PlacedLemmas.{IsAmong}
 use Rattle.gb_nodes.proofs.SaidLemmas.{bytes_same, same_bytes, says, script_more}
@@ -47,8 +47,8 @@ or_right : (a b : Bool) → b ≡ true → (a || b) ≡ true
 or_right true b is = refl
 or_right false b is = is
 
-pub among_front : (xs ys : List (List ℕ)) (name : List ℕ) → is_among xs name ≡ true → is_among (xs ++ ys) name ≡ true
-among_front xs ys name is = list_any-append (bytes_eq name) xs ys ∙ or_left (is_among xs name) (is_among ys name) is
+pub among_prefix : (xs ys : List (List ℕ)) (name : List ℕ) → is_among xs name ≡ true → is_among (xs ++ ys) name ≡ true
+among_prefix xs ys name is = list_any-append (bytes_eq name) xs ys ∙ or_left (is_among xs name) (is_among ys name) is
 
 among_last : (xs : List (List ℕ)) (name : List ℕ) → is_among (xs ++ name ∷ []) name ≡ true
 among_last xs name = list_any-append (bytes_eq name) xs (name ∷ []) ∙ or_right (is_among xs name) (bytes_eq name name || false) (or_left (bytes_eq name name) false (same_bytes name))
@@ -86,9 +86,9 @@ module _ (q : List ℕ) where
 -- ---- Names that are new
 
 -- none of them is known before, and none occurs twice
-abbrev pub AreApart : List (List ℕ) → List (List ℕ) → Type 0
-AreApart known [] = Unit {0}
-AreApart known (name ∷ names) = (is_among known name ≡ false) × AreApart (known ++ name ∷ []) names
+abbrev pub AreDistinct : List (List ℕ) → List (List ℕ) → Type 0
+AreDistinct known [] = Unit {0}
+AreDistinct known (name ∷ names) = (is_among known name ≡ false) × AreDistinct (known ++ name ∷ []) names
 
 not_there : {X : Type 0} (b : Bool) (x : X) (others : List X) → cond b (x ∷ []) others ≡ [] → b ≡ false
 not_there true x others none = absurd (cc)
@@ -102,23 +102,23 @@ module _ {M F Z S A : Type 0} (tables : Tables M F Z S A) (project : Path) where
   abbrev pub faults_of : List Said → List Statement → Type 0
   faults_of done script = each_after (statement_faults tables) done (said_by (project, script)) ≡ []
 
-  head_apart : (done : List Said) (statement : Statement) (script : List Statement) → statement_faults tables done (says project statement) ≡ []
-      → AreApart (properties_of done project ++ filter_map declared_property (statement ∷ [])) (filter_map declared_property script) → AreApart (properties_of done project) (filter_map declared_property (statement ∷ script))
-  head_apart done (statements.Property name) script none rest = (not_there (is_among (properties_of done project) name) _ _ none, rest)
-  head_apart done (statements.Set a) script none rest = subst (λ known. AreApart known (filter_map declared_property script)) (append-nil (properties_of done project)) rest
-  head_apart done (statements.Convention a) script none rest = subst (λ known. AreApart known (filter_map declared_property script)) (append-nil (properties_of done project)) rest
-  head_apart done (statements.Unset name) script none rest = subst (λ known. AreApart known (filter_map declared_property script)) (append-nil (properties_of done project)) rest
-  head_apart done (statements.DisallowChanges name) script none rest = subst (λ known. AreApart known (filter_map declared_property script)) (append-nil (properties_of done project)) rest
-  head_apart done (statements.DefaultTasks texts) script none rest = subst (λ known. AreApart known (filter_map declared_property script)) (append-nil (properties_of done project)) rest
-  head_apart done (statements.Register r) script none rest = subst (λ known. AreApart known (filter_map declared_property script)) (append-nil (properties_of done project)) rest
-  head_apart done (statements.Named c) script none rest = subst (λ known. AreApart known (filter_map declared_property script)) (append-nil (properties_of done project)) rest
+  head_distinct : (done : List Said) (statement : Statement) (script : List Statement) → statement_faults tables done (says project statement) ≡ []
+      → AreDistinct (properties_of done project ++ filter_map declared_property (statement ∷ [])) (filter_map declared_property script) → AreDistinct (properties_of done project) (filter_map declared_property (statement ∷ script))
+  head_distinct done (statements.Property name) script none rest = (not_there (is_among (properties_of done project) name) _ _ none, rest)
+  head_distinct done (statements.Set a) script none rest = subst (λ known. AreDistinct known (filter_map declared_property script)) (append-nil (properties_of done project)) rest
+  head_distinct done (statements.Convention a) script none rest = subst (λ known. AreDistinct known (filter_map declared_property script)) (append-nil (properties_of done project)) rest
+  head_distinct done (statements.Unset name) script none rest = subst (λ known. AreDistinct known (filter_map declared_property script)) (append-nil (properties_of done project)) rest
+  head_distinct done (statements.DisallowChanges name) script none rest = subst (λ known. AreDistinct known (filter_map declared_property script)) (append-nil (properties_of done project)) rest
+  head_distinct done (statements.DefaultTasks texts) script none rest = subst (λ known. AreDistinct known (filter_map declared_property script)) (append-nil (properties_of done project)) rest
+  head_distinct done (statements.Register r) script none rest = subst (λ known. AreDistinct known (filter_map declared_property script)) (append-nil (properties_of done project)) rest
+  head_distinct done (statements.Named c) script none rest = subst (λ known. AreDistinct known (filter_map declared_property script)) (append-nil (properties_of done project)) rest
 
-  pub names_apart : (done : List Said) (script : List Statement) → faults_of done script → AreApart (properties_of done project) (filter_map declared_property script)
-  names_apart done [] none = tt
-  names_apart done (statement ∷ script) none =
-      head_apart done statement script (nil_front (statement_faults tables done (says project statement)) _ none)
-      (subst (λ known. AreApart known (filter_map declared_property script)) (properties_more done project statement)
-      (names_apart (done ++ says project statement ∷ []) script (nil_back (statement_faults tables done (says project statement)) _ none)))
+  pub names_distinct : (done : List Said) (script : List Statement) → faults_of done script → AreDistinct (properties_of done project) (filter_map declared_property script)
+  names_distinct done [] none = tt
+  names_distinct done (statement ∷ script) none =
+      head_distinct done statement script (nil_prefix (statement_faults tables done (says project statement)) _ none)
+      (subst (λ known. AreDistinct known (filter_map declared_property script)) (properties_more done project statement)
+      (names_distinct (done ++ says project statement ∷ []) script (nil_back (statement_faults tables done (says project statement)) _ none)))
 
 -- ---- Properties after others
 
@@ -138,7 +138,7 @@ module _ {M F Z : Type 0} (project : Path) where
   key_split : (nodes : List (Expression M F Z)) (e : Expression M F Z) (x : ℕ) (k : Key) → key_at (nodes ++ e ∷ []) x ≡ Some k → (key_at nodes x ≡ Some k) ⊎ ((x ≡ length nodes) × (key_of (Some e) ≡ Some k))
   key_split nodes e x k is =
       elim (nat_lt x (length nodes)) as (λ b. nat_lt x (length nodes) ≡ b → (key_at nodes x ≡ Some k) ⊎ ((x ≡ length nodes) × (key_of (Some e) ≡ Some k))) [
-        | true ↦ λ here. inl (ap key_of (sym (at_front nodes (e ∷ []) x (ltb-true x (length nodes) here))) ∙ is)
+        | true ↦ λ here. inl (ap key_of (sym (at_prefix nodes (e ∷ []) x (ltb-true x (length nodes) here))) ∙ is)
         | false ↦ λ there.
             let found = keyed (slice_get (nodes ++ e ∷ []) x) k is in
             let last = at_last nodes e (OfProperty found.0) x (ltb-false x (length nodes) there) found.1 in
@@ -167,19 +167,19 @@ module _ {M F Z : Type 0} (project : Path) where
   one_among : (nodes : List (Expression M F Z)) (known : List (List ℕ)) (name : List ℕ) → AreAmong nodes known → AreAmong (nodes ++ own name ∷ []) (known ++ name ∷ [])
   one_among nodes known name among x other at =
       elim (key_split nodes (own name) x (project, other) at) [
-        | inl old ↦ among_front known (name ∷ []) other (among x other old)
+        | inl old ↦ among_prefix known (name ∷ []) other (among x other old)
         | inr last ↦
             let same : name ≡ other = ap (λ (k : Key). k.1) (let both : ◌≡◌ {A = Key} (project, name) (project, other) = cc in both) in
             subst (λ n. is_among (known ++ n ∷ []) other ≡ true) (sym same) (among_last known other)
       ]
 
-  pub names_once : (nodes : List (Expression M F Z)) (known names : List (List ℕ)) → AreOnce nodes → AreAmong nodes known → AreApart known names → AreOnce (properties_made project nodes names)
-  names_once nodes known [] once among apart = subst AreOnce (sym (append-nil nodes)) once
-  names_once nodes known (name ∷ names) once among apart =
+  pub names_once : (nodes : List (Expression M F Z)) (known names : List (List ℕ)) → AreOnce nodes → AreAmong nodes known → AreDistinct known names → AreOnce (properties_made project nodes names)
+  names_once nodes known [] once among separate = subst AreOnce (sym (append-nil nodes)) once
+  names_once nodes known (name ∷ names) once among separate =
       subst AreOnce (append_assoc nodes (own name ∷ []) (map own names))
       (names_once (nodes ++ own name ∷ []) (known ++ name ∷ []) names
-      (one_once nodes name once (λ x at. (let clash : true ≡ false = sym (among x name at) ∙ apart.0 in absurd (cc))))
-      (one_among nodes known name among) apart.1)
+      (one_once nodes name once (λ x at. (let clash : true ≡ false = sym (among x name at) ∙ separate.0 in absurd (cc))))
+      (one_among nodes known name among) separate.1)
 
 -- ---- The declaration of each name
 

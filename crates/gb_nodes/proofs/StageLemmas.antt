@@ -20,7 +20,7 @@ use Rattle.gb_declare.specs.Spots.{Spot}
 use Rattle.gb_nodes.specs.Grown.{IsGrown, IsRight}
 use Rattle.gb_nodes.specs.Nodes.{Made}
 use Rattle.gb_nodes.specs.Site.{Site}
-use Rattle.gb_nodes.proofs.GrownLemmas.{at_front}
+use Rattle.gb_nodes.proofs.GrownLemmas.{at_prefix}
 use Rattle.gb_nodes.proofs.KeyLemmas.{AreOnce, HasKeysOf, HasNoOutputs, Key, at_change, key_at, key_of, key_renamed, keys_changed, keys_grown, off_change, once_kept, outputs_none, unnamed_plain}
 use Rattle.gb_nodes.proofs.SaidLemmas.{IsLeft, IsUntouched, after, more, table_after, table_kept}
 
@@ -30,7 +30,7 @@ module _ {M F Z S A : Type 0} (tables : Tables M F Z S A) (source : Source) (all
   pub record IsStage (done : List Said) (number : ℕ → ℕ) (nodes : List (Expression M F Z)) : Type 0 where
     pub part : IsPartOf number nodes (table_after tables source all done)
     pub once : AreOnce nodes
-    pub behind : (x : ℕ) (e : Expression M F Z) → slice_get nodes x ≡ Some e → is_named (Some e) ≡ false → OperandsWithin x e
+    pub following : (x : ℕ) (e : Expression M F Z) → slice_get nodes x ≡ Some e → is_named (Some e) ≡ false → OperandsWithin x e
     pub none : HasNoOutputs nodes
 
   -- The same for more expressions, with the same numbers as before, and with no new properties.
@@ -44,7 +44,7 @@ module _ {M F Z S A : Type 0} (tables : Tables M F Z S A) (source : Source) (all
   -- one of them has this number in the whole
   pub record IsTreeStepped (done : List Said) (number : ℕ → ℕ) (nodes : List (Expression M F Z)) (target : ℕ) (made : Made M F Z ℕ) : Type 0 where
     pub steps : IsStepped done number nodes made.nodes
-    pub stands : steps.numbers made.place ≡ target
+    pub exists : steps.numbers made.place ≡ target
     pub within : made.place < length made.nodes
 
   pub then_stepped : (first second : List Said) (number : ℕ → ℕ) (nodes mid new : List (Expression M F Z)) (one : IsStepped first number nodes mid) → IsStepped second one.numbers mid new → IsStepped second number nodes new
@@ -76,23 +76,23 @@ module _ {M F Z S A : Type 0} (tables : Tables M F Z S A) (source : Source) (all
 
   module _ (done : List Said) (number : ℕ → ℕ) (nodes : List (Expression M F Z)) (stage : IsStage done number nodes) (target : ℕ) (made : Made M F Z ℕ)
       (grown : IsGrown (table_after tables source all done) number nodes target made) where
-    by_front : (P : ℕ → Expression M F Z → Type 0) → ((x : ℕ) (e : Expression M F Z) → slice_get nodes x ≡ Some e → P x e)
+    by_prefix : (P : ℕ → Expression M F Z → Type 0) → ((x : ℕ) (e : Expression M F Z) → slice_get nodes x ≡ Some e → P x e)
         → ((x : ℕ) (e : Expression M F Z) → length nodes ≤ x → slice_get made.nodes x ≡ Some e → P x e) → (x : ℕ) (e : Expression M F Z) → slice_get made.nodes x ≡ Some e → P x e
-    by_front P old new x e is =
+    by_prefix P old new x e is =
         elim (nat_lt x (length nodes)) as (λ b. nat_lt x (length nodes) ≡ b → P x e) [
-          | true ↦ λ here. old x e (sym (ap (λ l. slice_get l x) grown.front.1 ∙ at_front nodes grown.front.0 x (ltb-true x (length nodes) here)) ∙ is)
+          | true ↦ λ here. old x e (sym (ap (λ l. slice_get l x) grown.prefix.1 ∙ at_prefix nodes grown.prefix.0 x (ltb-true x (length nodes) here)) ∙ is)
           | false ↦ λ there. new x e (ltb-false x (length nodes) there) is
         ] refl
 
     grown_keys : HasKeysOf nodes made.nodes
-    grown_keys = keys_grown nodes made.nodes grown.front.0 grown.front.1 grown.plain
+    grown_keys = keys_grown nodes made.nodes grown.prefix.0 grown.prefix.1 grown.plain
 
     grown_stage : IsStage done grown.numbers made.nodes
     grown_stage = record {
       part = grown.part;
       once = once_kept nodes made.nodes grown_keys stage.once;
-      behind = by_front (λ x e. is_named (Some e) ≡ false → OperandsWithin x e) stage.behind (λ x e past is _. (grown.plain x e past is).1);
-      none = by_front (λ x e. IsNoOutput e) stage.none (λ x e past is. unnamed_plain e (grown.plain x e past is).0);
+      following = by_prefix (λ x e. is_named (Some e) ≡ false → OperandsWithin x e) stage.following (λ x e past is _. (grown.plain x e past is).1);
+      none = by_prefix (λ x e. IsNoOutput e) stage.none (λ x e past is. unnamed_plain e (grown.plain x e past is).0);
     }
 
     pub grown_steps : IsTreeStepped done number nodes target made
@@ -101,10 +101,10 @@ module _ {M F Z S A : Type 0} (tables : Tables M F Z S A) (source : Source) (all
         numbers = grown.numbers;
         stage = grown_stage;
         agrees = grown.agrees;
-        longer = omega (arith, ap length grown.front.1, length-append nodes grown.front.0);
+        longer = omega (arith, ap length grown.prefix.1, length-append nodes grown.prefix.0);
         keys = grown_keys;
       };
-      stands = grown.stands;
+      exists = grown.exists;
       within = grown.within;
     }
 
@@ -125,7 +125,7 @@ module _ {M F Z S A : Type 0} (tables : Tables M F Z S A) (source : Source) (all
           placed = λ chosen k is. (let clash : Some k ≡ None = sym is ∙ outputs_none nodes stage.none chosen in absurd (cc));
         };
         once = stage.once;
-        behind = stage.behind;
+        following = stage.following;
         none = stage.none;
       };
       agrees = λ i below. refl;
@@ -134,7 +134,7 @@ module _ {M F Z S A : Type 0} (tables : Tables M F Z S A) (source : Source) (all
     }
 
     -- one that changes a property
-    module _ (place : ℕ) (old new : Property) (stands : slice_get nodes place ≡ Some (OfProperty old)) (same_project : old.project ≡ project) (new_project : new.project ≡ old.project) (new_name : new.name ≡ old.name)
+    module _ (place : ℕ) (old new : Property) (exists : slice_get nodes place ≡ Some (OfProperty old)) (same_project : old.project ≡ project) (new_project : new.project ≡ old.project) (new_name : new.name ≡ old.name)
         (untouched : (name : List ℕ) → (name ≡ old.name → ⊥) → IsUntouched name statement) (within : OperandsWithin {M = M} {F = F} {Z = Z} (length nodes) (OfProperty new))
         (here : slice_get (table_after tables source all next) (number place) ≡ Some (renamed number (OfProperty new))) where
       abbrev changed : List (Expression M F Z)
@@ -144,28 +144,28 @@ module _ {M F Z S A : Type 0} (tables : Tables M F Z S A) (source : Source) (all
       same_key = ap (λ p. (p, old.name)) (sym new_project) ∙ ap (λ n. (new.project, n)) (sym new_name)
 
       changed_keys : HasKeysOf nodes changed
-      changed_keys = keys_changed nodes place old new stands same_key
+      changed_keys = keys_changed nodes place old new exists same_key
 
       -- the statement does not concern any other expression
       other_left : (x : ℕ) (e : Expression M F Z) → x ≢ place → slice_get nodes x ≡ Some e → IsLeft tables source all done project statement (renamed number e)
       other_left x e other is name key = untouched name (λ same.
           let there : key_at nodes x ≡ Some (project, name) = ap key_of is ∙ sym (key_renamed number e) ∙ key in
-          let old_key : key_at nodes place ≡ Some (project, name) = ap key_of stands ∙ ap (λ p. Some (p, old.name)) same_project ∙ ap (λ n. Some (project, n)) (sym same) in
+          let old_key : key_at nodes place ≡ Some (project, name) = ap key_of exists ∙ ap (λ p. Some (p, old.name)) same_project ∙ ap (λ n. Some (project, n)) (sym same) in
           other (stage.once x place (project, name) there old_key))
 
-      apart : (x : ℕ) → (x == place) ≡ false → x ≢ place
-      apart x there is = let clash : true ≡ false = sym (eq-eqb x place is) ∙ there in absurd (cc)
+      separate : (x : ℕ) → (x == place) ≡ false → x ≢ place
+      separate x there is = let clash : true ≡ false = sym (eq-eqb x place is) ∙ there in absurd (cc)
 
       changed_copied : (x : ℕ) (e : Expression M F Z) → slice_get changed x ≡ Some e → slice_get (table_after tables source all next) (number x) ≡ Some (renamed number e)
       changed_copied x e is =
           elim (x == place) as (λ b. (x == place) ≡ b → slice_get (table_after tables source all next) (number x) ≡ Some (renamed number e)) [
             | true ↦ λ same.
                 let at : x ≡ place = eqb-true x place same in
-                let e_is : Some e ≡ Some (OfProperty new) = sym is ∙ ap (slice_get changed) at ∙ at_change nodes place old new stands in
+                let e_is : Some e ≡ Some (OfProperty new) = sym is ∙ ap (slice_get changed) at ∙ at_change nodes place old new exists in
                 ap (λ i. slice_get (table_after tables source all next) (number i)) at ∙ here ∙ ap (λ o. option_map (renamed number) o) (sym e_is)
             | false ↦ λ there.
-                let stood : slice_get nodes x ≡ Some e = sym (off_change nodes place old new stands x (apart x there)) ∙ is in
-                table_kept tables source all done project statement (number x) (renamed number e) (stage.part.copied x e stood) (other_left x e (apart x there) stood)
+                let existed : slice_get nodes x ≡ Some e = sym (off_change nodes place old new exists x (separate x there)) ∙ is in
+                table_kept tables source all done project statement (number x) (renamed number e) (stage.part.copied x e existed) (other_left x e (separate x there) existed)
           ] refl
 
       by_place : (P : ℕ → Expression M F Z → Type 0) → P place (OfProperty new) → ((x : ℕ) (e : Expression M F Z) → slice_get nodes x ≡ Some e → P x e) → (x : ℕ) (e : Expression M F Z) → slice_get changed x ≡ Some e → P x e
@@ -173,9 +173,9 @@ module _ {M F Z S A : Type 0} (tables : Tables M F Z S A) (source : Source) (all
           elim (x == place) as (λ b. (x == place) ≡ b → P x e) [
             | true ↦ λ same.
                 let at : x ≡ place = eqb-true x place same in
-                let e_is : OfProperty new ≡ e = (let both : Some (OfProperty new) ≡ Some e = sym (ap (slice_get changed) at ∙ at_change nodes place old new stands) ∙ is in cc) in
+                let e_is : OfProperty new ≡ e = (let both : Some (OfProperty new) ≡ Some e = sym (ap (slice_get changed) at ∙ at_change nodes place old new exists) ∙ is in cc) in
                 subst (λ i. P i e) (sym at) (subst (P place) e_is at_place)
-            | false ↦ λ there. others x e (sym (off_change nodes place old new stands x (apart x there)) ∙ is)
+            | false ↦ λ there. others x e (sym (off_change nodes place old new exists x (separate x there)) ∙ is)
           ] refl
 
       changed_none : HasNoOutputs changed
@@ -191,7 +191,7 @@ module _ {M F Z S A : Type 0} (tables : Tables M F Z S A) (source : Source) (all
             placed = λ chosen k is. (let clash : Some k ≡ None = sym is ∙ outputs_none changed changed_none chosen in absurd (cc));
           };
           once = once_kept nodes changed changed_keys stage.once;
-          behind = by_place (λ x e. is_named (Some e) ≡ false → OperandsWithin x e) (λ clash. absurd (cc)) stage.behind;
+          following = by_place (λ x e. is_named (Some e) ≡ false → OperandsWithin x e) (λ clash. absurd (cc)) stage.following;
           none = changed_none;
         };
         agrees = λ i below. refl;

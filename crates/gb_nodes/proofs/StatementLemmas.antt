@@ -31,10 +31,10 @@ use Rattle.gb_nodes.specs.Site.{Site, property_node}
 use Rattle.gb_nodes.specs.Statements.{change_faults, final_faults, property_faults, statement_faults, statement_made, with_change, with_property}
 use Rattle.gb_nodes.specs.Wrong.{known_faults, making_faults}
 use Rattle.gb_nodes.proofs.FoundLemmas.{HasNodesOf, among_if_none, made_good, nil_both}
-use Rattle.gb_nodes.proofs.GrownLemmas.{all_front, trees_grow_so}
-use Rattle.gb_registry.proofs.Fine.{nil_back, nil_front}
-use Rattle.gb_nodes.proofs.PlacedLemmas.{IsAmong, parts_stand, written_stands}
-use Rattle.gb_nodes.proofs.SaidLemmas.{IsUntouched, after, bytes_apart, more, place, property_after, property_more, property_with, same_bytes, says, script_more, table_after}
+use Rattle.gb_nodes.proofs.GrownLemmas.{all_prefix, trees_grow_so}
+use Rattle.gb_registry.proofs.Fine.{nil_back, nil_prefix}
+use Rattle.gb_nodes.proofs.PlacedLemmas.{IsAmong, parts_in_table, written_exists}
+use Rattle.gb_nodes.proofs.SaidLemmas.{IsUntouched, after, bytes_distinct, more, place, property_after, property_more, property_with, same_bytes, says, script_more, table_after}
 use Rattle.gb_nodes.proofs.StageLemmas.{IsSite, IsStage, IsStepped, IsTreeStepped, changed_steps, grown_steps, left_steps, site_moves, then_stepped}
 
 -- ---- Properties under other numbers
@@ -64,31 +64,31 @@ module _ {M F Z : Type 0} where
   -- the node holds a property, which under other numbers is this one
   record IsHeldAs (number : ℕ → ℕ) (nodes : List (Expression M F Z)) (p : Property) (at : ℕ) : Type 0 where
     pub old : Property
-    pub stands : slice_get nodes at ≡ Some (OfProperty old)
+    pub exists : slice_get nodes at ≡ Some (OfProperty old)
     pub is : renamed_in number old ≡ p
 
   held_as : (number : ℕ → ℕ) (nodes : List (Expression M F Z)) (p : Property) (at : ℕ) (e : Expression M F Z) → slice_get nodes at ≡ Some e → Some (renamed number e) ≡ Some (OfProperty p) → IsHeldAs number nodes p at
-  held_as number nodes p at e stands whole =
+  held_as number nodes p at e exists whole =
       let same : renamed number e ≡ OfProperty p = cc in
       let found = from_renamed number e p same in
-      record { old = found.0; stands = stands ∙ ap Some found.1; is = found.2 }
+      record { old = found.0; exists = exists ∙ ap Some found.1; is = found.2 }
 
   -- what is below the length is in the whole
   below_held : (number : ℕ → ℕ) (nodes whole : List (Expression M F Z)) → IsPartOf number nodes whole → (at : ℕ) → at < length nodes
       → (e : Expression M F Z) × (slice_get nodes at ≡ Some e) × (slice_get whole (number at) ≡ Some (renamed number e))
   below_held number nodes whole part at below =
-      let stands = slice_get-get_or nodes at (Constant None) below in
-      (get_or nodes at (Constant None), stands, part.copied at (get_or nodes at (Constant None)) stands)
+      let exists = slice_get-get_or nodes at (Constant None) below in
+      (get_or nodes at (Constant None), exists, part.copied at (get_or nodes at (Constant None)) exists)
 
   -- ---- A change of a property that takes it
 
   open_is : (change : Change) (nodes : List (Expression M F Z)) (at : ℕ) (old : Property) → slice_get nodes at ≡ Some (OfProperty old) → takes change old.is_final ≡ true
       → open_property change (slice_get nodes at) ≡ Some old
-  open_is change nodes at old stands taken = ap (open_property change) stands ∙ ap (if_taken old) taken
+  open_is change nodes at old exists taken = ap (open_property change) exists ∙ ap (if_taken old) taken
 
   change_made : (change : Change) (nodes : List (Expression M F Z)) (at : ℕ) (old : Property) → slice_get nodes at ≡ Some (OfProperty old) → takes change old.is_final ≡ true
       → with_change change nodes at ≡ slice_set nodes at (OfProperty (changed change old))
-  change_made change nodes at old stands taken = ap (with_property change nodes at) (open_is change nodes at old stands taken)
+  change_made change nodes at old exists taken = ap (with_property change nodes at) (open_is change nodes at old exists taken)
 
 -- the operands of a property are among the first n
 abbrev AreOperands : ℕ → Property → Type 0
@@ -140,7 +140,7 @@ module _ {M F Z S A : Type 0} (tables : Tables M F Z S A) (source : Source) (all
         let here = below_held number nodes (table_after tables source all done) stage.part known.node.number (right.there name known.node known.found) in
         held_as number nodes p known.node.number here.0 here.1
         (sym here.2 ∙ ap (slice_get (table_after tables source all done)) (right.named name known.node known.found)
-        ∙ written_stands tables (after tables source all done) all site.project (PropertyOf name) [] known.among)
+        ∙ written_exists tables (after tables source all done) all site.project (PropertyOf name) [] known.among)
 
     -- ---- A statement that changes a property
 
@@ -171,35 +171,35 @@ module _ {M F Z S A : Type 0} (tables : Tables M F Z S A) (source : Source) (all
             ∙ sym (property_more tables source all site.project name own statement)
             ∙ ap (property_after tables source all site.project name) (sym (script_more done site.project statement))
 
-        stands_next : slice_get (table_after tables source all next) (number known.node.number) ≡ Some (renamed number (OfProperty new))
-        stands_next =
+        exists_next : slice_get (table_after tables source all next) (number known.node.number) ≡ Some (renamed number (OfProperty new))
+        exists_next =
             ap (slice_get (table_after tables source all next)) (right.named name known.node known.found)
-            ∙ written_stands tables (after tables source all next) all site.project (PropertyOf name) [] known.among
+            ∙ written_exists tables (after tables source all next) all site.project (PropertyOf name) [] known.among
             ∙ ap (λ p. Some (OfProperty p)) (sym new_is)
 
         old_within : AreOperands (length nodes) here.old
         old_within =
             let at = known.node.number in
             let e : Expression M F Z = OfProperty here.old in
-            subst (OperandsWithin (length nodes)) (get_or_from_slice_get nodes at e e here.stands) (stage.part.within at e (slice_get_within nodes at e here.stands))
+            subst (OperandsWithin (length nodes)) (get_or_from_slice_get nodes at e e here.exists) (stage.part.within at e (slice_get_within nodes at e here.exists))
 
         stepped : IsStepped tables source all next number nodes (slice_set nodes known.node.number (OfProperty new))
         stepped =
-            changed_steps tables source all done site.project statement number nodes stage known.node.number here.old new here.stands
+            changed_steps tables source all done site.project statement number nodes stage known.node.number here.old new here.exists
             (ap (λ (p : Property). p.project) here.is) (same_project change here.old) (same_name change here.old)
-            (λ other apart. untouched other (λ same. apart (same ∙ sym (ap (λ (p : Property). p.name) here.is))))
-            (operands_changed (length nodes) change here.old within old_within) stands_next
+            (λ other separate. untouched other (λ same. separate (same ∙ sym (ap (λ (p : Property). p.name) here.is))))
+            (operands_changed (length nodes) change here.old within old_within) exists_next
 
         change_steps : IsStepped tables source all next number nodes (with_change change nodes (number_in (property_node site name)))
         change_steps =
             subst (IsStepped tables source all next number nodes)
-            (sym (ap (λ o. with_change change nodes (number_in o)) known.found ∙ change_made change nodes known.node.number here.old here.stands said.taken)) stepped
+            (sym (ap (λ o. with_change change nodes (number_in o)) known.found ∙ change_made change nodes known.node.number here.old here.exists said.taken)) stepped
 
         change_good : property_faults tables.means tables.functions site change nodes name ≡ []
         change_good =
             nil_both (known_faults name (property_node site name)) (change_faults change nodes (number_in (property_node site name)) name)
             (ap (known_faults name) known.found)
-            (ap (λ o. change_faults change nodes (number_in o) name) known.found ∙ ap (final_faults name) (open_is change nodes known.node.number here.old here.stands said.taken))
+            (ap (λ o. change_faults change nodes (number_in o) name) known.found ∙ ap (final_faults name) (open_is change nodes known.node.number here.old here.exists said.taken))
 
     -- a property that no statement makes final accepts a change
     is_open : (name : List ℕ) (known : IsKnown name) → list_any (finalizes name) own ≡ false → (held name known).old.is_final ≡ false
@@ -211,28 +211,28 @@ module _ {M F Z S A : Type 0} (tables : Tables M F Z S A) (source : Source) (all
 -- ---- What statements do not concern
 
 set_untouched : (a : Assignment) (other : List ℕ) → (other ≡ a.name → ⊥) → IsUntouched other (statements.Set a)
-set_untouched a other apart = record {
-  set = λ before. ap (λ b. cond b (Some a.value) before) (bytes_apart a.name other (λ same. apart (sym same)));
+set_untouched a other separate = record {
+  set = λ before. ap (λ b. cond b (Some a.value) before) (bytes_distinct a.name other (λ same. separate (sym same)));
   convention = λ before. refl;
   final = refl;
 }
 
 convention_untouched : (a : Assignment) (other : List ℕ) → (other ≡ a.name → ⊥) → IsUntouched other (statements.Convention a)
-convention_untouched a other apart = record {
+convention_untouched a other separate = record {
   set = λ before. refl;
-  convention = λ before. ap (λ b. cond b (Some a.value) before) (bytes_apart a.name other (λ same. apart (sym same)));
+  convention = λ before. ap (λ b. cond b (Some a.value) before) (bytes_distinct a.name other (λ same. separate (sym same)));
   final = refl;
 }
 
 unset_untouched : (name other : List ℕ) → (other ≡ name → ⊥) → IsUntouched other (statements.Unset name)
-unset_untouched name other apart = record {
-  set = λ before. ap (λ b. cond b None before) (bytes_apart name other (λ same. apart (sym same)));
+unset_untouched name other separate = record {
+  set = λ before. ap (λ b. cond b None before) (bytes_distinct name other (λ same. separate (sym same)));
   convention = λ before. refl;
   final = refl;
 }
 
 final_untouched : (name other : List ℕ) → (other ≡ name → ⊥) → IsUntouched other (statements.DisallowChanges name)
-final_untouched name other apart = record { set = λ before. refl; convention = λ before. refl; final = bytes_apart other name apart }
+final_untouched name other separate = record { set = λ before. refl; convention = λ before. refl; final = bytes_distinct other name separate }
 
 or_none : (b : Bool) → (b || (false || false)) ≡ b
 or_none true = refl
@@ -260,7 +260,7 @@ module _ {M F Z S A : Type 0} (tables : Tables M F Z S A) (source : Source) (all
 
     unset_done : (name : List ℕ) → configured.change_faults own_script name ≡ [] → IsDone (statements.Unset name) number nodes
     unset_done name none =
-        let known = knows name (among_if_none (is_among (filter_map declared_property own_script) name) _ (nil_front (reported.property_faults (filter_map declared_property own_script) name) _ none)) in
+        let known = knows name (among_if_none (is_among (filter_map declared_property own_script) name) _ (nil_prefix (reported.property_faults (filter_map declared_property own_script) name) _ none)) in
         let free = not_final (list_any (finalizes name) own_script) _ (nil_back (reported.property_faults (filter_map declared_property own_script) name) _ none) in
         let h = held tables source all site done number nodes stage right name known in
         let untouched = unset_untouched name in
@@ -307,14 +307,14 @@ module _ {M F Z S A : Type 0} (tables : Tables M F Z S A) (source : Source) (all
       tree_steps =
           grown_steps tables source all done number nodes stage (place tables source all site.project tree) made
           (trees_grow_so tables (after tables source all done) all (table_after tables source all done) number nodes site tree stage.part right
-          (parts_stand tables (after tables source all done) all site.project tree among) tree_good)
+          (parts_in_table tables (after tables source all done) all site.project tree among) tree_good)
 
       tree_right : IsSite tables source all done tree_steps.steps.numbers made.nodes site
       tree_right = site_moves tables source all done done number tree_steps.steps.numbers nodes made.nodes site tree_steps.steps.agrees tree_steps.steps.longer right
 
       module _ (name : List ℕ) (none : configured.change_faults own_script name ≡ []) where
         known_here : IsKnown tables source all site name
-        known_here = knows name (among_if_none (is_among (filter_map declared_property own_script) name) _ (nil_front (reported.property_faults (filter_map declared_property own_script) name) _ none))
+        known_here = knows name (among_if_none (is_among (filter_map declared_property own_script) name) _ (nil_prefix (reported.property_faults (filter_map declared_property own_script) name) _ none))
 
         free_here : list_any (finalizes name) own_script ≡ false
         free_here = not_final (list_any (finalizes name) own_script) _ (nil_back (reported.property_faults (filter_map declared_property own_script) name) _ none)
@@ -333,7 +333,7 @@ module _ {M F Z S A : Type 0} (tables : Tables M F Z S A) (source : Source) (all
         let change = SetFrom mid.place in
         let said : IsAsSaid tables source all site done grown.steps.numbers mid.nodes mid_stage mid_right statement a.name known change grown.within (set_untouched a) = record {
           taken = ap not (is_open tables source all site done grown.steps.numbers mid.nodes mid_stage mid_right a.name known (free_here a.value fine among a.name none));
-          set = ap (λ k. Some (Followed k)) grown.stands ∙ ap (λ b. option_map (λ tree. Followed (place tables source all site.project tree)) (cond b (Some a.value) (fold (set_after a.name) None own_script))) (sym (same_bytes a.name));
+          set = ap (λ k. Some (Followed k)) grown.exists ∙ ap (λ b. option_map (λ tree. Followed (place tables source all site.project tree)) (cond b (Some a.value) (fold (set_after a.name) None own_script))) (sym (same_bytes a.name));
           convention = ap (λ (p : Property). p.convention) h.is;
           final = set_as_said tables source all site done grown.steps.numbers mid.nodes mid_stage mid_right a.name known ∙ sym (or_none (list_any (finalizes a.name) own_script));
         } in
@@ -359,7 +359,7 @@ module _ {M F Z S A : Type 0} (tables : Tables M F Z S A) (source : Source) (all
         let said : IsAsSaid tables source all site done grown.steps.numbers mid.nodes mid_stage mid_right statement a.name known change grown.within (convention_untouched a) = record {
           taken = ap not (is_open tables source all site done grown.steps.numbers mid.nodes mid_stage mid_right a.name known (free_here a.value fine among a.name none));
           set = ap (λ (p : Property). p.setting) h.is;
-          convention = ap Some grown.stands ∙ ap (λ b. option_map (λ tree. place tables source all site.project tree) (cond b (Some a.value) (fold (convention_after a.name) None own_script))) (sym (same_bytes a.name));
+          convention = ap Some grown.exists ∙ ap (λ b. option_map (λ tree. place tables source all site.project tree) (cond b (Some a.value) (fold (convention_after a.name) None own_script))) (sym (same_bytes a.name));
           final = set_as_said tables source all site done grown.steps.numbers mid.nodes mid_stage mid_right a.name known ∙ sym (or_none (list_any (finalizes a.name) own_script));
         } in
         record {
@@ -384,9 +384,9 @@ module _ {M F Z S A : Type 0} (tables : Tables M F Z S A) (source : Source) (all
     pub statement_done : (statement : Statement) → configured.statement_faults tables done (says site.project statement) ≡ [] → AllByRecursion (IsAmong all) (statement_spots (says site.project statement))
         → IsDone statement number nodes
     statement_done (statements.Set a) none among =
-        set_done a (nil_front (configured.change_faults own_script a.name) _ none) (nil_back (configured.change_faults own_script a.name) _ none) (all_front (IsAmong all) (parts site.project a.value) [] among)
+        set_done a (nil_prefix (configured.change_faults own_script a.name) _ none) (nil_back (configured.change_faults own_script a.name) _ none) (all_prefix (IsAmong all) (parts site.project a.value) [] among)
     statement_done (statements.Convention a) none among =
-        convention_done a (nil_front (configured.change_faults own_script a.name) _ none) (nil_back (configured.change_faults own_script a.name) _ none) (all_front (IsAmong all) (parts site.project a.value) [] among)
+        convention_done a (nil_prefix (configured.change_faults own_script a.name) _ none) (nil_back (configured.change_faults own_script a.name) _ none) (all_prefix (IsAmong all) (parts site.project a.value) [] among)
     statement_done (statements.Unset name) none among = unset_done name none
     statement_done (statements.DisallowChanges name) none among = final_done name none
     statement_done (statements.Property name) none among = left_done (statements.Property name) (plain_untouched (statements.Property name) (λ n b. refl) (λ n b. refl) (λ n. refl)) refl refl

@@ -7,8 +7,8 @@ use Rattle.gb_provider.specs.declared.expression.Property.{Property}
 use Rattle.gb_declare.specs.Partly.{IsPartOf, renamed}
 
 -- no other of the first n has the same number
-abbrev pub IsApart : (ℕ → ℕ) → ℕ → ℕ → Type 0
-IsApart number n place = (i : ℕ) → i < n → number i ≡ number place → i ≡ place
+abbrev pub IsDistinct : (ℕ → ℕ) → ℕ → ℕ → Type 0
+IsDistinct number n place = (i : ℕ) → i < n → number i ≡ number place → i ≡ place
 
 -- A part of a table stays a part where a property of it, under a number of its own, is changed in both.
 abbrev pub ChangesKeepParts : Type 0 → Type 0 → Type 0 → Type 0
@@ -17,6 +17,6 @@ ChangesKeepParts M F Z =
     → IsPartOf number part whole
     → slice_get part place ≡ Some (OfProperty old)
     → OperandsWithin {M = M} {F = F} {Z = Z} (length part) (OfProperty new)
-    → IsApart number (length part) place
+    → IsDistinct number (length part) place
     → IsPartOf number (slice_set part place (OfProperty new))
     (slice_set whole (number place) (renamed number (OfProperty new)))

@@ -26,7 +26,7 @@ module _ {M F Z S A : Type 0} (tables : Tables M F Z S A) (source : Source) wher
       pub part : IsPartOf number nodes (whole tables source)
       pub once : (x y : ℕ) → is_named (slice_get nodes x) ≡ true → y < length nodes → number x ≡ number y
           → x ≡ y
-      pub behind : (x : ℕ) (e : Expression M F Z) → slice_get nodes x ≡ Some e → is_named (Some e) ≡ false
+      pub following : (x : ℕ) (e : Expression M F Z) → slice_get nodes x ≡ Some e → is_named (Some e) ≡ false
           → OperandsWithin x e
 
     -- The table contains everything that the scripts declare, including each output.

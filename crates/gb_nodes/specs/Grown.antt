@@ -41,9 +41,9 @@ module _ {M F Z : Type 0} (whole : List (Expression M F Z)) where
     pub numbers : ℕ → ℕ
     pub part : IsPartOf numbers made.nodes whole
     pub agrees : (i : ℕ) → i < length nodes → numbers i ≡ number i
-    pub front : (rest : List (Expression M F Z)) × (made.nodes ≡ nodes ++ rest)
+    pub prefix : (rest : List (Expression M F Z)) × (made.nodes ≡ nodes ++ rest)
     pub within : made.place < length made.nodes
-    pub stands : numbers made.place ≡ target
+    pub exists : numbers made.place ≡ target
     pub plain : (x : ℕ) (e : Expression M F Z) → length nodes ≤ x → slice_get made.nodes x ≡ Some e
         → IsPlain x e
 
@@ -53,17 +53,17 @@ module _ {M F Z : Type 0} (whole : List (Expression M F Z)) where
     pub numbers : ℕ → ℕ
     pub part : IsPartOf numbers made.nodes whole
     pub agrees : (i : ℕ) → i < length nodes → numbers i ≡ number i
-    pub front : (rest : List (Expression M F Z)) × (made.nodes ≡ nodes ++ rest)
+    pub prefix : (rest : List (Expression M F Z)) × (made.nodes ≡ nodes ++ rest)
     pub within : AllByRecursion (λ i. i < length made.nodes) made.place
-    pub stands : map numbers made.place ≡ targets
+    pub exists : map numbers made.place ≡ targets
     pub plain : (x : ℕ) (e : Expression M F Z) → length nodes ≤ x → slice_get made.nodes x ≡ Some e
         → IsPlain x e
 
 module _ {M F Z S A : Type 0} (tables : Tables M F Z S A) (source : Source) (all : List Spot)
     (whole : List (Expression M F Z)) where
   -- unless it is a property, the expression of a spot is in the table under the number of the spot
-  abbrev pub Stands : Spot → Type 0
-  Stands spot = is_property spot ≡ false
+  abbrev pub IsInTable : Spot → Type 0
+  IsInTable spot = is_property spot ≡ false
       → slice_get whole (number_of tables source all spot) ≡ Some (expression_at tables source all spot)
 
   -- In a table that is a part of the whole the site of a project is right: its build folder, the values given
@@ -82,7 +82,7 @@ module _ {M F Z S A : Type 0} (tables : Tables M F Z S A) (source : Source) (all
   TreesGrow =
       (number : ℕ → ℕ) (nodes : List (Expression M F Z)) (site : Site) (tree : Tree)
       → IsPartOf number nodes whole
-      → IsRight number nodes site → AllByRecursion Stands (parts site.project tree)
+      → IsRight number nodes site → AllByRecursion IsInTable (parts site.project tree)
       → making_faults tables.means tables.functions site tree ≡ []
       → IsGrown whole number nodes (number_of tables source all (spot_of site.project tree))
       (tree_made tables.functions site nodes tree)
@@ -92,7 +92,7 @@ module _ {M F Z S A : Type 0} (tables : Tables M F Z S A) (source : Source) (all
   RowsGrow =
       (number : ℕ → ℕ) (nodes : List (Expression M F Z)) (site : Site) (row : List Tree)
       → IsPartOf number nodes whole
-      → IsRight number nodes site → AllByRecursion Stands (flat_map (parts site.project) row)
+      → IsRight number nodes site → AllByRecursion IsInTable (flat_map (parts site.project) row)
       → found_in_all (root_faults site) (link_faults tables.means tables.functions) (trees_of row) ≡ []
       → IsRowGrown whole number nodes
       (map (λ tree. number_of tables source all (spot_of site.project tree)) row)

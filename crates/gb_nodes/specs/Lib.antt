@@ -7,4 +7,4 @@ pub mod Changing
 pub mod Scripts
 pub mod Laid
 pub mod Complete
-pub mod Standing
+pub mod InTable

@@ -72,8 +72,8 @@ abbrev pub list_made : {M F Z : Type 0} → Made M F Z (List ℕ) → Made M F Z
 list_made row = added row.nodes (Listed row.place)
 
 -- one element more
-abbrev pub behind : {M F Z : Type 0} → List ℕ → Made M F Z ℕ → Made M F Z (List ℕ)
-behind numbers element = record { nodes = element.nodes; place = numbers ++ element.place ∷ [] }
+abbrev pub following : {M F Z : Type 0} → List ℕ → Made M F Z ℕ → Made M F Z (List ℕ)
+following numbers element = record { nodes = element.nodes; place = numbers ++ element.place ∷ [] }
 
 module _ {M F Z S : Type 0} (functions : Table M F Z S) (site : Site) where
   abbrev mutual
@@ -95,7 +95,7 @@ module _ {M F Z S : Type 0} (functions : Table M F Z S) (site : Site) where
     -- these elements after others
     pub trees_made : Made M F Z (List ℕ) → Trees → Made M F Z (List ℕ)
     trees_made row NoTree = row
-    trees_made row (AndTree tree trees) = trees_made (behind row.place (tree_made row.nodes tree)) trees
+    trees_made row (AndTree tree trees) = trees_made (following row.place (tree_made row.nodes tree)) trees
 
     -- steps after an expression
     pub links_made : Made M F Z ℕ → Links → Made M F Z ℕ

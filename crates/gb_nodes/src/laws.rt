@@ -7,7 +7,7 @@ ghost use Rattle.gb_declare.specs.Spots.{Spot};
 ghost use Rattle.gb_nodes.specs.Changing.{ChangesKeepParts};
 ghost use Rattle.gb_nodes.specs.Grown.{RowsGrow, TreesGrow};
 ghost use Rattle.gb_nodes.specs.Laid.{ScriptsAreLaid};
-ghost use Rattle.gb_nodes.specs.Standing.{BuildsArePlaces, ScriptsAreGood, ScriptsStand};
+ghost use Rattle.gb_nodes.specs.InTable.{BuildsArePlaces, ScriptsAreGood, ScriptsInTable};
 
 use gb_action::actions::Actions;
 use gb_provider::transforms::Transforms;
@@ -41,9 +41,9 @@ pub fn changes_keep_parts<T: Transforms>()
 
 /// If no statement is at fault, the nodes that scripts make, one after another, are in the whole
 /// table, and the site of the expressions of each of their projects is right.
-pub fn scripts_stand<A: Actions, T: Transforms>()
+pub fn scripts_in_table<A: Actions, T: Transforms>()
     ensures { (tables : Tables T.Map T.FlatMap T.Zip T.Test A.Stored) (source : Source)
-        → ScriptsStand tables source }
+        → ScriptsInTable tables source }
 {}
 
 /// Where no statement is at fault, the nodes of all statements are made without a fault, unless the

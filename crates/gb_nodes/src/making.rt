@@ -1,6 +1,6 @@
 //! The nodes of expressions.
 ghost use Rattle.std.specs.Prelude.{◌≡◌, ◌<◌, [], IfOk, length, map};
-ghost use Rattle.gb_registry.specs.Faults.{TellsFirst};
+ghost use Rattle.gb_registry.specs.Faults.{ReportsFirst};
 ghost use Rattle.gb_registry.specs.Wrong.{found_along, found_at, found_by, found_in_all};
 ghost use Rattle.gb_script.specs.Tree.{links_of, trees_of};
 ghost use Rattle.gb_script.specs.View.{link_of, root_of};
@@ -33,7 +33,7 @@ pub fn add_tree<T: Transforms>(
     requires { AreThere (site_of site.now) (length providers.old.nodes) }
     ensures made { IfOk result (λ node. IsMade providers.old providers.new
         (tree_made providers.old.table (site_of site.now) providers.old.nodes tree.now) node) }
-    ensures faults { TellsFirst
+    ensures faults { ReportsFirst
         (making_faults T.meanings providers.old.table (site_of site.now) tree.now) result }
 {
     let source = add_root(alloc, providers, site, tree.source())?;
@@ -50,7 +50,7 @@ fn add_root<T: Transforms>(
     requires { AreThere (site_of site.now) (length providers.old.nodes) }
     ensures made { IfOk result (λ node. IsMade providers.old providers.new
         (root_made providers.old.table (site_of site.now) providers.old.nodes (root_of source.now)) node) }
-    ensures faults { TellsFirst (found_at (root_faults (site_of site.now))
+    ensures faults { ReportsFirst (found_at (root_faults (site_of site.now))
         (link_faults T.meanings providers.old.table) (root_of source.now)) result }
 {
     match source {
@@ -74,7 +74,7 @@ fn add_trees<T: Transforms>(
     ensures made { IfOk result (λ row. AreMade providers.old providers.new
         (trees_made providers.old.table (site_of site.now)
         (record { nodes = providers.old.nodes; place = [] }) (trees_of trees.now)) row.items) }
-    ensures faults { TellsFirst (found_in_all (root_faults (site_of site.now))
+    ensures faults { ReportsFirst (found_in_all (root_faults (site_of site.now))
         (link_faults T.meanings providers.old.table) (trees_of trees.now)) result }
 {
     let mut row = Vec::new(alloc);
@@ -100,7 +100,7 @@ fn add_steps<T: Transforms>(
         (links_made providers.old.table (site_of site.now)
         (record { nodes = providers.old.nodes; place = source.number }) (links_of (map link_of steps.now)))
         node) }
-    ensures faults { TellsFirst (found_along (root_faults (site_of site.now))
+    ensures faults { ReportsFirst (found_along (root_faults (site_of site.now))
         (link_faults T.meanings providers.old.table) (links_of (map link_of steps.now))) result }
 {
     let mut node = source;
@@ -124,7 +124,7 @@ fn add_step<T: Transforms>(
     ensures made { IfOk result (λ made. IsMade providers.old providers.new
         (link_made providers.old.table (site_of site.now) providers.old.nodes node.number
         (link_of step.now)) made) }
-    ensures faults { TellsFirst (found_by (root_faults (site_of site.now))
+    ensures faults { ReportsFirst (found_by (root_faults (site_of site.now))
         (link_faults T.meanings providers.old.table) (link_of step.now)) result }
 {
     match step {

@@ -1,6 +1,6 @@
 //! The nodes of expressions in a row.
 ghost use Rattle.std.specs.Prelude.{◌≡◌, [], IfOk, length};
-ghost use Rattle.gb_registry.specs.Faults.{TellsFirst};
+ghost use Rattle.gb_registry.specs.Faults.{ReportsFirst};
 ghost use Rattle.gb_registry.specs.Wrong.{found_in_all};
 ghost use Rattle.gb_script.specs.Tree.{trees_of};
 ghost use Rattle.gb_declare.specs.Borrowed.{now_of};
@@ -32,7 +32,7 @@ pub(crate) fn add_each<T: Transforms>(
     ensures made { IfOk result (λ row. AreMade providers.old providers.new
         (trees_made providers.old.table (site_of site.now)
         (record { nodes = providers.old.nodes; place = [] }) (trees_of (now_of trees.now))) row.items) }
-    ensures faults { TellsFirst (found_in_all (root_faults (site_of site.now))
+    ensures faults { ReportsFirst (found_in_all (root_faults (site_of site.now))
         (link_faults T.meanings providers.old.table) (trees_of (now_of trees.now))) result }
 {
     let mut row = Vec::new(alloc);
@@ -56,7 +56,7 @@ pub fn add_task<T: Transforms>(
         (trees_made providers.old.table (site_of site.now)
         (record { nodes = providers.old.nodes; place = [] })
         (trees_of (expressions_of (joined_of task.now)))) row.items) }
-    ensures faults { TellsFirst (found_in_all (root_faults (site_of site.now))
+    ensures faults { ReportsFirst (found_in_all (root_faults (site_of site.now))
         (link_faults T.meanings providers.old.table)
         (trees_of (expressions_of (joined_of task.now)))) result }
 {

@@ -1,6 +1,6 @@
 //! The nodes of scripts.
 ghost use Rattle.std.specs.Prelude.{◌≡◌, ◌++◌, [], IfOk, OnOk, filter_map, length};
-ghost use Rattle.gb_registry.specs.Faults.{TellsFirst};
+ghost use Rattle.gb_registry.specs.Faults.{ReportsFirst};
 ghost use Rattle.gb_registry.specs.Said.{declared_property};
 ghost use Rattle.gb_declare.specs.Whole.{build_folder};
 ghost use Rattle.gb_nodes.specs.Scripts.{build_faults, laid_site, script_faults, script_made, script_site};
@@ -34,7 +34,7 @@ pub struct Laid {
 /// The build folder of a project. Refused where it is no place (57).
 fn build_of(alloc: Global, project: &Project) -> Result<Place, Fault>
     ensures place { IfOk result (λ place. place ≡ build_folder project.now) }
-    ensures faults { TellsFirst (build_faults project.now) result }
+    ensures faults { ReportsFirst (build_faults project.now) result }
 {
     match Place::join(alloc, project.folder(), "build") {
         Ok(place) => Ok(place),
@@ -56,7 +56,7 @@ fn run_script<T: Transforms>(
     ensures made { OnOk result (IsRun providers.old providers.new (statements_made providers.old.table
         (laid_site scripted.now.project laid.now given.now.entries)
         providers.old.nodes scripted.now.script)) }
-    ensures faults { TellsFirst (statements_faults T.meanings providers.old.table
+    ensures faults { ReportsFirst (statements_faults T.meanings providers.old.table
         (laid_site scripted.now.project laid.now given.now.entries)
         providers.old.nodes scripted.now.script) result }
 {
@@ -82,7 +82,7 @@ pub fn add_script<T: Transforms>(
         scripted.now.script) }
     ensures made { IfOk result (λ _. IsRun providers.old providers.new (script_made providers.old.table
         scripted.now.project given.now.entries providers.old.nodes scripted.now.script)) }
-    ensures faults { TellsFirst (script_faults T.meanings providers.old.table
+    ensures faults { ReportsFirst (script_faults T.meanings providers.old.table
         scripted.now.project given.now.entries providers.old.nodes scripted.now.script) result }
 {
     let build = build_of(alloc, &scripted.project)?;

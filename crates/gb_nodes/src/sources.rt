@@ -2,7 +2,7 @@
 ghost use Rattle.std.specs.Prelude.{◌≡◌, IfOk, length};
 ghost use Rattle.gb_core.specs.Place.{joined};
 ghost use Rattle.gb_provider.specs.declared.expression.Expression.TheVariants.{Constant};
-ghost use Rattle.gb_registry.specs.Faults.{TellsFirst};
+ghost use Rattle.gb_registry.specs.Faults.{ReportsFirst};
 ghost use Rattle.gb_registry.specs.Projects.{absolute, folder_of};
 ghost use Rattle.gb_registry.specs.References.{name_faults};
 ghost use Rattle.gb_registry.specs.Wrong.{place_faults};
@@ -29,7 +29,7 @@ use std::alloc::{AllocError, Global};
 /// The place of a text in a project. Refused where the text is no place (2).
 fn place_of(alloc: Global, project: &Project, text: &Text) -> Result<Place, Fault>
     ensures place { IfOk result (λ place. place ≡ joined (folder_of project.now) text.now) }
-    ensures faults { TellsFirst (place_faults project.now text.now) result }
+    ensures faults { ReportsFirst (place_faults project.now text.now) result }
 {
     match Place::join(alloc, project.folder(), text.as_str()) {
         Ok(place) => Ok(place),
@@ -41,7 +41,7 @@ fn place_of(alloc: Global, project: &Project, text: &Text) -> Result<Place, Faul
 /// The task that a text names in a project. Refused where the text is no path (1).
 fn task_of(alloc: Global, project: &Project, text: &Text) -> Result<TaskPath, Fault>
     ensures path { IfOk result (λ task. task ≡ absolute project.now text.now) }
-    ensures faults { TellsFirst (name_faults project.now text.now) result }
+    ensures faults { ReportsFirst (name_faults project.now text.now) result }
 {
     let path = absolute(alloc, project.path().as_str(), text.as_str())?;
     match TaskPath::read(alloc, path.as_str()) {
@@ -54,7 +54,7 @@ fn task_of(alloc: Global, project: &Project, text: &Text) -> Result<TaskPath, Fa
 /// The node of a property. Refused where there is none of the name (54).
 pub(crate) fn node_of(site: &Site<'_>, name: &Name) -> Result<Node, Fault>
     ensures node { IfOk result (λ node. property_node (site_of site.now) name.now ≡ Some node) }
-    ensures faults { TellsFirst (known_faults name.now (property_node (site_of site.now) name.now)) result }
+    ensures faults { ReportsFirst (known_faults name.now (property_node (site_of site.now) name.now)) result }
 {
     match site.properties.get(name) {
         Some(node) => Ok(*node),
@@ -90,7 +90,7 @@ fn add_constant<T: Transforms>(
 /// list or a property.
 fn constant_of(alloc: Global, site: &Site<'_>, source: &Source) -> Result<Option<Value>, Fault>
     ensures value { IfOk result (λ value. value ≡ constant_of (site_of site.now) (root_of source.now)) }
-    ensures faults { TellsFirst (constant_faults (site_of site.now) (root_of source.now)) result }
+    ensures faults { ReportsFirst (constant_faults (site_of site.now) (root_of source.now)) result }
 {
     match source {
         Source::Text(text) => Ok(Some(Value::Text(text.copy()?))),
@@ -117,7 +117,7 @@ pub(crate) fn add_source<T: Transforms>(
     requires { AreThere (site_of site.now) (length providers.old.nodes) }
     ensures made { IfOk result (λ node. IsMade providers.old providers.new
         (plain_made (site_of site.now) providers.old.nodes (root_of source.now)) node) }
-    ensures faults { TellsFirst (root_faults (site_of site.now) (root_of source.now)) result }
+    ensures faults { ReportsFirst (root_faults (site_of site.now) (root_of source.now)) result }
 {
     match source {
         Source::Property(name) => node_of(site, name),

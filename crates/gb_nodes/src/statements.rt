@@ -1,7 +1,7 @@
 //! The effect of the statements of a script on the properties of its project.
 ghost use Rattle.std.specs.Prelude.{◌≡◌, ◌<◌, OnOk, length};
 ghost use Rattle.gb_provider.specs.declared.change.Change.TheVariants.{Convention, Finalize, SetFrom, Unset};
-ghost use Rattle.gb_registry.specs.Faults.{TellsFirst};
+ghost use Rattle.gb_registry.specs.Faults.{ReportsFirst};
 ghost use Rattle.gb_nodes.specs.Site.{AreThere, site_of};
 ghost use Rattle.gb_nodes.specs.Statements.{IsRun, place_of, property_faults, statement_faults};
 ghost use Rattle.gb_nodes.specs.Statements.{statement_made, statements_faults, statements_made, with_change};
@@ -28,7 +28,7 @@ fn set<T: Transforms>(
     requires source { source.number < length providers.old.nodes }
     ensures made { OnOk result (IsRun providers.old providers.new (with_change (SetFrom source.number)
         providers.old.nodes (place_of providers.old.table (site_of site.now) name.now))) }
-    ensures faults { TellsFirst (property_faults T.meanings providers.old.table (site_of site.now)
+    ensures faults { ReportsFirst (property_faults T.meanings providers.old.table (site_of site.now)
         (SetFrom source.number) providers.old.nodes name.now) result }
 {
     let node = node_of(site, name)?;
@@ -49,7 +49,7 @@ fn convention<T: Transforms>(
     requires source { source.number < length providers.old.nodes }
     ensures made { OnOk result (IsRun providers.old providers.new (with_change (Convention source.number)
         providers.old.nodes (place_of providers.old.table (site_of site.now) name.now))) }
-    ensures faults { TellsFirst (property_faults T.meanings providers.old.table (site_of site.now)
+    ensures faults { ReportsFirst (property_faults T.meanings providers.old.table (site_of site.now)
         (Convention source.number) providers.old.nodes name.now) result }
 {
     let node = node_of(site, name)?;
@@ -68,7 +68,7 @@ fn unset<T: Transforms>(
     requires { AreThere (site_of site.now) (length providers.old.nodes) }
     ensures made { OnOk result (IsRun providers.old providers.new (with_change Unset
         providers.old.nodes (place_of providers.old.table (site_of site.now) name.now))) }
-    ensures faults { TellsFirst (property_faults T.meanings providers.old.table (site_of site.now)
+    ensures faults { ReportsFirst (property_faults T.meanings providers.old.table (site_of site.now)
         Unset providers.old.nodes name.now) result }
 {
     let node = node_of(site, name)?;
@@ -87,7 +87,7 @@ fn disallow<T: Transforms>(
     requires { AreThere (site_of site.now) (length providers.old.nodes) }
     ensures made { OnOk result (IsRun providers.old providers.new (with_change Finalize
         providers.old.nodes (place_of providers.old.table (site_of site.now) name.now))) }
-    ensures faults { TellsFirst (property_faults T.meanings providers.old.table (site_of site.now)
+    ensures faults { ReportsFirst (property_faults T.meanings providers.old.table (site_of site.now)
         Finalize providers.old.nodes name.now) result }
 {
     let node = node_of(site, name)?;
@@ -108,7 +108,7 @@ fn add_statement<T: Transforms>(
     requires { AreThere (site_of site.now) (length providers.old.nodes) }
     ensures made { OnOk result (IsRun providers.old providers.new (statement_made
         providers.old.table (site_of site.now) providers.old.nodes statement.now)) }
-    ensures faults { TellsFirst (statement_faults T.meanings providers.old.table (site_of site.now)
+    ensures faults { ReportsFirst (statement_faults T.meanings providers.old.table (site_of site.now)
         providers.old.nodes statement.now) result }
 {
     match statement {
@@ -137,7 +137,7 @@ pub(crate) fn add_statements<T: Transforms>(
     requires { AreThere (site_of site.now) (length providers.old.nodes) }
     ensures made { OnOk result (IsRun providers.old providers.new (statements_made
         providers.old.table (site_of site.now) providers.old.nodes statements.now)) }
-    ensures faults { TellsFirst (statements_faults T.meanings providers.old.table (site_of site.now)
+    ensures faults { ReportsFirst (statements_faults T.meanings providers.old.table (site_of site.now)
         providers.old.nodes statements.now) result }
 {
     for statement in statements {

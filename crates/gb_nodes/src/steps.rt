@@ -2,7 +2,7 @@
 ghost use Rattle.std.specs.Prelude.{◌≡◌, ◌<◌, IfOk, length};
 ghost use Rattle.gb_provider.specs.Table.{flat_map_named, map_named, zip_named};
 ghost use Rattle.gb_provider.specs.declared.expression.Expression.TheVariants.{FlatMapped, Mapped, Zipped};
-ghost use Rattle.gb_registry.specs.Faults.{TellsFirst};
+ghost use Rattle.gb_registry.specs.Faults.{ReportsFirst};
 ghost use Rattle.gb_registry.specs.Wrong.{function_faults};
 ghost use Rattle.gb_declare.specs.Whole.{if_found};
 ghost use Rattle.gb_nodes.specs.Nodes.{IsMade, added};
@@ -43,7 +43,7 @@ pub fn add_map<T: Transforms>(
     ensures made { IfOk result (λ made. IsMade providers.old providers.new
         (added providers.old.nodes (if_found (Mapped node.number) function.now
         (map_named providers.old.table function.now.name))) made) }
-    ensures faults { TellsFirst (function_faults T.meanings.map.arity function.now
+    ensures faults { ReportsFirst (function_faults T.meanings.map.arity function.now
         (map_named providers.old.table function.now.name)) result }
 {
     let arguments = function.arguments.copy(alloc)?;
@@ -64,7 +64,7 @@ pub(crate) fn add_flat_map<T: Transforms>(
     ensures made { IfOk result (λ made. IsMade providers.old providers.new
         (added providers.old.nodes (if_found (FlatMapped node.number) function.now
         (flat_map_named providers.old.table function.now.name))) made) }
-    ensures faults { TellsFirst (function_faults T.meanings.flat_map.arity function.now
+    ensures faults { ReportsFirst (function_faults T.meanings.flat_map.arity function.now
         (flat_map_named providers.old.table function.now.name)) result }
 {
     let arguments = function.arguments.copy(alloc)?;
@@ -87,7 +87,7 @@ pub fn add_zip<T: Transforms>(
     ensures made { IfOk result (λ made. IsMade providers.old providers.new
         (added providers.old.nodes (if_found (Zipped left.number right.number) function.now
         (zip_named providers.old.table function.now.name))) made) }
-    ensures faults { TellsFirst (function_faults T.meanings.zip.arity function.now
+    ensures faults { ReportsFirst (function_faults T.meanings.zip.arity function.now
         (zip_named providers.old.table function.now.name)) result }
 {
     let arguments = function.arguments.copy(alloc)?;

@@ -3,7 +3,7 @@
 use Rattle.std.specs.Prelude.{ℕ, ◌==◌, Bool, true, false, List, [], ◌∷◌, ◌++◌, if◌then◌else◌, codes}
 use Rattle.std.specs.Prelude.{Option, None, Some, option_and_then}
 use Rattle.std.specs.Option.{option_map, option_or}
-use Rattle.gb_pages.specs.FrontMatter.{behind, cut, parts, up_to}
+use Rattle.gb_pages.specs.FrontMatter.{following, cut, parts, up_to}
 use Rattle.gb_pages.specs.declared.contents.Depth.{Depth}
 use Rattle.gb_pages.specs.declared.contents.Depth.TheVariants as depths
 use Rattle.gb_markdown.specs.Pieces.{Piece, Open, Close, Link, Text, written}
@@ -22,17 +22,17 @@ untagged inside (b ∷ rest) =
     else if inside then untagged true rest else b ∷ untagged false rest
 
 -- the id of a heading and its words with tags, after the beginning of its tag
-abbrev pub heading_behind : List ℕ → List ℕ → Option (List ℕ × List ℕ)
-heading_behind sign part =
+abbrev pub heading_after : List ℕ → List ℕ → Option (List ℕ × List ℕ)
+heading_after sign part =
     option_and_then
     (λ rest. option_map (λ half. (half.0, up_to (codes "</h") half.1)) (cut (codes "\">") rest))
-    (behind sign part)
+    (following sign part)
 
 -- whether a heading of the third rank follows `<h`, or one of the second; its id and its words
 abbrev pub heading_in : List ℕ → Option (Bool × List ℕ × List ℕ)
 heading_in part =
-    option_or (option_map (λ found. (false, found.0, found.1)) (heading_behind (codes "2 id=\"") part))
-    (option_map (λ found. (true, found.0, found.1)) (heading_behind (codes "3 id=\"") part))
+    option_or (option_map (λ found. (false, found.0, found.1)) (heading_after (codes "2 id=\"") part))
+    (option_map (λ found. (true, found.0, found.1)) (heading_after (codes "3 id=\"") part))
 
 -- ---- The list
 
@@ -85,9 +85,9 @@ items_of deep [] = written (lists_ended deep)
 items_of deep (part ∷ others) =
     item_of deep (heading_in part) ++ items_of (depth_after deep (heading_in part)) others
 
-abbrev pub contents_behind : Option (List ℕ × List ℕ) → List ℕ
-contents_behind None = []
-contents_behind (Some found) = items_of depths.Nothing (parts (codes "<h") found.1)
+abbrev pub contents_after : Option (List ℕ × List ℕ) → List ℕ
+contents_after None = []
+contents_after (Some found) = items_of depths.Nothing (parts (codes "<h") found.1)
 
 abbrev pub contents : List ℕ → List ℕ
-contents page = contents_behind (cut (codes "<h") page)
+contents page = contents_after (cut (codes "<h") page)

@@ -11,8 +11,8 @@ abbrev pub cut : List ℕ → List ℕ → Option (List ℕ × List ℕ)
 cut sign text = option_map (λ k. (take k text, drop (k + length sign) text)) (first_of (matches text sign 0))
 
 -- the text after a sign with which it begins
-abbrev pub behind : List ℕ → List ℕ → Option (List ℕ)
-behind sign text = if bytes_eq (take (length sign) text) sign then Some (drop (length sign) text) else None
+abbrev pub following : List ℕ → List ℕ → Option (List ℕ)
+following sign text = if bytes_eq (take (length sign) text) sign then Some (drop (length sign) text) else None
 
 -- the text before the first occurrence of a sign, or the whole text
 abbrev pub up_to : List ℕ → List ℕ → List ℕ
@@ -48,7 +48,7 @@ value_of key front = option_map (λ found. first_line found.1) (cut (codes "\n" 
 
 -- the words of the heading with which a page begins
 abbrev pub heading : List ℕ → Option (List ℕ)
-heading text = option_map first_line (behind (codes "# ") text)
+heading text = option_map first_line (following (codes "# ") text)
 
 -- the title of a page: the one of its front matter, or else its heading, or else the name
 abbrev pub title_of : List ℕ → List ℕ → List ℕ

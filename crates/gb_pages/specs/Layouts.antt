@@ -49,17 +49,17 @@ replaced name rest None = Err name
 replaced name rest (Some value) = Ok (value ++ rest)
 
 -- the text after `{{`: a name and `}}`, or that sign itself and text
-abbrev pub behind_braces : (List ℕ → Option (List ℕ)) → List ℕ → Option (List ℕ × List ℕ)
+abbrev pub after_braces : (List ℕ → Option (List ℕ)) → List ℕ → Option (List ℕ × List ℕ)
     → Result (List ℕ) (List ℕ)
-behind_braces value part None = Ok (codes "{{" ++ part)
-behind_braces value part (Some found) = replaced found.0 found.1 (value found.0)
+after_braces value part None = Ok (codes "{{" ++ part)
+after_braces value part (Some found) = replaced found.0 found.1 (value found.0)
 
 -- the parts between `{{`; each part except the first follows one
 abbrev pub filled : (List ℕ → Option (List ℕ)) → Bool → List (List ℕ) → Result (List ℕ) (List ℕ)
-filled value behind [] = Ok []
+filled value following [] = Ok []
 filled value false (part ∷ others) = before (Ok part) (filled value true others)
 filled value true (part ∷ others) =
-    before (behind_braces value part (cut (codes "}}") part)) (filled value true others)
+    before (after_braces value part (cut (codes "}}") part)) (filled value true others)
 
 -- the bytes, or the name without a value
 abbrev pub ended : List ℕ → Option (List ℕ) → Result (List ℕ) (List ℕ)

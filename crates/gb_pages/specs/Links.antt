@@ -114,7 +114,7 @@ abbrev pub dead_at : Tree → List ℕ → List ℕ → List ℕ → List ℕ �
 dead_at files page html sign part = dead_address files page html sign (up_to (codes "\"") part)
 
 abbrev pub dead_parts : (List ℕ → Option (List ℕ)) → Bool → List (List ℕ) → Option (List ℕ)
-dead_parts dead behind [] = None
+dead_parts dead following [] = None
 dead_parts dead false (part ∷ others) = dead_parts dead true others
 dead_parts dead true (part ∷ others) = option_or (dead part) (dead_parts dead true others)
 

@@ -2,7 +2,7 @@
 ghost use Rattle.std.specs.Prelude.{◌≡◌, ◌++◌, codes, false, IfOk, OnOk};
 ghost use Rattle.std.specs.Option.{option_map};
 ghost use Rattle.gb_markdown.specs.Pieces.{written};
-ghost use Rattle.gb_pages.specs.Contents.{contents, deeper, depth_after, fragment_link, heading_behind};
+ghost use Rattle.gb_pages.specs.Contents.{contents, deeper, depth_after, fragment_link, heading_after};
 ghost use Rattle.gb_pages.specs.Contents.{heading_in, item_begun, item_ended, item_of, items_of, list_begun};
 ghost use Rattle.gb_pages.specs.Contents.{list_ended, lists_ended, untagged};
 ghost use Rattle.gb_pages.specs.FrontMatter.{parts};
@@ -65,9 +65,9 @@ fn item(alloc: Global, list: &mut Vec<u8>, deep: Depth, part: &[u8]) -> Result<D
 fn heading_in(part: &[u8]) -> Option<(bool, &[u8], &[u8])>
     ensures { option_map (λ found. (found.0, found.1.now, found.2.now)) result ≡ heading_in part.now }
 {
-    match heading_behind(part, b"2 id=\"") {
+    match heading_after(part, b"2 id=\"") {
         Some((id, words)) => Some((false, id, words)),
-        None => match heading_behind(part, b"3 id=\"") {
+        None => match heading_after(part, b"3 id=\"") {
             Some((id, words)) => Some((true, id, words)),
             None => None,
         },
@@ -75,8 +75,8 @@ fn heading_in(part: &[u8]) -> Option<(bool, &[u8], &[u8])>
 }
 
 /// The id of a heading and its words with their tags, after the beginning of its tag.
-fn heading_behind<'a>(part: &'a [u8], sign: &[u8]) -> Option<(&'a [u8], &'a [u8])>
-    ensures { option_map (λ found. (found.0.now, found.1.now)) result ≡ heading_behind sign.now part.now }
+fn heading_after<'a>(part: &'a [u8], sign: &[u8]) -> Option<(&'a [u8], &'a [u8])>
+    ensures { option_map (λ found. (found.0.now, found.1.now)) result ≡ heading_after sign.now part.now }
 {
     let rest = part.strip_prefix(sign)?;
     let (id, rest) = rest.split_once_str(b"\">")?;

@@ -2,7 +2,7 @@
 ghost use Rattle.std.specs.Prelude.{◌≡◌, ◌++◌, Ok, codes, false, unwrap_or, IfOk, OnOk, MatchResult};
 ghost use Rattle.std.specs.Option.{option_copied, option_map};
 ghost use Rattle.gb_pages.specs.FrontMatter.{cut, parts, title_of};
-ghost use Rattle.gb_pages.specs.Layouts.{before, behind_braces, ended, filled, laid_out_page, line_of};
+ghost use Rattle.gb_pages.specs.Layouts.{before, after_braces, ended, filled, laid_out_page, line_of};
 ghost use Rattle.gb_pages.specs.Layouts.{replaced, root_of, shown, unknown, value_for};
 ghost use Rattle.gb_markdown.specs.Pieces.{escaped};
 ghost use Rattle.gb_pages.specs.Paths.{stem, token};
@@ -123,23 +123,23 @@ fn fill<'a>(
         before (Ok made.old.items) (filled value false (parts (codes "{{") layout.now))
         ≡ ended made.new.items (option_copied unknown)) }
 {
-    let mut is_behind = false;
+    let mut is_after = false;
     for part in layout.split_str(b"{{") {
-        if is_behind {
-            let unknown = behind_braces(alloc, made, part, page)?;
+        if is_after {
+            let unknown = after_braces(alloc, made, part, page)?;
             if unknown.is_some() {
                 return Ok(unknown);
             }
         } else {
             made.extend_from_slice(part)?;
         }
-        is_behind = true;
+        is_after = true;
     }
     Ok(None)
 }
 
 /// Fills in a part of a layout after `{{`, unless the page does not have its name.
-fn behind_braces<'a>(
+fn after_braces<'a>(
     alloc: Global,
     made: &mut Vec<u8>,
     part: &'a [u8],
@@ -148,7 +148,7 @@ fn behind_braces<'a>(
     ensures { let value = value_for page.now.previous.now page.now.next.now page.now.path.now
         page.now.text.now page.now.html.now in
         IfOk result (λ unknown.
-        before (Ok made.old.items) (behind_braces value part.now (cut (codes "}}") part.now))
+        before (Ok made.old.items) (after_braces value part.now (cut (codes "}}") part.now))
         ≡ ended made.new.items (option_copied unknown)) }
 {
     let Some((name, rest)) = part.split_once_str(b"}}") else {

@@ -98,15 +98,15 @@ fn dead_by(alloc: Global, site: &Site<'_>, sign: &[u8]) -> Result<Option<Text>, 
     ensures { IfOk result (λ found.
         found ≡ dead_by site.now.files.now site.now.page.now site.now.html.now sign.now) }
 {
-    let mut is_behind = false;
+    let mut is_after = false;
     for part in site.html.split_str(sign) {
-        if is_behind {
+        if is_after {
             let found = dead_at(alloc, site, sign, part)?;
             if found.is_some() {
                 return Ok(found);
             }
         }
-        is_behind = true;
+        is_after = true;
     }
     Ok(None)
 }

@@ -77,15 +77,15 @@ fn is_in_order(list: &ActionList<u8>) -> bool {
     list.iter().eq(b"BAMC".iter()) && list.get(3) == Some(&b'C') && list.len() == 4
 }
 
-fn stand_in_order(alloc: Global) -> Result<bool, AllocError> {
+fn exist_in_order(alloc: Global) -> Result<bool, AllocError> {
     let mut list = ActionList::new(alloc);
     add_four(&mut list)?;
     Ok(is_in_order(&list))
 }
 
 #[test]
-fn actions_stand_in_order(rt: HostRuntime) -> Result<(), Fail> {
-    all_hold(&[("BAMC", stand_in_order(rt.alloc()) == Ok(true))])
+fn actions_exist_in_order(rt: HostRuntime) -> Result<(), Fail> {
+    all_hold(&[("BAMC", exist_in_order(rt.alloc()) == Ok(true))])
 }
 
 fn shape_of(alloc: Global, arg: Arg, out: Option<Form>) -> Result<Shape, AllocError> {

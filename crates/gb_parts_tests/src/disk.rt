@@ -230,7 +230,7 @@ fn folders_answer_alike(rt: HostRuntime) -> Result<(), Fail> {
     hold_on_disk(&rt, "alike", &[], &ALIKE)
 }
 
-const ODD: [Row<'static>; 6] = [
+const SPECIAL: [Row<'static>; 6] = [
     // Folders without files are replaced by a file.
     (
         "!make e/f/g;!make e/h;list e;read e;remove e;write e;list e;read e",
@@ -263,8 +263,8 @@ const ODD: [Row<'static>; 6] = [
 ];
 
 #[test]
-fn odd_folders_are_answered(rt: HostRuntime) -> Result<(), Fail> {
-    hold_on_disk(&rt, "odd", &[], &ODD)
+fn special_folders_are_answered(rt: HostRuntime) -> Result<(), Fail> {
+    hold_on_disk(&rt, "odd", &[], &SPECIAL)
 }
 
 /// The calls that create the folder to change: a file of five bytes and an empty one.
@@ -380,7 +380,7 @@ const CHANGES: [Row<'static>; 30] = [
 ];
 
 #[test]
-fn changes_from_outside_are_seen(rt: HostRuntime) -> Result<(), Fail> {
+fn changes_from_outside_are_observed(rt: HostRuntime) -> Result<(), Fail> {
     hold_on_disk(&rt, "changed", &BEFORE, &CHANGES)
 }
 
@@ -467,7 +467,7 @@ fn names_reported(alloc: Global, names: &[u8]) -> Result<Vec<u8>, Fail> {
 }
 
 #[test]
-fn names_tell_places(rt: HostRuntime) -> Result<(), Fail> {
+fn names_determine_places(rt: HostRuntime) -> Result<(), Fail> {
     for (names, wanted) in &NAMES {
         is_answered(wanted, names_reported(rt.alloc(), names)?.as_slice())?;
     }

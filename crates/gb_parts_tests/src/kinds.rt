@@ -6,7 +6,7 @@
 ghost use Rattle.std.specs.Prelude.{◌≡◌, ℕ, List, ◌∷◌, [], map, true, IfOk};
 ghost use Rattle.gb_action.specs.Shapes.{source, target};
 ghost use Rattle.gb_action.specs.declared.output.Form.{Form};
-ghost use Rattle.gb_kinds.specs.Builtin.{builtin_shape, StandsFor};
+ghost use Rattle.gb_kinds.specs.Builtin.{builtin_shape, Implements};
 
 use crate::steps::cut;
 use gb_action::change::{Change, ChangeList, ChangeLists, InputChanges};
@@ -45,7 +45,7 @@ type Row = (u16, &'static str, &'static str, &'static str);
 struct Asked {
     args: Arguments,
     files: Files,
-    stood: Files,
+    existed: Files,
     changes: ChangeList,
 }
 
@@ -72,23 +72,23 @@ fn push_change(
 }
 
 /// Adds an argument, as `arg text`, a file of `src` or `out`, as `src path=text`, or a change, as `A path`.
-fn take_step(alloc: Global, asked: &mut Asked, step: &str) -> Result<(), PlaceFault> {
+fn take_step(alloc: Global, allowed: &mut Asked, step: &str) -> Result<(), PlaceFault> {
     let (word, reported) = cut(step, ' ');
     match word {
         "arg" => Ok(
-            asked
+            allowed
                 .args
                 .push(Value::Text(Text::from_str(alloc, reported)?))?,
         ),
-        "src" => put(alloc, &mut asked.files, reported),
-        "out" => put(alloc, &mut asked.stood, reported),
-        _ => push_change(alloc, &mut asked.changes, word, reported),
+        "src" => put(alloc, &mut allowed.files, reported),
+        "out" => put(alloc, &mut allowed.existed, reported),
+        _ => push_change(alloc, &mut allowed.changes, word, reported),
     }
 }
 
-fn take_steps(alloc: Global, asked: &mut Asked, steps: &str) -> Result<(), PlaceFault> {
+fn take_steps(alloc: Global, allowed: &mut Asked, steps: &str) -> Result<(), PlaceFault> {
     for step in steps.split_terminator(';') {
-        take_step(alloc, asked, step)?;
+        take_step(alloc, allowed, step)?;
     }
     Ok(())
 }
@@ -125,22 +125,22 @@ fn request_of(alloc: Global, form: Form, row: &Row) -> Result<Request, PlaceFaul
     ensures outputs { IfOk result (λ request. map {B = List ℕ × Form} (λ output. (output.name, output.form))
         request.outputs ≡ (target, form) ∷ []) }
 {
-    let mut asked = Asked {
+    let mut allowed = Asked {
         args: Arguments::new(alloc),
         files: Files::new(alloc),
-        stood: Files::new(alloc),
+        existed: Files::new(alloc),
         changes: ChangeList::new(alloc),
     };
-    take_steps(alloc, &mut asked, row.1)?;
-    take_steps(alloc, &mut asked, row.2)?;
+    take_steps(alloc, &mut allowed, row.1)?;
+    take_steps(alloc, &mut allowed, row.2)?;
     let Asked {
         args,
         files,
-        stood,
+        existed,
         changes,
-    } = asked;
+    } = allowed;
     let files = snapshots_of(alloc, files)?;
-    let outputs = outputs_of(alloc, form, stood)?;
+    let outputs = outputs_of(alloc, form, existed)?;
     let lists = lists_of(alloc, changes)?;
     Ok(Request {
         args,
@@ -247,7 +247,7 @@ fn ask(
     request: &Request,
 ) -> Result<String, AllocError>
     requires shaped { IfOk shape (λ shape. shape ≡ builtin_shape kind) }
-    requires stands { StandsFor kind (Run.pre run) (Run.post run) }
+    requires exists { Implements kind (Run.pre run) (Run.post run) }
     requires files { map (λ tree. tree.0) request.now.files ≡ source ∷ [] }
     requires outputs { map {B = List ℕ × Form} (λ output. (output.name, output.form)) request.now.outputs
         ≡ (target, form) ∷ [] }
@@ -465,7 +465,7 @@ fn other_actions_answer(rt: HostRuntime) -> Result<(), Fail> {
 
 /// The words of an unchanged file are read from the old index, whatever the file contains: `b`
 /// stays at `w` and gets no other word, while `a` leaves it.
-const TOLD: &str = "src a=x;src a-=y;src b=z;out w=a\na-\nb\n;out x=a-\n";
+const OLD_INDEX: &str = "src a=x;src a-=y;src b=z;out w=a\na-\nb\n;out x=a-\n";
 
 const WORDS: [Row; 12] = [
     // Full requests index the words,
@@ -522,13 +522,13 @@ const WORDS: [Row; 12] = [
     // Words of other files are read from the index.
     (
         WORD_INDEX,
-        TOLD,
+        OLD_INDEX,
         "M a",
         "+w=a-\nb\n;+x=a\na-\n;>MODIFIED a;",
     ),
     (
         WORD_INDEX,
-        TOLD,
+        OLD_INDEX,
         "M a-;M b",
         "-x;+w=a\n;+y=a-\n;+z=b\n;>MODIFIED a-;>MODIFIED b;",
     ),

@@ -113,12 +113,12 @@ const NONE: Pair = ["", ""];
 /// The part, repeated this many times, between a prefix and a suffix.
 fn repeated(
     alloc: Global,
-    front: &str,
+    prefix: &str,
     part: &str,
     count: usize,
     back: &str,
 ) -> Result<String, AllocError> {
-    let mut out = String::from_str(alloc, front)?;
+    let mut out = String::from_str(alloc, prefix)?;
     for _ in 0..count {
         out.push_str(part)?;
     }
@@ -269,7 +269,7 @@ fn is_a_name(alloc: Global, word: &str) -> Result<bool, AllocError> {
     Ok(is_read(alloc, text.replace(alloc, '%', word)?.as_str()))
 }
 
-fn is_refused_behind(alloc: Global, statement: &str, word: &str) -> Result<bool, AllocError> {
+fn is_refused_after(alloc: Global, statement: &str, word: &str) -> Result<bool, AllocError> {
     let text = format!(in alloc; "\n{statement} {word} = \"a\"")?;
     is_reported(alloc, text.as_bytes(), "20 syntax error in line 2")
 }
@@ -290,9 +290,9 @@ fn knows_reserved_words_as_names(rt: HostRuntime) -> Result<(), Fail> {
 }
 
 /// Fails at the first word that is allowed after the statement.
-fn are_refused_behind(alloc: Global, statement: &str, words: &[&str]) -> Result<(), Fail> {
+fn are_refused_after(alloc: Global, statement: &str, words: &[&str]) -> Result<(), Fail> {
     for word in words {
-        if is_refused_behind(alloc, statement, word) != Ok(true) {
+        if is_refused_after(alloc, statement, word) != Ok(true) {
             return Err(Fail::new(*word));
         }
     }
@@ -302,7 +302,7 @@ fn are_refused_behind(alloc: Global, statement: &str, words: &[&str]) -> Result<
 #[test]
 fn reserved_words_are_no_properties(rt: HostRuntime) -> Result<(), Fail> {
     for statement in &["property", "unset", "disallowChanges", "set"] {
-        are_refused_behind(rt.alloc(), statement, &RESERVED)?;
+        are_refused_after(rt.alloc(), statement, &RESERVED)?;
     }
     Ok(())
 }
@@ -334,7 +334,7 @@ const LINES: [Case; 22] = [
 ];
 
 #[test]
-fn tells_the_line_of_a_fault(rt: HostRuntime) -> Result<(), Fail> {
+fn reports_the_line_of_a_fault(rt: HostRuntime) -> Result<(), Fail> {
     are_reported(rt.alloc(), NONE, ["20 syntax error in line ", ""], &LINES)
 }
 
@@ -426,7 +426,7 @@ fn is_a_word_of(alloc: Global, count: usize) -> Result<bool, AllocError> {
     Ok(is_read(alloc, text.as_str()))
 }
 
-fn is_reported_behind_a_word_of(
+fn is_reported_after_a_word_of(
     alloc: Global,
     count: usize,
     want: &str,
@@ -442,13 +442,13 @@ fn takes_words_of_64_bytes(rt: HostRuntime) -> Result<(), Fail> {
         ("64 bytes", is_a_word_of(rt.alloc(), 64) == Ok(true)),
         (
             "65 bytes",
-            is_reported_behind_a_word_of(rt.alloc(), 65, refused) == Ok(true),
+            is_reported_after_a_word_of(rt.alloc(), 65, refused) == Ok(true),
         ),
     ])
 }
 
 /// Whether 64 open brackets followed by this text have this reading.
-fn is_reported_behind_64_brackets(
+fn is_reported_after_64_brackets(
     alloc: Global,
     then: &str,
     want: &str,
@@ -458,13 +458,13 @@ fn is_reported_behind_64_brackets(
 }
 
 /// Whether 64 closing brackets followed by this text have this reading.
-fn is_reported_behind_closed_brackets(
+fn is_reported_after_closed_brackets(
     alloc: Global,
     then: &str,
     want: &str,
 ) -> Result<bool, AllocError> {
     let close = repeated(alloc, "", "]", 64, then)?;
-    is_reported_behind_64_brackets(alloc, close.as_str(), want)
+    is_reported_after_64_brackets(alloc, close.as_str(), want)
 }
 
 fn are_64_brackets_read(alloc: Global) -> Result<bool, AllocError> {
@@ -488,11 +488,11 @@ fn takes_64_brackets(rt: HostRuntime) -> Result<(), Fail> {
         ("64", are_64_brackets_read(alloc) == Ok(true)),
         (
             "65",
-            is_reported_behind_64_brackets(alloc, "\n[", deep) == Ok(true),
+            is_reported_after_64_brackets(alloc, "\n[", deep) == Ok(true),
         ),
         (
             "65 at one token that is refused",
-            is_reported_behind_64_brackets(alloc, "\n(", refused) == Ok(true),
+            is_reported_after_64_brackets(alloc, "\n(", refused) == Ok(true),
         ),
         (
             "64 steps and one more",
@@ -507,7 +507,7 @@ fn a_bracket_that_closes_makes_room_again(rt: HostRuntime) -> Result<(), Fail> {
     let refused = "20 syntax error in line 2";
     all_hold(&[(
         text,
-        is_reported_behind_closed_brackets(rt.alloc(), text, refused) == Ok(true),
+        is_reported_after_closed_brackets(rt.alloc(), text, refused) == Ok(true),
     )])
 }
 
@@ -629,7 +629,7 @@ fn answers_damaged_texts(rt: HostRuntime) -> Result<(), Fail> {
 }
 
 #[test]
-fn tells_other_faults(rt: HostRuntime) -> Result<(), Fail> {
+fn reports_other_faults(rt: HostRuntime) -> Result<(), Fail> {
     all_hold(&[
         (
             "no text",

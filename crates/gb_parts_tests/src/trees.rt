@@ -19,7 +19,7 @@ use std::alloc::{AllocError, Global};
 use std::test::Fail;
 
 /// Steps, with a `;` between them, and the expected output. A step is a word of [`take_step`],
-/// [`tell`] or [`tell_files`], and its operands: a path and a text or a number, a pattern and a
+/// [`report`] or [`report_files`], and its operands: a path and a text or a number, a pattern and a
 /// place, or places of a folder with patterns.
 type Row = (&'static str, &'static str);
 
@@ -87,13 +87,13 @@ struct Asked {
 }
 
 /// Adds a pattern after a `+` or a `-`, which includes or excludes files, or a place.
-fn add(alloc: Global, asked: &mut Asked, text: &str) -> Result<(), Fail> {
+fn add(alloc: Global, allowed: &mut Asked, text: &str) -> Result<(), Fail> {
     if let Some(text) = text.strip_prefix('+') {
-        asked.include.push(Pattern::read(alloc, text)?)?;
+        allowed.include.push(Pattern::read(alloc, text)?)?;
     } else if let Some(text) = text.strip_prefix('-') {
-        asked.exclude.push(Pattern::read(alloc, text)?)?;
+        allowed.exclude.push(Pattern::read(alloc, text)?)?;
     } else {
-        asked.places.push(Place::read(alloc, text)?)?;
+        allowed.places.push(Place::read(alloc, text)?)?;
     }
     Ok(())
 }
@@ -101,7 +101,7 @@ fn add(alloc: Global, asked: &mut Asked, text: &str) -> Result<(), Fail> {
 /// The query of a word and the texts after it.
 fn asked_of(alloc: Global, word: &str, texts: &str) -> Result<Asked, Fail> {
     let is_named = word == "names";
-    let mut asked = Asked {
+    let mut allowed = Asked {
         name: Name::read(alloc, "src")?,
         naming: if is_named {
             Naming::NameOnly
@@ -113,9 +113,9 @@ fn asked_of(alloc: Global, word: &str, texts: &str) -> Result<Asked, Fail> {
         exclude: Vec::new(alloc),
     };
     for text in texts.split_whitespace() {
-        add(alloc, &mut asked, text)?;
+        add(alloc, &mut allowed, text)?;
     }
-    Ok(asked)
+    Ok(allowed)
 }
 
 /// The files of an output or of a property.
@@ -123,18 +123,18 @@ fn files_asked<F: Folder>(
     alloc: Global,
     folder: &mut F,
     word: &str,
-    asked: &Asked,
+    allowed: &Asked,
 ) -> Result<Snapshot, TreeFault> {
-    match (word, asked.places.as_slice()) {
-        ("outputs", [place]) => outputs(alloc, folder, &asked.name, place),
+    match (word, allowed.places.as_slice()) {
+        ("outputs", [place]) => outputs(alloc, folder, &allowed.name, place),
         (_, roots) => snapshot(
             alloc,
             folder,
-            &asked.name,
-            asked.naming,
+            &allowed.name,
+            allowed.naming,
             roots,
-            asked.include.as_slice(),
-            asked.exclude.as_slice(),
+            allowed.include.as_slice(),
+            allowed.exclude.as_slice(),
         ),
     }
 }
@@ -144,23 +144,23 @@ fn prints_asked<F: Folder>(
     alloc: Global,
     folder: &mut F,
     word: &str,
-    asked: &Asked,
+    allowed: &Asked,
 ) -> Result<Prints, TreeFault> {
-    match (word, asked.places.as_slice()) {
-        ("output-digests", [place]) => output_prints(alloc, folder, &asked.name, place),
+    match (word, allowed.places.as_slice()) {
+        ("output-digests", [place]) => output_prints(alloc, folder, &allowed.name, place),
         ("read-digests", [place]) => {
             let mut room = 65_600;
-            let reading = output_reading(alloc, folder, &asked.name, place, &mut room)?;
+            let reading = output_reading(alloc, folder, &allowed.name, place, &mut room)?;
             Ok(reading.prints(alloc)?)
         }
         (_, roots) => prints_of(
             alloc,
             folder,
-            &asked.name,
-            asked.naming,
+            &allowed.name,
+            allowed.naming,
             roots,
-            asked.include.as_slice(),
-            asked.exclude.as_slice(),
+            allowed.include.as_slice(),
+            allowed.exclude.as_slice(),
         ),
     }
 }
@@ -208,22 +208,22 @@ fn push_changes(
 }
 
 /// Adds what changes from the files at the first place to those at the second.
-fn tell_changes<F: Folder>(
+fn report_changes<F: Folder>(
     alloc: Global,
     folder: &mut F,
-    asked: &Asked,
+    allowed: &Asked,
     all: &mut String,
 ) -> Result<(), TreeFault> {
-    let [before, after] = asked.places.as_slice() else {
+    let [before, after] = allowed.places.as_slice() else {
         return Ok(());
     };
-    let old = output_prints(alloc, folder, &asked.name, before)?;
-    let new = output_prints(alloc, folder, &asked.name, after)?;
+    let old = output_prints(alloc, folder, &allowed.name, before)?;
+    let new = output_prints(alloc, folder, &allowed.name, after)?;
     push_changes(alloc, all, &old, &new)
 }
 
 /// Adds how many files there are, their prints or the files.
-fn tell_files(
+fn report_files(
     alloc: Global,
     word: &str,
     snapshot: &Snapshot,
@@ -237,19 +237,19 @@ fn tell_files(
 }
 
 /// Adds the output for a folder.
-fn tell<F: Folder>(
+fn report<F: Folder>(
     alloc: Global,
     folder: &mut F,
     word: &str,
-    asked: &Asked,
+    allowed: &Asked,
     all: &mut String,
 ) -> Result<(), TreeFault> {
     match word {
-        "changes" => tell_changes(alloc, folder, asked, all),
+        "changes" => report_changes(alloc, folder, allowed, all),
         "digests" | "output-digests" | "read-digests" => {
-            push_prints(alloc, all, &prints_asked(alloc, folder, word, asked)?)
+            push_prints(alloc, all, &prints_asked(alloc, folder, word, allowed)?)
         }
-        _ => tell_files(alloc, word, &files_asked(alloc, folder, word, asked)?, all),
+        _ => report_files(alloc, word, &files_asked(alloc, folder, word, allowed)?, all),
     }
 }
 
@@ -259,14 +259,14 @@ fn push_fault(fault: &TreeFault, all: &mut String) -> Result<(), AllocError> {
 }
 
 /// Adds the output for a folder, or its fault.
-fn tell_or_fail<F: Folder>(
+fn report_or_fail<F: Folder>(
     alloc: Global,
     folder: &mut F,
     word: &str,
-    asked: &Asked,
+    allowed: &Asked,
     all: &mut String,
 ) -> Result<(), AllocError> {
-    match tell(alloc, folder, word, asked, all) {
+    match report(alloc, folder, word, allowed, all) {
         Ok(()) => all.push(';'),
         Err(fault) => push_fault(&fault, all),
     }
@@ -279,8 +279,8 @@ fn ask<F: Folder>(
     texts: &str,
     all: &mut String,
 ) -> Result<(), Fail> {
-    let asked = asked_of(alloc, word, texts)?;
-    Ok(tell_or_fail(alloc, folder, word, &asked, all)?)
+    let allowed = asked_of(alloc, word, texts)?;
+    Ok(report_or_fail(alloc, folder, word, &allowed, all)?)
 }
 
 /// Writes a file or files, or adds the output for a pattern or for the folder.
@@ -409,7 +409,7 @@ const OUTPUTS: [Row; 2] = [
 ];
 
 #[test]
-fn outputs_stand_by_their_paths(rt: HostRuntime) -> Result<(), Fail> {
+fn outputs_exist_by_their_paths(rt: HostRuntime) -> Result<(), Fail> {
     hold(rt.alloc(), &OUTPUTS)
 }
 
@@ -479,7 +479,7 @@ const STARTS: [Row; 5] = [
 ];
 
 #[test]
-fn files_stand_at_the_fronts_of_patterns(rt: HostRuntime) -> Result<(), Fail> {
+fn files_exist_at_the_prefixes_of_patterns(rt: HostRuntime) -> Result<(), Fail> {
     hold(rt.alloc(), &STARTS)
 }
 
@@ -518,12 +518,12 @@ const CALLS: [Failing; 5] = [
 
 /// Fails with the output if it is not the expected one.
 fn hold_call(alloc: Global, row: &Failing) -> Result<(), Fail> {
-    let (files, at, asked, wanted) = row;
+    let (files, at, allowed, wanted) = row;
     let mut all = String::new(alloc);
     let mut folder = MemoryFolder::new(alloc);
     take_steps(alloc, &mut folder, files, &mut all)?;
     let mut faulty = FaultyFolder::new(folder, *at, FaultMode::FailOnce);
-    take_steps(alloc, &mut faulty, asked, &mut all)?;
+    take_steps(alloc, &mut faulty, allowed, &mut all)?;
     if all.as_str() == *wanted {
         Ok(())
     } else {

@@ -199,17 +199,17 @@ fn place_beneath(alloc: Global, folder: &str, path: &str) -> Result<Place, Place
     folder.beneath(alloc, &path)
 }
 
-fn stands_beneath_lib(alloc: Global, path: &str, want: &str) -> Result<bool, PlaceFault> {
+fn exists_beneath_lib(alloc: Global, path: &str, want: &str) -> Result<bool, PlaceFault> {
     Ok(place_beneath(alloc, "lib", path)?.as_str() == want)
 }
 
 #[test]
-fn paths_stand_beneath_a_root(rt: HostRuntime) -> Result<(), Fail> {
+fn paths_exist_beneath_a_root(rt: HostRuntime) -> Result<(), Fail> {
     all_hold(&[
-        ("lib", stands_beneath_lib(rt.alloc(), "", "lib") == Ok(true)),
+        ("lib", exists_beneath_lib(rt.alloc(), "", "lib") == Ok(true)),
         (
             "lib/a",
-            stands_beneath_lib(rt.alloc(), "a", "lib/a") == Ok(true),
+            exists_beneath_lib(rt.alloc(), "a", "lib/a") == Ok(true),
         ),
     ])
 }

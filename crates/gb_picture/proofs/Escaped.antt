@@ -1,12 +1,12 @@
 -- What is shown and escaped of a name.
 use Rattle.std.proofs.Common.{ℕ, ◌≡◌, ◌==◌, ◌||◌, ◌&&◌, not, Bool, true, false, cond, List, [], ◌∷◌, ◌++◌, Some, map, refl, ap, sym, ◌∙◌, append_assoc, codes}
 use Rattle.std.specs.List.{AllByRecursion, flat_map, list_all}
-use Rattle.gb_picture.specs.Escapes.{dot_char, is_markup, is_special, mermaid_char, read_dot, xml_char, with_front}
+use Rattle.gb_picture.specs.Escapes.{dot_char, is_markup, is_special, mermaid_char, read_dot, xml_char, with_prefix}
 use Rattle.gb_picture.specs.Shown.{is_hidden, shown_char}
 
-all_append : {T : Type 0} (P : T → Type 0) (front back : List T) → AllByRecursion P front → AllByRecursion P back → AllByRecursion P (front ++ back)
+all_append : {T : Type 0} (P : T → Type 0) (prefix back : List T) → AllByRecursion P prefix → AllByRecursion P back → AllByRecursion P (prefix ++ back)
 all_append P [] back is more = more
-all_append P (x ∷ front) back is more = (is.0, all_append P front back is.1 more)
+all_append P (x ∷ prefix) back is more = (is.0, all_append P prefix back is.1 more)
 
 pub all_flat : (P : ℕ → Type 0) (write : ℕ → List ℕ) → ((c : ℕ) → AllByRecursion P (write c)) → (cs : List ℕ) → AllByRecursion P (flat_map write cs)
 all_flat P write each [] = tt
@@ -66,10 +66,10 @@ dot_step : (c : ℕ) (name rest more : List ℕ) → read_dot false more ≡ Som
 dot_step c name rest more read =
     let by : (quote slash : Bool) → (c == 34) ≡ quote → (c == 92) ≡ slash → read_dot false (cond (quote || slash) (92 ∷ c ∷ []) (c ∷ []) ++ more) ≡ Some (c ∷ name, rest) =
     λ quote slash is_quote is_slash. elim quote as (λ q. (c == 34) ≡ q → read_dot false (cond (q || slash) (92 ∷ c ∷ []) (c ∷ []) ++ more) ≡ Some (c ∷ name, rest)) [
-      | true ↦ λ e. ap (with_front c) read
+      | true ↦ λ e. ap (with_prefix c) read
       | false ↦ λ e. elim slash as (λ s. (c == 92) ≡ s → read_dot false (cond s (92 ∷ c ∷ []) (c ∷ []) ++ more) ≡ Some (c ∷ name, rest)) [
-        | true ↦ λ f. ap (with_front c) read
-        | false ↦ λ f. rw (e, f) (ap (with_front c) read)
+        | true ↦ λ f. ap (with_prefix c) read
+        | false ↦ λ f. rw (e, f) (ap (with_prefix c) read)
       ] is_slash
     ] is_quote in
     by (c == 34) (c == 92) refl refl

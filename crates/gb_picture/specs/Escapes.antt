@@ -28,14 +28,14 @@ is_markup c = (c == 34) || (c == 39) || (c == 60) || (c == 62)
 abbrev pub is_special : ℕ → Bool
 is_special c = (c == 34) || (c == 38) || (c == 60) || (c == 62) || (c == 96)
 
-abbrev pub with_front : ℕ → Option (List ℕ × List ℕ) → Option (List ℕ × List ℕ)
-with_front c read = option_map (λ parts. (c ∷ parts.0, parts.1)) read
+abbrev pub with_prefix : ℕ → Option (List ℕ × List ℕ) → Option (List ℕ × List ℕ)
+with_prefix c read = option_map (λ parts. (c ∷ parts.0, parts.1)) read
 
 -- How DOT reads the text after a quote, given whether a backslash precedes it: the text up to the next quote
 -- that no backslash precedes, and the text after that quote.
 abbrev pub read_dot : Bool → List ℕ → Option (List ℕ × List ℕ)
 read_dot escaped [] = None
-read_dot true (c ∷ rest) = with_front c (read_dot false rest)
+read_dot true (c ∷ rest) = with_prefix c (read_dot false rest)
 read_dot false (c ∷ rest) =
     if c == 34 then Some ([], rest) else if c == 92 then read_dot true rest
-    else with_front c (read_dot false rest)
+    else with_prefix c (read_dot false rest)

@@ -51,7 +51,7 @@ fn push_edges(out: &mut String, number: usize, node: &Node) -> Result<(), AllocE
 {
     push_before(out, node.needs.as_slice(), number, ";")?;
     push_before(out, node.runs_after.as_slice(), number, " [style=dashed];")?;
-    push_behind(out, number, node.finalizers.as_slice())
+    push_after(out, number, node.finalizers.as_slice())
 }
 
 /// The edges from these to one.
@@ -66,7 +66,7 @@ fn push_before(out: &mut String, from: &[usize], to: usize, style: &str) -> Resu
 }
 
 /// The edges from one to those that finalize it.
-fn push_behind(out: &mut String, from: usize, to: &[usize]) -> Result<(), AllocError>
+fn push_after(out: &mut String, from: usize, to: &[usize]) -> Result<(), AllocError>
     ensures { OnOk result (string_bytes out.new
         ≡ string_bytes out.old ++ flat_map (λ one. dot_edge from one (codes " [style=dotted];")) to.now) }
 {

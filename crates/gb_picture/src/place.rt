@@ -46,7 +46,7 @@ fn set_layer(layers: &mut [usize], number: usize, layer: usize) {
 }
 
 /// The least layer, from this one on, that is after those of these nodes.
-fn behind(layers: &[usize], numbers: &[usize], least: usize) -> usize {
+fn following(layers: &[usize], numbers: &[usize], least: usize) -> usize {
     let mut least = least;
     for number in numbers {
         least = least.max(layer_at(layers, *number).saturating_add(1));
@@ -64,8 +64,8 @@ fn lift(layers: &mut [usize], numbers: &[usize], layer: usize) {
 
 /// Gives a node its layer, once the nodes that run before it have theirs.
 fn give_layer(layers: &mut [usize], number: usize, node: &Node) {
-    let least = behind(layers, node.needs.as_slice(), layer_at(layers, number));
-    let layer = behind(layers, node.runs_after.as_slice(), least);
+    let least = following(layers, node.needs.as_slice(), layer_at(layers, number));
+    let layer = following(layers, node.runs_after.as_slice(), least);
     set_layer(layers, number, layer);
     lift(layers, node.finalizers.as_slice(), layer.saturating_add(1));
 }

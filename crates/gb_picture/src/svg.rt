@@ -94,7 +94,7 @@ fn push_edges(
 {
     push_before(out, spots, node.needs.as_slice(), number, "n")?;
     push_before(out, spots, node.runs_after.as_slice(), number, "a")?;
-    push_behind(out, spots, number, node.finalizers.as_slice())
+    push_after(out, spots, number, node.finalizers.as_slice())
 }
 
 /// The curves from these to one.
@@ -115,7 +115,7 @@ fn push_before(
 }
 
 /// The curves from one to those that finalize it.
-fn push_behind(
+fn push_after(
     out: &mut String,
     spots: &[Spot],
     from: usize,

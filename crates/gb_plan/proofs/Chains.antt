@@ -17,14 +17,14 @@ repeats_tail [] ys e = e
 repeats_tail (x ∷ xs) ys e = repeats_tail xs ys (right_of (not (has_path (xs ++ ys) x)) (no_repeats (xs ++ ys)) e)
 
 -- what is in the first part is not in the second
-pub parts_apart : (xs ys : List Path) (p : Path) → no_repeats (xs ++ ys) ≡ true → has_path xs p ≡ true → has_path ys p ≡ false
-parts_apart [] ys p e h = not_true h
-parts_apart (x ∷ xs) ys p e h =
+pub parts_separate : (xs ys : List Path) (p : Path) → no_repeats (xs ++ ys) ≡ true → has_path xs p ≡ true → has_path ys p ≡ false
+parts_separate [] ys p e h = not_true h
+parts_separate (x ∷ xs) ys p e h =
     elim (bytes_eq p x) as (λ b. bytes_eq p x ≡ b → (b || has_path xs p) ≡ true → has_path ys p ≡ false) [
       | true ↦ λ same _. ap (has_path ys) ((bytes_decides p x).0 same)
           ∙ none_right (has_path xs x) (has_path ys x)
           (sym (any_append (bytes_eq x) xs ys) ∙ no_longer (has_path (xs ++ ys) x) (left_of (not (has_path (xs ++ ys) x)) (no_repeats (xs ++ ys)) e))
-      | false ↦ λ _ h. parts_apart xs ys p (right_of (not (has_path (xs ++ ys) x)) (no_repeats (xs ++ ys)) e) h
+      | false ↦ λ _ h. parts_separate xs ys p (right_of (not (has_path (xs ++ ys) x)) (no_repeats (xs ++ ys)) e) h
     ] refl h
 
 -- ---- The order of parts
@@ -65,15 +65,15 @@ module _ (plan : Plan) where
       ]
 
   -- what a task comes after by a chain is before it
-  pub stands_before : (set : List Path) (placed rest : List Planned) (task : TaskDeclaration) (path : Path) → plan ≡ placed ++ rest → set ≡ order placed
+  pub exists_before : (set : List Path) (placed rest : List Planned) (task : TaskDeclaration) (path : Path) → plan ≡ placed ++ rest → set ≡ order placed
       → no_repeats (order plan) ≡ true → Closed set placed → is_ready plan set task ≡ true → IsAfter plan task path → has_path set path ≡ true
-  stands_before set placed rest task path whole same once closed ready chain =
+  exists_before set placed rest task path whole same once closed ready chain =
       reached_in (after plan task) (after_at plan) _ set ready
       (all_of_members (λ p. goes_into (λ _. false) set (after_at plan p)) set (λ p h.
       subst (λ zs. list_all (has_path set) (flat_map (λ (z : Planned). after plan z.task) zs) ≡ true)
       (sym (ap (with_path p) whole ∙ filter_append (λ z. bytes_eq z.task.path p) placed rest
       ∙ ap (λ zs. with_path p placed ++ zs) (none_with p rest
-      (parts_apart (order placed) (order rest) p (ap no_repeats (sym (order_append placed rest) ∙ ap order (sym whole)) ∙ once) (ap (λ s. has_path s p) (sym same) ∙ h)))
+      (parts_separate (order placed) (order rest) p (ap no_repeats (sym (order_append placed rest) ∙ ap order (sym whole)) ∙ once) (ap (λ s. has_path s p) (sym same) ∙ h)))
       ∙ append-nil (with_path p placed)))
       (steps_in set p placed closed)))
       chain
@@ -86,7 +86,7 @@ module _ (plan : Plan) where
       none_of rest
       (all_at _ placed reader rest (subst (AllByRecursion (λ (writer : Planned). IsReadInOrder plan reader.task writer.task)) whole
       (all_at _ placed reader rest (subst (AllByRecursion (λ (r : Planned). AllByRecursion (λ (writer : Planned). IsReadInOrder plan r.task writer.task) plan)) whole sound.declared)).0)).1
-      (λ p h. none_right (bytes_eq p reader.task.path) (has_path (order rest) p) (parts_apart (order placed) (order (reader ∷ rest)) p repeats (ap (λ s. has_path s p) (sym same) ∙ h)))
+      (λ p h. none_right (bytes_eq p reader.task.path) (has_path (order rest) p) (parts_separate (order placed) (order (reader ∷ rest)) p repeats (ap (λ s. has_path s p) (sym same) ∙ h)))
       (no_longer (has_path (order rest) reader.task.path)
       (left_of (not (has_path (order rest) reader.task.path)) (no_repeats (order rest)) (repeats_tail (order placed) (order (reader ∷ rest)) repeats)))
     where
@@ -96,16 +96,16 @@ module _ (plan : Plan) where
       none_of : (later : List Planned) → AllByRecursion (λ (writer : Planned). IsReadInOrder plan reader.task writer.task) later
           → ((p : Path) → has_path set p ≡ true → has_path (order later) p ≡ false)
           → has_path (order later) reader.task.path ≡ false → AllByRecursion (λ (writer : Planned). reads_output_of reader.task writer.task ≡ false) later
-      none_of [] declared apart differs = tt
-      none_of (w ∷ later) declared apart differs = (
+      none_of [] declared separate differs = tt
+      none_of (w ∷ later) declared separate differs = (
         elim (reads_output_of reader.task w.task) as (λ b. reads_output_of reader.task w.task ≡ b → b ≡ false) [
           | true ↦ λ e. not_true (sym (none_left (bytes_eq w.task.path w.task.path) (has_path (order later) w.task.path)
-              (apart w.task.path (stands_before set placed (reader ∷ rest) reader.task w.task.path whole same once closed ready
+              (separate w.task.path (exists_before set placed (reader ∷ rest) reader.task w.task.path whole same once closed ready
               (declared.0 e (none_left (bytes_eq reader.task.path w.task.path) (has_path (order later) reader.task.path) differs)))))
               ∙ itself w.task.path)
           | false ↦ λ _. refl
         ] refl,
-        none_of later declared.1 (λ p h. none_right (bytes_eq p w.task.path) (has_path (order later) p) (apart p h))
+        none_of later declared.1 (λ p h. none_right (bytes_eq p w.task.path) (has_path (order later) p) (separate p h))
             (none_right (bytes_eq reader.task.path w.task.path) (has_path (order later) reader.task.path) differs),
       )
 

@@ -15,10 +15,10 @@ use Rattle.gb_plan.proofs.Same.{In, at_in}
 
 -- ---- Members
 
-in_front : {X : Type 0} (z : X) (xs ys : List X) → In z xs → In z (xs ++ ys)
-in_front z [] ys i = absurd i
-in_front z (x ∷ xs) ys (inl e) = inl e
-in_front z (x ∷ xs) ys (inr i) = inr (in_front z xs ys i)
+in_prefix : {X : Type 0} (z : X) (xs ys : List X) → In z xs → In z (xs ++ ys)
+in_prefix z [] ys i = absurd i
+in_prefix z (x ∷ xs) ys (inl e) = inl e
+in_prefix z (x ∷ xs) ys (inr i) = inr (in_prefix z xs ys i)
 
 in_back : {X : Type 0} (z : X) (xs ys : List X) → In z ys → In z (xs ++ ys)
 in_back z [] ys i = i
@@ -31,7 +31,7 @@ in_map f (y ∷ ys) x (inr i) = inr (in_map f ys x i)
 
 in_all : {X Y : Type 0} (f : X → List Y) (xs : List X) (x : X) (y : Y) → In x xs → In y (f x) → In y (flat_map f xs)
 in_all f [] x y i j = absurd i
-in_all f (z ∷ zs) x y (inl e) j = in_front y (f z) (flat_map f zs) (subst (λ v. In y (f v)) e j)
+in_all f (z ∷ zs) x y (inl e) j = in_prefix y (f z) (flat_map f zs) (subst (λ v. In y (f v)) e j)
 in_all f (z ∷ zs) x y (inr i) j = in_back y (f z) (flat_map f zs) (in_all f zs x y i j)
 
 in_those : {X : Type 0} (test : X → Bool) (xs : List X) (x : X) → In x xs → test x ≡ true → In x (filter test xs)
@@ -65,9 +65,9 @@ abbrev pub beside : {X : Type 0} → List X → List (X × List X)
 beside [] = []
 beside (x ∷ xs) = (x, xs) ∷ map (λ at. (at.0, x ∷ at.1)) (beside xs)
 
-in_beside : {X : Type 0} (front : List X) (x : X) (back : List X) → In (x, front ++ back) (beside (front ++ x ∷ back))
+in_beside : {X : Type 0} (prefix : List X) (x : X) (back : List X) → In (x, prefix ++ back) (beside (prefix ++ x ∷ back))
 in_beside [] x back = inl refl
-in_beside (f ∷ front) x back = inr (in_map (λ at. (at.0, f ∷ at.1)) (beside (front ++ x ∷ back)) (x, front ++ back) (in_beside front x back))
+in_beside (f ∷ prefix) x back = inr (in_map (λ at. (at.0, f ∷ at.1)) (beside (prefix ++ x ∷ back)) (x, prefix ++ back) (in_beside prefix x back))
 
 abbrev overlaps_at : (Path × Place) × List (Path × Place) → List Conflict
 overlaps_at at = map (λ other. record { task = at.0.0; other = other.0; place = at.0.1 }) (filter (λ other. overlaps at.0.1 other.1) at.1)
@@ -77,13 +77,13 @@ overlaps_listed plan = flat_map overlaps_at (beside (outputs_of plan))
 
 overlap_listed : (plan : Plan) (conflict : Conflict) → IsOverlap plan conflict → In conflict (overlaps_listed plan)
 overlap_listed plan conflict at =
-    let output = some_in (λ (o : Path × Place). bytes_eq o.0 conflict.other && overlaps conflict.place o.1) (at.front ++ at.back) at.overlapped in
-    in_all overlaps_at (beside (outputs_of plan)) ((conflict.task, conflict.place), at.front ++ at.back) conflict
-    (subst (λ os. In ((conflict.task, conflict.place), at.front ++ at.back) (beside os)) (sym at.stands) (in_beside at.front (conflict.task, conflict.place) at.back))
-    (subst (λ path. In (record { task = conflict.task; other = path; place = conflict.place }) (overlaps_at ((conflict.task, conflict.place), at.front ++ at.back)))
+    let output = some_in (λ (o : Path × Place). bytes_eq o.0 conflict.other && overlaps conflict.place o.1) (at.prefix ++ at.back) at.overlapped in
+    in_all overlaps_at (beside (outputs_of plan)) ((conflict.task, conflict.place), at.prefix ++ at.back) conflict
+    (subst (λ os. In ((conflict.task, conflict.place), at.prefix ++ at.back) (beside os)) (sym at.exists) (in_beside at.prefix (conflict.task, conflict.place) at.back))
+    (subst (λ path. In (record { task = conflict.task; other = path; place = conflict.place }) (overlaps_at ((conflict.task, conflict.place), at.prefix ++ at.back)))
     ((bytes_decides output.0.0 conflict.other).0 (left_of _ _ output.2))
     (in_map (λ (other : Path × Place). record { task = conflict.task; other = other.0; place = conflict.place }) _ output.0
-    (in_those (λ (other : Path × Place). overlaps conflict.place other.1) (at.front ++ at.back) output.0 output.1 (right_of (bytes_eq output.0.0 conflict.other) _ output.2))))
+    (in_those (λ (other : Path × Place). overlaps conflict.place other.1) (at.prefix ++ at.back) output.0 output.1 (right_of (bytes_eq output.0.0 conflict.other) _ output.2))))
 
 -- ---- Reads
 

@@ -23,18 +23,18 @@ use Rattle.gb_plan.proofs.Circles.{neither_less, circles_are_one}
 
 -- ---- The queue
 
-abbrev behind : Request → List Path → Path → List Path → List Path
-behind request done path waiting = waiting ++ newly_brought request path (done ++ path ∷ waiting)
+abbrev following : Request → List Path → Path → List Path → List Path
+following request done path waiting = waiting ++ newly_brought request path (done ++ path ∷ waiting)
 
 -- from one state of the queue to a later one
 data Comes (request : Request) : List Path → List Path → List Path → List Path → Type 0 where
   stays : {done : List Path} {waiting : List Path} → Comes request done waiting done waiting
   moves : {done : List Path} {path : Path} {waiting : List Path} {task : TaskDeclaration} {later : List Path} {rest : List Path}
       → declaration_at request.registry path ≡ Some (Ok task)
-      → Comes request (done ++ path ∷ []) (behind request done path waiting) later rest → Comes request done (path ∷ waiting) later rest
+      → Comes request (done ++ path ∷ []) (following request done path waiting) later rest → Comes request done (path ∷ waiting) later rest
 
 one_more : (request : Request) (done waiting later : List Path) (path : Path) (rest : List Path) (task : TaskDeclaration) → Comes request done waiting later (path ∷ rest)
-    → declaration_at request.registry path ≡ Some (Ok task) → Comes request done waiting (later ++ path ∷ []) (behind request later path rest)
+    → declaration_at request.registry path ≡ Some (Ok task) → Comes request done waiting (later ++ path ∷ []) (following request later path rest)
 one_more request done waiting later path rest task stays declared = moves declared stays
 one_more request done waiting later path rest task (moves first comes) declared = moves first (one_more request _ _ later path rest task comes declared)
 
@@ -60,7 +60,7 @@ comes_there request later last rest fault at_fault whole done waiting (goes_on {
     past before path others (comes_there request later last rest fault at_fault whole before (path ∷ others) queued) declared
   where
     past : (before : List Path) (path : Path) (others : List Path) → Comes request before (path ∷ others) later (last ∷ rest) → declaration_at request.registry path ≡ Some (Ok task)
-        → Comes request (before ++ path ∷ []) (behind request before path others) later (last ∷ rest)
+        → Comes request (before ++ path ∷ []) (following request before path others) later (last ∷ rest)
     past before path others stays declared = not_at_fault request last task fault declared at_fault
     past before path others (moves first comes) declared = comes
 
@@ -106,16 +106,16 @@ schedule_faults plan f g ready (has_cycle a) other = not_false (sym (ap is_empty
 schedule_faults plan f g ready (has_overlap a) (has_cycle b) = not_false (sym (ap is_empty ready) ∙ b.some_stuck)
 schedule_faults plan f g ready (has_overlap a) (has_overlap b) =
     a.reported ∙ (ap (λ (m : Conflict). faults.OverlappingOutputs m.task m.other m.place) (conflicts_are_one _ a.conflict b.conflict a.is_least b.is_least) ∙ sym b.reported)
-schedule_faults plan f g ready (has_overlap a) (has_own_input b) = absurd (b.outputs_apart a.conflict a.is_least.meets)
-schedule_faults plan f g ready (has_overlap a) (is_undeclared b) = absurd (b.outputs_apart a.conflict a.is_least.meets)
+schedule_faults plan f g ready (has_overlap a) (has_own_input b) = absurd (b.outputs_separate a.conflict a.is_least.meets)
+schedule_faults plan f g ready (has_overlap a) (is_undeclared b) = absurd (b.outputs_separate a.conflict a.is_least.meets)
 schedule_faults plan f g ready (has_own_input a) (has_cycle b) = not_false (sym (ap is_empty ready) ∙ b.some_stuck)
-schedule_faults plan f g ready (has_own_input a) (has_overlap b) = absurd (a.outputs_apart b.conflict b.is_least.meets)
+schedule_faults plan f g ready (has_own_input a) (has_overlap b) = absurd (a.outputs_separate b.conflict b.is_least.meets)
 schedule_faults plan f g ready (has_own_input a) (has_own_input b) =
     a.reported ∙ (ap (λ (m : Conflict). faults.OwnOutputAsInput m.task m.place) (conflicts_are_one _ a.conflict b.conflict a.is_least b.is_least) ∙ sym b.reported)
-schedule_faults plan f g ready (has_own_input a) (is_undeclared b) = absurd (b.inputs_apart a.conflict a.is_least.meets)
+schedule_faults plan f g ready (has_own_input a) (is_undeclared b) = absurd (b.inputs_separate a.conflict a.is_least.meets)
 schedule_faults plan f g ready (is_undeclared a) (has_cycle b) = not_false (sym (ap is_empty ready) ∙ b.some_stuck)
-schedule_faults plan f g ready (is_undeclared a) (has_overlap b) = absurd (a.outputs_apart b.conflict b.is_least.meets)
-schedule_faults plan f g ready (is_undeclared a) (has_own_input b) = absurd (a.inputs_apart b.conflict b.is_least.meets)
+schedule_faults plan f g ready (is_undeclared a) (has_overlap b) = absurd (a.outputs_separate b.conflict b.is_least.meets)
+schedule_faults plan f g ready (is_undeclared a) (has_own_input b) = absurd (a.inputs_separate b.conflict b.is_least.meets)
 schedule_faults plan f g ready (is_undeclared a) (is_undeclared b) =
     a.reported ∙ (ap (λ (m : Conflict). faults.UndeclaredDependency m.task m.other m.place) (conflicts_are_one _ a.conflict b.conflict a.is_least b.is_least) ∙ sym b.reported)
 

@@ -3,7 +3,7 @@ use Rattle.std.specs.Prelude.{◌≡◌, true, false, [], ◌∷◌, codes, refl
 use Rattle.std.proofs.Common.{lit<}
 use Rattle.gb_report.specs.declared.fault.Fault.TheVariants as faults
 use Rattle.gb_plan.specs.declared.task.TaskDeclaration.{TaskDeclaration}
-use Rattle.gb_plan.specs.Graph.{Request, Plan, start, selected, brings, leaves_out, after, after_at, stands_in_order, IsScheduled, IsAfter, IsSound}
+use Rattle.gb_plan.specs.Graph.{Request, Plan, start, selected, brings, leaves_out, after, after_at, is_in_order, IsScheduled, IsAfter, IsSound}
 use Rattle.gb_plan.specs.Refusal.{Conflict, IsScheduleFault, has_overlap, has_own_input, is_undeclared}
 use Rattle.gb_plan.proofs.Tests.{not_true, reached_in}
 use Rattle.gb_plan.proofs.Refused.{no_overlap, no_own_input}
@@ -24,7 +24,7 @@ overlap_reported = has_overlap (record {
   all_ready = refl;
   conflict = at_x;
   is_least = least_overlap overlapping at_x
-      (record { front = []; back = (codes ":b", codes "build/x") ∷ []; stands = refl; overlapped = refl }) refl;
+      (record { prefix = []; back = (codes ":b", codes "build/x") ∷ []; exists = refl; overlapped = refl }) refl;
   reported = refl;
 })
 
@@ -37,7 +37,7 @@ own_overlap_reported = has_overlap (record {
   all_ready = refl;
   conflict = record { task = codes ":a"; other = codes ":a"; place = codes "build/x" };
   is_least = least_overlap (planned doubled 0 ∷ []) _
-      (record { front = []; back = (codes ":a", codes "build/x/y") ∷ []; stands = refl; overlapped = refl }) refl;
+      (record { prefix = []; back = (codes ":a", codes "build/x/y") ∷ []; exists = refl; overlapped = refl }) refl;
   reported = refl;
 })
 
@@ -49,7 +49,7 @@ reads_itself = planned (b (codes "build") (to_file (codes "build/y")) [] []) 0 �
 pub own_input_reported : IsScheduleFault reads_itself (faults.OwnOutputAsInput (codes ":b") (codes "build"))
 own_input_reported = has_own_input (record {
   all_ready = refl;
-  outputs_apart = no_overlap reads_itself refl;
+  outputs_separate = no_overlap reads_itself refl;
   conflict = record { task = codes ":b"; other = codes ":b"; place = codes "build" };
   is_least = least_own_input reads_itself _
       (record {
@@ -72,8 +72,8 @@ b_not_after_a r = not_true (reached_in (after undeclared (reads_x [] [])) (after
 pub undeclared_reported : IsScheduleFault undeclared (faults.UndeclaredDependency (codes ":b") (codes ":a") (codes "build/x"))
 undeclared_reported = is_undeclared (record {
   all_ready = refl;
-  outputs_apart = no_overlap undeclared refl;
-  inputs_apart = no_own_input undeclared (refl, (refl, tt));
+  outputs_separate = no_overlap undeclared refl;
+  inputs_separate = no_own_input undeclared (refl, (refl, tt));
   conflict = record { task = codes ":b"; other = codes ":a"; place = codes "build/x" };
   is_least = least_undeclared undeclared _
       (record {
@@ -93,22 +93,22 @@ undeclared_reported = is_undeclared (record {
 abbrev pub ordered : Plan
 ordered = planned a 1 ∷ planned (reads_x [] (codes ":a" ∷ [])) 0 ∷ []
 
-pub ordered_in_order : stands_in_order ordered [] ordered ≡ true
+pub ordered_in_order : is_in_order ordered [] ordered ≡ true
 ordered_in_order = refl
 
 pub ordered_sound : IsSound ordered
 ordered_sound = record {
-  outputs_apart = refl;
-  inputs_apart = (refl, (refl, tt));
+  outputs_separate = refl;
+  inputs_separate = (refl, (refl, tt));
   declared = ((λ reads same. not_true reads, (λ reads same. not_true reads, tt)), ((λ reads same. start refl refl, (λ reads same. not_true reads, tt)), tt));
 }
 
 -- an order that forgets `mustRunAfter`
-pub order_is_kept : (let turned = planned (reads_x [] (codes ":a" ∷ [])) 0 ∷ planned a 1 ∷ [] in stands_in_order turned [] turned) ≡ false
+pub order_is_kept : (let turned = planned (reads_x [] (codes ":a" ∷ [])) 0 ∷ planned a 1 ∷ [] in is_in_order turned [] turned) ≡ false
 order_is_kept = refl
 
 -- by itself the reader is the whole plan
-pub alone_in_order : (let alone = planned (reads_x [] (codes ":a" ∷ [])) 0 ∷ [] in stands_in_order alone [] alone) ≡ true
+pub alone_in_order : (let alone = planned (reads_x [] (codes ":a" ∷ [])) 0 ∷ [] in is_in_order alone [] alone) ≡ true
 alone_in_order = refl
 
 -- an order schedules nothing

@@ -18,14 +18,14 @@ slash = 47
 -- what starts with a text continues after it
 starts_as : (xs needle : List ℕ) → starts_with nat_eq xs needle ≡ true → (rest : List ℕ) × (xs ≡ needle ++ rest)
 starts_as xs needle e =
-    (drop (length needle) xs, sym (take-append-drop (length needle) xs) ∙ ap (λ front. front ++ drop (length needle) xs) (sym ((bytes_decides needle (take (length needle) xs)).0 e)))
+    (drop (length needle) xs, sym (take-append-drop (length needle) xs) ∙ ap (λ prefix. prefix ++ drop (length needle) xs) (sym ((bytes_decides needle (take (length needle) xs)).0 e)))
 
-take_front : (needle rest : List ℕ) → take (length needle) (needle ++ rest) ≡ needle
-take_front [] rest = refl
-take_front (c ∷ needle) rest = ap (λ xs. c ∷ xs) (take_front needle rest)
+take_prefix : (needle rest : List ℕ) → take (length needle) (needle ++ rest) ≡ needle
+take_prefix [] rest = refl
+take_prefix (c ∷ needle) rest = ap (λ xs. c ∷ xs) (take_prefix needle rest)
 
 starts_so : (xs needle rest : List ℕ) → xs ≡ needle ++ rest → starts_with nat_eq xs needle ≡ true
-starts_so xs needle rest e = (bytes_decides needle (take (length needle) xs)).1 (sym (ap (take (length needle)) e ∙ take_front needle rest))
+starts_so xs needle rest e = (bytes_decides needle (take (length needle) xs)).1 (sym (ap (take (length needle)) e ∙ take_prefix needle rest))
 
 -- at it, or under it with something after the '/'
 abbrev IsIn : Place → Place → Type 0
@@ -101,12 +101,12 @@ none_under q root (place ∷ places) under e =
     ] refl)
     (none_under q root places under (none_right (overlaps root place) (list_any (overlaps root) places) e))
 
-pub apart_places : (q : Place) (xs ys : List Place) → some_overlap (xs ++ ys) ≡ false → list_any (is_under q) xs ≡ true → list_any (is_under q) ys ≡ false
-apart_places q [] ys e h = not_true h
-apart_places q (x ∷ xs) ys e h =
+pub separate_places : (q : Place) (xs ys : List Place) → some_overlap (xs ++ ys) ≡ false → list_any (is_under q) xs ≡ true → list_any (is_under q) ys ≡ false
+separate_places q [] ys e h = not_true h
+separate_places q (x ∷ xs) ys e h =
     elim (is_under q x) as (λ b. is_under q x ≡ b → (b || list_any (is_under q) xs) ≡ true → list_any (is_under q) ys ≡ false) [
       | true ↦ λ under _. none_under q x ys under (none_right (list_any (overlaps x) xs) (list_any (overlaps x) ys) (sym (any_append (overlaps x) xs ys) ∙ none_left (list_any (overlaps x) (xs ++ ys)) (some_overlap (xs ++ ys)) e))
-      | false ↦ λ _ h. apart_places q xs ys (none_right (list_any (overlaps x) (xs ++ ys)) (some_overlap (xs ++ ys)) e) h
+      | false ↦ λ _ h. separate_places q xs ys (none_right (list_any (overlaps x) (xs ++ ys)) (some_overlap (xs ++ ys)) e) h
     ] refl h
 
 pub overlap_tail : (xs ys : List Place) → some_overlap (xs ++ ys) ≡ false → some_overlap ys ≡ false

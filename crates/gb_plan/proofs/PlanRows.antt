@@ -6,7 +6,7 @@ use Rattle.gb_folder.specs.Files.{is_empty}
 use Rattle.gb_plan.specs.declared.plan.Planned.{Planned}
 use Rattle.gb_plan.specs.declared.task.TaskDeclaration.{TaskDeclaration}
 use Rattle.gb_plan.specs.Task.{Text, Path}
-use Rattle.gb_plan.specs.Graph.{Registry, IsRegistry, Request, Plan, Reached, start, step, order, selected, selected_by, brings, leaves_out, is_scheduled_in, stands_in_order, IsScheduled, WordReaches, IsFirstWord, IsSchedule, IsPlan, IsReadInOrder}
+use Rattle.gb_plan.specs.Graph.{Registry, IsRegistry, Request, Plan, Reached, start, step, order, selected, selected_by, brings, leaves_out, is_scheduled_in, is_in_order, IsScheduled, WordReaches, IsFirstWord, IsSchedule, IsPlan, IsReadInOrder}
 use Rattle.gb_plan.specs.Refusal.{request_of}
 use Rattle.gb_plan.proofs.Tests.{at_each, not_true, not_false, reached_in}
 use Rattle.gb_plan.proofs.Same.{plans_are_one}
@@ -114,7 +114,7 @@ pub is_plan : IsPlan request plan
 is_plan = record {
   schedule = schedule;
   all_ready = refl;
-  sound = record { outputs_apart = refl; inputs_apart = (refl, (refl, (refl, (refl, tt)))); declared = reads_none };
+  sound = record { outputs_separate = refl; inputs_separate = (refl, (refl, (refl, (refl, tt)))); declared = reads_none };
 }
 
 -- ---- And no other is
@@ -160,5 +160,5 @@ pub excluded_enters_not : (path : Path) → IsScheduled without_bad path → is_
 excluded_enters_not path r = reached_in (selected without_bad) (brings registry) (leaves_out without_bad) (codes ":q" ∷ []) refl refl r
 
 -- the task that needs it is alone, and is ready
-pub alone_in_order : stands_in_order (planned q 0 ∷ []) [] (planned q 0 ∷ []) ≡ true
+pub alone_in_order : is_in_order (planned q 0 ∷ []) [] (planned q 0 ∷ []) ≡ true
 alone_in_order = refl

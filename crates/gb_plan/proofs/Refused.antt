@@ -86,16 +86,16 @@ places_of (planned ∷ plan) =
     ∙ (λ i. places_in planned.task (output_places planned.task) i ++ places_of plan i)
 
 -- of disjoint places, one overlaps none of the others
-none_meet : (front : List (Path × Place)) (path : Path) (place : Place) (back : List (Path × Place))
-    → some_overlap (map (λ (output : Path × Place). output.1) (front ++ (path, place) ∷ back)) ≡ false → list_any (λ (output : Path × Place). overlaps place output.1) (front ++ back) ≡ false
+none_meet : (prefix : List (Path × Place)) (path : Path) (place : Place) (back : List (Path × Place))
+    → some_overlap (map (λ (output : Path × Place). output.1) (prefix ++ (path, place) ∷ back)) ≡ false → list_any (λ (output : Path × Place). overlaps place output.1) (prefix ++ back) ≡ false
 none_meet [] path place back e =
     sym (any_map (overlaps place) (λ (output : Path × Place). output.1) back) ∙ none_left (list_any (overlaps place) (map (λ (output : Path × Place). output.1) back)) _ e
-none_meet (first ∷ front) path place back e =
-    let apart = sym (any_map (overlaps first.1) (λ (output : Path × Place). output.1) (front ++ (path, place) ∷ back)) ∙ none_left (list_any (overlaps first.1) (map (λ (output : Path × Place). output.1) (front ++ (path, place) ∷ back))) _ e in
-    let behind = none_right (list_any (λ (output : Path × Place). overlaps first.1 output.1) front) _ (sym (any_append (λ (output : Path × Place). overlaps first.1 output.1) front ((path, place) ∷ back)) ∙ apart) in
-    neither (overlaps place first.1) (list_any (λ (output : Path × Place). overlaps place output.1) (front ++ back))
-    (or_turned (is_under place first.1) (is_under first.1 place) ∙ none_left (overlaps first.1 place) _ behind)
-    (none_meet front path place back (none_right (list_any (overlaps first.1) (map (λ (output : Path × Place). output.1) (front ++ (path, place) ∷ back))) _ e))
+none_meet (first ∷ prefix) path place back e =
+    let separate = sym (any_map (overlaps first.1) (λ (output : Path × Place). output.1) (prefix ++ (path, place) ∷ back)) ∙ none_left (list_any (overlaps first.1) (map (λ (output : Path × Place). output.1) (prefix ++ (path, place) ∷ back))) _ e in
+    let following = none_right (list_any (λ (output : Path × Place). overlaps first.1 output.1) prefix) _ (sym (any_append (λ (output : Path × Place). overlaps first.1 output.1) prefix ((path, place) ∷ back)) ∙ separate) in
+    neither (overlaps place first.1) (list_any (λ (output : Path × Place). overlaps place output.1) (prefix ++ back))
+    (or_turned (is_under place first.1) (is_under first.1 place) ∙ none_left (overlaps first.1 place) _ following)
+    (none_meet prefix path place back (none_right (list_any (overlaps first.1) (map (λ (output : Path × Place). output.1) (prefix ++ (path, place) ∷ back))) _ e))
 
 fewer_pass : {X : Type 0} (p q : X → Bool) (xs : List X) → list_any q xs ≡ false → list_any (λ x. p x && q x) xs ≡ false
 fewer_pass p q [] e = refl
@@ -106,9 +106,9 @@ fewer_pass p q (x ∷ xs) e = neither (p x && q x) _ (fails (p x) (q x) (none_le
     fails false b e = refl
 
 pub no_overlap : (plan : Plan) → some_overlap (flat_map (λ (planned : Planned). output_places planned.task) plan) ≡ false → (conflict : Conflict) → ¬ IsOverlap plan conflict
-no_overlap plan apart conflict at =
-    not_true (sym (fewer_pass (λ (output : Path × Place). bytes_eq output.0 conflict.other) (λ output. overlaps conflict.place output.1) (at.front ++ at.back)
-    (none_meet at.front conflict.task conflict.place at.back (ap (λ os. some_overlap (map (λ (output : Path × Place). output.1) os)) (sym at.stands) ∙ (ap some_overlap (places_of plan) ∙ apart)))) ∙ at.overlapped)
+no_overlap plan separate conflict at =
+    not_true (sym (fewer_pass (λ (output : Path × Place). bytes_eq output.0 conflict.other) (λ output. overlaps conflict.place output.1) (at.prefix ++ at.back)
+    (none_meet at.prefix conflict.task conflict.place at.back (ap (λ os. some_overlap (map (λ (output : Path × Place). output.1) os)) (sym at.exists) ∙ (ap some_overlap (places_of plan) ∙ separate)))) ∙ at.overlapped)
 
 -- ---- Reads
 
@@ -133,8 +133,8 @@ does_read plan reader writer root read = walk (roots_of reader) read.is_root
         ] refl h
 
 pub no_own_input : (plan : Plan) → AllByRecursion (λ (planned : Planned). reads_output_of planned.task planned.task ≡ false) plan → (conflict : Conflict) → ¬ IsOwnInput plan conflict
-no_own_input plan apart conflict at =
-    not_true (sym (of_task (λ task. reads_output_of task task ≡ false) plan at.task apart at.reads.reader_in) ∙ does_read plan at.task at.task conflict.place at.reads)
+no_own_input plan separate conflict at =
+    not_true (sym (of_task (λ task. reads_output_of task task ≡ false) plan at.task separate at.reads.reader_in) ∙ does_read plan at.task at.task conflict.place at.reads)
 
 pub none_undeclared : (plan : Plan) → AllByRecursion (λ (reader : Planned). AllByRecursion (λ (writer : Planned). IsReadInOrder plan reader.task writer.task) plan) plan
     → (conflict : Conflict) → ¬ IsUndeclared plan conflict
@@ -148,8 +148,8 @@ none_undeclared plan declared conflict at =
 -- a sound plan in which all tasks become ready has no fault
 pub no_schedule_fault : (plan : Plan) (fault : Fault) → stuck plan [] plan ≡ [] → IsSound plan → ¬ IsScheduleFault plan fault
 no_schedule_fault plan fault ready sound (has_cycle at) = not_false (sym (ap is_empty ready) ∙ at.some_stuck)
-no_schedule_fault plan fault ready sound (has_overlap at) = no_overlap plan sound.outputs_apart at.conflict at.is_least.meets
-no_schedule_fault plan fault ready sound (has_own_input at) = no_own_input plan sound.inputs_apart at.conflict at.is_least.meets
+no_schedule_fault plan fault ready sound (has_overlap at) = no_overlap plan sound.outputs_separate at.conflict at.is_least.meets
+no_schedule_fault plan fault ready sound (has_own_input at) = no_own_input plan sound.inputs_separate at.conflict at.is_least.meets
 no_schedule_fault plan fault ready sound (is_undeclared at) = none_undeclared plan sound.declared at.conflict at.is_least.meets
 
 pub refusals_exclude_plans : (request : Request) (plan : Plan) (fault : Fault) → IsPlan request plan → ¬ IsRefused request fault

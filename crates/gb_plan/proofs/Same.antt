@@ -13,7 +13,7 @@ use Rattle.gb_report.specs.declared.fault.Fault.{Fault}
 use Rattle.gb_plan.specs.declared.plan.Planned.{Planned}
 use Rattle.gb_plan.specs.declared.task.TaskDeclaration.{TaskDeclaration}
 use Rattle.gb_plan.specs.Task.{Path, has_path}
-use Rattle.gb_plan.specs.Graph.{Plan, Request, order, after, after_at, is_ready, is_scheduled_in, needs_in, finalized_by, stands_in_order, stuck, no_repeats, precedes, declaration_at, selected, IsFirstWord, IsSchedule, IsPlan}
+use Rattle.gb_plan.specs.Graph.{Plan, Request, order, after, after_at, is_ready, is_scheduled_in, needs_in, finalized_by, is_in_order, stuck, no_repeats, precedes, declaration_at, selected, IsFirstWord, IsSchedule, IsPlan}
 use Rattle.gb_plan.proofs.Tests.{not_true, not_false, no_longer, left_of, right_of, or_right, any_append, each_of_all, at_member, all_of_members, in_filter, into_filter}
 use Rattle.gb_plan.proofs.Chains.{ready_here, stuck_rest}
 
@@ -113,7 +113,7 @@ same_task a b e = ap (task_in a) e
 same_index : (request : Request) (path : Path) (m n : ℕ) → IsFirstWord request path m → IsFirstWord request path n → m ≡ n
 same_index request path m n first second = elim (cases_order m n) [
   | inl e ↦ e
-  | inr apart ↦ elim apart [ inl lower ↦ absurd (second.none_before m lower first.reaches) | inr higher ↦ absurd (first.none_before n higher second.reaches) ]
+  | inr separate ↦ elim separate [ inl lower ↦ absurd (second.none_before m lower first.reaches) | inr higher ↦ absurd (first.none_before n higher second.reaches) ]
 ]
 
 same_planned : (request : Request) (p q : Plan) → IsSchedule request p → IsSchedule request q → (a b : Planned) → In a p → In b q → b.task.path ≡ a.task.path → a ≡ b
@@ -170,28 +170,28 @@ same_after request p q of_p of_q task path h =
         (finds (λ (z : Planned). has_path z.task.finalizers task.path) q at.0 (same_tasks request p q of_p of_q at.0 at.1) at.2)
 
 -- and so becomes ready at the same point
-pub same_ready : (request : Request) (p q : Plan) → IsSchedule request p → IsSchedule request q → (standing : List Path) (task : TaskDeclaration)
-    → is_ready p standing task ≡ true → is_ready q standing task ≡ true
-same_ready request p q of_p of_q standing task h =
-    all_of_members (has_path standing) (after q task)
-    (λ path after_q. at_member (has_path standing) (after p task) path h (same_after request q p of_q of_p task path after_q))
+pub same_ready : (request : Request) (p q : Plan) → IsSchedule request p → IsSchedule request q → (existing : List Path) (task : TaskDeclaration)
+    → is_ready p existing task ≡ true → is_ready q existing task ≡ true
+same_ready request p q of_p of_q existing task h =
+    all_of_members (has_path existing) (after q task)
+    (λ path after_q. at_member (has_path existing) (after p task) path h (same_after request q p of_q of_p task path after_q))
 
 -- ---- One order
 
 -- where another is ready, the next is ready too, and precedes it
-next_is_least : (plan : Plan) (standing : List Path) (next : Planned) (rest : List Planned) → stands_in_order plan standing (next ∷ rest) ≡ true
-    → (other : Planned) → In other rest → is_ready plan standing other.task ≡ true → (is_ready plan standing next.task ≡ true) × (precedes next other ≡ true)
-next_is_least plan standing next rest in_order other i ready =
-    elim (is_ready plan standing next.task) as (λ b. cond b (list_all (λ o. precedes next o || not (is_ready plan standing o.task)) rest && stands_in_order plan (standing ++ next.task.path ∷ []) rest)
-    (list_all (λ o. not (is_ready plan standing o.task)) rest) ≡ true → (b ≡ true) × (precedes next other ≡ true)) [
+next_is_least : (plan : Plan) (existing : List Path) (next : Planned) (rest : List Planned) → is_in_order plan existing (next ∷ rest) ≡ true
+    → (other : Planned) → In other rest → is_ready plan existing other.task ≡ true → (is_ready plan existing next.task ≡ true) × (precedes next other ≡ true)
+next_is_least plan existing next rest in_order other i ready =
+    elim (is_ready plan existing next.task) as (λ b. cond b (list_all (λ o. precedes next o || not (is_ready plan existing o.task)) rest && is_in_order plan (existing ++ next.task.path ∷ []) rest)
+    (list_all (λ o. not (is_ready plan existing o.task)) rest) ≡ true → (b ≡ true) × (precedes next other ≡ true)) [
       | true ↦ λ e. (
         refl,
-        unless (precedes next other) (is_ready plan standing other.task) ready
-            (at_in (λ (o : Planned). (precedes next o || not (is_ready plan standing o.task)) ≡ true) rest other
-            (each_of_all (λ (o : Planned). precedes next o || not (is_ready plan standing o.task)) rest (left_of _ _ e)) i),
+        unless (precedes next other) (is_ready plan existing other.task) ready
+            (at_in (λ (o : Planned). (precedes next o || not (is_ready plan existing o.task)) ≡ true) rest other
+            (each_of_all (λ (o : Planned). precedes next o || not (is_ready plan existing o.task)) rest (left_of _ _ e)) i),
       )
-      | false ↦ λ e. not_true (sym (no_longer (is_ready plan standing other.task)
-          (at_in (λ (o : Planned). not (is_ready plan standing o.task) ≡ true) rest other (each_of_all (λ (o : Planned). not (is_ready plan standing o.task)) rest e) i)) ∙ ready)
+      | false ↦ λ e. not_true (sym (no_longer (is_ready plan existing other.task)
+          (at_in (λ (o : Planned). not (is_ready plan existing o.task) ≡ true) rest other (each_of_all (λ (o : Planned). not (is_ready plan existing o.task)) rest e) i)) ∙ ready)
     ] in_order
   where
     unless : (a b : Bool) → b ≡ true → (a || not b) ≡ true → a ≡ true
@@ -199,12 +199,12 @@ next_is_least plan standing next rest in_order other i ready =
     unless false true e h = h
     unless false false e h = e
 
-rest_in_order : (plan : Plan) (standing : List Path) (next : Planned) (rest : List Planned) → is_ready plan standing next.task ≡ true
-    → stands_in_order plan standing (next ∷ rest) ≡ true → stands_in_order plan (standing ++ next.task.path ∷ []) rest ≡ true
-rest_in_order plan standing next rest ready in_order =
-    right_of (list_all (λ o. precedes next o || not (is_ready plan standing o.task)) rest) _
-    (sym (ap (λ b. cond b (list_all (λ o. precedes next o || not (is_ready plan standing o.task)) rest && stands_in_order plan (standing ++ next.task.path ∷ []) rest)
-    (list_all (λ o. not (is_ready plan standing o.task)) rest)) ready) ∙ in_order)
+rest_in_order : (plan : Plan) (existing : List Path) (next : Planned) (rest : List Planned) → is_ready plan existing next.task ≡ true
+    → is_in_order plan existing (next ∷ rest) ≡ true → is_in_order plan (existing ++ next.task.path ∷ []) rest ≡ true
+rest_in_order plan existing next rest ready in_order =
+    right_of (list_all (λ o. precedes next o || not (is_ready plan existing o.task)) rest) _
+    (sym (ap (λ b. cond b (list_all (λ o. precedes next o || not (is_ready plan existing o.task)) rest && is_in_order plan (existing ++ next.task.path ∷ []) rest)
+    (list_all (λ o. not (is_ready plan existing o.task)) rest)) ready) ∙ in_order)
 
 -- the same tasks without the next one, which occurs once
 rest_has : (x : Planned) (xs ys : List Planned) → no_repeats (order (x ∷ xs)) ≡ true → ((z : Planned) → In z (x ∷ xs) → In z (x ∷ ys)) → (z : Planned) → In z xs → In z ys
@@ -214,29 +214,29 @@ rest_has x xs ys once within z i = elim (within z (inr i)) [
 ]
 
 module _ (request : Request) (p q : Plan) (of_p : IsSchedule request p) (of_q : IsSchedule request q) where
-  next_same : (standing : List Path) (x y : Planned) (xs ys : List Planned) → is_ready p standing x.task ≡ true
-      → stands_in_order p standing (x ∷ xs) ≡ true → stands_in_order q standing (y ∷ ys) ≡ true → In x (y ∷ ys) → In y (x ∷ xs) → x ≡ y
-  next_same standing x y xs ys ready p_order q_order (inl e) back = e
-  next_same standing x y xs ys ready p_order q_order (inr i) (inl e) = sym e
-  next_same standing x y xs ys ready p_order q_order (inr i) (inr j) =
-      let y_first = next_is_least q standing y ys q_order x i (same_ready request p q of_p of_q standing x.task ready) in
-      let x_first = next_is_least p standing x xs p_order y j (same_ready request q p of_q of_p standing y.task y_first.0) in
+  next_same : (existing : List Path) (x y : Planned) (xs ys : List Planned) → is_ready p existing x.task ≡ true
+      → is_in_order p existing (x ∷ xs) ≡ true → is_in_order q existing (y ∷ ys) ≡ true → In x (y ∷ ys) → In y (x ∷ xs) → x ≡ y
+  next_same existing x y xs ys ready p_order q_order (inl e) back = e
+  next_same existing x y xs ys ready p_order q_order (inr i) (inl e) = sym e
+  next_same existing x y xs ys ready p_order q_order (inr i) (inr j) =
+      let y_first = next_is_least q existing y ys q_order x i (same_ready request p q of_p of_q existing x.task ready) in
+      let x_first = next_is_least p existing x xs p_order y j (same_ready request q p of_q of_p existing y.task y_first.0) in
       absurd (not_both_first x y x_first.1 y_first.1)
 
-  one_order : (standing : List Path) (xs ys : List Planned) → stuck p standing xs ≡ [] → stands_in_order p standing xs ≡ true → stands_in_order q standing ys ≡ true
+  one_order : (existing : List Path) (xs ys : List Planned) → stuck p existing xs ≡ [] → is_in_order p existing xs ≡ true → is_in_order q existing ys ≡ true
       → no_repeats (order xs) ≡ true → no_repeats (order ys) ≡ true → ((z : Planned) → In z xs → In z ys) → ((z : Planned) → In z ys → In z xs) → xs ≡ ys
-  one_order standing [] [] ready p_order q_order p_once q_once within back = refl
-  one_order standing [] (y ∷ ys) ready p_order q_order p_once q_once within back = absurd (back y (inl refl))
-  one_order standing (x ∷ xs) [] ready p_order q_order p_once q_once within back = absurd (within x (inl refl))
-  one_order standing (x ∷ xs) (y ∷ ys) ready p_order q_order p_once q_once within back =
-      subst (λ (z : Planned). stands_in_order q standing (z ∷ ys) ≡ true → no_repeats (order (z ∷ ys)) ≡ true → ((o : Planned) → In o (x ∷ xs) → In o (z ∷ ys)) → ((o : Planned) → In o (z ∷ ys) → In o (x ∷ xs)) → x ∷ xs ≡ z ∷ ys)
-      (next_same standing x y xs ys (ready_here p standing x xs ready) p_order q_order (within x (inl refl)) (back y (inl refl)))
+  one_order existing [] [] ready p_order q_order p_once q_once within back = refl
+  one_order existing [] (y ∷ ys) ready p_order q_order p_once q_once within back = absurd (back y (inl refl))
+  one_order existing (x ∷ xs) [] ready p_order q_order p_once q_once within back = absurd (within x (inl refl))
+  one_order existing (x ∷ xs) (y ∷ ys) ready p_order q_order p_once q_once within back =
+      subst (λ (z : Planned). is_in_order q existing (z ∷ ys) ≡ true → no_repeats (order (z ∷ ys)) ≡ true → ((o : Planned) → In o (x ∷ xs) → In o (z ∷ ys)) → ((o : Planned) → In o (z ∷ ys) → In o (x ∷ xs)) → x ∷ xs ≡ z ∷ ys)
+      (next_same existing x y xs ys (ready_here p existing x xs ready) p_order q_order (within x (inl refl)) (back y (inl refl)))
       (λ q_order q_once within back.
-      let x_ready = ready_here p standing x xs ready in
+      let x_ready = ready_here p existing x xs ready in
       ap (λ zs. x ∷ zs)
-      (one_order (standing ++ x.task.path ∷ []) xs ys (stuck_rest p standing x xs ready)
-      (rest_in_order p standing x xs x_ready p_order)
-      (rest_in_order q standing x ys (same_ready request p q of_p of_q standing x.task x_ready) q_order)
+      (one_order (existing ++ x.task.path ∷ []) xs ys (stuck_rest p existing x xs ready)
+      (rest_in_order p existing x xs x_ready p_order)
+      (rest_in_order q existing x ys (same_ready request p q of_p of_q existing x.task x_ready) q_order)
       (right_of _ _ p_once) (right_of _ _ q_once)
       (rest_has x xs ys p_once within) (rest_has x ys xs q_once back)))
       q_order q_once within back
@@ -248,39 +248,39 @@ module _ (request : Request) (p q : Plan) (of_p : IsSchedule request p) (of_q : 
       (same_tasks request p q of_p of_q) (same_tasks request q p of_q of_p)
 
   -- where the next is not ready, none is
-  none_ready : (plan : Plan) (standing : List Path) (next : Planned) (rest : List Planned) → is_ready plan standing next.task ≡ false
-      → stands_in_order plan standing (next ∷ rest) ≡ true → (z : Planned) → In z (next ∷ rest) → is_ready plan standing z.task ≡ false
-  none_ready plan standing next rest unready in_order z (inl e) = ap (λ (y : Planned). is_ready plan standing y.task) e ∙ unready
-  none_ready plan standing next rest unready in_order z (inr i) =
-      no_longer (is_ready plan standing z.task) (at_in (λ (o : Planned). not (is_ready plan standing o.task) ≡ true) rest z
-      (each_of_all (λ (o : Planned). not (is_ready plan standing o.task)) rest
-      (sym (ap (λ b. cond b (list_all (λ o. precedes next o || not (is_ready plan standing o.task)) rest && stands_in_order plan (standing ++ next.task.path ∷ []) rest)
-      (list_all (λ o. not (is_ready plan standing o.task)) rest)) unready) ∙ in_order)) i)
+  none_ready : (plan : Plan) (existing : List Path) (next : Planned) (rest : List Planned) → is_ready plan existing next.task ≡ false
+      → is_in_order plan existing (next ∷ rest) ≡ true → (z : Planned) → In z (next ∷ rest) → is_ready plan existing z.task ≡ false
+  none_ready plan existing next rest unready in_order z (inl e) = ap (λ (y : Planned). is_ready plan existing y.task) e ∙ unready
+  none_ready plan existing next rest unready in_order z (inr i) =
+      no_longer (is_ready plan existing z.task) (at_in (λ (o : Planned). not (is_ready plan existing o.task) ≡ true) rest z
+      (each_of_all (λ (o : Planned). not (is_ready plan existing o.task)) rest
+      (sym (ap (λ b. cond b (list_all (λ o. precedes next o || not (is_ready plan existing o.task)) rest && is_in_order plan (existing ++ next.task.path ∷ []) rest)
+      (list_all (λ o. not (is_ready plan existing o.task)) rest)) unready) ∙ in_order)) i)
 
   -- what never becomes ready in the one schedule, never does in the other
-  stuck_within : (standing : List Path) (xs ys : List Planned) → stands_in_order p standing xs ≡ true → stands_in_order q standing ys ≡ true
+  stuck_within : (existing : List Path) (xs ys : List Planned) → is_in_order p existing xs ≡ true → is_in_order q existing ys ≡ true
       → no_repeats (order xs) ≡ true → no_repeats (order ys) ≡ true → ((z : Planned) → In z xs → In z ys) → ((z : Planned) → In z ys → In z xs)
-      → (z : Planned) → In z (stuck p standing xs) → In z (stuck q standing ys)
-  stuck_within standing [] ys p_order q_order p_once q_once within back z i = absurd i
-  stuck_within standing (x ∷ xs) [] p_order q_order p_once q_once within back z i = absurd (within x (inl refl))
-  stuck_within standing (x ∷ xs) (y ∷ ys) p_order q_order p_once q_once within back z i =
-      elim (is_ready p standing x.task) as (λ b. is_ready p standing x.task ≡ b → In z (cond b (stuck p (standing ++ x.task.path ∷ []) xs) (x ∷ xs)) → In z (stuck q standing (y ∷ ys))) [
-        | true ↦ λ x_ready i. subst (λ (o : Planned). stands_in_order q standing (o ∷ ys) ≡ true → no_repeats (order (o ∷ ys)) ≡ true → ((v : Planned) → In v (x ∷ xs) → In v (o ∷ ys)) → ((v : Planned) → In v (o ∷ ys) → In v (x ∷ xs)) → In z (stuck q standing (o ∷ ys)))
-            (next_same standing x y xs ys x_ready p_order q_order (within x (inl refl)) (back y (inl refl)))
+      → (z : Planned) → In z (stuck p existing xs) → In z (stuck q existing ys)
+  stuck_within existing [] ys p_order q_order p_once q_once within back z i = absurd i
+  stuck_within existing (x ∷ xs) [] p_order q_order p_once q_once within back z i = absurd (within x (inl refl))
+  stuck_within existing (x ∷ xs) (y ∷ ys) p_order q_order p_once q_once within back z i =
+      elim (is_ready p existing x.task) as (λ b. is_ready p existing x.task ≡ b → In z (cond b (stuck p (existing ++ x.task.path ∷ []) xs) (x ∷ xs)) → In z (stuck q existing (y ∷ ys))) [
+        | true ↦ λ x_ready i. subst (λ (o : Planned). is_in_order q existing (o ∷ ys) ≡ true → no_repeats (order (o ∷ ys)) ≡ true → ((v : Planned) → In v (x ∷ xs) → In v (o ∷ ys)) → ((v : Planned) → In v (o ∷ ys) → In v (x ∷ xs)) → In z (stuck q existing (o ∷ ys)))
+            (next_same existing x y xs ys x_ready p_order q_order (within x (inl refl)) (back y (inl refl)))
             (λ q_order q_once within back.
-            let q_ready = same_ready request p q of_p of_q standing x.task x_ready in
-            subst (λ b. In z (cond b (stuck q (standing ++ x.task.path ∷ []) ys) (x ∷ ys))) (sym q_ready)
-            (stuck_within (standing ++ x.task.path ∷ []) xs ys
-            (rest_in_order p standing x xs x_ready p_order) (rest_in_order q standing x ys q_ready q_order)
+            let q_ready = same_ready request p q of_p of_q existing x.task x_ready in
+            subst (λ b. In z (cond b (stuck q (existing ++ x.task.path ∷ []) ys) (x ∷ ys))) (sym q_ready)
+            (stuck_within (existing ++ x.task.path ∷ []) xs ys
+            (rest_in_order p existing x xs x_ready p_order) (rest_in_order q existing x ys q_ready q_order)
             (right_of _ _ p_once) (right_of _ _ q_once) (rest_has x xs ys p_once within) (rest_has x ys xs q_once back) z i))
             q_order q_once within back
-        | false ↦ λ unready i. subst (λ b. In z (cond b (stuck q (standing ++ y.task.path ∷ []) ys) (y ∷ ys)))
-            (sym (unready_too y (none_ready p standing x xs unready p_order y (back y (inl refl))))) (within z i)
+        | false ↦ λ unready i. subst (λ b. In z (cond b (stuck q (existing ++ y.task.path ∷ []) ys) (y ∷ ys)))
+            (sym (unready_too y (none_ready p existing x xs unready p_order y (back y (inl refl))))) (within z i)
       ] refl i
     where
-      unready_too : (o : Planned) → is_ready p standing o.task ≡ false → is_ready q standing o.task ≡ false
-      unready_too o unready = elim (is_ready q standing o.task) as (λ b. is_ready q standing o.task ≡ b → b ≡ false) [
-        | true ↦ λ ready. not_false (sym (same_ready request q p of_q of_p standing o.task ready) ∙ unready)
+      unready_too : (o : Planned) → is_ready p existing o.task ≡ false → is_ready q existing o.task ≡ false
+      unready_too o unready = elim (is_ready q existing o.task) as (λ b. is_ready q existing o.task ≡ b → b ≡ false) [
+        | true ↦ λ ready. not_false (sym (same_ready request q p of_q of_p existing o.task ready) ∙ unready)
         | false ↦ λ _. refl
       ] refl
 

@@ -152,26 +152,26 @@ after plan task = needs_in plan task ++ finalized_by plan task.path ++ orders_in
 
 -- all tasks that this one comes after are placed already
 abbrev pub is_ready : Plan → List Path → TaskDeclaration → Bool
-is_ready plan standing task = list_all (has_path standing) (after plan task)
+is_ready plan existing task = list_all (has_path existing) (after plan task)
 
 -- by the index of the first requested name that reaches it, then by path
 abbrev pub precedes : Planned → Planned → Bool
 precedes a b = nat_lt a.word b.word || ((a.word == b.word) && is_lt (byte_order a.task.path b.task.path))
 
 -- In order while some task is ready: each task is the least of the ready ones that are not placed yet.
-abbrev pub stands_in_order : Plan → List Path → List Planned → Bool
-stands_in_order plan standing [] = true
-stands_in_order plan standing (next ∷ rest) =
-    if is_ready plan standing next.task
-    then list_all (λ other. precedes next other || not (is_ready plan standing other.task)) rest
-    && stands_in_order plan (standing ++ next.task.path ∷ []) rest
-    else list_all (λ other. not (is_ready plan standing other.task)) rest
+abbrev pub is_in_order : Plan → List Path → List Planned → Bool
+is_in_order plan existing [] = true
+is_in_order plan existing (next ∷ rest) =
+    if is_ready plan existing next.task
+    then list_all (λ other. precedes next other || not (is_ready plan existing other.task)) rest
+    && is_in_order plan (existing ++ next.task.path ∷ []) rest
+    else list_all (λ other. not (is_ready plan existing other.task)) rest
 
 -- the tasks that never become ready
 abbrev pub stuck : Plan → List Path → List Planned → List Planned
-stuck plan standing [] = []
-stuck plan standing (next ∷ rest) =
-    if is_ready plan standing next.task then stuck plan (standing ++ next.task.path ∷ []) rest
+stuck plan existing [] = []
+stuck plan existing (next ∷ rest) =
+    if is_ready plan existing next.task then stuck plan (existing ++ next.task.path ∷ []) rest
     else next ∷ rest
 
 -- the task is what is registered under its path
@@ -186,7 +186,7 @@ pub record IsSchedule (request : Request) (plan : Plan) : Type 0 where
   pub selection :
       AllByRecursion (λ planned. planned.is_selected ≡ has_path (selected request) planned.task.path) plan
   pub once : no_repeats (order plan) ≡ true
-  pub in_order : stands_in_order plan [] plan ≡ true
+  pub in_order : is_in_order plan [] plan ≡ true
 
 -- ---- Sound plans
 
@@ -217,9 +217,9 @@ IsReadInOrder plan reader writer =
 
 pub record IsSound (plan : Plan) : Type 0 where
   -- no output place overlaps another, of the same task or of another
-  pub outputs_apart : some_overlap (flat_map (λ planned. output_places planned.task) plan) ≡ false
+  pub outputs_separate : some_overlap (flat_map (λ planned. output_places planned.task) plan) ≡ false
   -- no task reads its own output
-  pub inputs_apart : AllByRecursion (λ planned. reads_output_of planned.task planned.task ≡ false) plan
+  pub inputs_separate : AllByRecursion (λ planned. reads_output_of planned.task planned.task ≡ false) plan
   -- a task that reads an output comes after the output's task
   pub declared :
       AllByRecursion

@@ -6,7 +6,7 @@ use Rattle.gb_core.specs.Lists.{byte_order}
 use Rattle.gb_action.specs.Meanings.{Meanings, shape_of}
 use Rattle.gb_action.specs.Shapes.{fit}
 use Rattle.gb_action.specs.declared.shape.Fit.TheVariants.{Yes}
-use Rattle.gb_plan.specs.Task.{seen_files, seen_outputs}
+use Rattle.gb_plan.specs.Task.{given_files, given_outputs}
 use Rattle.gb_plan.specs.declared.task.Action.{Action}
 use Rattle.gb_plan.specs.declared.task.TaskDeclaration.{TaskDeclaration}
 
@@ -22,7 +22,7 @@ module _ {S : Type 0} (meanings : Meanings S) (rows : Rows S) where
     pub found : find byte_order action.kind rows ≡ Some stored
     pub version : meanings.version stored ≡ action.version
     pub fits :
-        fit (shape_of meanings stored) action.args (seen_files task.files) (seen_outputs task.outputs) ≡ Yes
+        fit (shape_of meanings stored) action.args (given_files task.files) (given_outputs task.outputs) ≡ Yes
 
   -- each action of the task can be invoked
   abbrev pub IsReady : TaskDeclaration → Type 0

@@ -131,12 +131,12 @@ outputs_of plan =
 
 -- an output place of the first task overlaps another, of the second task or of its own
 pub record IsOverlap (plan : Plan) (conflict : Conflict) : Type 0 where
-  pub front : List (Path × Place)
+  pub prefix : List (Path × Place)
   pub back : List (Path × Place)
-  pub stands : outputs_of plan ≡ front ++ (conflict.task, conflict.place) ∷ back
+  pub exists : outputs_of plan ≡ prefix ++ (conflict.task, conflict.place) ∷ back
   pub overlapped :
       list_any (λ output. bytes_eq output.0 conflict.other && overlaps conflict.place output.1)
-      (front ++ back)
+      (prefix ++ back)
       ≡ true
 
 -- the second task writes a place that overlaps this root of the first
@@ -182,7 +182,7 @@ pub record IsOverlapFault (plan : Plan) (fault : Fault) : Type 0 where
 -- all become ready, no outputs overlap, and a task reads its own
 pub record IsOwnInputFault (plan : Plan) (fault : Fault) : Type 0 where
   pub all_ready : stuck plan [] plan ≡ []
-  pub outputs_apart : (other : Conflict) → ¬ IsOverlap plan other
+  pub outputs_separate : (other : Conflict) → ¬ IsOverlap plan other
   pub conflict : Conflict
   pub is_least : IsLeastConflict (IsOwnInput plan) conflict
   pub reported : fault ≡ faults.OwnOutputAsInput conflict.task conflict.place
@@ -191,8 +191,8 @@ pub record IsOwnInputFault (plan : Plan) (fault : Fault) : Type 0 where
 -- does not come after
 pub record IsUndeclaredFault (plan : Plan) (fault : Fault) : Type 0 where
   pub all_ready : stuck plan [] plan ≡ []
-  pub outputs_apart : (other : Conflict) → ¬ IsOverlap plan other
-  pub inputs_apart : (other : Conflict) → ¬ IsOwnInput plan other
+  pub outputs_separate : (other : Conflict) → ¬ IsOverlap plan other
+  pub inputs_separate : (other : Conflict) → ¬ IsOwnInput plan other
   pub conflict : Conflict
   pub is_least : IsLeastConflict (IsUndeclared plan) conflict
   pub reported : fault ≡ faults.UndeclaredDependency conflict.task conflict.other conflict.place

@@ -28,12 +28,12 @@ abbrev pub is_output_of : TaskDeclaration → Place → Bool
 is_output_of task place = list_any (λ output. is_under place output.place) task.outputs
 
 -- the names of file properties, as actions are given them
-abbrev pub seen_files : List FileProperty → List (List ℕ)
-seen_files files = map (λ property. property.name) files
+abbrev pub given_files : List FileProperty → List (List ℕ)
+given_files files = map (λ property. property.name) files
 
 -- the names and forms of outputs, as actions are given them
-abbrev pub seen_outputs : List Output → List (List ℕ × Form)
-seen_outputs outputs = map (λ output. (output.name, output.form)) outputs
+abbrev pub given_outputs : List Output → List (List ℕ × Form)
+given_outputs outputs = map (λ output. (output.name, output.form)) outputs
 
 -- a task without actions has no outputs
 abbrev pub IsShaped : TaskDeclaration → Type 0

@@ -85,14 +85,14 @@ impl Plan {
     pub fn is_scheduled(&self, path: &TaskPath) -> bool
         ensures { result ≡ is_scheduled_in self.now path.now }
     {
-        stands(self.as_slice(), path)
+        exists(self.as_slice(), path)
     }
 
     /// Whether the task at a path needs another, which is scheduled.
     pub fn needs(&self, path: &TaskPath, other: &TaskPath) -> bool
         ensures { result ≡ has_path (needs_at self.now path.now) other.now }
     {
-        stands(self.as_slice(), other) && names(self.as_slice(), path, other)
+        exists(self.as_slice(), other) && names(self.as_slice(), path, other)
     }
 
     /// Whether the first task finalizes the second.
@@ -110,7 +110,7 @@ fn has_path(paths: &TaskPaths, path: &TaskPath) -> bool
 }
 
 /// Whether one of the tasks has the path.
-fn stands(tasks: &[Planned], path: &TaskPath) -> bool
+fn exists(tasks: &[Planned], path: &TaskPath) -> bool
     ensures { result ≡ list_any (λ planned. bytes_eq path.now planned.task.path) tasks.now }
 {
     tasks.iter().any(|planned| *path == planned.task.path)

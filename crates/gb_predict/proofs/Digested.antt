@@ -39,7 +39,7 @@ use Rattle.gb_predict.specs.declared.coming.Coming.{Coming}
 use Rattle.gb_predict.specs.declared.coming.Coming.TheVariants as comings
 use Rattle.gb_predict.specs.declared.coming.Prediction.{Prediction}
 use Rattle.gb_predict.proofs.Keeping.{predictions_are_kept}
-use Rattle.gb_predict.proofs.Telling.{by_machine, empty_mapped}
+use Rattle.gb_predict.proofs.Predicting.{by_machine, empty_mapped}
 
 -- if the decision is to run incrementally, the reasons are the changes
 by_basis : ChangesAreReasons → (options : Options) (task : Task) (folder : Contents) (read : Option Record) (changes : List Changes) (why : List Reason) (basis : Basis)
@@ -126,6 +126,6 @@ module _ (decision_is_case : DecisionIsCase) (decided_outside : DecidedOutside) 
     )
 
   pub folder_predictions : FolderPredictionsAreKept rules
-  folder_predictions folder memory records before after reported seen_before failures reports new once sound worth read prediction of marked executions =
-      predictions_are_kept rules seen_before (record { world = world_of folder memory; failures = failures }) new reported reports once sound
+  folder_predictions folder memory records before after reported observed_before failures reports new once sound worth read prediction of marked executions =
+      predictions_are_kept rules observed_before (record { world = world_of folder memory; failures = failures }) new reported reports once sound
       (all_predicted folder memory before after rules.plan records reported worth read prediction of) marked executions

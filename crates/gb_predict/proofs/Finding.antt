@@ -59,7 +59,7 @@ module _ {Y : Type 0} (f : FileProperty → Tree → Y) (test : FileProperty →
   per_tree [] e = refl
   per_tree (p ∷ properties) e =
       let head : tree_of p one ≡ tree_of p other = ap (λ (tree : List ℕ × Tree). tree.1) (first e) in
-      let rest : named one properties ≡ named other properties = behind e in
+      let rest : named one properties ≡ named other properties = following e in
       elim (test p) as (λ b. map (λ (q : FileProperty). f q (tree_of q one)) (cond b (p ∷ filter test properties) (filter test properties))
       ≡ map (λ (q : FileProperty). f q (tree_of q other)) (cond b (p ∷ filter test properties) (filter test properties))) [
         | true ↦ ap₂ (λ (y : Y) (l : List Y). y ∷ l) (ap (f p) head) (per_tree properties rest)
@@ -69,8 +69,8 @@ module _ {Y : Type 0} (f : FileProperty → Tree → Y) (test : FileProperty →
       first : {X : Type 0} {x y : X} {xs ys : List X} → x ∷ xs ≡ y ∷ ys → x ≡ y
       first e = cc
 
-      behind : {X : Type 0} {x y : X} {xs ys : List X} → x ∷ xs ≡ y ∷ ys → xs ≡ ys
-      behind e = cc
+      following : {X : Type 0} {x y : X} {xs ys : List X} → x ∷ xs ≡ y ∷ ys → xs ≡ ys
+      following e = cc
 
 all_mapped : {X Y : Type 0} (p : Y → Bool) (f : X → Y) (xs : List X) → list_all p (map f xs) ≡ list_all (λ x. p (f x)) xs
 all_mapped p f [] = refl

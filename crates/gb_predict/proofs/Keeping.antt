@@ -12,17 +12,17 @@ use Rattle.gb_meaning.specs.Label.{IsLabel, Moment}
 use Rattle.gb_meaning.specs.Memory.{Entry, World, entry_of, folder_contents, forget, output_files, recalled, remember}
 use Rattle.gb_meaning.specs.Made.{with_outputs}
 use Rattle.gb_meaning.specs.Tree.{input_faults, listing_faults, trees_of}
-use Rattle.gb_meaning.specs.Execution.{IsOfMachine, Leaves, Prints, Rules, Standing, StartedExecution, Execution, Executions, first_moment, memory_after, moment_after}
+use Rattle.gb_meaning.specs.Execution.{IsOfMachine, Leaves, Prints, Rules, WorldState, StartedExecution, Execution, Executions, first_moment, memory_after, moment_after}
 use Rattle.gb_meaning.proofs.Common.{none_some}
-use Rattle.gb_meaning.proofs.Lemmas.Reading.{AllUnseen, Unseen, input_faults_same, trees_same}
-use Rattle.gb_meaning.proofs.Lemmas.Sound.{unseen_of}
+use Rattle.gb_meaning.proofs.Lemmas.Reading.{AllUnobserved, Unobserved, input_faults_same, trees_same}
+use Rattle.gb_meaning.proofs.Lemmas.Sound.{unobserved_of}
 use Rattle.gb_plan.specs.Graph.{IsSound, no_repeats, order, reads_output_of, some_overlap}
 use Rattle.gb_plan.specs.Task.{Path, has_path, is_output_of, output_places}
 use Rattle.gb_plan.specs.declared.plan.Planned.{Planned}
 use Rattle.gb_plan.specs.declared.task.FileProperty.{FileProperty}
 use Rattle.gb_plan.specs.declared.task.TaskDeclaration.{TaskDeclaration as Task}
 use Rattle.gb_plan.proofs.Chains.{grouped}
-use Rattle.gb_plan.proofs.Places.{apart_places, out_of}
+use Rattle.gb_plan.proofs.Places.{separate_places, out_of}
 use Rattle.gb_plan.proofs.Tests.{any_append, neither, no_longer, none_left, none_right, not_false, not_true, turned}
 use Rattle.gb_report.specs.Outcome.{is_failed, is_started}
 use Rattle.gb_report.specs.declared.fault.Fault.{Fault}
@@ -78,18 +78,18 @@ tasks_in pairs = map (λ (pair : Planned × Prediction). pair.0) pairs
 within : (q : Place) (before : Pairs) → list_any (is_under q) (changed before) ≡ true → list_any (is_under q) (outputs_of (tasks_in before)) ≡ true
 within q [] e = e
 within q (pair ∷ before) e =
-    let behind = within q before in
+    let following = within q before in
     any_append (is_under q) (output_places pair.0.task) (outputs_of (tasks_in before))
     ∙ elim (may_change pair.1) as (λ b. list_any (is_under q) (cond b (output_places pair.0.task ++ changed before) (changed before)) ≡ true
     → (list_any (is_under q) (output_places pair.0.task) || list_any (is_under q) (outputs_of (tasks_in before))) ≡ true) [
-      | true ↦ λ h. either (list_any (is_under q) (output_places pair.0.task)) behind (sym (any_append (is_under q) (output_places pair.0.task) (changed before)) ∙ h)
-      | false ↦ λ h. or_later (list_any (is_under q) (output_places pair.0.task)) (behind h)
+      | true ↦ λ h. either (list_any (is_under q) (output_places pair.0.task)) following (sym (any_append (is_under q) (output_places pair.0.task) (changed before)) ∙ h)
+      | false ↦ λ h. or_later (list_any (is_under q) (output_places pair.0.task)) (following h)
     ] e
   where
     either : (b : Bool) → (list_any (is_under q) (changed before) ≡ true → list_any (is_under q) (outputs_of (tasks_in before)) ≡ true)
         → (b || list_any (is_under q) (changed before)) ≡ true → (b || list_any (is_under q) (outputs_of (tasks_in before))) ≡ true
-    either true behind h = refl
-    either false behind h = behind h
+    either true following h = refl
+    either false following h = following h
 
     or_later : (b : Bool) → list_any (is_under q) (outputs_of (tasks_in before)) ≡ true → (b || list_any (is_under q) (outputs_of (tasks_in before))) ≡ true
     or_later true h = refl
@@ -105,31 +105,31 @@ each_one : {X : Type 0} (P : X → Type 0) → ((x : X) → P x) → (xs : List 
 each_one P f [] = tt
 each_one P f (x ∷ xs) = (f x, each_one P f xs)
 
-unseen_both : (task : Task) (first second third : Place → Bool) → ((q : Place) → first q ≡ true → second q ≡ true → third q ≡ true)
-    → AllUnseen first task → AllUnseen second task → AllUnseen third task
-unseen_both task first second third f a b =
-    both_all (λ (p : FileProperty). AllByRecursion (Unseen first) p.roots) (λ (p : FileProperty). AllByRecursion (Unseen second) p.roots) (λ (p : FileProperty). AllByRecursion (Unseen third) p.roots)
-    (λ p x y. both_all (Unseen first) (Unseen second) (Unseen third) (λ root u v q under. f q (u q under) (v q under)) p.roots x y) task.files a b
+unobserved_both : (task : Task) (first second third : Place → Bool) → ((q : Place) → first q ≡ true → second q ≡ true → third q ≡ true)
+    → AllUnobserved first task → AllUnobserved second task → AllUnobserved third task
+unobserved_both task first second third f a b =
+    both_all (λ (p : FileProperty). AllByRecursion (Unobserved first) p.roots) (λ (p : FileProperty). AllByRecursion (Unobserved second) p.roots) (λ (p : FileProperty). AllByRecursion (Unobserved third) p.roots)
+    (λ p x y. both_all (Unobserved first) (Unobserved second) (Unobserved third) (λ root u v q under. f q (u q under) (v q under)) p.roots x y) task.files a b
 
 -- it reads no file that an earlier task may change
-unseen : (task : Task) (before : Pairs) → find (changes_for task) before ≡ None → AllUnseen (is_left before) task
-unseen task [] e =
-    each_one (λ (p : FileProperty). AllByRecursion (Unseen (is_left [])) p.roots) (λ p. each_one (Unseen (is_left [])) (λ root q under. refl) p.roots) task.files
-unseen task (pair ∷ before) e = by (changes_for task pair) refl (unseen task before) e
+unobserved : (task : Task) (before : Pairs) → find (changes_for task) before ≡ None → AllUnobserved (is_left before) task
+unobserved task [] e =
+    each_one (λ (p : FileProperty). AllByRecursion (Unobserved (is_left [])) p.roots) (λ p. each_one (Unobserved (is_left [])) (λ root q under. refl) p.roots) task.files
+unobserved task (pair ∷ before) e = by (changes_for task pair) refl (unobserved task before) e
   where
-    more : (m : Bool) → (m && reads_output_of task pair.0.task) ≡ false → AllUnseen (is_left before) task
-        → AllUnseen (λ q. not (list_any (is_under q) (cond m (output_places pair.0.task ++ changed before) (changed before)))) task
+    more : (m : Bool) → (m && reads_output_of task pair.0.task) ≡ false → AllUnobserved (is_left before) task
+        → AllUnobserved (λ q. not (list_any (is_under q) (cond m (output_places pair.0.task ++ changed before) (changed before)))) task
     more true none rest =
-        unseen_both task (λ q. not (list_any (is_under q) (output_places pair.0.task))) (is_left before) _
+        unobserved_both task (λ q. not (list_any (is_under q) (output_places pair.0.task))) (is_left before) _
         (λ q a b. ap not (any_append (is_under q) (output_places pair.0.task) (changed before)
         ∙ neither (list_any (is_under q) (output_places pair.0.task)) (list_any (is_under q) (changed before)) (no_longer (list_any (is_under q) (output_places pair.0.task)) a) (no_longer (list_any (is_under q) (changed before)) b)))
-        (unseen_of task (λ q. not (list_any (is_under q) (output_places pair.0.task))) (output_places pair.0.task) (λ q h. ap not h) none) rest
+        (unobserved_of task (λ q. not (list_any (is_under q) (output_places pair.0.task))) (output_places pair.0.task) (λ q h. ap not h) none) rest
     more false none rest = rest
 
-    by : (b : Bool) → changes_for task pair ≡ b → (find (changes_for task) before ≡ None → AllUnseen (is_left before) task)
-        → cond b (Some pair) (find (changes_for task) before) ≡ None → AllUnseen (is_left (pair ∷ before)) task
-    by true f behind h = none_some (sym h)
-    by false f behind h = more (may_change pair.1) f (behind h)
+    by : (b : Bool) → changes_for task pair ≡ b → (find (changes_for task) before ≡ None → AllUnobserved (is_left before) task)
+        → cond b (Some pair) (find (changes_for task) before) ≡ None → AllUnobserved (is_left (pair ∷ before)) task
+    by true f following h = none_some (sym h)
+    by false f following h = more (may_change pair.1) f (following h)
 
 -- ---- A world that earlier tasks have led to
 
@@ -137,31 +137,31 @@ module _ (now : World) where
   -- Files differ only where an earlier task may change them, and what is remembered only of earlier tasks.
   pub record Reached (before : Pairs) (world : World) : Type 0 where
     pub files : files_where (is_left before) world.folder.files ≡ files_where (is_left before) now.folder.files
-    pub odd : world.folder.odd ≡ now.folder.odd
+    pub special : world.folder.special ≡ now.folder.special
     pub memory : (path : Path) → has_path (order (tasks_in before)) path ≡ false → recalled world.memory path ≡ recalled now.memory path
 
   module _ (before : Pairs) (world : World) (reached : Reached before world) (task : Task) where
     -- an unmarked task finds the same there
     pub finds_same : find (changes_for task) before ≡ None → ((q : Place) → is_output_of task q ≡ true → is_left before q ≡ true)
         → has_path (order (tasks_in before)) task.path ≡ false → FindsSame task world now
-    finds_same none apart new =
+    finds_same none separate new =
         let test = is_left before in
-        let away = unseen task before none in
+        let away = unobserved task before none in
         let old = now.folder.files in
         let there = world.folder.files in
         record {
           trees = sym (trees_same test task there away) ∙ ap (trees_of task) reached.files ∙ trees_same test task old away;
           faults = sym (input_faults_same test task world.folder there away)
-              ∙ ap (λ (fs : Files). input_faults task (record { files = fs; odd = world.folder.odd })) reached.files
-              ∙ ap (λ (odd : List (List ℕ)). input_faults task (record { files = files_where test old; odd = odd })) reached.odd
+              ∙ ap (λ (fs : Files). input_faults task (record { files = fs; special = world.folder.special })) reached.files
+              ∙ ap (λ (special : List (List ℕ)). input_faults task (record { files = files_where test old; special = special })) reached.special
               ∙ input_faults_same test task now.folder old away;
-          listing = ap (λ (odd : List (List ℕ)). listing_by odd) reached.odd;
-          outputs = sym (narrowed (is_output_of task) test apart there) ∙ ap (files_where (is_output_of task)) reached.files ∙ narrowed (is_output_of task) test apart old;
+          listing = ap (λ (special : List (List ℕ)). listing_by special) reached.special;
+          outputs = sym (narrowed (is_output_of task) test separate there) ∙ ap (files_where (is_output_of task)) reached.files ∙ narrowed (is_output_of task) test separate old;
           remembered = reached.memory task.path new;
         }
       where
         listing_by : List (List ℕ) → List Fault
-        listing_by odd = listing_faults task (record { files = now.folder.files; odd = odd })
+        listing_by special = listing_faults task (record { files = now.folder.files; special = special })
 
   -- one task more
   module _ (before : Pairs) (pair : Planned × Prediction) where
@@ -293,18 +293,18 @@ module _ (rules : Rules) (once : no_repeats (order rules.plan) ≡ true) (sound 
         not_before (order (tasks_in before)) planned.task.path (order rest)
         (ap no_repeats (sym (map-append (λ (p : Planned). p.task.path) (tasks_in before) (planned ∷ rest)) ∙ ap order (sym whole)) ∙ once)
 
-    own_apart : (q : Place) → is_output_of planned.task q ≡ true → is_left before q ≡ true
-    own_apart q own = ap not (by (list_any (is_under q) (changed before)) refl)
+    own_separate : (q : Place) → is_output_of planned.task q ≡ true → is_left before q ≡ true
+    own_separate q own = ap not (by (list_any (is_under q) (changed before)) refl)
       where
-        apart : some_overlap (outputs_of (tasks_in before) ++ outputs_of (planned ∷ rest)) ≡ false
-        apart = ap some_overlap (sym (flat_map-append (λ (p : Planned). output_places p.task) (tasks_in before) (planned ∷ rest)) ∙ ap outputs_of (sym whole)) ∙ sound.outputs_apart
+        separate : some_overlap (outputs_of (tasks_in before) ++ outputs_of (planned ∷ rest)) ≡ false
+        separate = ap some_overlap (sym (flat_map-append (λ (p : Planned). output_places p.task) (tasks_in before) (planned ∷ rest)) ∙ ap outputs_of (sym whole)) ∙ sound.outputs_separate
 
         by : (b : Bool) → list_any (is_under q) (changed before) ≡ b → b ≡ false
         by false e = refl
         by true e =
             not_false (sym (sym (out_of planned.task q) ∙ own)
             ∙ none_left (list_any (is_under q) (output_places planned.task)) (list_any (is_under q) (outputs_of rest))
-            (sym (any_append (is_under q) (output_places planned.task) (outputs_of rest)) ∙ apart_places q (outputs_of (tasks_in before)) (outputs_of (planned ∷ rest)) apart (within q before e)))
+            (sym (any_append (is_under q) (output_places planned.task) (outputs_of rest)) ∙ separate_places q (outputs_of (tasks_in before)) (outputs_of (planned ∷ rest)) separate (within q before e)))
 
     module _ (moment : Moment) (reached : Reached now before moment.world) (one : Prediction) (predicted : Predicted planned one)
         (marked : one.after ≡ mark before planned.task one.coming) where
@@ -318,14 +318,14 @@ module _ (rules : Rules) (once : no_repeats (order rules.plan) ≡ true) (sound 
           finds_same now before moment.world reached planned.task
           (none_found (find (changes_for planned.task) before)
           (ap (λ b. cond b (option_map (λ (pair : Planned × Prediction). pair.0.task.path) (find (changes_for planned.task) before)) None) (sym reads) ∙ sym marked ∙ unmarked))
-          own_apart new_path
+          own_separate new_path
 
       predicted_there : one.after ≡ None → IsPredicted rules.kinds rules.options planned.task moment.world one.coming
       predicted_there unmarked =
           predicted_too rules.kinds rules.options planned.task now moment.world one.coming
           (λ reads. turned_round planned.task moment.world now (same_there unmarked reads)) predicted
 
-      module _ (report : TaskReport) (next : Standing) (started : StartedExecution rules moment planned.task report next) where
+      module _ (report : TaskReport) (next : WorldState) (started : StartedExecution rules moment planned.task report next) where
         fits_there : one.after ≡ None → IsLabel rules.kinds rules.options rules.plan planned.task moment report.outcome → Fits one.coming report.outcome
         fits_there unmarked label =
             fits rules.kinds rules.options rules.plan planned.task moment report.outcome one.coming (predicted_there unmarked) label
@@ -392,8 +392,8 @@ module _ (rules : Rules) (once : no_repeats (order rules.plan) ≡ true) (sound 
             ends = elim started.label [ inl label ↦ fits_there unmarked label | inr machine ↦ not_failed machine well ]
 
       -- the world after it
-      module _ (report : TaskReport) (next : Standing) (execution : Execution rules moment planned report next) (well : is_failed report.outcome ≡ false)
-          (differs : DiffersOnlyAt (is_output_of planned.task) moment.world.folder.files next.world.folder.files) (odd : next.world.folder.odd ≡ moment.world.folder.odd) where
+      module _ (report : TaskReport) (next : WorldState) (execution : Execution rules moment planned report next) (well : is_failed report.outcome ≡ false)
+          (differs : DiffersOnlyAt (is_output_of planned.task) moment.world.folder.files next.world.folder.files) (special : next.world.folder.special ≡ moment.world.folder.special) where
         abbrev pair : Planned × Prediction
         pair = (planned, one)
 
@@ -413,7 +413,7 @@ module _ (rules : Rules) (once : no_repeats (order rules.plan) ≡ true) (sound 
         pub reached_next : Reached now (before ++ pair ∷ []) next.world
         reached_next = record {
           files = files_on now before pair moment.world.folder.files next.world.folder.files (steps (may_change one) refl) reached.files;
-          odd = odd ∙ reached.odd;
+          special = special ∙ reached.special;
           memory = λ path new.
               let parts = sym (any_append (bytes_eq path) (order (tasks_in before)) (planned.task.path ∷ [])) ∙ ap (λ ps. has_path ps path) (sym both) ∙ new in
               memory_after_it path (none_left (bytes_eq path planned.task.path) false (none_right (has_path (order (tasks_in before)) path) (has_path (planned.task.path ∷ []) path) parts))
@@ -426,13 +426,13 @@ module _ (rules : Rules) (once : no_repeats (order rules.plan) ≡ true) (sound 
                 ∙ map-append (λ (p : Planned). p.task.path) (tasks_in before) (planned ∷ [])
 
   -- the tasks from some on
-  all_kept : (before : Pairs) (rest : List Planned) (reported : List Prediction) (moment : Moment) (reports : List TaskReport) (seen : List Bytes) (new : Standing)
+  all_kept : (before : Pairs) (rest : List Planned) (reported : List Prediction) (moment : Moment) (reports : List TaskReport) (observed : List Bytes) (new : WorldState)
       → rules.plan ≡ tasks_in before ++ rest → Reached now before moment.world → AllZip Predicted rest reported → AreMarkedAfter before (zip rest reported)
-      → Executions rules always seen rest moment reports new → AreKept rules now rest reported reports
-  all_kept before [] reported moment reports seen new whole reached predicted marked executions = tt
-  all_kept before (planned ∷ rest) [] moment reports seen new whole reached predicted marked executions = tt
-  all_kept before (planned ∷ rest) (one ∷ reported) moment [] seen new whole reached predicted marked executions = tt
-  all_kept before (planned ∷ rest) (one ∷ reported) moment (report ∷ reports) seen new whole reached predicted marked executions =
+      → Executions rules always observed rest moment reports new → AreKept rules now rest reported reports
+  all_kept before [] reported moment reports observed new whole reached predicted marked executions = tt
+  all_kept before (planned ∷ rest) [] moment reports observed new whole reached predicted marked executions = tt
+  all_kept before (planned ∷ rest) (one ∷ reported) moment [] observed new whole reached predicted marked executions = tt
+  all_kept before (planned ∷ rest) (one ∷ reported) moment (report ∷ reports) observed new whole reached predicted marked executions =
       let guarded = executions.1 in
       let execution = guarded.execution tt in (
         λ unmarked starts. elim execution.2 [
@@ -440,13 +440,13 @@ module _ (rules : Rules) (once : no_repeats (order rules.plan) ≡ true) (sound 
           | inr passed ↦ not_true (sym (ap is_started passed.1.outcome) ∙ starts)
         ],
         λ well.
-            all_kept (before ++ (planned, one) ∷ []) rest reported (moment_after moment report executions.0) reports (seen ++ folder_contents moment.world) new
+            all_kept (before ++ (planned, one) ∷ []) rest reported (moment_after moment report executions.0) reports (observed ++ folder_contents moment.world) new
             (whole ∙ grouped (tasks_in before) planned rest ∙ ap (λ (ps : List Planned). ps ++ rest) (sym (map-append (λ (p : Planned × Prediction). p.0) before ((planned, one) ∷ []))))
-            (reached_next before planned rest whole moment reached one predicted.0 marked.0 report executions.0 execution well guarded.files guarded.odd)
+            (reached_next before planned rest whole moment reached one predicted.0 marked.0 report executions.0 execution well guarded.files guarded.special)
             predicted.1 marked.2 executions.2,
       )
 
 pub predictions_are_kept : (rules : Rules) → PredictionsAreKept rules
-predictions_are_kept rules seen old new reported reports once sound predicted marked executions =
-    all_kept rules once sound old.world [] rules.plan reported (first_moment old) reports seen new refl
-    (record { files = refl; odd = refl; memory = λ path new. refl }) predicted marked executions
+predictions_are_kept rules observed old new reported reports once sound predicted marked executions =
+    all_kept rules once sound old.world [] rules.plan reported (first_moment old) reports observed new refl
+    (record { files = refl; special = refl; memory = λ path new. refl }) predicted marked executions

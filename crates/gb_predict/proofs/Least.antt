@@ -9,7 +9,7 @@ use Rattle.gb_folder.specs.Files.{Place}
 use Rattle.gb_graph.specs.Places.{AreSamePlaces, place_at, places_from, with_places}
 use Rattle.gb_graph.specs.declared.places.TaskPlace.{TaskPlace}
 use Rattle.gb_graph.proofs.Bridges.{At, any_in, at_get, at_in, at_so, in_at, into_row, of_row, some_in}
-use Rattle.gb_graph.proofs.Numbers.{in_back, in_either, in_front, in_of, of_in}
+use Rattle.gb_graph.proofs.Numbers.{in_back, in_either, in_prefix, in_of, of_in}
 use Rattle.gb_meaning.proofs.Common.{none_some, some_same}
 use Rattle.gb_plan.proofs.Same.{In}
 use Rattle.gb_plan.proofs.Tests.{left_of, not_true, right_of}
@@ -150,13 +150,13 @@ module _ {X : Type 0} (t : X → Bool) where
       first false e rest = absurd (true≢false (sym e))
 
       by : (b : Bool) → t x ≡ b → (o : Option ℕ) → IsLeast (Passes (x ∷ xs)) o → ((p : Option ℕ) → IsLeast (Passes xs) p → FoundAs xs p) → FoundAs (x ∷ xs) o
-      by true e None is behind = absurd (is 0 (x, refl, e))
-      by true e (Some zero) is behind = (x, refl, first (t x) e (find t xs))
-      by true e (Some (suc n)) is behind = absurd (earlier n (is.1 0 (x, refl, e)))
-      by false e None is behind = later (t x) e (find t xs) ∙ behind None (λ n h. is (suc n) h)
-      by false e (Some zero) is behind = absurd (true≢false (sym is.0.2 ∙ ap t (sym is.0.1) ∙ e))
-      by false e (Some (suc n)) is behind =
-          let found = behind (Some n) (is.0, λ m h. less n m (is.1 (suc m) h)) in
+      by true e None is following = absurd (is 0 (x, refl, e))
+      by true e (Some zero) is following = (x, refl, first (t x) e (find t xs))
+      by true e (Some (suc n)) is following = absurd (earlier n (is.1 0 (x, refl, e)))
+      by false e None is following = later (t x) e (find t xs) ∙ following None (λ n h. is (suc n) h)
+      by false e (Some zero) is following = absurd (true≢false (sym is.0.2 ∙ ap t (sym is.0.1) ∙ e))
+      by false e (Some (suc n)) is following =
+          let found = following (Some n) (is.0, λ m h. less n m (is.1 (suc m) h)) in
           (found.0, found.1, later (t x) e (find t xs) ∙ found.2)
 
 zip_at : {X Y : Type 0} (xs : List X) (ys : List Y) (n : ℕ) (x : X) (y : Y) → At xs n x → At ys n y → At (zip xs ys) n (x, y)
@@ -183,7 +183,7 @@ at_slice (y ∷ xs) (suc n) x h = at_slice xs n x h
 
 in_flat : {X Y : Type 0} (f : X → List Y) (xs : List X) (x : X) (y : Y) → In x xs → In y (f x) → In y (flat_map f xs)
 in_flat f [] x y a b = absurd a
-in_flat f (z ∷ xs) x y (inl e) b = in_front y (f z) (flat_map f xs) (subst (λ w. In y (f w)) e b)
+in_flat f (z ∷ xs) x y (inl e) b = in_prefix y (f z) (flat_map f xs) (subst (λ w. In y (f w)) e b)
 in_flat f (z ∷ xs) x y (inr a) b = in_back y (f z) (flat_map f xs) (in_flat f xs x y a b)
 
 of_flat : {X Y : Type 0} (f : X → List Y) (xs : List X) (y : Y) → In y (flat_map f xs) → (x : X) × In x xs × In y (f x)

@@ -5,4 +5,4 @@ mod Least
 mod Lost
 mod Removing
 mod Marking
-pub mod Telling
+pub mod Predicting

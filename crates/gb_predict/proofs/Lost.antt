@@ -30,10 +30,10 @@ culprit_push (other ∷ reported) one path =
     ap (λ o. or_else o (cond (bytes_eq other.path path) (culprit other) None)) (culprit_push reported one path)
     ∙ or_grouped (cond (bytes_eq one.path path) (culprit one) None) (culprit_at reported path) (cond (bytes_eq other.path path) (culprit other) None)
 
-get_front : {X : Type 0} (xs : List X) (x : X) (n : ℕ) → n < length xs → slice_get (xs ++ x ∷ []) n ≡ slice_get xs n
-get_front [] x n less = absurd (omega (arith, less))
-get_front (y ∷ xs) x zero less = refl
-get_front (y ∷ xs) x (suc n) less = get_front xs x n (omega (arith, less))
+get_prefix : {X : Type 0} (xs : List X) (x : X) (n : ℕ) → n < length xs → slice_get (xs ++ x ∷ []) n ≡ slice_get xs n
+get_prefix [] x n less = absurd (omega (arith, less))
+get_prefix (y ∷ xs) x zero less = refl
+get_prefix (y ∷ xs) x (suc n) less = get_prefix xs x n (omega (arith, less))
 
 get_last : {X : Type 0} (xs : List X) (x : X) → slice_get (xs ++ x ∷ []) (length xs) ≡ Some x
 get_last [] x = refl
@@ -51,7 +51,7 @@ module _ (reported : List Prediction) (one : Prediction) (lost new : List (List 
 
   earlier : (o : Option ℕ) → IsBelow (length reported) o → culprit_of (reported ++ one ∷ []) o ≡ culprit_of reported o
   earlier None low = refl
-  earlier (Some n) low = ap (option_and_then culprit) (get_front reported one n low)
+  earlier (Some n) low = ap (option_and_then culprit) (get_prefix reported one n low)
 
   now_last : length reported < length (reported ++ one ∷ [])
   now_last = let long = long_push reported one in omega (arith, long)

@@ -40,19 +40,19 @@ marked_push before (p ∷ pairs) pair all is lacks = (
       (lacks ∙ ap (λ ps. lack pair.0.task (reported_in ps)) (sym (append_assoc before (p ∷ []) pairs))),
 )
 
-front_long : {X : Type 0} (xs : List X) (i : ℕ) → i < length xs → length (take i xs) ≡ i
-front_long [] i less = absurd (omega (arith, less))
-front_long (x ∷ xs) zero less = refl
-front_long (x ∷ xs) (suc i) less = ap suc (front_long xs i (omega (arith, less)))
+prefix_long : {X : Type 0} (xs : List X) (i : ℕ) → i < length xs → length (take i xs) ≡ i
+prefix_long [] i less = absurd (omega (arith, less))
+prefix_long (x ∷ xs) zero less = refl
+prefix_long (x ∷ xs) (suc i) less = ap suc (prefix_long xs i (omega (arith, less)))
 
 -- pairs with the prefix of a list that is as long
-pub zip_front : {X Y : Type 0} (xs : List X) (ys : List Y) (i : ℕ) → length ys ≡ i → zip (take i xs) ys ≡ zip xs ys
-zip_front [] ys zero long = refl
-zip_front [] ys (suc i) long = refl
-zip_front (x ∷ xs) [] zero long = refl
-zip_front (x ∷ xs) (y ∷ ys) zero long = absurd (omega (arith, long))
-zip_front (x ∷ xs) [] (suc i) long = refl
-zip_front (x ∷ xs) (y ∷ ys) (suc i) long = ap (λ (l : List _). (x, y) ∷ l) (zip_front xs ys i (omega (arith, long)))
+pub zip_prefix : {X Y : Type 0} (xs : List X) (ys : List Y) (i : ℕ) → length ys ≡ i → zip (take i xs) ys ≡ zip xs ys
+zip_prefix [] ys zero long = refl
+zip_prefix [] ys (suc i) long = refl
+zip_prefix (x ∷ xs) [] zero long = refl
+zip_prefix (x ∷ xs) (y ∷ ys) zero long = absurd (omega (arith, long))
+zip_prefix (x ∷ xs) [] (suc i) long = refl
+zip_prefix (x ∷ xs) (y ∷ ys) (suc i) long = ap (λ (l : List _). (x, y) ∷ l) (zip_prefix xs ys i (omega (arith, long)))
 
 -- the second parts of pairs
 seconds : {X Y : Type 0} (xs : List X) (ys : List Y) → length ys ≡ length xs → map (λ (pair : X × Y). pair.1) (zip xs ys) ≡ ys
@@ -68,7 +68,7 @@ pub marked_more : (plan : List Planned) (reported : List Prediction) (i : ℕ) (
 marked_more plan reported i planned one less long is all here lacks =
     subst (AreMarkedAfter []) (sym (zip_more plan reported i planned one less long is))
     (marked_push [] (zip (take i plan) reported) (planned, one) all here
-    (lacks ∙ ap (lack planned.task) (sym (seconds (take i plan) reported (long ∙ sym (front_long plan i less))))))
+    (lacks ∙ ap (lack planned.task) (sym (seconds (take i plan) reported (long ∙ sym (prefix_long plan i less))))))
 
 -- one pair's third more
 pub related_more : {X Y Z : Type 0} (R : X × Y → Z → Type 0) (xs : List X) (ys : List Y) (zs : List Z) (i : ℕ) (x : X) (y : Y) (z : Z)

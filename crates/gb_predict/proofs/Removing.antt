@@ -7,7 +7,7 @@ use Rattle.gb_core.specs.Place.{is_under}
 use Rattle.gb_folder.specs.Files.{Bytes, Files, Place, files_where, is_empty, places_under}
 use Rattle.gb_plan.specs.declared.task.Output.{Output}
 use Rattle.gb_run.specs.Emptying.{places_at}
-use Rattle.gb_predict.proofs.Telling.{empty_mapped}
+use Rattle.gb_predict.proofs.Predicting.{empty_mapped}
 
 pub length_empty : {X : Type 0} (xs : List X) → (length xs == 0) ≡ is_empty xs
 length_empty [] = (unsigned_Decides 0 0).1 refl

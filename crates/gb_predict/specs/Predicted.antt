@@ -10,7 +10,7 @@ use Rattle.gb_meaning.specs.Label.{CannotRead, HasNoActions, HasNoSource, IsCurr
 use Rattle.gb_meaning.specs.Label.{Skips, changes_from, early_case}
 use Rattle.gb_meaning.specs.Memory.{Memory, World, output_files}
 use Rattle.gb_meaning.specs.TrueRecord.{outside}
-use Rattle.gb_meaning.specs.Execution.{IsOfMachine, Prints, Rules, Standing, Executions, first_moment}
+use Rattle.gb_meaning.specs.Execution.{IsOfMachine, Prints, Rules, WorldState, Executions, first_moment}
 use Rattle.gb_plan.specs.Graph.{IsSound, no_repeats, order}
 use Rattle.gb_plan.specs.declared.plan.Planned.{Planned}
 use Rattle.gb_plan.specs.declared.task.TaskDeclaration.{TaskDeclaration as Task}
@@ -73,7 +73,7 @@ Fits (comings.Runs by_changes reasons) outcome = HasRun outcome
 
 -- the machine may fail at any time
 abbrev pub MayFail : Rules → Task → Outcome → Type 0
-MayFail rules task outcome = (moment : Moment) × (new : Standing) × IsOfMachine rules moment task outcome new
+MayFail rules task outcome = (moment : Moment) × (new : WorldState) × IsOfMachine rules moment task outcome new
 
 -- A task ended as predicted, and if its actions ended, they printed what they print in the world of the
 -- prediction: the lines for the same changes.
@@ -94,12 +94,12 @@ AreKept rules now plan reported reports = ⊤
 -- A build of a sound plan keeps the predictions for its tasks in the world that it starts in.
 abbrev pub PredictionsAreKept : Rules → Type 0
 PredictionsAreKept rules =
-    (seen : List Bytes) (old new : Standing) (reported : List Prediction) (reports : List TaskReport)
+    (observed : List Bytes) (old new : WorldState) (reported : List Prediction) (reports : List TaskReport)
     → no_repeats (order rules.plan) ≡ true → IsSound rules.plan
     → AllZip (λ planned one. IsPredicted rules.kinds rules.options planned.task old.world one.coming)
     rules.plan reported
     → AreMarked rules.plan reported
-    → Executions rules always seen rules.plan (first_moment old) reports new
+    → Executions rules always observed rules.plan (first_moment old) reports new
     → AreKept rules old.world rules.plan reported reports
 
 -- ---- By the records of a folder
@@ -118,8 +118,8 @@ world_of folder memory = record { folder = outside folder; memory = memory }
 abbrev pub FolderPredictionsAreKept : Rules → Type 0
 FolderPredictionsAreKept rules =
     (folder : Contents) (memory : Memory) (records : List (Option Record)) (before after : ℕ)
-    (reported : List Prediction) (seen : List Bytes) (failures : ℕ) (reports : List TaskReport)
-    (new : Standing)
+    (reported : List Prediction) (observed : List Bytes) (failures : ℕ) (reports : List TaskReport)
+    (new : WorldState)
     → no_repeats (order rules.plan) ≡ true → IsSound rules.plan
     → AllByRecursion
     (λ planned. AreWorth rules.kinds planned.task folder.files memory (world_of folder memory)) rules.plan
@@ -127,6 +127,6 @@ FolderPredictionsAreKept rules =
     → ArePredictedOf rules.kinds rules.options folder before after rules.plan records reported
     → AllByRecursion (λ one. IsOfFolder one.coming) reported
     → AreMarked rules.plan reported
-    → Executions rules always seen rules.plan
+    → Executions rules always observed rules.plan
     (first_moment (record { world = world_of folder memory; failures = failures })) reports new
     → AreKept rules (world_of folder memory) rules.plan reported reports

@@ -1,7 +1,7 @@
 //! The prediction for the tasks of a plan.
 ghost use Rattle.std.specs.Prelude.{◌≡◌, ◌≤◌, [], false, IfOk, IsTrue, length, map, option_copied};
 ghost use Rattle.std.specs.List.{AllByRecursion, list_any, zip};
-ghost use Rattle.gb_folder.specs.Calls.{Asks, no_change};
+ghost use Rattle.gb_folder.specs.Calls.{Requests, no_change};
 ghost use Rattle.gb_folder.specs.Files.{is_own};
 ghost use Rattle.gb_predict.specs.Prediction.{ArePredictedOf, IsPredictedOf, IsReasoned};
 ghost use Rattle.gb_predict.specs.Least.{AreLost};
@@ -43,14 +43,14 @@ pub fn predict<A: Actions, F: Folder>(
     requires ready { AllByRecursion (λ planned. IsReady A.meanings table.now planned.task) plan.now }
     requires in_order { AllByRecursion (λ planned. HasNamesInOrder planned.task) plan.now }
     requires each { length records.now ≡ length plan.now }
-    ensures asks { Asks F.failures F.may_leave F.asked no_change folder.old folder.new }
-    ensures same { IsTrue F.tells → F.contents folder.new ≡ F.contents folder.old }
+    ensures requests { Requests F.failures F.may_leave F.allowed no_change folder.old folder.new }
+    ensures same { IsTrue F.faithful → F.contents folder.new ≡ F.contents folder.old }
     ensures paths { IfOk result (λ reported. map (λ one. one.path) reported.items ≡ order plan.now) }
     // Over any folder there is a reason if a task runs for reasons.
     ensures reasoned { IfOk result
         (λ reported. AllByRecursion (λ one. IsReasoned one.coming) reported.items) }
     ensures marked { IfOk result (λ reported. AreMarked plan.now reported.items) }
-    ensures prediction { IsTrue F.tells → (kinds : Kinds) → Agrees A.meanings table.now kinds
+    ensures prediction { IsTrue F.faithful → (kinds : Kinds) → Agrees A.meanings table.now kinds
         → IfOk result (λ reported. ArePredictedOf kinds options (F.contents folder.old)
         (F.failures folder.old)
         (F.failures folder.new) plan.now records.now reported.items) }
@@ -97,14 +97,14 @@ fn prediction<A: Actions, F: Folder>(
     requires of_plan { AreSamePlaces (with_places [] (places_from output_places 0 plan.now)) row.now }
     requires each { length reported.now ≤ length plan.now }
     requires lost { AreLost reported.now lost.now }
-    ensures asks { Asks F.failures F.may_leave F.asked no_change folder.old folder.new }
-    ensures same { IsTrue F.tells → F.contents folder.new ≡ F.contents folder.old }
+    ensures requests { Requests F.failures F.may_leave F.allowed no_change folder.old folder.new }
+    ensures same { IsTrue F.faithful → F.contents folder.new ≡ F.contents folder.old }
     ensures path { IfOk result (λ one. one.path ≡ planned.now.task.path) }
     ensures reasoned { IfOk result (λ one. IsReasoned one.coming) }
     ensures marked { IfOk result (λ one.
         one.after ≡ mark (zip plan.now reported.now) planned.now.task one.coming) }
     ensures needs { IfOk result (λ one. one.needs ≡ lack planned.now.task reported.now) }
-    ensures prediction { IsTrue F.tells → (kinds : Kinds) → Agrees A.meanings table.now kinds
+    ensures prediction { IsTrue F.faithful → (kinds : Kinds) → Agrees A.meanings table.now kinds
         → IfOk result (λ one. IsPredictedOf kinds options planned.now.task (F.contents folder.old)
         (option_copied last.entry) (F.failures folder.old) (F.failures folder.new) one.coming) }
 {

@@ -1,6 +1,6 @@
 //! The outcome of one task, if it were executed now: what an execution decides, without doing it.
 ghost use Rattle.std.specs.Prelude.{◌≡◌, Bool, IfErr, IfOk, IsTrue, not, option_copied};
-ghost use Rattle.gb_folder.specs.Calls.{Asks, no_change};
+ghost use Rattle.gb_folder.specs.Calls.{Requests, no_change};
 ghost use Rattle.gb_folder.specs.Files.{is_empty};
 ghost use Rattle.gb_predict.specs.Prediction.{IsPredictedOf, IsReasoned, reported_of};
 ghost use Rattle.gb_label.specs.Deciding.{HasNamesInOrder};
@@ -35,11 +35,11 @@ pub(crate) fn coming_of<A: Actions, F: Folder>(
 ) -> Coming
     requires ready { IsReady A.meanings table.now task.now }
     requires in_order { HasNamesInOrder task.now }
-    ensures asks { Asks F.failures F.may_leave F.asked no_change folder.old folder.new }
-    ensures same { IsTrue F.tells → F.contents folder.new ≡ F.contents folder.old }
+    ensures requests { Requests F.failures F.may_leave F.allowed no_change folder.old folder.new }
+    ensures same { IsTrue F.faithful → F.contents folder.new ≡ F.contents folder.old }
     // Over any folder there is a reason if it runs for reasons.
     ensures reasoned { IsReasoned result }
-    ensures prediction { IsTrue F.tells → (kinds : Kinds) → Agrees A.meanings table.now kinds
+    ensures prediction { IsTrue F.faithful → (kinds : Kinds) → Agrees A.meanings table.now kinds
         → IsPredictedOf kinds options task.now (F.contents folder.old) (option_copied old.entry)
         (F.failures folder.old) (F.failures folder.new) result }
 {
@@ -47,8 +47,8 @@ pub(crate) fn coming_of<A: Actions, F: Folder>(
         Ok(Prepared::Skips) => Coming::Skips,
         Ok(Prepared::HasNoActions) => Coming::HasNoActions,
         Ok(Prepared::HasNoSource) => reported(sourceless(alloc, folder, task)),
-        Ok(Prepared::Decided(decision, basis, seen)) => {
-            drop(seen);
+        Ok(Prepared::Decided(decision, basis, observed)) => {
+            drop(observed);
             explained::<A>(alloc, task, table, old, &decision, &basis)
         }
         Err(fault) => Coming::CannotRead(fault),
@@ -61,13 +61,13 @@ fn sourceless<F: Folder>(
     folder: &mut F,
     task: &TaskDeclaration,
 ) -> Result<Coming, Fault>
-    ensures asks { Asks F.failures F.may_leave F.asked no_change folder.old folder.new }
-    ensures same { IsTrue F.tells → F.contents folder.new ≡ F.contents folder.old }
+    ensures requests { Requests F.failures F.may_leave F.allowed no_change folder.old folder.new }
+    ensures same { IsTrue F.faithful → F.contents folder.new ≡ F.contents folder.old }
     ensures reasoned { IfOk result IsReasoned }
-    ensures removes { IsTrue F.tells → IfOk result (λ coming. (removes : Bool)
+    ensures removes { IsTrue F.faithful → IfOk result (λ coming. (removes : Bool)
         × (coming ≡ Coming.HasNoSource removes)
         × (removes ≡ not (is_empty (output_files task.now (F.contents folder.old).files)))) }
-    ensures err { IsTrue F.tells → IfErr result (CannotRead (F.failures folder.old) (F.failures folder.new)
+    ensures err { IsTrue F.faithful → IfErr result (CannotRead (F.failures folder.old) (F.failures folder.new)
         (listing_faults task.now (F.contents folder.old))) }
 {
     let places = listed_outputs(alloc, folder, task.outputs.as_slice())?;

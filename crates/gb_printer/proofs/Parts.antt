@@ -27,8 +27,8 @@ in_parts report =
       | false ↦ five parts failures refusal ended last
     ]
 
-pub behind : (report : Report) → drop (length (parts_text report)) (report_text report) ≡ rest_text report
-behind report = ap (λ (l : List ℕ). drop (length (parts_text report)) l) (in_parts report) ∙ drop-append_seam (parts_text report) (rest_text report)
+pub following : (report : Report) → drop (length (parts_text report)) (report_text report) ≡ rest_text report
+following report = ap (λ (l : List ℕ). drop (length (parts_text report)) l) (in_parts report) ∙ drop-append_seam (parts_text report) (rest_text report)
 
 pub parts_fit : (report : Report) → length (parts_text report) ≤ length (report_text report)
 parts_fit report = omega (arith, ap (λ (l : List ℕ). length l) (in_parts report), length-append (parts_text report) (rest_text report))

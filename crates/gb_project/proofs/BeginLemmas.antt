@@ -9,7 +9,7 @@ use Rattle.std.specs.Map.{lookup}
 use Rattle.gb_evaluate.proofs.KnownLemmas.{paths_are}
 use Rattle.gb_core.specs.Lists.{byte_order}
 use Rattle.gb_provider.specs.declared.expression.Expression.{Expression}
-use Rattle.gb_registry.proofs.Apart.{are_new}
+use Rattle.gb_registry.proofs.Separate.{are_new}
 use Rattle.gb_registry.specs.Configure.{configure_faults, each_after, missing_tasks, statement_faults}
 use Rattle.gb_registry.specs.New.{AreNew}
 use Rattle.gb_registry.specs.Projects.{Path}
@@ -21,17 +21,17 @@ use Rattle.gb_script.specs.declared.script.Statement.{Statement}
 use Rattle.gb_declare.specs.Joined.{Named}
 use Rattle.gb_declare.specs.Whole.{spots, whole}
 use Rattle.gb_nodes.proofs.BuildLemmas.{builds_are_places}
-use Rattle.gb_registry.proofs.Fine.{nil_front}
-use Rattle.gb_nodes.proofs.StandingLemmas as standing
+use Rattle.gb_registry.proofs.Fine.{nil_prefix}
+use Rattle.gb_nodes.proofs.InTableLemmas as existing
 use Rattle.gb_nodes.specs.Grown.{IsRight}
 use Rattle.gb_nodes.specs.Scripts.{build_faults}
 use Rattle.gb_nodes.specs.Site.{AreThere, Site}
-use Rattle.gb_nodes.specs.Standing.{AreSaid, scripts_faults, scripts_made, sites_made}
+use Rattle.gb_nodes.specs.InTable.{AreSaid, scripts_faults, scripts_made, sites_made}
 use Rattle.gb_project.specs.Kept.{AreDeclared}
 use Rattle.gb_project.specs.Stage.{AreAllGood, begun, with_scripts}
 use Rattle.gb_project.specs.Steps.{Begins, task_paths}
 use Rattle.gb_project.specs.Tasks.{script_tasks}
-use Rattle.gb_project.proofs.ScriptTaskLemmas.{tasks_are_good, tasks_listed, tasks_stand}
+use Rattle.gb_project.proofs.ScriptTaskLemmas.{tasks_are_good, tasks_listed, tasks_in_table}
 
 module _ {M F Z S A : Type 0} (tables : Tables M F Z S A) (source : Source) (scripts : List (Path × List Statement)) (given : List (Named (List ℕ))) (read : IsRead source scripts)
     (none : configure_faults tables source ≡ []) (found : (text : List ℕ) → lookup (is_at (byte_order text)) given ≡ find byte_order text (reverse source.given)) where
@@ -42,14 +42,14 @@ module _ {M F Z S A : Type 0} (tables : Tables M F Z S A) (source : Source) (scr
   are_said = record {
     said = all_are;
     new = subst (AreNew []) (sym read.each) (are_new read.settings read.texts);
-    good = nil_front (each_after (statement_faults tables) [] source.said) (flat_map (missing_tasks source.names) source.said) none;
+    good = nil_prefix (each_after (statement_faults tables) [] source.said) (flat_map (missing_tasks source.names) source.said) none;
     found = found;
   }
 
   -- its scripts are laid without a fault
   pub laid_good : scripts_faults tables.functions given tables.means [] scripts ≡ []
   laid_good =
-      standing.scripts_are_good tables source scripts given are_said
+      existing.scripts_are_good tables source scripts given are_said
       ∙ ap (flat_map (λ (script : Path × List Statement). build_faults script.0)) read.each
       ∙ builds_are_places read.settings read.texts read.good
 
@@ -63,8 +63,8 @@ module _ {M F Z S A : Type 0} (tables : Tables M F Z S A) (source : Source) (scr
 
   pub sites_there : AllByRecursion (λ site. AreThere site (length laid_nodes)) (sites_made tables.functions given [] scripts)
   sites_there =
-      let stands = standing.scripts_stand tables source scripts given are_said in
-      all_there stands.number (sites_made tables.functions given [] scripts) stands.right
+      let exists = existing.scripts_in_table tables source scripts given are_said in
+      all_there exists.number (sites_made tables.functions given [] scripts) exists.right
 
   pub names_are : source.names.tasks ≡ paths_of source.said
   names_are = ap (λ (s : Source). s.names.tasks) read.said ∙ ap paths_of (sym (ap (λ (s : Source). s.said) read.said))
@@ -79,7 +79,7 @@ module _ {M F Z S A : Type 0} (tables : Tables M F Z S A) (source : Source) (scr
   tasks_good = tasks_are_good tables source scripts given are_said
 
   pub all_declared : AreDeclared tables source (with_scripts tables source.names (begun laid_nodes) (sites_made tables.functions given [] scripts) scripts)
-  all_declared = tasks_stand tables source scripts given are_said
+  all_declared = tasks_in_table tables source scripts given are_said
 
 pub ok_if : {X E : Type 0} (P Q : X → Type 0) → ((x : X) → P x → Q x) → (r : Result X E) → IfOk r P → IfOk r Q
 ok_if P Q all (Ok x) p = all x p

@@ -27,7 +27,7 @@ use Rattle.gb_declare.specs.Whole.{trees_of as expressions_of}
 use Rattle.gb_nodes.specs.Site.{Site}
 use Rattle.gb_nodes.specs.Wrong.{link_faults, making_faults, root_faults}
 use Rattle.gb_nodes.proofs.FoundLemmas.{HasNodesOf, among_if_none, made_good, nil_both}
-use Rattle.gb_registry.proofs.Fine.{nil_back, nil_front}
+use Rattle.gb_registry.proofs.Fine.{nil_back, nil_prefix}
 use Rattle.gb_evaluate.specs.Parts.{HasPatterns, HavePatterns}
 use Rattle.gb_project.proofs.ListLemmas.{all_by_name, all_joined, all_mapped, all_picked, all_reversed, both_all, last_all}
 
@@ -36,7 +36,7 @@ use Rattle.gb_project.proofs.ListLemmas.{all_by_name, all_joined, all_mapped, al
 patterns_good : (texts : List (List ℕ)) → flat_map pattern_faults texts ≡ [] → AllByRecursion (λ text. is_pattern text ≡ true) texts
 patterns_good [] none = tt
 patterns_good (text ∷ texts) none = (
-  among_if_none (is_pattern text) _ (nil_front (pattern_faults text) (flat_map pattern_faults texts) none),
+  among_if_none (is_pattern text) _ (nil_prefix (pattern_faults text) (flat_map pattern_faults texts) none),
   patterns_good texts (nil_back (pattern_faults text) (flat_map pattern_faults texts) none),
 )
 
@@ -53,7 +53,7 @@ module _ {M F Z S A : Type 0} (tables : Tables M F Z S A) (scope : Scope) where
   trees_clear : (trees : List Tree) → trees_faults tables scope trees ≡ [] → AreClear trees
   trees_clear [] none = tt
   trees_clear (tree ∷ trees) none = (
-    nil_front (tree_faults tables scope tree) (flat_map (tree_faults tables scope) trees) none,
+    nil_prefix (tree_faults tables scope tree) (flat_map (tree_faults tables scope) trees) none,
     trees_clear trees (nil_back (tree_faults tables scope tree) (flat_map (tree_faults tables scope) trees) none),
   )
 
@@ -71,10 +71,10 @@ module _ {M F Z S A : Type 0} (tables : Tables M F Z S A) (scope : Scope) where
       let roots = trees_faults tables scope files.from in
       let include = flat_map pattern_faults files.include in
       let exclude = flat_map pattern_faults files.exclude in
-      let front = nil_front (roots ++ include) exclude none in (
-        trees_clear files.from (nil_front roots include front),
+      let prefix = nil_prefix (roots ++ include) exclude none in (
+        trees_clear files.from (nil_prefix roots include prefix),
         record {
-          include = All-from_recursion (λ text. is_pattern text ≡ true) files.include (patterns_good files.include (nil_back roots include front));
+          include = All-from_recursion (λ text. is_pattern text ≡ true) files.include (patterns_good files.include (nil_back roots include prefix));
           exclude = All-from_recursion (λ text. is_pattern text ≡ true) files.exclude (patterns_good files.exclude (nil_back (roots ++ include) exclude none));
         },
       )
@@ -101,11 +101,11 @@ module _ {M F Z S A : Type 0} (tables : Tables M F Z S A) (scope : Scope) where
   last_judged other fine y is = absurd (cc)
 
   only_if_judged : (clause : Clause) → IsFine clause → (y : Condition) → only_if_in clause ≡ Some y → IsClear y.value
-  only_if_judged (clauses.OnlyIf condition) fine y is = let same : condition ≡ y = cc in subst (λ (c : Condition). IsClear c.value) same (nil_front (tree_faults tables scope condition.value) _ fine)
+  only_if_judged (clauses.OnlyIf condition) fine y is = let same : condition ≡ y = cc in subst (λ (c : Condition). IsClear c.value) same (nil_prefix (tree_faults tables scope condition.value) _ fine)
   only_if_judged other fine y is = absurd (cc)
 
   when_judged : (clause : Clause) → IsFine clause → (y : Condition) → up_to_date_when_in clause ≡ Some y → IsClear y.value
-  when_judged (clauses.UpToDateWhen condition) fine y is = let same : condition ≡ y = cc in subst (λ (c : Condition). IsClear c.value) same (nil_front (tree_faults tables scope condition.value) _ fine)
+  when_judged (clauses.UpToDateWhen condition) fine y is = let same : condition ≡ y = cc in subst (λ (c : Condition). IsClear c.value) same (nil_prefix (tree_faults tables scope condition.value) _ fine)
   when_judged other fine y is = absurd (cc)
 
   enabled_judged : (clause : Clause) → IsFine clause → (y : Tree) → enabled_in clause ≡ Some y → IsClear y
@@ -119,7 +119,7 @@ module _ {M F Z S A : Type 0} (tables : Tables M F Z S A) (scope : Scope) where
   fine_clauses path before (clause ∷ after) none =
       let here = clash_faults path before clause ++ clause_faults tables scope clause in
       let rest = clauses_faults tables scope path (before ++ clause ∷ []) after in (
-        nil_back (clash_faults path before clause) (clause_faults tables scope clause) (nil_front here rest none),
+        nil_back (clash_faults path before clause) (clause_faults tables scope clause) (nil_prefix here rest none),
         fine_clauses path (before ++ clause ∷ []) after (nil_back here rest none),
       )
 
@@ -132,11 +132,11 @@ module _ {M F Z S A : Type 0} (tables : Tables M F Z S A) (scope : Scope) where
   main_clear (Some other) none call is = let same : other ≡ call = cc in subst (λ (c : Call). AreClear c.arguments) same (call_clear other none)
 
   module _ (task : Registered) (none : faults_within tables scope task ≡ []) where
-    front_none : main_faults tables scope task.action ++ clauses_faults tables scope task.path [] task.clauses ≡ []
-    front_none = nil_front (main_faults tables scope task.action ++ clauses_faults tables scope task.path [] task.clauses) (shape_faults tables task.path (joined task)) none
+    prefix_none : main_faults tables scope task.action ++ clauses_faults tables scope task.path [] task.clauses ≡ []
+    prefix_none = nil_prefix (main_faults tables scope task.action ++ clauses_faults tables scope task.path [] task.clauses) (shape_faults tables task.path (joined task)) none
 
     fine : AllByRecursion IsFine task.clauses
-    fine = fine_clauses task.path [] task.clauses (nil_back (main_faults tables scope task.action) (clauses_faults tables scope task.path [] task.clauses) front_none)
+    fine = fine_clauses task.path [] task.clauses (nil_back (main_faults tables scope task.action) (clauses_faults tables scope task.path [] task.clauses) prefix_none)
 
     abbrev AreArgumentsClear : Call → Type 0
     AreArgumentsClear call = AreClear call.arguments
@@ -186,7 +186,7 @@ module _ {M F Z S A : Type 0} (tables : Tables M F Z S A) (scope : Scope) where
         (both_all AreArgumentsClear (reverse first ++ main) last
         (both_all AreArgumentsClear (reverse first) main
         (all_reversed AreArgumentsClear first (all_picked first_in IsFine AreArgumentsClear first_judged task.clauses fine))
-        (option_all AreArgumentsClear task.action (main_clear task.action (nil_front (main_faults tables scope task.action) (clauses_faults tables scope task.path [] task.clauses) front_none))))
+        (option_all AreArgumentsClear task.action (main_clear task.action (nil_prefix (main_faults tables scope task.action) (clauses_faults tables scope task.path [] task.clauses) prefix_none))))
         (all_picked last_in IsFine AreArgumentsClear last_judged task.clauses fine))
 
     -- its expressions

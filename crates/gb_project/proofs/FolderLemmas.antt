@@ -27,15 +27,15 @@ names_stay ([] ∷ names) h = absurd (true≢false (sym h))
 names_stay ((c ∷ name) ∷ names) h = ap (λ l. (c ∷ name) ∷ l) (names_stay names (right_of (is_name (c ∷ name)) (list_all is_name names) h))
 
 -- a part at the front, and a byte before the first part
-front_part : (parts : List (List ℕ)) (first : List ℕ) (rest : List (List ℕ)) → parts ≡ first ∷ rest → join ([] ∷ parts) ≡ 47 ∷ join parts
-front_part parts first rest is = ap (λ p. join ([] ∷ p)) is ∙ sym (ap (λ p. 47 ∷ join p) is)
+prefix_part : (parts : List (List ℕ)) (first : List ℕ) (rest : List (List ℕ)) → parts ≡ first ∷ rest → join ([] ∷ parts) ≡ 47 ∷ join parts
+prefix_part parts first rest is = ap (λ p. join ([] ∷ p)) is ∙ sym (ap (λ p. 47 ∷ join p) is)
 
 first_byte : (c : ℕ) (parts : List (List ℕ)) (first : List ℕ) (rest : List (List ℕ)) → parts ≡ first ∷ rest → join (onto_first c parts) ≡ c ∷ join parts
 first_byte c parts first rest is = ap (λ p. join (onto_first c p)) is ∙ sym (ap (λ p. c ∷ join p) is)
 
 -- the parts between the colons, with slashes in place of these
 slash_at : (c : ℕ) (text : List ℕ) (b : Bool) → (c == 58) ≡ b → join (parts_of text) ≡ map slashed text → join (cond b ([] ∷ parts_of text) (onto_first c (parts_of text))) ≡ cond b 47 c ∷ map slashed text
-slash_at c text true is rest = let parts = has_first 58 text in front_part (parts_of text) parts.0 parts.1 parts.2 ∙ ap (λ l. 47 ∷ l) rest
+slash_at c text true is rest = let parts = has_first 58 text in prefix_part (parts_of text) parts.0 parts.1 parts.2 ∙ ap (λ l. 47 ∷ l) rest
 slash_at c text false is rest = let parts = has_first 58 text in first_byte c (parts_of text) parts.0 parts.1 parts.2 ∙ ap (λ l. c ∷ l) rest
 
 slashes : (text : List ℕ) → join (parts_of text) ≡ map slashed text

@@ -9,7 +9,7 @@ use Rattle.gb_registry.proofs.Firsts.{left_from}
 use Rattle.gb_registry.specs.Projects.{Path}
 use Rattle.gb_registry.specs.References.{Names}
 use Rattle.gb_registry.specs.Said.{Registered}
-use Rattle.gb_registry.specs.Seen.{scripts_in}
+use Rattle.gb_registry.specs.SoFar.{scripts_in}
 use Rattle.gb_registry.specs.Tables.{Tables}
 use Rattle.gb_registry.specs.declared.checking.Scripted.{Scripted}
 use Rattle.gb_report.specs.declared.fault.Fault.{Fault}
@@ -18,7 +18,7 @@ use Rattle.gb_declare.specs.Joined.{Named}
 use Rattle.gb_nodes.proofs.MakingLemmas.{there_on}
 use Rattle.gb_nodes.specs.Scripts.{laid_site, script_faults, script_made, script_site}
 use Rattle.gb_nodes.specs.Site.{AreThere, Site}
-use Rattle.gb_nodes.specs.Standing.{scripts_faults, scripts_made, sites_made}
+use Rattle.gb_nodes.specs.InTable.{scripts_faults, scripts_made, sites_made}
 use Rattle.gb_nodes.specs.declared.scripts.Laid.{Laid}
 use Rattle.gb_project.proofs.ScriptLemmas.{count_folded}
 use Rattle.gb_project.specs.Stage.{AreAllGood, Stage, with_script, with_scripts}
@@ -69,18 +69,18 @@ module _ {M F Z S : Type 0} (functions table : Table M F Z S) (same : table ≡ 
       → whole ≡ laid_sites given (scripts_in (take i scripts)) laid ++ sites_made functions given nodes (scripts_in (drop i scripts))
       → whole ≡ laid_sites given (scripts_in (take (i + 1) scripts)) laid' ++ sites_made functions given new (scripts_in (drop (i + 1) scripts))
   sites_on whole laid laid' one count pushed made site before =
-      let front = scripts_in (take i scripts) in
+      let prefix = scripts_in (take i scripts) in
       let rest = scripts_in (drop (i + 1) scripts) in
       let here = laid_site scripted.project one given in
-      let long : length front ≡ length laid = length-map (take i scripts) script_in ∙ length-take-le i scripts (omega (arith, below)) ∙ sym count in
-      let more : scripts_in (take (i + 1) scripts) ≡ front ++ script_in scripted ∷ [] =
+      let long : length prefix ≡ length laid = length-map (take i scripts) script_in ∙ length-take-le i scripts (omega (arith, below)) ∙ sym count in
+      let more : scripts_in (take (i + 1) scripts) ≡ prefix ++ script_in scripted ∷ [] =
       ap scripts_in (take_more scripts i scripted below ∙ ap (λ s. take i scripts ++ s ∷ []) (sym is)) ∙ map-append script_in (take i scripts) (scripted ∷ []) in
       let left : sites_made functions given nodes (scripts_in (drop i scripts)) ≡ here ∷ sites_made functions given new rest =
       ap (sites_made functions given nodes) (scripts_from scripts i scripted below is)
       ∙ ap (λ s. s ∷ sites_made functions given (made_by functions) rest) (sym site) ∙ ap (λ n. here ∷ sites_made functions given n rest) (new_is made) in
-      let joined : laid_sites given (scripts_in (take (i + 1) scripts)) laid' ≡ laid_sites given front laid ++ here ∷ [] =
-      ap (λ ss. laid_sites given ss laid') more ∙ ap (laid_sites given (front ++ script_in scripted ∷ [])) pushed ∙ sites_more given front laid (script_in scripted) one long in
-      before ∙ ap (λ l. laid_sites given front laid ++ l) left ∙ sym (append_assoc (laid_sites given front laid) (here ∷ []) (sites_made functions given new rest)) ∙ ap (λ l. l ++ sites_made functions given new rest) (sym joined)
+      let joined : laid_sites given (scripts_in (take (i + 1) scripts)) laid' ≡ laid_sites given prefix laid ++ here ∷ [] =
+      ap (λ ss. laid_sites given ss laid') more ∙ ap (laid_sites given (prefix ++ script_in scripted ∷ [])) pushed ∙ sites_more given prefix laid (script_in scripted) one long in
+      before ∙ ap (λ l. laid_sites given prefix laid ++ l) left ∙ sym (append_assoc (laid_sites given prefix laid) (here ∷ []) (sites_made functions given new rest)) ∙ ap (λ l. l ++ sites_made functions given new rest) (sym joined)
 
   module _ (means : Meanings M F Z S) where
     abbrev faults_by : Table M F Z S → List Fault
@@ -113,19 +113,19 @@ drop_drop [] (suc n) m = nothing m ∙ sym (nothing (suc n + m))
     nothing (suc k) = refl
 drop_drop (path ∷ paths) (suc n) m = let same : suc (n + m) ≡ suc n + m = omega arith in drop_drop paths n m ∙ ap (λ k. drop k (path ∷ paths)) same
 
-drop_front : (front rest : List Path) → drop (length front) (front ++ rest) ≡ rest
-drop_front [] rest = refl
-drop_front (path ∷ front) rest = drop_front front rest
+drop_prefix : (prefix rest : List Path) → drop (length prefix) (prefix ++ rest) ≡ rest
+drop_prefix [] rest = refl
+drop_prefix (path ∷ prefix) rest = drop_prefix prefix rest
 
 -- the paths after those of some tasks
-pub begins_behind : (paths front back : List Path) (n m : ℕ) → m ≡ n + length front → Begins (front ++ back) (drop n paths) → Begins back (drop m paths)
-begins_behind paths front back n m more begins = (
+pub begins_after : (paths prefix back : List Path) (n m : ℕ) → m ≡ n + length prefix → Begins (prefix ++ back) (drop n paths) → Begins back (drop m paths)
+begins_after paths prefix back n m more begins = (
   begins.0,
-  ap (λ k. drop k paths) more ∙ sym (drop_drop paths n (length front)) ∙ ap (drop (length front)) (begins.1 ∙ append_assoc front back begins.0) ∙ drop_front front (back ++ begins.0),
+  ap (λ k. drop k paths) more ∙ sym (drop_drop paths n (length prefix)) ∙ ap (drop (length prefix)) (begins.1 ∙ append_assoc prefix back begins.0) ∙ drop_prefix prefix (back ++ begins.0),
 )
 
-pub begins_before : (paths front back : List Path) → Begins (front ++ back) paths → Begins front paths
-begins_before paths front back begins = (back ++ begins.0, begins.1 ∙ append_assoc front back begins.0)
+pub begins_before : (paths prefix back : List Path) → Begins (prefix ++ back) paths → Begins prefix paths
+begins_before paths prefix back begins = (back ++ begins.0, begins.1 ∙ append_assoc prefix back begins.0)
 
 tasks_first : (script : Script) (scripts : List Script) → task_paths (flat_map script_tasks (script ∷ scripts)) ≡ task_paths (script_tasks script) ++ task_paths (flat_map script_tasks scripts)
 tasks_first script scripts = map-append (λ (task : Registered). task.path) (script_tasks script) (flat_map script_tasks scripts)
@@ -134,7 +134,7 @@ module _ {M F Z S A : Type 0} (tables : Tables M F Z S A) (names : Names) (given
   paths_left : (paths : List Path) → Begins (task_paths (flat_map script_tasks (scripts_in (drop i scripts)))) paths
       → Begins (task_paths (script_tasks (script_in scripted)) ++ task_paths (flat_map script_tasks (scripts_in (drop (i + 1) scripts)))) paths
   paths_left paths begins =
-      subst (λ front. Begins front paths) (ap (λ ss. task_paths (flat_map script_tasks ss)) (scripts_from scripts i scripted below is) ∙ tasks_first (script_in scripted) (scripts_in (drop (i + 1) scripts))) begins
+      subst (λ prefix. Begins prefix paths) (ap (λ ss. task_paths (flat_map script_tasks ss)) (scripts_from scripts i scripted below is) ∙ tasks_first (script_in scripted) (scripts_in (drop (i + 1) scripts))) begins
 
   pub next_script : (paths : List Path) → Begins (task_paths (flat_map script_tasks (scripts_in (drop i scripts)))) paths → Begins (task_paths (script_tasks (script_in scripted))) paths
   next_script paths begins =
@@ -182,5 +182,5 @@ module _ {M F Z S A : Type 0} (tables : Tables M F Z S A) (names : Names) (given
         let tasks = script_tasks (script_in scripted) in
         let long : length stage'.faults ≡ length stage.faults + length (task_paths tasks) =
         ap (λ (t : Stage M F Z). length t.faults) more ∙ count_folded tables names here scripted.script stage tasks ∙ ap (λ k. length stage.faults + k) (sym (length-map tasks (λ (task : Registered). task.path))) in
-        begins_behind paths (task_paths tasks) (task_paths (flat_map script_tasks (scripts_in (drop (i + 1) scripts)))) (length stage.faults) (length stage'.faults) long
+        begins_after paths (task_paths tasks) (task_paths (flat_map script_tasks (scripts_in (drop (i + 1) scripts)))) (length stage.faults) (length stage'.faults) long
         (paths_left (drop (length stage.faults) paths) begins)

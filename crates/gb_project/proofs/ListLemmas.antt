@@ -10,12 +10,12 @@ use Rattle.gb_declare.specs.Joined.{Named, by_name}
 
 module _ {X : Type 0} (P : X → Type 0) where
   pub both_all : (xs ys : List X) → AllByRecursion P xs → AllByRecursion P ys → AllByRecursion P (xs ++ ys)
-  both_all [] ys front back = back
-  both_all (x ∷ xs) ys front back = (front.0, both_all xs ys front.1 back)
+  both_all [] ys prefix back = back
+  both_all (x ∷ xs) ys prefix back = (prefix.0, both_all xs ys prefix.1 back)
 
-  pub front_all : (xs ys : List X) → AllByRecursion P (xs ++ ys) → AllByRecursion P xs
-  front_all [] ys all = tt
-  front_all (x ∷ xs) ys all = (all.0, front_all xs ys all.1)
+  pub prefix_all : (xs ys : List X) → AllByRecursion P (xs ++ ys) → AllByRecursion P xs
+  prefix_all [] ys all = tt
+  prefix_all (x ∷ xs) ys all = (all.0, prefix_all xs ys all.1)
 
   pub back_all : (xs ys : List X) → AllByRecursion P (xs ++ ys) → AllByRecursion P ys
   back_all [] ys all = all

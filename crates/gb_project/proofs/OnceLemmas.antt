@@ -21,7 +21,7 @@ use Rattle.gb_registry.specs.Tables.{Tables}
 use Rattle.gb_script.specs.declared.script.Statement.{Statement}
 use Rattle.gb_script.specs.declared.script.Statement.TheVariants as statements
 use Rattle.gb_declare.specs.Joined.{Named, by_name}
-use Rattle.gb_registry.proofs.Fine.{nil_back, nil_front}
+use Rattle.gb_registry.proofs.Fine.{nil_back, nil_prefix}
 
 pub among_itself : (texts : List (List ℕ)) (text : List ℕ) → is_among (texts ++ text ∷ []) text ≡ true
 among_itself texts text =
@@ -49,34 +49,34 @@ is_less Greater p = absurd p
 
 module _ {X : Type 0} (key : X → List ℕ) where
   -- none has a key that is present before
-  abbrev pub Apart : List (List ℕ) → List X → Type 0
-  Apart before [] = Unit {0}
-  Apart before (x ∷ xs) = (is_among before (key x) ≡ false) × Apart (before ++ key x ∷ []) xs
+  abbrev pub Separate : List (List ℕ) → List X → Type 0
+  Separate before [] = Unit {0}
+  Separate before (x ∷ xs) = (is_among before (key x) ≡ false) × Separate (before ++ key x ∷ []) xs
 
-  apart_new : (before : List (List ℕ)) (xs : List X) (i : ℕ) (x : X) → Apart before xs → slice_get xs i ≡ Some x → is_among before (key x) ≡ false
-  apart_new before [] i x apart is = absurd (cc)
-  apart_new before (y ∷ xs) zero x apart is = let same : y ≡ x = cc in subst (λ z. is_among before (key z) ≡ false) same apart.0
-  apart_new before (y ∷ xs) (suc i) x apart is = among_more before (key y ∷ []) (key x) (apart_new (before ++ key y ∷ []) xs i x apart.1 is)
+  separate_new : (before : List (List ℕ)) (xs : List X) (i : ℕ) (x : X) → Separate before xs → slice_get xs i ≡ Some x → is_among before (key x) ≡ false
+  separate_new before [] i x separate is = absurd (cc)
+  separate_new before (y ∷ xs) zero x separate is = let same : y ≡ x = cc in subst (λ z. is_among before (key z) ≡ false) same separate.0
+  separate_new before (y ∷ xs) (suc i) x separate is = among_more before (key y ∷ []) (key x) (separate_new (before ++ key y ∷ []) xs i x separate.1 is)
 
-  clash : (before : List (List ℕ)) (xs : List X) (i : ℕ) (x y : X) → Apart (before ++ key x ∷ []) xs → slice_get xs i ≡ Some y → key x ≡ key y → ⊥
-  clash before xs i x y apart is same =
-      not_false (sym (among_itself before (key x)) ∙ ap (is_among (before ++ key x ∷ [])) same ∙ apart_new (before ++ key x ∷ []) xs i y apart is)
+  clash : (before : List (List ℕ)) (xs : List X) (i : ℕ) (x y : X) → Separate (before ++ key x ∷ []) xs → slice_get xs i ≡ Some y → key x ≡ key y → ⊥
+  clash before xs i x y separate is same =
+      not_false (sym (among_itself before (key x)) ∙ ap (is_among (before ++ key x ∷ [])) same ∙ separate_new (before ++ key x ∷ []) xs i y separate is)
 
   -- so the elements of one key are one
-  pub apart_same : (before : List (List ℕ)) (xs : List X) (i j : ℕ) (x y : X) → Apart before xs → slice_get xs i ≡ Some x → slice_get xs j ≡ Some y → key x ≡ key y → x ≡ y
-  apart_same before [] i j x y apart is_x is_y same = absurd (cc)
-  apart_same before (z ∷ xs) zero zero x y apart is_x is_y same = cc
-  apart_same before (z ∷ xs) zero (suc j) x y apart is_x is_y same =
-      let one : z ≡ x = cc in absurd (clash before xs j z y apart.1 is_y (ap key one ∙ same))
-  apart_same before (z ∷ xs) (suc i) zero x y apart is_x is_y same =
-      let one : z ≡ y = cc in absurd (clash before xs i z x apart.1 is_x (ap key one ∙ sym same))
-  apart_same before (z ∷ xs) (suc i) (suc j) x y apart is_x is_y same = apart_same (before ++ key z ∷ []) xs i j x y apart.1 is_x is_y same
+  pub separate_same : (before : List (List ℕ)) (xs : List X) (i j : ℕ) (x y : X) → Separate before xs → slice_get xs i ≡ Some x → slice_get xs j ≡ Some y → key x ≡ key y → x ≡ y
+  separate_same before [] i j x y separate is_x is_y same = absurd (cc)
+  separate_same before (z ∷ xs) zero zero x y separate is_x is_y same = cc
+  separate_same before (z ∷ xs) zero (suc j) x y separate is_x is_y same =
+      let one : z ≡ x = cc in absurd (clash before xs j z y separate.1 is_y (ap key one ∙ same))
+  separate_same before (z ∷ xs) (suc i) zero x y separate is_x is_y same =
+      let one : z ≡ y = cc in absurd (clash before xs i z x separate.1 is_x (ap key one ∙ sym same))
+  separate_same before (z ∷ xs) (suc i) (suc j) x y separate is_x is_y same = separate_same (before ++ key z ∷ []) xs i j x y separate.1 is_x is_y same
 
   -- one in the middle has none of the keys before it
-  pub apart_at : (before : List (List ℕ)) (front : List X) (x : X) (back : List X) → Apart before (front ++ x ∷ back) → is_among (before ++ map key front) (key x) ≡ false
-  apart_at before [] x back apart = ap (λ texts. is_among texts (key x)) (append-nil before) ∙ apart.0
-  apart_at before (y ∷ front) x back apart =
-      ap (λ texts. is_among texts (key x)) (sym (append_assoc before (key y ∷ []) (map key front))) ∙ apart_at (before ++ key y ∷ []) front x back apart.1
+  pub separate_at : (before : List (List ℕ)) (prefix : List X) (x : X) (back : List X) → Separate before (prefix ++ x ∷ back) → is_among (before ++ map key prefix) (key x) ≡ false
+  separate_at before [] x back separate = ap (λ texts. is_among texts (key x)) (append-nil before) ∙ separate.0
+  separate_at before (y ∷ prefix) x back separate =
+      ap (λ texts. is_among texts (key x)) (sym (append_assoc before (key y ∷ []) (map key prefix))) ∙ separate_at (before ++ key y ∷ []) prefix x back separate.1
 
 -- ---- Tasks
 
@@ -95,11 +95,11 @@ more_paths done s = filter_map-append registered_path done (s ∷ [])
 
 module _ {M F Z S A : Type 0} (tables : Tables M F Z S A) (said : List Said) where
   abbrev AreNew : List Said → List Said → Type 0
-  AreNew done rest = Apart path_of (paths_of done) (filter_map (registered_by said) rest)
+  AreNew done rest = Separate path_of (paths_of done) (filter_map (registered_by said) rest)
 
   passed : (done : List Said) (s : Said) (rest : List Said) → paths_of (s ∷ []) ≡ [] → AreNew (done ++ s ∷ []) rest → AreNew done rest
   passed done s rest none later =
-      subst (λ paths. Apart path_of paths (filter_map (registered_by said) rest)) (more_paths done s ∙ ap (λ ps. paths_of done ++ ps) none ∙ append-nil (paths_of done)) later
+      subst (λ paths. Separate path_of paths (filter_map (registered_by said) rest)) (more_paths done s ∙ ap (λ ps. paths_of done ++ ps) none ∙ append-nil (paths_of done)) later
 
   step : (done : List Said) (project : Path) (statement : Statement) (rest : List Said) → statement_faults tables done (says project statement) ≡ []
       → AreNew (done ++ says project statement ∷ []) rest → AreNew done (says project statement ∷ rest)
@@ -112,20 +112,20 @@ module _ {M F Z S A : Type 0} (tables : Tables M F Z S A) (said : List Said) whe
   step done project (statements.Named c) rest none later = passed done (says project (statements.Named c)) rest refl later
   step done project (statements.Register r) rest none later = (
     new_by (is_among (paths_of done) (task_in project r.name)) _ _ none,
-    subst (λ paths. Apart path_of paths (filter_map (registered_by said) rest)) (more_paths done (says project (statements.Register r))) later,
+    subst (λ paths. Separate path_of paths (filter_map (registered_by said) rest)) (more_paths done (says project (statements.Register r))) later,
   )
 
   -- no task is registered twice
-  pub tasks_apart : (done rest : List Said) → each_after (statement_faults tables) done rest ≡ [] → AreNew done rest
-  tasks_apart done [] none = tt
-  tasks_apart done (s ∷ rest) none =
-      step done s.project s.statement rest (nil_front (statement_faults tables done s) (each_after (statement_faults tables) (done ++ s ∷ []) rest) none)
-      (tasks_apart (done ++ s ∷ []) rest (nil_back (statement_faults tables done s) (each_after (statement_faults tables) (done ++ s ∷ []) rest) none))
+  pub tasks_distinct : (done rest : List Said) → each_after (statement_faults tables) done rest ≡ [] → AreNew done rest
+  tasks_distinct done [] none = tt
+  tasks_distinct done (s ∷ rest) none =
+      step done s.project s.statement rest (nil_prefix (statement_faults tables done s) (each_after (statement_faults tables) (done ++ s ∷ []) rest) none)
+      (tasks_distinct (done ++ s ∷ []) rest (nil_back (statement_faults tables done s) (each_after (statement_faults tables) (done ++ s ∷ []) rest) none))
 
 -- ---- Names in their order
 
-less_apart : (a b : List ℕ) → byte_order a b ≡ Less → bytes_eq b a ≡ false
-less_apart a b less =
+less_separate : (a b : List ℕ) → byte_order a b ≡ Less → bytes_eq b a ≡ false
+less_separate a b less =
     elim (bytes_eq b a) as (λ same. bytes_eq b a ≡ same → same ≡ false) [
       | true ↦ λ same.
           let one : b ≡ a = (bytes_decides b a).0 same in
@@ -146,17 +146,17 @@ module _ {X : Type 0} where
   none_of : (before : List (List ℕ)) (e : Named X) (entries : List (Named X)) → AllBelow before (e ∷ entries) → is_among before e.0 ≡ false
   none_of [] e entries below = refl
   none_of (name ∷ before) e entries below =
-      ap (λ b. b || is_among before e.0) (less_apart name e.0 (is_less (byte_order name e.0) (first_T _ _ below.0))) ∙ none_of before e entries below.1
+      ap (λ b. b || is_among before e.0) (less_separate name e.0 (is_less (byte_order name e.0) (first_T _ _ below.0))) ∙ none_of before e entries below.1
 
   next_below : (before : List (List ℕ)) (e : Named X) (entries : List (Named X)) → AllBelow before (e ∷ entries) → T (below_all byte_order e.0 entries) → AllBelow (before ++ e.0 ∷ []) entries
   next_below [] e entries below own = (own, tt)
   next_below (name ∷ before) e entries below own = (second_T _ _ below.0, next_below before e entries below.1 own)
 
-  sorted_apart : (before : List (List ℕ)) (entries : List (Named X)) → AllBelow before entries → T (is_sorted byte_order entries) → Apart name_in before entries
-  sorted_apart before [] below sorted = tt
-  sorted_apart before (e ∷ entries) below sorted = (
+  sorted_separate : (before : List (List ℕ)) (entries : List (Named X)) → AllBelow before entries → T (is_sorted byte_order entries) → Separate name_in before entries
+  sorted_separate before [] below sorted = tt
+  sorted_separate before (e ∷ entries) below sorted = (
     none_of before e entries below,
-    sorted_apart (before ++ e.0 ∷ []) entries (next_below before e entries below (first_T _ _ sorted)) (second_T _ _ sorted),
+    sorted_separate (before ++ e.0 ∷ []) entries (next_below before e entries below (first_T _ _ sorted)) (second_T _ _ sorted),
   )
 
   there_sorted : (there entries : List (Named X)) → T (is_sorted byte_order there) → T (is_sorted byte_order (fold (λ there entry. put byte_order entry.0 entry.1 there) there entries))
@@ -164,5 +164,5 @@ module _ {X : Type 0} where
   there_sorted there (e ∷ entries) sorted = there_sorted (put byte_order e.0 e.1 there) entries (is_sorted-put byte_order nat_list_cmp_total e.0 e.1 there sorted)
 
   -- each name occurs once
-  pub names_apart : (entries : List (Named X)) → Apart name_in [] (by_name entries)
-  names_apart entries = sorted_apart [] (by_name entries) tt (there_sorted [] entries tt)
+  pub names_distinct : (entries : List (Named X)) → Separate name_in [] (by_name entries)
+  names_distinct entries = sorted_separate [] (by_name entries) tt (there_sorted [] entries tt)

@@ -23,31 +23,31 @@ use Rattle.gb_declare.specs.Spots.{Spot, Made, parts}
 use Rattle.gb_declare.specs.Whole.{number_of, output_spots, spots, trees_of, whole}
 use Rattle.gb_nodes.proofs.FoundLemmas.{HasNodesOf}
 use Rattle.gb_nodes.proofs.GrownLemmas.{rows_grow_so}
-use Rattle.gb_nodes.proofs.PlacedLemmas.{IsAmong, parts_stand}
+use Rattle.gb_nodes.proofs.PlacedLemmas.{IsAmong, parts_in_table}
 use Rattle.gb_nodes.specs.Complete.{IsLaidOut, place_in_whole}
-use Rattle.gb_nodes.specs.Grown.{IsRight, IsRowGrown, Stands}
+use Rattle.gb_nodes.specs.Grown.{IsRight, IsRowGrown, IsInTable}
 use Rattle.gb_nodes.specs.Nodes.{Made as These}
 use Rattle.gb_nodes.specs.Site.{Site}
 use Rattle.gb_nodes.specs.Wrong.{link_faults, root_faults}
-use Rattle.gb_nodes.proofs.ScriptLemmas.{among_front}
+use Rattle.gb_nodes.proofs.ScriptLemmas.{among_prefix}
 use Rattle.gb_project.specs.Kept.{AreKept, IsKept, IsKeptAs}
 use Rattle.gb_project.specs.Stage.{DeclaredTask, Stage, output_of, output_row, put_output, row_made, with_outputs}
 use Rattle.gb_project.proofs.ClearLemmas.{expressions_clear, row_good}
-use Rattle.gb_project.proofs.ListLemmas.{back_all, both_all, front_all}
-use Rattle.gb_project.proofs.OnceLemmas.{Apart, among_itself, apart_at, name_in, path_of}
+use Rattle.gb_project.proofs.ListLemmas.{back_all, both_all, prefix_all}
+use Rattle.gb_project.proofs.OnceLemmas.{Separate, among_itself, separate_at, name_in, path_of}
 use Rattle.gb_project.proofs.PlacedLemmas.{output_placed, output_there, task_among}
 use Rattle.gb_project.proofs.PlaceLemmas.{alone, output_itself, output_same, place_either, place_some, place_stays}
 use Rattle.gb_project.proofs.StageLemmas.{dropped_within, numbers_more, output_agrees, output_laid, output_numbers, row_known, row_laid, same_numbers, still_within, taken_within}
 
 -- the spots of expressions, and of what is made after them
 module _ {M F Z S A : Type 0} (tables : Tables M F Z S A) (source : Source) where
-  all_stand : (project : Path) (row : List Tree) → AllByRecursion (IsAmong (spots tables source)) (flat_map (parts project) row)
-      → AllByRecursion (Stands tables source (spots tables source) (whole tables source)) (flat_map (parts project) row)
-  all_stand project [] among = tt
-  all_stand project (tree ∷ row) among =
-      both_all (Stands tables source (spots tables source) (whole tables source)) (parts project tree) (flat_map (parts project) row)
-      (parts_stand tables source (spots tables source) project tree (front_all (IsAmong (spots tables source)) (parts project tree) (flat_map (parts project) row) among))
-      (all_stand project row (back_all (IsAmong (spots tables source)) (parts project tree) (flat_map (parts project) row) among))
+  all_exist : (project : Path) (row : List Tree) → AllByRecursion (IsAmong (spots tables source)) (flat_map (parts project) row)
+      → AllByRecursion (IsInTable tables source (spots tables source) (whole tables source)) (flat_map (parts project) row)
+  all_exist project [] among = tt
+  all_exist project (tree ∷ row) among =
+      both_all (IsInTable tables source (spots tables source) (whole tables source)) (parts project tree) (flat_map (parts project) row)
+      (parts_in_table tables source (spots tables source) project tree (prefix_all (IsAmong (spots tables source)) (parts project tree) (flat_map (parts project) row) among))
+      (all_exist project row (back_all (IsAmong (spots tables source)) (parts project tree) (flat_map (parts project) row) among))
 
 module _ {M F Z S A : Type 0} (tables : Tables M F Z S A) (source : Source) where
   abbrev table : List (Expression M F Z)
@@ -109,27 +109,27 @@ module _ {M F Z S A : Type 0} (tables : Tables M F Z S A) (source : Source) wher
   -- ---- The outputs of a task
 
   module _ (done back : List Registered) (at : Registered) (task : Joined) (split : tasks_of source.said ≡ done ++ at ∷ back) (is : result_of at ≡ Ok task)
-      (apart : Apart path_of [] (tasks_of source.said)) (once : (other : Registered) (said : Joined) → result_of other ≡ Ok said → Apart name_in [] said.outputs) where
+      (separate : Separate path_of [] (tasks_of source.said)) (once : (other : Registered) (said : Joined) → result_of other ≡ Ok said → Separate name_in [] said.outputs) where
     abbrev known_paths : List Path
     known_paths = map path_of done
 
     -- outputs are those of tasks before, or earlier ones of the task
     abbrev AreKnown : List (Expression M F Z) → List (Named tasks.Made) → Type 0
-    AreKnown nodes front =
+    AreKnown nodes prefix =
         (chosen : Chosen) (j : ℕ) → output_place nodes chosen ≡ Some j
-        → (is_among known_paths chosen.task ≡ true) ⊎ ((chosen.task ≡ at.path) × (is_among (map name_in front) chosen.output ≡ true))
+        → (is_among known_paths chosen.task ≡ true) ⊎ ((chosen.task ≡ at.path) × (is_among (map name_in prefix) chosen.output ≡ true))
 
-    pub record AreOut (number : ℕ → ℕ) (nodes : List (Expression M F Z)) (front : List (Named tasks.Made)) (new : List (Expression M F Z)) : Type 0 where
+    pub record AreOut (number : ℕ → ℕ) (nodes : List (Expression M F Z)) (prefix : List (Named tasks.Made)) (new : List (Expression M F Z)) : Type 0 where
       pub numbers : ℕ → ℕ
       pub laid : IsLaid numbers new
       pub agrees : Agree number numbers nodes
       pub longer : length nodes ≤ length new
       pub stays : (chosen : Chosen) → IsPlaced nodes chosen → IsPlaced new chosen
-      pub known : AreKnown new front
-      pub placed : AllByRecursion (λ output. IsPlaced new (chosen_of at output)) front
+      pub known : AreKnown new prefix
+      pub placed : AllByRecursion (λ output. IsPlaced new (chosen_of at output)) prefix
 
     new_path : is_among known_paths at.path ≡ false
-    new_path = apart_at path_of [] done at back (subst (Apart path_of []) split apart)
+    new_path = separate_at path_of [] done at back (subst (Separate path_of []) split separate)
 
     at_spots : AllByRecursion (IsAmong (spots tables source)) (flat_map (parts at.project) (trees_of task) ++ output_spots at task)
     at_spots =
@@ -145,16 +145,16 @@ module _ {M F Z S A : Type 0} (tables : Tables M F Z S A) (source : Source) wher
     outputs_among : AllByRecursion (IsAmong (spots tables source)) (output_spots at task)
     outputs_among = back_all (IsAmong (spots tables source)) (flat_map (parts at.project) (trees_of task)) (output_spots at task) at_spots
 
-    spot_among : (front others : List (Named tasks.Made)) (output : Named tasks.Made) → task.outputs ≡ front ++ output ∷ others → IsAmong (spots tables source) (Made at.project at.path output.0 output.1.1)
-    spot_among front others output outputs_are =
+    spot_among : (prefix others : List (Named tasks.Made)) (output : Named tasks.Made) → task.outputs ≡ prefix ++ output ∷ others → IsAmong (spots tables source) (Made at.project at.path output.0 output.1.1)
+    spot_among prefix others output outputs_are =
         let made : Named tasks.Made → Spot = λ o. Made at.project at.path o.0 o.1.1 in
-        let rows : output_spots at task ≡ map made front ++ made output ∷ map made others = ap (map made) outputs_are ∙ map-append made front (output ∷ others) in
+        let rows : output_spots at task ≡ map made prefix ++ made output ∷ map made others = ap (map made) outputs_are ∙ map-append made prefix (output ∷ others) in
         let all = subst (AllByRecursion (IsAmong (spots tables source))) rows outputs_among in
-        (back_all (IsAmong (spots tables source)) (map made front) (made output ∷ map made others) all).0
+        (back_all (IsAmong (spots tables source)) (map made prefix) (made output ∷ map made others) all).0
 
     -- an output that is not present yet
-    module _ (number : ℕ → ℕ) (nodes : List (Expression M F Z)) (front others : List (Named tasks.Made)) (output : Named tasks.Made) (outputs_are : task.outputs ≡ front ++ output ∷ others)
-        (laid : IsLaid number nodes) (known : AreKnown nodes front) (placed : AllByRecursion (λ o. IsPlaced nodes (chosen_of at o)) front)
+    module _ (number : ℕ → ℕ) (nodes : List (Expression M F Z)) (prefix others : List (Named tasks.Made)) (output : Named tasks.Made) (outputs_are : task.outputs ≡ prefix ++ output ∷ others)
+        (laid : IsLaid number nodes) (known : AreKnown nodes prefix) (placed : AllByRecursion (λ o. IsPlaced nodes (chosen_of at o)) prefix)
         (place : ℕ) (below : place < length nodes) (for_it : number place ≡ place_in_whole tables source at.project output.1.1) where
       abbrev it : Chosen
       it = chosen_of at output
@@ -166,7 +166,7 @@ module _ {M F Z S A : Type 0} (tables : Tables M F Z S A) (source : Source) wher
             | Some j ↦ λ found.
                 elim (known it j found) [
                   | inl before ↦ absurd (not_false (sym before ∙ new_path))
-                  | inr own ↦ absurd (not_false (sym own.1 ∙ apart_at name_in [] front output others (subst (Apart name_in []) outputs_are (once at task is))))
+                  | inr own ↦ absurd (not_false (sym own.1 ∙ separate_at name_in [] prefix output others (subst (Separate name_in []) outputs_are (once at task is))))
                 ]
           ] refl
 
@@ -174,7 +174,7 @@ module _ {M F Z S A : Type 0} (tables : Tables M F Z S A) (source : Source) wher
       spot = Made at.project at.path output.0 output.1.1
 
       among : IsAmong (spots tables source) spot
-      among = spot_among front others output outputs_are
+      among = spot_among prefix others output outputs_are
 
       abbrev target : ℕ
       target = number_of tables source (spots tables source) spot
@@ -184,18 +184,18 @@ module _ {M F Z S A : Type 0} (tables : Tables M F Z S A) (source : Source) wher
 
       abbrev one_numbers : ℕ → ℕ
       one_numbers = numbers_more tables source number nodes laid it place target (place_in_whole tables source at.project output.1.1) is_new below
-          (output_placed tables source apart once at.project at.path output.0 output.1.1 among.0 among.1)
-          (output_there tables source apart once at.project at.path output.0 output.1.1 among.0 among.1) for_it
+          (output_placed tables source separate once at.project at.path output.0 output.1.1 among.0 among.1)
+          (output_there tables source separate once at.project at.path output.0 output.1.1 among.0 among.1) for_it
 
       one_laid : IsLaid one_numbers more
       one_laid = output_laid tables source number nodes laid it place target (place_in_whole tables source at.project output.1.1) is_new below
-          (output_placed tables source apart once at.project at.path output.0 output.1.1 among.0 among.1)
-          (output_there tables source apart once at.project at.path output.0 output.1.1 among.0 among.1) for_it
+          (output_placed tables source separate once at.project at.path output.0 output.1.1 among.0 among.1)
+          (output_there tables source separate once at.project at.path output.0 output.1.1 among.0 among.1) for_it
 
       one_agrees : Agree number one_numbers nodes
       one_agrees = output_agrees tables source number nodes laid it place target (place_in_whole tables source at.project output.1.1) is_new below
-          (output_placed tables source apart once at.project at.path output.0 output.1.1 among.0 among.1)
-          (output_there tables source apart once at.project at.path output.0 output.1.1 among.0 among.1) for_it
+          (output_placed tables source separate once at.project at.path output.0 output.1.1 among.0 among.1)
+          (output_there tables source separate once at.project at.path output.0 output.1.1 among.0 among.1) for_it
 
       one_longer : length nodes ≤ length more
       one_longer = omega (arith, length-append nodes (output_of it place ∷ []))
@@ -210,23 +210,23 @@ module _ {M F Z S A : Type 0} (tables : Tables M F Z S A) (source : Source) wher
           last [] = refl
           last (n ∷ ns) = last ns
 
-      one_known : AreKnown more (front ++ output ∷ [])
+      one_known : AreKnown more (prefix ++ output ∷ [])
       one_known chosen j found =
           elim (place_either (is_output chosen) nodes (output_of it place ∷ []) j found) [
             | inl before ↦ elim (known chosen j before) [
               | inl of_others ↦ inl of_others
-              | inr own ↦ inr (own.0, ap (λ names. is_among names chosen.output) (map-append name_in front (output ∷ [])) ∙ among_front (map name_in front) (output.0 ∷ []) chosen.output own.1)
+              | inr own ↦ inr (own.0, ap (λ names. is_among names chosen.output) (map-append name_in prefix (output ∷ [])) ∙ among_prefix (map name_in prefix) (output.0 ∷ []) chosen.output own.1)
             ]
-            | inr behind ↦
-                let same : it ≡ chosen = output_same M F Z it chosen place (ap (is_output chosen) (alone (output_of it place) behind.1 behind.0 behind.2) ∙ behind.3) in
+            | inr following ↦
+                let same : it ≡ chosen = output_same M F Z it chosen place (ap (is_output chosen) (alone (output_of it place) following.1 following.0 following.2) ∙ following.3) in
                 inr (
                   sym (ap (λ (c : Chosen). c.task) same),
-                  ap (λ names. is_among names chosen.output) (map-append name_in front (output ∷ [])) ∙ ap (is_among (map name_in front ++ output.0 ∷ [])) (sym (ap (λ (c : Chosen). c.output) same)) ∙ among_itself (map name_in front) output.0,
+                  ap (λ names. is_among names chosen.output) (map-append name_in prefix (output ∷ [])) ∙ ap (is_among (map name_in prefix ++ output.0 ∷ [])) (sym (ap (λ (c : Chosen). c.output) same)) ∙ among_itself (map name_in prefix) output.0,
                 )
           ]
 
-      one_placed : AllByRecursion (λ o. IsPlaced more (chosen_of at o)) (front ++ output ∷ [])
-      one_placed = both_all (λ o. IsPlaced more (chosen_of at o)) front (output ∷ []) (still front placed) (one_there, tt)
+      one_placed : AllByRecursion (λ o. IsPlaced more (chosen_of at o)) (prefix ++ output ∷ [])
+      one_placed = both_all (λ o. IsPlaced more (chosen_of at o)) prefix (output ∷ []) (still prefix placed) (one_there, tt)
         where
           still : (os : List (Named tasks.Made)) → AllByRecursion (λ o. IsPlaced nodes (chosen_of at o)) os → AllByRecursion (λ o. IsPlaced more (chosen_of at o)) os
           still [] all = tt
@@ -235,11 +235,11 @@ module _ {M F Z S A : Type 0} (tables : Tables M F Z S A) (source : Source) wher
     abbrev trees_out : List (Named tasks.Made) → List Tree
     trees_out outputs = map (λ (output : Named tasks.Made). output.1.1) outputs
 
-    outputs_out : (number : ℕ → ℕ) (nodes : List (Expression M F Z)) (front others : List (Named tasks.Made)) (row : List ℕ) → task.outputs ≡ front ++ others → IsLaid number nodes → AreKnown nodes front
-        → AllByRecursion (λ o. IsPlaced nodes (chosen_of at o)) front → AllByRecursion (λ i. i < length nodes) row → map number row ≡ map (place_in_whole tables source at.project) (trees_out others)
+    outputs_out : (number : ℕ → ℕ) (nodes : List (Expression M F Z)) (prefix others : List (Named tasks.Made)) (row : List ℕ) → task.outputs ≡ prefix ++ others → IsLaid number nodes → AreKnown nodes prefix
+        → AllByRecursion (λ o. IsPlaced nodes (chosen_of at o)) prefix → AllByRecursion (λ i. i < length nodes) row → map number row ≡ map (place_in_whole tables source at.project) (trees_out others)
         → AreOut number nodes task.outputs (with_outputs at.path nodes others row)
-    outputs_out number nodes front [] row outputs_are laid known placed within are =
-        let all : front ≡ task.outputs = sym (outputs_are ∙ append-nil front) in
+    outputs_out number nodes prefix [] row outputs_are laid known placed within are =
+        let all : prefix ≡ task.outputs = sym (outputs_are ∙ append-nil prefix) in
         record {
           numbers = number;
           laid = laid;
@@ -249,18 +249,18 @@ module _ {M F Z S A : Type 0} (tables : Tables M F Z S A) (source : Source) wher
           known = subst (AreKnown nodes) all known;
           placed = subst (AllByRecursion (λ o. IsPlaced nodes (chosen_of at o))) all placed;
         }
-    outputs_out number nodes front (output ∷ others) [] outputs_are laid known placed within are = absurd (cc)
-    outputs_out number nodes front (output ∷ others) (place ∷ row) outputs_are laid known placed within are =
+    outputs_out number nodes prefix (output ∷ others) [] outputs_are laid known placed within are = absurd (cc)
+    outputs_out number nodes prefix (output ∷ others) (place ∷ row) outputs_are laid known placed within are =
         let for_it : number place ≡ place_in_whole tables source at.project output.1.1 = cc in
         let rest_are : map number row ≡ map (place_in_whole tables source at.project) (trees_out others) = cc in
-        let one = more number nodes front others output outputs_are laid known placed place within.0 for_it in
-        let numbers = one_numbers number nodes front others output outputs_are laid known placed place within.0 for_it in
-        let agrees = one_agrees number nodes front others output outputs_are laid known placed place within.0 for_it in
-        let longer = one_longer number nodes front others output outputs_are laid known placed place within.0 for_it in
+        let one = more number nodes prefix others output outputs_are laid known placed place within.0 for_it in
+        let numbers = one_numbers number nodes prefix others output outputs_are laid known placed place within.0 for_it in
+        let agrees = one_agrees number nodes prefix others output outputs_are laid known placed place within.0 for_it in
+        let longer = one_longer number nodes prefix others output outputs_are laid known placed place within.0 for_it in
         let rest =
-        outputs_out numbers one (front ++ output ∷ []) others row (outputs_are ∙ sym (append_assoc front (output ∷ []) others))
-        (one_laid number nodes front others output outputs_are laid known placed place within.0 for_it) (one_known number nodes front others output outputs_are laid known placed place within.0 for_it)
-        (one_placed number nodes front others output outputs_are laid known placed place within.0 for_it) (still_within (length nodes) (length one) longer row within.1)
+        outputs_out numbers one (prefix ++ output ∷ []) others row (outputs_are ∙ sym (append_assoc prefix (output ∷ []) others))
+        (one_laid number nodes prefix others output outputs_are laid known placed place within.0 for_it) (one_known number nodes prefix others output outputs_are laid known placed place within.0 for_it)
+        (one_placed number nodes prefix others output outputs_are laid known placed place within.0 for_it) (still_within (length nodes) (length one) longer row within.1)
         (same_numbers number numbers (length nodes) agrees row within.1 ∙ rest_are) in
         let most = rest.longer in
         let out : AreOut number nodes task.outputs (with_outputs at.path one others row) = record {
@@ -268,12 +268,12 @@ module _ {M F Z S A : Type 0} (tables : Tables M F Z S A) (source : Source) wher
           laid = rest.laid;
           agrees = λ i below. rest.agrees i (omega (arith, below, longer)) ∙ agrees i below;
           longer = omega (arith, longer, most);
-          stays = λ chosen there. rest.stays chosen (one_stays number nodes front others output outputs_are laid known placed place within.0 for_it chosen there);
+          stays = λ chosen there. rest.stays chosen (one_stays number nodes prefix others output outputs_are laid known placed place within.0 for_it chosen there);
           known = rest.known;
           placed = rest.placed;
         } in
         subst (λ o. AreOut number nodes task.outputs (with_outputs at.path (put_output nodes (output_of (chosen_of at output) place) o) others row))
-        (sym (is_new number nodes front others output outputs_are laid known placed place within.0 for_it)) out
+        (sym (is_new number nodes prefix others output outputs_are laid known placed place within.0 for_it)) out
 
     -- ---- The task
 
@@ -297,13 +297,13 @@ module _ {M F Z S A : Type 0} (tables : Tables M F Z S A) (source : Source) wher
       pub grown : IsRowGrown table number stage.nodes (places_of site.project) made
       grown =
           rows_grow_so tables source (spots tables source) table number stage.nodes site (trees_of task) laid.part right
-          (all_stand tables source site.project (trees_of task)
+          (all_exist tables source site.project (trees_of task)
           (subst (λ p. AllByRecursion (IsAmong (spots tables source)) (flat_map (parts p) (trees_of task))) (sym here)
-          (front_all (IsAmong (spots tables source)) (flat_map (parts at.project) (trees_of task)) (output_spots at task) at_spots)))
+          (prefix_all (IsAmong (spots tables source)) (flat_map (parts at.project) (trees_of task)) (output_spots at task) at_spots)))
           good
 
-      pub stands : map grown.numbers made.place ≡ places_of at.project
-      stands = grown.stands ∙ ap places_of here
+      pub exists : map grown.numbers made.place ≡ places_of at.project
+      exists = grown.exists ∙ ap places_of here
 
       abbrev pub final : List (Expression M F Z)
       final = with_outputs at.path made.nodes task.outputs (output_row task made.place)
@@ -313,4 +313,4 @@ module _ {M F Z S A : Type 0} (tables : Tables M F Z S A) (source : Source) wher
           outputs_out grown.numbers made.nodes [] task.outputs (output_row task made.place) refl (row_laid tables source number stage.nodes laid (places_of site.project) made grown)
           (λ chosen j is_there. known chosen j (row_known tables source number stage.nodes laid (places_of site.project) made grown chosen j is_there)) tt
           (taken_within (λ i. i < length made.nodes) (length task.outputs) _ (dropped_within (λ i. i < length made.nodes) _ made.place grown.within))
-          (output_numbers grown.numbers (place_in_whole tables source at.project) task made.place stands)
+          (output_numbers grown.numbers (place_in_whole tables source at.project) task made.place exists)

@@ -42,8 +42,8 @@ paths_are (script ∷ scripts) =
     ∙ sym (map-append (λ (task : Registered). task.path) (script_tasks script) (flat_map script_tasks scripts))
 
 -- paths begin with all of them
-pub all_begin : (front paths : List Path) → paths ≡ front → Begins front paths
-all_begin front paths same = ([], same ∙ sym (append-nil front))
+pub all_begin : (prefix paths : List Path) → paths ≡ prefix → Begins prefix paths
+all_begin prefix paths same = ([], same ∙ sym (append-nil prefix))
 
 -- ---- The nodes of properties
 

@@ -64,7 +64,7 @@ module _ {X : Type 0} (p : X → Bool) where
   place_either xs ys j is =
       elim (from_either p 0 xs ys j (sym (position_from-zero p (xs ++ ys)) ∙ is)) [
         | inl before ↦ inl (position_from-zero p xs ∙ before)
-        | inr behind ↦ inr behind
+        | inr following ↦ inr following
       ]
 
   pub place_some : (xs : List X) (k : ℕ) (x : X) → slice_get xs k ≡ Some x → p x ≡ true → (j : ℕ) × (position p xs ≡ Some j)

@@ -36,7 +36,7 @@ use Rattle.gb_declare.specs.Whole.{expression_at, given_value, if_found, number_
 use Rattle.gb_nodes.proofs.LaidLemmas.{at_place}
 use Rattle.gb_nodes.proofs.PlacedLemmas.{IsAmong, IsWritten, middle, parts_written}
 use Rattle.gb_project.proofs.ListLemmas.{all_at, both_all}
-use Rattle.gb_project.proofs.OnceLemmas.{Apart, apart_same, name_in, path_of}
+use Rattle.gb_project.proofs.OnceLemmas.{Separate, separate_same, name_in, path_of}
 
 -- ---- Outputs and their spots
 
@@ -218,7 +218,7 @@ first_place : {X : Type 0} (p : X → Bool) (xs : List X) (z : X) → slice_get 
 first_place p xs z is =
     ap (λ b. cond b (Some (position_or_len p xs)) None) (lt-ltb (position_or_len p xs) (length xs) (slice_get_within xs (position_or_len p xs) z is))
 
-module _ {M F Z S A : Type 0} (tables : Tables M F Z S A) (source : Source) (apart : Apart path_of [] (tasks_of source.said)) where
+module _ {M F Z S A : Type 0} (tables : Tables M F Z S A) (source : Source) (separate : Separate path_of [] (tasks_of source.said)) where
   abbrev all_of : List Spot
   all_of = spots tables source
 
@@ -226,16 +226,16 @@ module _ {M F Z S A : Type 0} (tables : Tables M F Z S A) (source : Source) (apa
   result_of task = declared tables source.names source.said task
 
   -- outputs of one task under one name are one
-  module _ (once : (task : Registered) (said : Joined) → result_of task ≡ Ok said → Apart name_in [] said.outputs) where
+  module _ (once : (task : Registered) (said : Joined) → result_of task ≡ Ok said → Separate name_in [] said.outputs) where
     pub one_output : (project project' task : Path) (name : List ℕ) (tree tree' : Tree) → IsOutputOf tables source project task name tree → IsOutputOf tables source project' task name tree'
         → Made project task name tree ≡ Made project' task name tree'
     one_output project project' task name tree tree' a b =
-        let at_same : a.at ≡ b.at = apart_same path_of [] (tasks_of source.said) a.index b.index a.at b.at apart a.there b.there (a.path_is ∙ sym b.path_is) in
+        let at_same : a.at ≡ b.at = separate_same path_of [] (tasks_of source.said) a.index b.index a.at b.at separate a.there b.there (a.path_is ∙ sym b.path_is) in
         let said_same : Ok a.task_is ≡ Ok b.task_is = sym a.declared ∙ ap result_of at_same ∙ b.declared in
         let task_same : a.task_is ≡ b.task_is = cc in
         let there : slice_get b.task_is.outputs a.place ≡ Some (name, a.made) = ap (λ (t : Joined). slice_get t.outputs a.place) (sym task_same) ∙ a.output in
         let output_same : ◌≡◌ {A = Named joined.Made} (name, a.made) (name, b.made) =
-        apart_same name_in [] b.task_is.outputs a.place b.place (name, a.made) (name, b.made) (once b.at b.task_is b.declared) there b.output refl in
+        separate_same name_in [] b.task_is.outputs a.place b.place (name, a.made) (name, b.made) (once b.at b.task_is b.declared) there b.output refl in
         let trees : tree ≡ tree' = sym a.tree_is ∙ ap (λ (o : Named joined.Made). o.1.1) output_same ∙ b.tree_is in
         let projects : project ≡ project' = sym a.project_is ∙ ap (λ (t : Registered). t.project) at_same ∙ b.project_is in
         ap (λ p. Made p task name tree) projects ∙ ap (λ t. Made project' task name t) trees
@@ -282,11 +282,11 @@ module _ {M F Z S A : Type 0} (tables : Tables M F Z S A) (source : Source) wher
   abbrev spots_of : Registered → List Spot
   spots_of at = task_spots at (declared tables source.names source.said at)
 
-  pub task_among : (front back : List Registered) (at : Registered) → tasks_of source.said ≡ front ++ at ∷ back → AllByRecursion (IsAmong (spots tables source)) (spots_of at)
-  task_among front back at split =
+  pub task_among : (prefix back : List Registered) (at : Registered) → tasks_of source.said ≡ prefix ++ at ∷ back → AllByRecursion (IsAmong (spots tables source)) (spots_of at)
+  task_among prefix back at split =
       let stated = flat_map statement_spots source.said in
-      let before = flat_map spots_of front in
+      let before = flat_map spots_of prefix in
       let after = flat_map spots_of back in
-      let tasks : flat_map spots_of (tasks_of source.said) ≡ before ++ (spots_of at ++ after) = ap (flat_map spots_of) split ∙ flat_map-append spots_of front (at ∷ back) in
+      let tasks : flat_map spots_of (tasks_of source.said) ≡ before ++ (spots_of at ++ after) = ap (flat_map spots_of) split ∙ flat_map-append spots_of prefix (at ∷ back) in
       let is : (stated ++ before) ++ (spots_of at ++ after) ≡ spots tables source = append_assoc stated before (spots_of at ++ after) ∙ ap (λ l. stated ++ l) (sym tasks) in
       subst (λ l. AllByRecursion (IsAmong l) (spots_of at)) is (middle (stated ++ before) (spots_of at) after)

@@ -11,7 +11,7 @@ use Rattle.gb_registry.specs.Source.{Source}
 use Rattle.gb_registry.specs.Tables.{Tables}
 use Rattle.gb_declare.specs.Realised.{Trouble, Plain, Endless, realised}
 use Rattle.gb_declare.specs.Reported.{IsReported}
-use Rattle.gb_evaluate.specs.Over.{Tells}
+use Rattle.gb_evaluate.specs.Over.{Reports}
 use Rattle.gb_project.proofs.FindLemmas.{find_made, found_made}
 use Rattle.gb_declare.proofs.CircleNamesLemmas.{reported_by_names}
 use Rattle.gb_declare.proofs.RisingLemmas.{realised_names_rise}
@@ -25,22 +25,22 @@ module _ {M F Z S A : Type 0} (tables : Tables M F Z S A) (source : Source) wher
   settled_as (Endless entry) fault reported = ap Err (sym (reported_by_names tables source entry fault reported))
 
   module _ (path : Path) (there : has_path (paths_of (registry_said tables source)) path ≡ true) where
-    stands : declaration_at (registry_said tables source) path ≡ Some (declaration_of tables source path)
-    stands =
+    exists : declaration_at (registry_said tables source) path ≡ Some (declaration_of tables source path)
+    exists =
         find_made (declaration_of tables source) (said.paths_of source.said) path
         (sym (ap (λ paths. has_path paths path) (paths_said tables source)) ∙ there)
 
-    pub declares : (answer : Result TaskDeclaration Fault) → Tells tables source (realised tables source path) answer
+    pub declares : (answer : Result TaskDeclaration Fault) → Reports tables source (realised tables source path) answer
         → IfOk answer (λ task. declaration_at (registry_said tables source) path ≡ Some (Ok task))
-    declares (Ok task) is = stands ∙ ap (λ r. Some (settled tables source r)) is
+    declares (Ok task) is = exists ∙ ap (λ r. Some (settled tables source r)) is
     declares (Err fault) is = tt
 
-    pub is_at_fault : (answer : Result TaskDeclaration Fault) → Tells tables source (realised tables source path) answer
+    pub is_at_fault : (answer : Result TaskDeclaration Fault) → Reports tables source (realised tables source path) answer
         → IfErr answer (λ fault. (fault ≡ OutOfMemory) ⊎ (declaration_at (registry_said tables source) path ≡ Some (Err fault)))
     is_at_fault (Ok task) is = tt
     is_at_fault (Err fault) (inl memory) = inl memory
     is_at_fault (Err fault) (inr is) =
-        inr (stands ∙ ap (λ r. Some (settled tables source r)) is.1 ∙ ap Some (settled_as is.0 fault is.2))
+        inr (exists ∙ ap (λ r. Some (settled tables source r)) is.1 ∙ ap Some (settled_as is.0 fault is.2))
 
   -- what is declared is the result of the task
   pub declared_realised : (path : Path) (task : TaskDeclaration) → declaration_at (registry_said tables source) path ≡ Some (Ok task) → realised tables source path ≡ Ok task

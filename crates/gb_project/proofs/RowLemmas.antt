@@ -9,12 +9,12 @@ use Rattle.gb_evaluate.specs.Parts.{AreCounted, row_of}
 use Rattle.gb_evaluate.specs.declared.parts.Parts.{Parts}
 use Rattle.gb_project.specs.Stage.{before_outputs, output_row}
 
-middle : {X : Type 0} (front these back : List X) (n m : ℕ) → length front ≡ n → length these ≡ m → take m (drop n ((front ++ these) ++ back)) ≡ these
-middle front these back n m first second =
-    ap (λ k. take k (drop n ((front ++ these) ++ back))) (sym second)
-    ∙ ap (λ k. take (length these) (drop k ((front ++ these) ++ back))) (sym first)
-    ∙ ap (λ l. take (length these) (drop (length front) l)) (append_assoc front these back)
-    ∙ ap (take (length these)) (drop-append_seam front (these ++ back))
+middle : {X : Type 0} (prefix these back : List X) (n m : ℕ) → length prefix ≡ n → length these ≡ m → take m (drop n ((prefix ++ these) ++ back)) ≡ these
+middle prefix these back n m first second =
+    ap (λ k. take k (drop n ((prefix ++ these) ++ back))) (sym second)
+    ∙ ap (λ k. take (length these) (drop k ((prefix ++ these) ++ back))) (sym first)
+    ∙ ap (λ l. take (length these) (drop (length prefix) l)) (append_assoc prefix these back)
+    ∙ ap (take (length these)) (drop-append_seam prefix (these ++ back))
     ∙ take-append_seam these back
 
 pub outputs_of_row : (task : Joined) (parts : Parts) (row : List Node) → AreCounted task parts → row_of parts ≡ row → numbers_of parts.outputs.now ≡ output_row task (numbers_of row)
@@ -23,10 +23,10 @@ outputs_of_row task parts row counted whole =
     let roots = parts.roots.now in
     let outputs = parts.outputs.now in
     let arguments = parts.arguments.now in
-    let front = (conditions ++ parts.values.now) ++ roots in
+    let prefix = (conditions ++ parts.values.now) ++ roots in
     let number = λ (node : Node). node.number in
-    let long : length front ≡ before_outputs task =
+    let long : length prefix ≡ before_outputs task =
     omega (arith, counted.enabled, counted.only_if, counted.up_to_date_when, counted.values, counted.roots, length-append (conditions ++ parts.values.now) roots, length-append conditions parts.values.now, length-append parts.enabled.now (parts.only_if.now ++ parts.up_to_date_when.now), length-append parts.only_if.now parts.up_to_date_when.now) in
-    let cut : numbers_of row ≡ (numbers_of front ++ numbers_of outputs) ++ numbers_of arguments =
-    ap numbers_of (sym whole) ∙ map-append number (front ++ outputs) arguments ∙ ap (λ l. l ++ numbers_of arguments) (map-append number front outputs) in
-    sym (ap (output_row task) cut ∙ middle (numbers_of front) (numbers_of outputs) (numbers_of arguments) (before_outputs task) (length task.outputs) (length-map front number ∙ long) (length-map outputs number ∙ counted.outputs))
+    let cut : numbers_of row ≡ (numbers_of prefix ++ numbers_of outputs) ++ numbers_of arguments =
+    ap numbers_of (sym whole) ∙ map-append number (prefix ++ outputs) arguments ∙ ap (λ l. l ++ numbers_of arguments) (map-append number prefix outputs) in
+    sym (ap (output_row task) cut ∙ middle (numbers_of prefix) (numbers_of outputs) (numbers_of arguments) (before_outputs task) (length task.outputs) (length-map prefix number ∙ long) (length-map outputs number ∙ counted.outputs))

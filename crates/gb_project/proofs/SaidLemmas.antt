@@ -50,9 +50,9 @@ named_script project (statement ∷ script) path named =
     ∙ named_script project script path (right_of (registers_named statement) (list_all registers_named script) named)
 
 -- and so do those that follow, if all do
-pub named_behind : (project : Path) (script : List Statement) (others : List Said) → is_project_path project ≡ true → list_all registers_named script ≡ true
+pub named_after : (project : Path) (script : List Statement) (others : List Said) → is_project_path project ≡ true → list_all registers_named script ≡ true
     → list_all is_named (said_by (project, script) ++ others) ≡ list_all is_named others
-named_behind project script others path named =
+named_after project script others path named =
     list_all-append is_named (said_by (project, script)) others
     ∙ ap (λ b. b && list_all is_named others) (named_script project script path named)
 

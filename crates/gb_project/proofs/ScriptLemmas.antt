@@ -44,10 +44,10 @@ drop_next [] (suc n) path rest is = absurd (cc)
 drop_next (first ∷ paths) zero path rest is = cc
 drop_next (first ∷ paths) (suc n) path rest is = drop_next paths n path rest is
 
-pub begins_on : (paths : List Path) (n : ℕ) (path : Path) (front : List Path) → Begins (path ∷ front) (drop n paths) → Begins front (drop (n + 1) paths)
-begins_on paths n path front begins =
+pub begins_on : (paths : List Path) (n : ℕ) (path : Path) (prefix : List Path) → Begins (path ∷ prefix) (drop n paths) → Begins prefix (drop (n + 1) paths)
+begins_on paths n path prefix begins =
     let one : n + 1 ≡ suc n = omega arith in
-    (begins.0, ap (λ k. drop k paths) one ∙ drop_next paths n path (front ++ begins.0) begins.1)
+    (begins.0, ap (λ k. drop k paths) one ∙ drop_next paths n path (prefix ++ begins.0) begins.1)
 
 -- ---- Tasks from statements
 

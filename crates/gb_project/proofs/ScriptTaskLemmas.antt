@@ -27,20 +27,20 @@ use Rattle.gb_declare.specs.Declaring.{block_scope, declared, declaring_faults, 
 use Rattle.gb_declare.specs.Joined.{Joined, Named, joined, output_in}
 use Rattle.gb_declare.specs.Whole.{spots, trees_of, whole}
 use Rattle.gb_nodes.proofs.FoundLemmas.{HasNodesOf}
-use Rattle.gb_registry.proofs.Fine.{nil_back, nil_front}
-use Rattle.gb_nodes.proofs.ScriptLemmas as apart
+use Rattle.gb_registry.proofs.Fine.{nil_back, nil_prefix}
+use Rattle.gb_nodes.proofs.ScriptLemmas as separate
 use Rattle.gb_nodes.proofs.ScriptLemmas.{named_has}
-use Rattle.gb_nodes.proofs.StandingLemmas as standing
+use Rattle.gb_nodes.proofs.InTableLemmas as existing
 use Rattle.gb_nodes.specs.Grown.{IsRight}
 use Rattle.gb_nodes.specs.Scripts.{script_made, script_site}
 use Rattle.gb_nodes.specs.Site.{Site}
-use Rattle.gb_nodes.specs.Standing.{AreSaid, AreStanding, scripts_made, sites_made}
-use Rattle.gb_project.specs.Kept.{AreDeclared, TasksAreGood, TasksStand}
+use Rattle.gb_nodes.specs.InTable.{AreSaid, AreInTable, scripts_made, sites_made}
+use Rattle.gb_project.specs.Kept.{AreDeclared, TasksAreGood, TasksInTable}
 use Rattle.gb_project.specs.Stage.{AreAllGood, IsGood, Stage, begun, declared_in, with_declared, with_scripts, with_task}
 use Rattle.gb_project.specs.Tasks.{registered_in, script_tasks}
 use Rattle.gb_project.proofs.ClearLemmas.{IsClear, expressions_clear, row_good}
 use Rattle.gb_project.proofs.ListLemmas.{all_at, both_all}
-use Rattle.gb_project.proofs.OnceLemmas.{Apart, name_in, names_apart, path_of, says, tasks_apart}
+use Rattle.gb_project.proofs.OnceLemmas.{Separate, name_in, names_distinct, path_of, says, tasks_distinct}
 use Rattle.gb_project.proofs.PlacedLemmas.{output_of_task}
 use Rattle.gb_project.proofs.StepLemmas.{IsStage, IsStepped, all_steps, is_at, next, task_in}
 use Rattle.gb_project.proofs.OneTaskLemmas.{HasOutputs, IsPlaced, chosen_of, result_of}
@@ -110,10 +110,10 @@ in_project project script (statements.Named c ∷ rest) = in_project project scr
 in_project project script (statements.Register r ∷ rest) = (refl, in_project project script rest)
 
 -- names that occur once are all stored
-put_apart : (known names : List (List ℕ)) → apart.AreApart known names → with_paths known names ≡ known ++ names
-put_apart known [] once = sym (append-nil known)
-put_apart known (name ∷ names) once =
-    ap (λ b. with_paths (cond b known (known ++ name ∷ [])) names) once.0 ∙ put_apart (known ++ name ∷ []) names once.1 ∙ append_assoc known (name ∷ []) names
+put_separate : (known names : List (List ℕ)) → separate.AreCollisionFree known names → with_paths known names ≡ known ++ names
+put_separate known [] once = sym (append-nil known)
+put_separate known (name ∷ names) once =
+    ap (λ b. with_paths (cond b known (known ++ name ∷ [])) names) once.0 ∙ put_separate (known ++ name ∷ []) names once.1 ∙ append_assoc known (name ∷ []) names
 
 module _ {M F Z S A : Type 0} (tables : Tables M F Z S A) (source : Source) where
   same_declared : (script : List Statement) (at : Registered) → with_paths [] (filter_map declared_property script) ≡ properties_of source.said at.project
@@ -144,8 +144,8 @@ module _ {M F Z S A : Type 0} (tables : Tables M F Z S A) (source : Source) wher
 
       own_names : with_paths [] (filter_map declared_property script.1) ≡ filter_map declared_property script.1
       own_names =
-          put_apart [] (filter_map declared_property script.1)
-          (subst (λ known. apart.AreApart known (filter_map declared_property script.1)) (ap (filter_map declared_property) none) (apart.names_apart tables script.0 done script.1 good))
+          put_separate [] (filter_map declared_property script.1)
+          (subst (λ known. separate.AreCollisionFree known (filter_map declared_property script.1)) (ap (filter_map declared_property) none) (separate.names_distinct tables script.0 done script.1 good))
 
       tasks_ready : script_of source.said script.0 ≡ script.1 → (ats : List Registered) → AllByRecursion (λ (at : Registered). at.project ≡ script.0) ats → AllByRecursion (IsReady own_site script.1) ats
       tasks_ready own [] all = tt
@@ -225,7 +225,7 @@ module _ {M F Z S A : Type 0} (tables : Tables M F Z S A) (source : Source) wher
           let here = said_by script in
           let others = flat_map said_by scripts in
           let parted = sym (each_after-append (statement_faults tables) done here others) ∙ good in
-          let one = script_ready (length nodes) done script scripts split new.0 new.1 (nil_front (each_after (statement_faults tables) done here) (each_after (statement_faults tables) (done ++ here) others) parted) in
+          let one = script_ready (length nodes) done script scripts split new.0 new.1 (nil_prefix (each_after (statement_faults tables) done here) (each_after (statement_faults tables) (done ++ here) others) parted) in
           let more = script_made tables.functions script.0 given nodes script.1 in
           let rest = all_placed scripts (done ++ here) more (split ∙ sym (append_assoc done here others)) new.1
           (nil_back (each_after (statement_faults tables) done here) (each_after (statement_faults tables) (done ++ here) others) parted) right.1 in
@@ -255,31 +255,31 @@ module _ {M F Z S A : Type 0} (tables : Tables M F Z S A) (source : Source) wher
     abbrev first_nodes : List (Expression M F Z)
     first_nodes = scripts_made tables.functions given [] scripts
 
-    stands_first : AreStanding tables source first_nodes (sites_made tables.functions given [] scripts)
-    stands_first = standing.scripts_stand tables source scripts given said
+    exists_first : AreInTable tables source first_nodes (sites_made tables.functions given [] scripts)
+    exists_first = existing.scripts_in_table tables source scripts given said
 
-    paths_once : Apart path_of [] (tasks_of source.said)
-    paths_once = tasks_apart tables source.said [] source.said said.good
+    paths_once : Separate path_of [] (tasks_of source.said)
+    paths_once = tasks_distinct tables source.said [] source.said said.good
 
-    outputs_once : (at : Registered) (task : Joined) → result_of tables source at ≡ Ok task → Apart name_in [] task.outputs
+    outputs_once : (at : Registered) (task : Joined) → result_of tables source at ≡ Ok task → Separate name_in [] task.outputs
     outputs_once at task is =
-        subst (λ (t : Joined). Apart name_in [] t.outputs) (no_faults (declaring_faults tables source.names source.said at) (joined at) task is).1 (names_apart (filter_map output_in at.clauses))
+        subst (λ (t : Joined). Separate name_in [] t.outputs) (no_faults (declaring_faults tables source.names source.said at) (joined at) task is).1 (names_distinct (filter_map output_in at.clauses))
 
-    all_there : ArePlaced given stands_first.number first_nodes [] scripts
+    all_there : ArePlaced given exists_first.number first_nodes [] scripts
     all_there =
-        all_placed given stands_first.number first_nodes scripts [] [] said.said said.new (ap (each_after (statement_faults tables) []) (sym said.said) ∙ said.good) stands_first.right
+        all_placed given exists_first.number first_nodes scripts [] [] said.said said.new (ap (each_after (statement_faults tables) []) (sym said.said) ∙ said.good) exists_first.right
 
-    first_is : IsStage tables source [] stands_first.number (begun first_nodes)
+    first_is : IsStage tables source [] exists_first.number (begun first_nodes)
     first_is = record {
-      laid = stands_first.laid;
+      laid = exists_first.laid;
       kept = tt;
-      known = λ chosen j found. (let clash : None ≡ Some j = sym (stands_first.plain chosen) ∙ found in absurd (cc));
+      known = λ chosen j found. (let clash : None ≡ Some j = sym (exists_first.plain chosen) ∙ found in absurd (cc));
       placed = tt;
     }
 
-    stepped : IsStepped tables source (tasks_of source.said) stands_first.number (begun first_nodes) (fold (next tables source) (begun first_nodes) (placed given [] scripts))
+    stepped : IsStepped tables source (tasks_of source.said) exists_first.number (begun first_nodes) (fold (next tables source) (begun first_nodes) (placed given [] scripts))
     stepped =
-        all_steps tables source paths_once outputs_once (placed given [] scripts) [] stands_first.number (begun first_nodes)
+        all_steps tables source paths_once outputs_once (placed given [] scripts) [] exists_first.number (begun first_nodes)
         (ap (filter_map (registered_by source.said)) said.said ∙ sym all_there.tasks) all_there.ready first_is
 
     abbrev end_nodes : List (Expression M F Z)
@@ -308,8 +308,8 @@ module _ {M F Z S A : Type 0} (tables : Tables M F Z S A) (source : Source) wher
   pub tasks_listed : (scripts : List (Path × List Statement)) (given : List (Named (List ℕ))) → AreSaid tables source scripts given → flat_map script_tasks scripts ≡ tasks_of source.said
   tasks_listed scripts given said = (all_there scripts given said).listed ∙ sym (ap (filter_map (registered_by source.said)) said.said)
 
-  pub tasks_stand : TasksStand tables source
-  tasks_stand scripts given said = subst (AreDeclared tables source) (sym ((all_there scripts given said).same (begun (scripts_made tables.functions given [] scripts)))) (declared_all scripts given said)
+  pub tasks_in_table : TasksInTable tables source
+  tasks_in_table scripts given said = subst (AreDeclared tables source) (sym ((all_there scripts given said).same (begun (scripts_made tables.functions given [] scripts)))) (declared_all scripts given said)
 
   pub tasks_are_good : TasksAreGood tables source
   tasks_are_good scripts given said = (all_there scripts given said).good

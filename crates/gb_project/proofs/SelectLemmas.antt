@@ -15,7 +15,7 @@ use Rattle.gb_plan.specs.Graph as plans
 use Rattle.gb_plan.specs.Graph.{Registry}
 use Rattle.gb_plan.specs.Refusal as refusal
 use Rattle.gb_plan.specs.Task.{Path, Text, has_path}
-use Rattle.gb_registry.specs.Faults.{TellsFirst, first_of as first_fault}
+use Rattle.gb_registry.specs.Faults.{ReportsFirst, first_of as first_fault}
 use Rattle.gb_registry.specs.Projects.{absolute, is_among, root_path}
 use Rattle.gb_registry.specs.References.{Names, reference_faults}
 use Rattle.gb_registry.specs.Select.{is_path, name_word_faults, none_faults, selected, tasks_named, word_faults}
@@ -158,16 +158,16 @@ module _ (names : Names) (word : Text) where
 
     -- ---- The results
 
-    pub selects : (answer : Result (List Path) Fault) → IfOk answer (λ found. found ≡ selected names word) → TellsFirst (word_faults names word) answer
+    pub selects : (answer : Result (List Path) Fault) → IfOk answer (λ found. found ≡ selected names word) → ReportsFirst (word_faults names word) answer
         → IfOk answer (λ found. found ≡ plans.selected_by registry word)
     selects (Ok found) is none = is ∙ same_selected none
     selects (Err fault) is first = tt
 
-    pub without_fault : (answer : Result (List Path) Fault) → TellsFirst (word_faults names word) answer → OnOk answer (refusal.word_faults registry word ≡ [])
+    pub without_fault : (answer : Result (List Path) Fault) → ReportsFirst (word_faults names word) answer → OnOk answer (refusal.word_faults registry word ≡ [])
     without_fault (Ok found) none = sym same_faults ∙ none
     without_fault (Err fault) first = tt
 
-    pub first_reported : (answer : Result (List Path) Fault) → TellsFirst (word_faults names word) answer
+    pub first_reported : (answer : Result (List Path) Fault) → ReportsFirst (word_faults names word) answer
         → IfErr answer (λ fault. (fault ≡ faults.OutOfMemory) ⊎ (first_of (refusal.word_faults registry word) ≡ Some fault))
     first_reported (Ok found) none = tt
     first_reported (Err fault) (inl memory) = inl memory

@@ -36,37 +36,37 @@ use Rattle.gb_declare.specs.Registered.{declaration_of, registry_said, settled}
 -- ---- A registered task
 
 -- its project is one of these, has a path, and is that of the task's path
-pub record StandsIn (projects : List Path) (at : Registered) : Type 0 where
+pub record ExistsIn (projects : List Path) (at : Registered) : Type 0 where
   pub among : is_among projects at.project ≡ true
   pub is_path : is_project_path at.project ≡ true
   pub own : project_of at.path ≡ at.project
 
-stands : (projects : List Path) (said : List Said) (project : Path) (statement : Statement) (at : Registered)
+exists : (projects : List Path) (said : List Said) (project : Path) (statement : Statement) (at : Registered)
     → registered_by said (record { project = project; statement = statement }) ≡ Some at → is_among projects project ≡ true
-    → is_named (record { project = project; statement = statement }) ≡ true → StandsIn projects at
-stands projects said project (statements.Register r) at is among named =
+    → is_named (record { project = project; statement = statement }) ≡ true → ExistsIn projects at
+exists projects said project (statements.Register r) at is among named =
     let name = right_of (is_project_path project) (registers_named (statements.Register r)) named in
     let path = left_of (is_project_path project) (registers_named (statements.Register r)) named in
     let parts = parts_make project r.name path name in
     let same = some_same _ at is in
-    subst (StandsIn projects) same (record { among = among; is_path = path; own = parts.1 })
+    subst (ExistsIn projects) same (record { among = among; is_path = path; own = parts.1 })
   where
     some_same : (a b : Registered) → Some a ≡ Some b → a ≡ b
     some_same a b e = cc
-stands projects said project (statements.DefaultTasks texts) at is among named = absurd (cc)
-stands projects said project (statements.Property name) at is among named = absurd (cc)
-stands projects said project (statements.Set a) at is among named = absurd (cc)
-stands projects said project (statements.Convention a) at is among named = absurd (cc)
-stands projects said project (statements.Unset name) at is among named = absurd (cc)
-stands projects said project (statements.DisallowChanges name) at is among named = absurd (cc)
-stands projects said project (statements.Named c) at is among named = absurd (cc)
+exists projects said project (statements.DefaultTasks texts) at is among named = absurd (cc)
+exists projects said project (statements.Property name) at is among named = absurd (cc)
+exists projects said project (statements.Set a) at is among named = absurd (cc)
+exists projects said project (statements.Convention a) at is among named = absurd (cc)
+exists projects said project (statements.Unset name) at is among named = absurd (cc)
+exists projects said project (statements.DisallowChanges name) at is among named = absurd (cc)
+exists projects said project (statements.Named c) at is among named = absurd (cc)
 
 -- the task that is found is such a task, and has the path by which it was looked up
 abbrev pub IsFound : List Path → Path → Registered → Type 0
-IsFound projects path at = (at.path ≡ path) × StandsIn projects at
+IsFound projects path at = (at.path ≡ path) × ExistsIn projects at
 
 found_at : (projects : List Path) (path : Path) (at : Registered) (found : Option Registered) (others : List Registered)
-    → ((task : Registered) → found ≡ Some task → StandsIn projects task)
+    → ((task : Registered) → found ≡ Some task → ExistsIn projects task)
     → (find (λ task. bytes_eq task.path path) others ≡ Some at → IsFound projects path at)
     → find (λ task. bytes_eq task.path path) (cons_option found others) ≡ Some at → IsFound projects path at
 found_at projects path at None others here later is = later is
@@ -81,7 +81,7 @@ pub found_in : (projects : List Path) (said rest : List Said) (path : Path) (at 
 found_in projects said [] path at among named is = absurd (cc)
 found_in projects said (s ∷ rest) path at among named is =
     found_at projects path at (registered_by said s) (filter_map (registered_by said) rest)
-    (λ task by. stands projects said s.project s.statement task by (left_of (is_said_in projects s) (list_all (is_said_in projects) rest) among) (left_of (is_named s) (list_all is_named rest) named))
+    (λ task by. exists projects said s.project s.statement task by (left_of (is_said_in projects s) (list_all (is_said_in projects) rest) among) (left_of (is_named s) (list_all is_named rest) named))
     (found_in projects said rest path at (right_of (is_said_in projects s) (list_all (is_said_in projects) rest) among) (right_of (is_named s) (list_all is_named rest) named))
     is
 
@@ -114,13 +114,13 @@ module _ {M F Z S A : Type 0} (tables : Tables M F Z S A) (source : Source) (all
   realised_declared path task is =
       let found = realised_is_sound tables source path task is in
       let at = found.0 in
-      let stands = found_in source.names.projects source.said source.said path at all_named.in_projects all_named.named found.1 in
-      let project : project_of path ≡ at.project = ap project_of (sym stands.0) ∙ stands.1.own in
+      let exists = found_in source.names.projects source.said source.said path at all_named.in_projects all_named.named found.1 in
+      let project : project_of path ≡ at.project = ap project_of (sym exists.0) ∙ exists.1.own in
       let folder : build_folder at.project ≡ plans.build_folder (project_of path) =
-      sym (same_folder at.project stands.1.is_path) ∙ ap plans.build_folder (sym project) in
+      sym (same_folder at.project exists.1.is_path) ∙ ap plans.build_folder (sym project) in
       record {
-        own_path = found.2.own ∙ stands.0;
-        in_project = ap (is_among source.names.projects) project ∙ stands.1.among;
+        own_path = found.2.own ∙ exists.0;
+        in_project = ap (is_among source.names.projects) project ∙ exists.1.among;
         registered =
             ap (λ paths. list_all (has_path paths) (task.needs ++ task.finalizers)) paths_are
             ∙ all_both (has_path source.names.tasks) task.needs task.finalizers

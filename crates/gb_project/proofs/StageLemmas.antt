@@ -24,7 +24,7 @@ use Rattle.gb_declare.specs.Joined as tasks
 use Rattle.gb_declare.specs.Joined.{Joined, Named, joined}
 use Rattle.gb_declare.specs.Partly.{IsPartOf, renamed}
 use Rattle.gb_declare.specs.Whole.{trees_of, whole}
-use Rattle.gb_nodes.proofs.GrownLemmas.{at_front, at_last}
+use Rattle.gb_nodes.proofs.GrownLemmas.{at_prefix, at_last}
 use Rattle.gb_nodes.specs.Complete.{IsLaidOut}
 use Rattle.gb_nodes.specs.Grown.{IsRowGrown}
 use Rattle.gb_nodes.specs.Nodes.{Made as These}
@@ -63,16 +63,16 @@ outputs_in_row task =
     let f = flat_map (λ (files : Named InputFiles). files.1.from) task.files in
     let o = output_trees task in
     let a = flat_map (λ (call : Call). call.arguments) task.actions in
-    let front = e ++ c ++ v ++ f in
+    let prefix = e ++ c ++ v ++ f in
     let conditions : length c ≡ length task.only_if + length task.up_to_date_when =
     length-map (task.only_if ++ task.up_to_date_when) (λ (condition : Condition). condition.value) ∙ length-append task.only_if task.up_to_date_when in
     let values : length v ≡ length task.values = length-map task.values (λ (value : Named Tree). value.1) in
     let outputs : length o ≡ length task.outputs = length-map task.outputs (λ (output : Named tasks.Made). output.1.1) in
-    let count : length front ≡ before_outputs task =
+    let count : length prefix ≡ before_outputs task =
     omega (arith, length-append (e ++ c ++ v) f, length-append (e ++ c) v, length-append e c, conditions, values) in
     ap (λ n. take (length task.outputs) (drop n (trees_of task))) (sym count)
-    ∙ ap (λ (l : List Tree). take (length task.outputs) (drop (length front) l)) (append_assoc front o a)
-    ∙ ap (take (length task.outputs)) (drop-append_seam front (o ++ a))
+    ∙ ap (λ (l : List Tree). take (length task.outputs) (drop (length prefix) l)) (append_assoc prefix o a)
+    ∙ ap (take (length task.outputs)) (drop-append_seam prefix (o ++ a))
     ∙ ap (λ n. take n (o ++ a)) (sym outputs)
     ∙ take-append_seam o a
 
@@ -109,11 +109,11 @@ module _ {M F Z S A : Type 0} (tables : Tables M F Z S A) (source : Source) wher
   module _ (number : ℕ → ℕ) (nodes : List (Expression M F Z)) (laid : IsLaid number nodes) where
     -- expressions without names
     module _ (targets : List ℕ) (made : These M F Z (List ℕ)) (grown : IsRowGrown table number nodes targets made) where
-      front_is : (x : ℕ) → x < length nodes → slice_get made.nodes x ≡ slice_get nodes x
-      front_is x below = ap (λ ns. slice_get ns x) grown.front.1 ∙ at_front nodes grown.front.0 x below
+      prefix_is : (x : ℕ) → x < length nodes → slice_get made.nodes x ≡ slice_get nodes x
+      prefix_is x below = ap (λ ns. slice_get ns x) grown.prefix.1 ∙ at_prefix nodes grown.prefix.0 x below
 
       pub row_longer : length nodes ≤ length made.nodes
-      row_longer = omega (arith, ap length grown.front.1, length-append nodes grown.front.0)
+      row_longer = omega (arith, ap length grown.prefix.1, length-append nodes grown.prefix.0)
 
       named_before : (x : ℕ) (e : Expression M F Z) → slice_get made.nodes x ≡ Some e → is_named (Some e) ≡ true → x < length nodes
       named_before x e at named =
@@ -135,37 +135,37 @@ module _ {M F Z S A : Type 0} (tables : Tables M F Z S A) (source : Source) wher
           let d_named : is_named (Some d.0) ≡ true =
           sym (named_renamed grown.numbers d.0) ∙ sym (ap is_named copies) ∙ named_renamed grown.numbers e.0 ∙ e.2 in
           let y_below = named_before y d.0 d.1 d_named in
-          laid.once x y (sym (ap is_named (front_is x x_below)) ∙ named) y_below (sym (grown.agrees x x_below) ∙ same ∙ grown.agrees y y_below)
+          laid.once x y (sym (ap is_named (prefix_is x x_below)) ∙ named) y_below (sym (grown.agrees x x_below) ∙ same ∙ grown.agrees y y_below)
 
-      row_behind : (x : ℕ) (e : Expression M F Z) → slice_get made.nodes x ≡ Some e → is_named (Some e) ≡ false → OperandsWithin x e
-      row_behind x e at unnamed =
+      row_after : (x : ℕ) (e : Expression M F Z) → slice_get made.nodes x ≡ Some e → is_named (Some e) ≡ false → OperandsWithin x e
+      row_after x e at unnamed =
           elim (nat_lt x (length nodes)) as (λ b. nat_lt x (length nodes) ≡ b → OperandsWithin x e) [
-            | true ↦ λ below. laid.behind x e (sym (front_is x (ltb-true x (length nodes) below)) ∙ at) unnamed
+            | true ↦ λ below. laid.following x e (sym (prefix_is x (ltb-true x (length nodes) below)) ∙ at) unnamed
             | false ↦ λ past. (grown.plain x e (ltb-false x (length nodes) past) at).1
           ] refl
 
       pub row_laid : IsLaid grown.numbers made.nodes
-      row_laid = record { part = grown.part; once = row_once; behind = row_behind }
+      row_laid = record { part = grown.part; once = row_once; following = row_after }
 
       -- among them no output is new
       pub row_known : (chosen : Chosen) (j : ℕ) → output_place made.nodes chosen ≡ Some j → output_place nodes chosen ≡ Some j
       row_known chosen j is =
-          elim (place_either (is_output chosen) nodes grown.front.0 j (sym (ap (λ ns. output_place ns chosen) grown.front.1) ∙ is)) [
+          elim (place_either (is_output chosen) nodes grown.prefix.0 j (sym (ap (λ ns. output_place ns chosen) grown.prefix.1) ∙ is)) [
             | inl before ↦ before
-            | inr behind ↦
-                let at : slice_get made.nodes (length nodes + behind.0) ≡ Some behind.1 =
-                ap (λ ns. slice_get ns (length nodes + behind.0)) grown.front.1 ∙ at_back nodes grown.front.0 behind.0 ∙ behind.2 in
-                let plain : is_named (Some behind.1) ≡ false = (grown.plain (length nodes + behind.0) behind.1 (omega arith) at).0 in
-                let clash : true ≡ false = sym (output_named chosen behind.1 behind.3) ∙ plain in
+            | inr following ↦
+                let at : slice_get made.nodes (length nodes + following.0) ≡ Some following.1 =
+                ap (λ ns. slice_get ns (length nodes + following.0)) grown.prefix.1 ∙ at_back nodes grown.prefix.0 following.0 ∙ following.2 in
+                let plain : is_named (Some following.1) ≡ false = (grown.plain (length nodes + following.0) following.1 (omega arith) at).0 in
+                let clash : true ≡ false = sym (output_named chosen following.1 following.3) ∙ plain in
                 absurd (cc)
           ]
 
       pub row_stays : (chosen : Chosen) (j : ℕ) → output_place nodes chosen ≡ Some j → output_place made.nodes chosen ≡ Some j
-      row_stays chosen j is = ap (λ ns. output_place ns chosen) grown.front.1 ∙ place_stays (is_output chosen) nodes grown.front.0 j is
+      row_stays chosen j is = ap (λ ns. output_place ns chosen) grown.prefix.1 ∙ place_stays (is_output chosen) nodes grown.prefix.0 j is
 
     -- an output that is not present yet, declared as one of the expressions
-    module _ (chosen : Chosen) (place target stands_for : ℕ) (new : output_place nodes chosen ≡ None) (below : place < length nodes)
-        (placed : output_place table chosen ≡ Some target) (there : slice_get table target ≡ Some (output_of chosen stands_for)) (for_it : number place ≡ stands_for) where
+    module _ (chosen : Chosen) (place target represents : ℕ) (new : output_place nodes chosen ≡ None) (below : place < length nodes)
+        (placed : output_place table chosen ≡ Some target) (there : slice_get table target ≡ Some (output_of chosen represents)) (for_it : number place ≡ represents) where
       abbrev more : List (Expression M F Z)
       more = nodes ++ output_of chosen place ∷ []
 
@@ -189,9 +189,9 @@ module _ {M F Z S A : Type 0} (tables : Tables M F Z S A) (source : Source) wher
       -- no expression that is present has its number
       not_before : (x : ℕ) (e : Expression M F Z) → slice_get nodes x ≡ Some e → number x ≡ target → ⊥
       not_before x e at same =
-          let copy : Some (renamed number e) ≡ Some (output_of chosen stands_for) = sym (laid.part.copied x e at) ∙ ap (slice_get table) same ∙ there in
-          let is_copy = some_same (renamed number e) (output_of chosen stands_for) copy in
-          let passes : is_output chosen e ≡ true = sym (output_renamed number chosen e) ∙ ap (is_output chosen) is_copy ∙ output_itself M F Z chosen stands_for in
+          let copy : Some (renamed number e) ≡ Some (output_of chosen represents) = sym (laid.part.copied x e at) ∙ ap (slice_get table) same ∙ there in
+          let is_copy = some_same (renamed number e) (output_of chosen represents) copy in
+          let passes : is_output chosen e ≡ true = sym (output_renamed number chosen e) ∙ ap (is_output chosen) is_copy ∙ output_itself M F Z chosen represents in
           let found = place_some (is_output chosen) nodes x e at passes in
           never found.0 (sym new ∙ found.1)
 
@@ -208,9 +208,9 @@ module _ {M F Z S A : Type 0} (tables : Tables M F Z S A) (source : Source) wher
           let x_within = slice_get_within more x e.0 e.1 in
           elim (at_end x x_within) [
             | inl x_below ↦ elim (at_end y y_within) [
-              | inl y_below ↦ laid.once x y (sym (ap is_named (at_front nodes (output_of chosen place ∷ []) x x_below)) ∙ named) y_below (sym (output_agrees x x_below) ∙ same ∙ output_agrees y y_below)
+              | inl y_below ↦ laid.once x y (sym (ap is_named (at_prefix nodes (output_of chosen place ∷ []) x x_below)) ∙ named) y_below (sym (output_agrees x x_below) ∙ same ∙ output_agrees y y_below)
               | inr y_last ↦
-                  let at : slice_get nodes x ≡ Some e.0 = sym (at_front nodes (output_of chosen place ∷ []) x x_below) ∙ e.1 in
+                  let at : slice_get nodes x ≡ Some e.0 = sym (at_prefix nodes (output_of chosen place ∷ []) x x_below) ∙ e.1 in
                   absurd (not_before x e.0 at (sym (output_agrees x x_below) ∙ same ∙ ap numbers_more y_last ∙ output_number))
             ]
             | inr x_last ↦ elim (at_end y y_within) [
@@ -221,10 +221,10 @@ module _ {M F Z S A : Type 0} (tables : Tables M F Z S A) (source : Source) wher
             ]
           ]
 
-      output_behind : (x : ℕ) (e : Expression M F Z) → slice_get more x ≡ Some e → is_named (Some e) ≡ false → OperandsWithin x e
-      output_behind x e at unnamed =
+      output_after : (x : ℕ) (e : Expression M F Z) → slice_get more x ≡ Some e → is_named (Some e) ≡ false → OperandsWithin x e
+      output_after x e at unnamed =
           elim (at_end x (slice_get_within more x e at)) [
-            | inl x_below ↦ laid.behind x e (sym (at_front nodes (output_of chosen place ∷ []) x x_below) ∙ at) unnamed
+            | inl x_below ↦ laid.following x e (sym (at_prefix nodes (output_of chosen place ∷ []) x x_below) ∙ at) unnamed
             | inr x_last ↦
                 let past : length nodes ≤ x = omega (arith, x_last) in
                 let last = at_last nodes (output_of chosen place) e x past at in
@@ -234,4 +234,4 @@ module _ {M F Z S A : Type 0} (tables : Tables M F Z S A) (source : Source) wher
           ]
 
       pub output_laid : IsLaid numbers_more more
-      output_laid = record { part = output_part; once = output_once; behind = output_behind }
+      output_laid = record { part = output_part; once = output_once; following = output_after }

@@ -20,15 +20,15 @@ use Rattle.gb_nodes.proofs.GrownLemmas.{right_on}
 use Rattle.gb_nodes.specs.Complete.{IsLaidOut}
 use Rattle.gb_nodes.specs.Grown.{IsRight}
 use Rattle.gb_nodes.specs.Site.{Site}
-use Rattle.gb_nodes.proofs.ScriptLemmas.{among_front}
+use Rattle.gb_nodes.proofs.ScriptLemmas.{among_prefix}
 use Rattle.gb_evaluate.specs.Parts.{HavePatterns}
 use Rattle.gb_project.specs.Kept.{AreKept, IsKept}
 use Rattle.gb_project.specs.Stage.{DeclaredTask, Stage, with_declared}
 use Rattle.gb_project.proofs.ClearLemmas.{patterns_clear}
 use Rattle.gb_project.proofs.ListLemmas.{both_all}
-use Rattle.gb_project.proofs.OnceLemmas.{Apart, among_itself, name_in, path_of}
+use Rattle.gb_project.proofs.OnceLemmas.{Separate, among_itself, name_in, path_of}
 use Rattle.gb_project.proofs.StageLemmas.{row_longer, row_stays, same_numbers, still_within}
-use Rattle.gb_project.proofs.OneTaskLemmas.{Agree, HasOutputs, IsPlaced, chosen_of, grown, kept_more, kept_stays, made, no_fault, out, result_of, stands}
+use Rattle.gb_project.proofs.OneTaskLemmas.{Agree, HasOutputs, IsPlaced, chosen_of, grown, kept_more, kept_stays, made, no_fault, out, result_of, exists}
 
 module _ {M F Z S A : Type 0} (tables : Tables M F Z S A) (source : Source) (old new : List (Expression M F Z))
     (stays : (chosen : Chosen) → IsPlaced tables source old chosen → IsPlaced tables source new chosen) where
@@ -77,11 +77,11 @@ module _ {M F Z S A : Type 0} (tables : Tables M F Z S A) (source : Source) wher
   abbrev pub next : Stage M F Z → Site × Registered → Stage M F Z
   next stage p = with_declared tables.functions p.0 p.1.path stage (result_of tables source p.1)
 
-  module _ (apart : Apart path_of [] (tasks_of source.said)) (once : (other : Registered) (said : Joined) → result_of tables source other ≡ Ok said → Apart name_in [] said.outputs) where
+  module _ (separate : Separate path_of [] (tasks_of source.said)) (once : (other : Registered) (said : Joined) → result_of tables source other ≡ Ok said → Separate name_in [] said.outputs) where
     module _ (done back : List Registered) (at : Registered) (split : tasks_of source.said ≡ done ++ at ∷ back) (number : ℕ → ℕ) (stage : Stage M F Z) (site : Site)
         (is_stage : IsStage done number stage) (is_at : IsAt number stage.nodes site at) where
       among_done : (chosen : Chosen) → is_among (map path_of done) chosen.task ≡ true → is_among (map path_of (done ++ at ∷ [])) chosen.task ≡ true
-      among_done chosen is = ap (λ paths. is_among paths chosen.task) (map-append path_of done (at ∷ [])) ∙ among_front (map path_of done) (at.path ∷ []) chosen.task is
+      among_done chosen is = ap (λ paths. is_among paths chosen.task) (map-append path_of done (at ∷ [])) ∙ among_prefix (map path_of done) (at.path ∷ []) chosen.task is
 
       among_last : (path : Path) → path ≡ at.path → is_among (map path_of (done ++ at ∷ [])) path ≡ true
       among_last path same = ap (λ paths. is_among paths path) (map-append path_of done (at ∷ [])) ∙ ap (is_among (map path_of done ++ at.path ∷ [])) same ∙ among_itself (map path_of done) at.path
@@ -107,21 +107,21 @@ module _ {M F Z S A : Type 0} (tables : Tables M F Z S A) (source : Source) wher
 
         declared_step : IsStepped (done ++ at ∷ []) number stage new
         declared_step =
-            let rows = grown tables source done back at task split is apart once number stage is_stage.laid site is_at.right is_at.here is_at.knows in
-            let outs = out tables source done back at task split is apart once number stage is_stage.laid site is_at.right is_at.here is_at.knows (λ chosen j found. inl (is_stage.known chosen j found)) in
-            let mid = made tables source done back at task split is apart once number stage is_stage.laid site is_at.right is_at.here is_at.knows in
+            let rows = grown tables source done back at task split is separate once number stage is_stage.laid site is_at.right is_at.here is_at.knows in
+            let outs = out tables source done back at task split is separate once number stage is_stage.laid site is_at.right is_at.here is_at.knows (λ chosen j found. inl (is_stage.known chosen j found)) in
+            let mid = made tables source done back at task split is separate once number stage is_stage.laid site is_at.right is_at.here is_at.knows in
             let row_le : length stage.nodes ≤ length mid.nodes = row_longer tables source number stage.nodes is_stage.laid _ mid rows in
             let out_le : length mid.nodes ≤ length new.nodes = outs.longer in
             let longer : length stage.nodes ≤ length new.nodes = omega (arith, row_le, out_le) in
             let agrees : Agree tables source number outs.numbers stage.nodes = λ i below. outs.agrees i (omega (arith, below, row_le)) ∙ rows.agrees i below in
-            let fault = no_fault tables source done back at task split is apart once in
+            let fault = no_fault tables source done back at task split is separate once in
             let entry : DeclaredTask = record { build = site.build; task = task; row = mid.place } in
             let kept : IsKept tables source outs.numbers new.nodes at entry = record {
               is_declared = is;
               build = is_at.right.build ∙ ap build_folder is_at.here;
               within = still_within (length mid.nodes) (length new.nodes) out_le mid.place rows.within;
               numbers = same_numbers rows.numbers outs.numbers (length mid.nodes) outs.agrees mid.place rows.within
-                  ∙ stands tables source done back at task split is apart once number stage is_stage.laid site is_at.right is_at.here is_at.knows;
+                  ∙ exists tables source done back at task split is separate once number stage is_stage.laid site is_at.right is_at.here is_at.knows;
               patterns = subst (λ (t : Joined). HavePatterns t.files) fault.1 (patterns_clear tables (block_scope source.names source.said at.project) at fault.0);
             } in
             let stays : (chosen : Chosen) → IsPlaced tables source stage.nodes chosen → IsPlaced tables source new.nodes chosen =

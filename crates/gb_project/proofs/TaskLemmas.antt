@@ -14,7 +14,7 @@ use Rattle.gb_declare.specs.Declaring.{unless}
 use Rattle.gb_declare.specs.Joined.{Joined}
 use Rattle.gb_declare.specs.Views.{joined_of}
 use Rattle.gb_declare.specs.declared.registered.Joined as read
-use Rattle.gb_nodes.specs.Nodes.{Made, AreMade, behind, tree_made, trees_made}
+use Rattle.gb_nodes.specs.Nodes.{Made, AreMade, following, tree_made, trees_made}
 use Rattle.gb_nodes.specs.Site.{Site}
 use Rattle.gb_nodes.specs.Statements.{IsRun}
 use Rattle.gb_project.specs.Stage.{Stage, DeclaredTask, output_row, row_made, task_made, with_declared, with_outputs}
@@ -33,7 +33,7 @@ trees_count : {M F Z S : Type 0} (functions : Table M F Z S) (site : Site) (row 
 trees_count functions site row [] = omega arith
 trees_count functions site row (tree ∷ trees) =
     let made = tree_made functions site row.nodes tree in
-    omega (arith, trees_count functions site (behind row.place made) trees, length_last row.place made.place)
+    omega (arith, trees_count functions site (following row.place made) trees, length_last row.place made.place)
 
 pub row_count : {M F Z S : Type 0} (functions : Table M F Z S) (site : Site) (nodes : List (Expression M F Z)) (trees : List Tree) (row : List Node)
     → numbers_of row ≡ (trees_made functions site (record { nodes = nodes; place = [] }) (trees_of trees)).place → length row ≡ length trees

@@ -9,7 +9,7 @@ use Rattle.std.proofs.lemmas.Bool.{lt-ltb}
 use Rattle.std.specs.Prelude.{All, bytes_eq, find, get_or, option_map, position, slice_get}
 use Rattle.std.specs.List.{AllByRecursion, position_or_len}
 use Rattle.gb_evaluate.proofs.KnownLemmas.{find_passes, paths_are, placed_at}
-use Rattle.gb_evaluate.specs.Over.{IsOver, Tells, fault_in, known_names}
+use Rattle.gb_evaluate.specs.Over.{IsOver, Reports, fault_in, known_names}
 use Rattle.gb_plan.proofs.Tests.{turned}
 use Rattle.gb_plan.specs.declared.task.TaskDeclaration.{TaskDeclaration}
 use Rattle.gb_provider.specs.Rules.{numbers_of}
@@ -30,7 +30,7 @@ use Rattle.gb_declare.specs.Views.{joined_of}
 use Rattle.gb_declare.specs.Realised.{Plain, evaluated, first_or, realised, realised_at, realised_if}
 use Rattle.gb_declare.specs.Whole.{spots, trees_of, whole}
 use Rattle.gb_evaluate.specs.Evaluated.{IsBuiltIn}
-use Rattle.gb_evaluate.specs.Rows.{AreWithin, TellsOf, numbers_in}
+use Rattle.gb_evaluate.specs.Rows.{AreWithin, ReportsOf, numbers_in}
 use Rattle.gb_nodes.specs.Complete.{place_in_whole}
 use Rattle.gb_project.specs.Kept.{AreKept, IsKept, IsKeptAs}
 use Rattle.gb_project.specs.Stage.{DeclaredTask}
@@ -185,11 +185,11 @@ module _ {M F Z S A : Type 0} (tables : Tables M F Z S A) (source : Source) (nod
         (sym (numbers_twice number entry.row.items) ∙ is_kept.numbers)
 
     -- the result of the entry is what the task declares
-    pub entry_tells : (projects paths : List Path) (faults : List (Option Fault)) (r : Result TaskDeclaration Fault) → projects ≡ source.names.projects → paths ≡ source.names.tasks → faults ≡ all.faults.items
-        → TellsOf tables (known_names projects paths) faults nodes (IsBuiltIn path entry.build) entry.row.items (trees_of (joined_of entry.task))
+    pub entry_shows : (projects paths : List Path) (faults : List (Option Fault)) (r : Result TaskDeclaration Fault) → projects ≡ source.names.projects → paths ≡ source.names.tasks → faults ≡ all.faults.items
+        → ReportsOf tables (known_names projects paths) faults nodes (IsBuiltIn path entry.build) entry.row.items (trees_of (joined_of entry.task))
         (λ other at. evaluated tables other at (spots tables other) (whole tables other) (joined_of entry.task)) r
-        → Tells tables source (realised tables source path) r
-    entry_tells projects paths faults r projects_are paths_same faults_is tells =
+        → Reports tables source (realised tables source path) r
+    entry_shows projects paths faults r projects_are paths_same faults_is shows =
         let over : IsOver tables source (known_names projects paths) faults nodes number = record {
           known = record {
             names = ap (λ p. known_names p paths) projects_are ∙ ap (known_names source.names.projects) paths_same;
@@ -198,8 +198,8 @@ module _ {M F Z S A : Type 0} (tables : Tables M F Z S A) (source : Source) (nod
           };
           complete = kept.declared.complete;
         } in
-        subst (λ e. Tells tables source e r) (sym (realised_is ∙ ap (realised_at tables source it.at) is_kept.is_declared))
-        (tells source number over it.at (it.its_path, sym is_kept.build) (sym (numbers_twice number entry.row.items) ∙ is_kept.numbers))
+        subst (λ e. Reports tables source e r) (sym (realised_is ∙ ap (realised_at tables source it.at) is_kept.is_declared))
+        (shows source number over it.at (it.its_path, sym is_kept.build) (sym (numbers_twice number entry.row.items) ∙ is_kept.numbers))
 
 -- what is found has a position
 find_place : {X : Type 0} (p : X → Bool) (xs : List X) (x : X) → find p xs ≡ Some x → (k : ℕ) × (position p xs ≡ Some k)

@@ -6,7 +6,7 @@ use Rattle.gb_declare.specs.Joined.{Named}
 use Rattle.gb_declare.specs.Whole.{build_folder, trees_of}
 use Rattle.gb_evaluate.specs.Parts.{HavePatterns}
 use Rattle.gb_nodes.specs.Complete.{IsComplete, place_in_whole}
-use Rattle.gb_nodes.specs.Standing.{AreSaid, scripts_made, sites_made}
+use Rattle.gb_nodes.specs.InTable.{AreSaid, scripts_made, sites_made}
 use Rattle.gb_provider.specs.declared.expression.Expression.{Expression}
 use Rattle.gb_registry.specs.Projects.{Path}
 use Rattle.gb_registry.specs.Said.{Registered, tasks_of}
@@ -49,8 +49,8 @@ module _ {M F Z S A : Type 0} (tables : Tables M F Z S A) (source : Source) wher
 
   -- Scripts in which no statement is at fault register tasks that are declared in this way, after everything
   -- that the statements make of properties.
-  abbrev pub TasksStand : Type 0
-  TasksStand =
+  abbrev pub TasksInTable : Type 0
+  TasksInTable =
       (scripts : List (Path × List Statement)) (given : List (Named (List ℕ)))
       → AreSaid tables source scripts given
       → AreDeclared (with_scripts tables source.names

@@ -30,7 +30,7 @@ task_paths tasks = map (λ task. task.path) tasks
 
 -- these paths are the first of some
 abbrev pub Begins : List Path → List Path → Type 0
-Begins front paths = (rest : List Path) × (paths ≡ front ++ rest)
+Begins prefix paths = (rest : List Path) × (paths ≡ prefix ++ rest)
 
 -- the path of the task, if there is one, is the first of some
 abbrev pub IsNext : List Path → Option Registered → Type 0

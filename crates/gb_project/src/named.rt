@@ -2,7 +2,7 @@
 ghost use Rattle.std.specs.Prelude.{IsTrue};
 ghost use Rattle.std.specs.List.{list_all};
 ghost use Rattle.gb_core.specs.Path.{is_project_path};
-ghost use Rattle.gb_registry.specs.Seen.{said_in};
+ghost use Rattle.gb_registry.specs.SoFar.{said_in};
 ghost use Rattle.gb_project.specs.Named.{is_named, registers_named};
 
 use gb_registry::checking::Scripted;

@@ -3,10 +3,10 @@ ghost use Rattle.std.specs.Prelude.{◌≡◌, [], ◌∷◌, length, drop, IfOk
 ghost use Rattle.std.specs.List.{AllByRecursion, flat_map};
 ghost use Rattle.gb_nodes.specs.Scripts.{laid_site};
 ghost use Rattle.gb_nodes.specs.Site.{AreThere, site_of};
-ghost use Rattle.gb_nodes.specs.Standing.{scripts_faults, scripts_made, sites_made};
+ghost use Rattle.gb_nodes.specs.InTable.{scripts_faults, scripts_made, sites_made};
 ghost use Rattle.gb_nodes.specs.Statements.{IsRun};
-ghost use Rattle.gb_registry.specs.Faults.{TellsFirst};
-ghost use Rattle.gb_registry.specs.Seen.{scripts_in};
+ghost use Rattle.gb_registry.specs.Faults.{ReportsFirst};
+ghost use Rattle.gb_registry.specs.SoFar.{scripts_in};
 ghost use Rattle.gb_registry.specs.Tables.{tables_of};
 ghost use Rattle.gb_script.specs.declared.script.Statement.TheVariants.{Register};
 ghost use Rattle.gb_project.specs.Indexed.{IsIndexed};
@@ -274,7 +274,7 @@ pub(crate) fn lay_scripts<T: Transforms>(
         ≡ sites_made providers.old.table given.now.entries providers.old.nodes (scripts_in scripts.now)) }
     ensures made { IfOk result (λ _. IsRun providers.old providers.new (scripts_made
         providers.old.table given.now.entries providers.old.nodes (scripts_in scripts.now))) }
-    ensures faults { TellsFirst (scripts_faults providers.old.table given.now.entries T.meanings
+    ensures faults { ReportsFirst (scripts_faults providers.old.table given.now.entries T.meanings
         providers.old.nodes (scripts_in scripts.now)) result }
 {
     let mut laid = Vec::new(alloc);

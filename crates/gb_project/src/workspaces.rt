@@ -3,13 +3,13 @@ ghost use Rattle.std.specs.Prelude.{◌≡◌, [], IfOk, Some, bytes_eq, length,
 ghost use Rattle.gb_declare.specs.Realised.{evaluated, first_or, realised};
 ghost use Rattle.gb_declare.specs.Views.{joined_of};
 ghost use Rattle.gb_declare.specs.Whole.{spots, trees_of, whole};
-ghost use Rattle.gb_evaluate.specs.Over.{IsFault, Tells, known_names};
+ghost use Rattle.gb_evaluate.specs.Over.{IsFault, Reports, known_names};
 ghost use Rattle.gb_evaluate.specs.Parts.{HavePatterns};
 ghost use Rattle.gb_evaluate.specs.Evaluated.{IsBuiltIn};
-ghost use Rattle.gb_evaluate.specs.Rows.{AreWithin, TellsOf};
-ghost use Rattle.gb_nodes.specs.Standing.{scripts_faults, scripts_made, sites_made};
+ghost use Rattle.gb_evaluate.specs.Rows.{AreWithin, ReportsOf};
+ghost use Rattle.gb_nodes.specs.InTable.{scripts_faults, scripts_made, sites_made};
 ghost use Rattle.gb_nodes.specs.Statements.{IsRun};
-ghost use Rattle.gb_registry.specs.Seen.{scripts_in};
+ghost use Rattle.gb_registry.specs.SoFar.{scripts_in};
 ghost use Rattle.gb_registry.specs.Projects.{root_path};
 ghost use Rattle.gb_registry.specs.References.{lookup_faults};
 ghost use Rattle.gb_registry.specs.Tables.{tables_of};
@@ -102,7 +102,7 @@ fn evaluated_entry<A: Actions, T: Transforms>(
     requires count { length entry.now.row.items ≡ length (trees_of (joined_of entry.now.task)) }
     requires patterns { HavePatterns (joined_of entry.now.task).files }
     ensures reported { let tables = tables_of T.meanings A.meanings context.now.tables.now in
-        TellsOf tables (known_names context.now.projects.now context.now.tasks.now)
+        ReportsOf tables (known_names context.now.projects.now context.now.tasks.now)
         context.now.faults.now providers.old.nodes (IsBuiltIn path.now entry.now.build)
         entry.now.row.items (trees_of (joined_of entry.now.task))
         (λ source at. evaluated tables source at (spots tables source) (whole tables source)
@@ -135,7 +135,7 @@ fn realised_at<A: Actions, T: Transforms>(
         (stage_of providers.old.nodes declared.now) }
     requires index { position (bytes_eq path.now) registry.now.names.tasks ≡ Some index }
     ensures reported { let tables = tables_of T.meanings A.meanings tables.now in
-        Tells tables registry.now (realised tables registry.now path.now) result }
+        Reports tables registry.now (realised tables registry.now path.now) result }
     ensures kept { providers.new ≡ providers.old }
 {
     if let Some(fault) = &declared.faults[index] {
@@ -165,7 +165,7 @@ fn realised<A: Actions, T: Transforms>(
     requires kept { IsKeptIn (tables_of T.meanings A.meanings tables.now) registry.now
         (stage_of providers.old.nodes declared.now) }
     ensures reported { let tables = tables_of T.meanings A.meanings tables.now in
-        Tells tables registry.now (realised tables registry.now path.now) result }
+        Reports tables registry.now (realised tables registry.now path.now) result }
     ensures kept { providers.new ≡ providers.old }
 {
     let Some(index) = registry.tasks().position(path.as_str()) else {
@@ -245,7 +245,7 @@ impl<'a, A: Actions, T: Transforms> Workspace<'a, A, T> {
     /// Values that were read are cached; the workspace as contracts see it is unchanged.
     pub fn realise(&mut self, alloc: Global, path: &TaskPath) -> Result<TaskDeclaration, Fault>
         ensures reported { let tables = tables_of T.meanings A.meanings self.old.tables in
-            Tells tables self.old.source (realised tables self.old.source path.now) result }
+            Reports tables self.old.source (realised tables self.old.source path.now) result }
         ensures kept { self.new ≡ self.old }
     {
         let tables = self.tables;

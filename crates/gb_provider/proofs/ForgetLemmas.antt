@@ -93,10 +93,10 @@ module _ {M F Z S : Type 0} (meanings : Meanings M F Z S) (nodes : List (Express
   -- so where a property is changed
   pub values_set : (change : Change) (new : List (Expression M F Z)) (done : Unit {0}) → AreChanged change nodes at new (Ok done) → IsRemembered (rules meanings new) after
   values_set change new done made =
-      let stand = λ (chosen : Chosen). places_changed change nodes (set nodes at (OfProperty (changed change made.0))) at (Ok done) (made.0, made.1, refl) chosen in
-      subst (λ table. IsRemembered (rules meanings table) after) (sym made.2) (values_changed meanings nodes at (OfProperty (changed change made.0)) stand before after was forgotten)
+      let exist = λ (chosen : Chosen). places_changed change nodes (set nodes at (OfProperty (changed change made.0))) at (Ok done) (made.0, made.1, refl) chosen in
+      subst (λ table. IsRemembered (rules meanings table) after) (sym made.2) (values_changed meanings nodes at (OfProperty (changed change made.0)) exist before after was forgotten)
 
   -- and where an output is declared
   pub values_declared : (chosen : Chosen) (source : ℕ) → output_place nodes chosen ≡ Some at → IsRemembered (rules meanings (set nodes at (OfOutput (record { chosen = chosen; declared = Some source })))) after
-  values_declared chosen source stands =
-      values_changed meanings nodes at (OfOutput (record { chosen = chosen; declared = Some source })) (places_declared nodes at chosen (Some source) stands) before after was forgotten
+  values_declared chosen source exists =
+      values_changed meanings nodes at (OfOutput (record { chosen = chosen; declared = Some source })) (places_declared nodes at chosen (Some source) exists) before after was forgotten

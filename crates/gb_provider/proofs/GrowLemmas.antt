@@ -86,10 +86,10 @@ module _ {A : Type 0} (old new : List (Rule A)) (longer : length old ≤ length 
     },
   )
 
-slice_get_front : {X : Type 0} (xs : List X) (y x : X) (i : ℕ) → slice_get xs i ≡ Some x → slice_get (xs ++ y ∷ []) i ≡ Some x
-slice_get_front [] y x i is = cc
-slice_get_front (z ∷ xs) y x zero is = is
-slice_get_front (z ∷ xs) y x (suc i) is = slice_get_front xs y x i is
+slice_get_prefix : {X : Type 0} (xs : List X) (y x : X) (i : ℕ) → slice_get xs i ≡ Some x → slice_get (xs ++ y ∷ []) i ≡ Some x
+slice_get_prefix [] y x i is = cc
+slice_get_prefix (z ∷ xs) y x zero is = is
+slice_get_prefix (z ∷ xs) y x (suc i) is = slice_get_prefix xs y x i is
 
 -- the elements after an entry of a mapped list
 pub mapped_at : {X Y : Type 0} (h : X → Y) (xs : List X) (i : ℕ) (y : Y) (o : Option X) → slice_get xs i ≡ o → option_map h o ≡ Some y → (x : X) × (slice_get xs i ≡ Some x) × (h x ≡ y)
@@ -248,7 +248,7 @@ module _ {M F Z S : Type 0} (meanings : Meanings M F Z S) (nodes : List (Express
     value_rule_alike i r is =
         let found = mapped_at (rule meanings nodes) nodes i r (slice_get nodes i) refl (sym (slice_get-map (rule meanings nodes) nodes i) ∙ is) in (
           rule meanings (nodes ++ e ∷ []) found.0,
-          slice_get-map (rule meanings (nodes ++ e ∷ [])) (nodes ++ e ∷ []) i ∙ ap (option_map (rule meanings (nodes ++ e ∷ []))) (slice_get_front nodes e found.0 i found.1),
+          slice_get-map (rule meanings (nodes ++ e ∷ [])) (nodes ++ e ∷ []) i ∙ ap (option_map (rule meanings (nodes ++ e ∷ []))) (slice_get_prefix nodes e found.0 i found.1),
           λ f. same_rule meanings nodes (nodes ++ e ∷ []) same_place f found.0 ∙ ap (reading f) found.2,
         )
 
@@ -283,7 +283,7 @@ module _ {M F Z S : Type 0} (meanings : Meanings M F Z S) (nodes : List (Express
     task_rule_alike i r is =
         let found = mapped_at (carrier meanings nodes) nodes i r (slice_get nodes i) refl (sym (slice_get-map (carrier meanings nodes) nodes i) ∙ is) in (
           carrier meanings (nodes ++ e ∷ []) found.0,
-          slice_get-map (carrier meanings (nodes ++ e ∷ [])) (nodes ++ e ∷ []) i ∙ ap (option_map (carrier meanings (nodes ++ e ∷ []))) (slice_get_front nodes e found.0 i found.1),
+          slice_get-map (carrier meanings (nodes ++ e ∷ [])) (nodes ++ e ∷ []) i ∙ ap (option_map (carrier meanings (nodes ++ e ∷ []))) (slice_get_prefix nodes e found.0 i found.1),
           λ f. ap (reading f) (same_carrier found.0 (node_within i found.0 found.1) ∙ found.2),
         )
 

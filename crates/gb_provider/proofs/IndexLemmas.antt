@@ -96,22 +96,22 @@ same_order a b =
     ∙ (ap (λ x. x && is_eq (slice_cmp nat_cmp a.output b.output)) (is_eq-slice_cmp a.task b.task) ∙ ap (λ x. bytes_eq a.task b.task && x) (is_eq-slice_cmp a.output b.output))
 
 module _ {M F Z : Type 0} where
-  open_stands : (change : Change) (o : Option (Expression M F Z)) (property : Property) → open_property change o ≡ Some property → (old : Property) × (o ≡ Some (OfProperty old))
-  open_stands change None property is = cc
-  open_stands change (Some (Constant value)) property is = cc
-  open_stands change (Some (OfProperty old)) property is = (old, refl)
-  open_stands change (Some (OfOutput output)) property is = cc
-  open_stands change (Some (Listed operands)) property is = cc
-  open_stands change (Some (Mapped source call)) property is = cc
-  open_stands change (Some (FlatMapped source call)) property is = cc
-  open_stands change (Some (Zipped left right call)) property is = cc
-  open_stands change (Some (OrElse left right)) property is = cc
+  open_exists : (change : Change) (o : Option (Expression M F Z)) (property : Property) → open_property change o ≡ Some property → (old : Property) × (o ≡ Some (OfProperty old))
+  open_exists change None property is = cc
+  open_exists change (Some (Constant value)) property is = cc
+  open_exists change (Some (OfProperty old)) property is = (old, refl)
+  open_exists change (Some (OfOutput output)) property is = cc
+  open_exists change (Some (Listed operands)) property is = cc
+  open_exists change (Some (Mapped source call)) property is = cc
+  open_exists change (Some (FlatMapped source call)) property is = cc
+  open_exists change (Some (Zipped left right call)) property is = cc
+  open_exists change (Some (OrElse left right)) property is = cc
 
   -- a change of a property leaves the numbers of all outputs
   pub places_changed : (change : Change) (old new : List (Expression M F Z)) (at : ℕ) (result : Result (Unit {0}) Final) → AreChanged change old at new result → (chosen : Chosen) → output_place new chosen ≡ output_place old chosen
   places_changed change old new at (Ok done) made chosen =
-      let stood = open_stands change (slice_get old at) made.0 made.1 in
-      ap (λ nodes. output_place nodes chosen) made.2 ∙ position_set (is_output chosen) old at (OfProperty stood.0) (OfProperty (changed change made.0)) stood.1 refl
+      let existed = open_exists change (slice_get old at) made.0 made.1 in
+      ap (λ nodes. output_place nodes chosen) made.2 ∙ position_set (is_output chosen) old at (OfProperty existed.0) (OfProperty (changed change made.0)) existed.1 refl
   places_changed change old new at (Err final) made chosen = ap (λ nodes. output_place nodes chosen) made.1
 
 both_true : (a b : Bool) → (a && b) ≡ true → (a ≡ true) × (b ≡ true)
@@ -139,9 +139,9 @@ module _ {M F Z : Type 0} (nodes : List (Expression M F Z)) (k : Chosen) (declar
   pub places_pushed : (order : Chosen → Chosen → Ordering) → ((a b : Chosen) → is_eq (order a b) ≡ is_chosen b a) → (old new : BTreeMap Chosen ℕ)
       → ((q : Chosen) → get order old q ≡ output_place nodes q) → ((q : Chosen) → get order new q ≡ cond (is_at (order k) q) (Some (length nodes)) (get order old q))
       → (q : Chosen) → get order new q ≡ output_place (nodes ++ OfOutput (record { chosen = k; declared = declared }) ∷ []) q
-  places_pushed order same old new stood updates q =
+  places_pushed order same old new existed updates q =
       updates q ∙ (ap (λ b. cond b (Some (length nodes)) (get order old q)) (same k q)
-      ∙ (ap (λ o. cond (is_chosen q k) (Some (length nodes)) o) (stood q)
+      ∙ (ap (λ o. cond (is_chosen q k) (Some (length nodes)) o) (existed q)
       ∙ (pushed_at q (is_chosen q k) refl ∙ sym (position_grown (is_output q) (OfOutput (record { chosen = k; declared = declared })) nodes))))
 
 found_at : {X : Type 0} (p : X → Bool) (xs : List X) (n : ℕ) → position p xs ≡ Some n → (x : X) × (slice_get xs n ≡ Some x) × (p x ≡ true)
@@ -151,22 +151,22 @@ found_at p (x ∷ xs) n is =
     (get_or (x ∷ xs) n x, slice_get-get_or (x ∷ xs) n x found.0, found.1)
 
 module _ {M F Z : Type 0} where
-  output_stands : (chosen : Chosen) (node : Expression M F Z) → is_output chosen node ≡ true → (q : Chosen) → is_chosen q chosen ≡ is_output q node
-  output_stands chosen (Constant value) is q = cc
-  output_stands chosen (OfProperty property) is q = cc
-  output_stands chosen (OfOutput output) is q = ap (is_chosen q) (sym (same_chosen chosen output.chosen is))
-  output_stands chosen (Listed operands) is q = cc
-  output_stands chosen (Mapped source call) is q = cc
-  output_stands chosen (FlatMapped source call) is q = cc
-  output_stands chosen (Zipped left right call) is q = cc
-  output_stands chosen (OrElse left right) is q = cc
+  output_exists : (chosen : Chosen) (node : Expression M F Z) → is_output chosen node ≡ true → (q : Chosen) → is_chosen q chosen ≡ is_output q node
+  output_exists chosen (Constant value) is q = cc
+  output_exists chosen (OfProperty property) is q = cc
+  output_exists chosen (OfOutput output) is q = ap (is_chosen q) (sym (same_chosen chosen output.chosen is))
+  output_exists chosen (Listed operands) is q = cc
+  output_exists chosen (Mapped source call) is q = cc
+  output_exists chosen (FlatMapped source call) is q = cc
+  output_exists chosen (Zipped left right call) is q = cc
+  output_exists chosen (OrElse left right) is q = cc
 
   -- the numbers of outputs after one is declared
   pub places_declared : (nodes : List (Expression M F Z)) (number : ℕ) (chosen : Chosen) (declared : Option ℕ) → output_place nodes chosen ≡ Some number
       → (q : Chosen) → output_place (set nodes number (OfOutput (record { chosen = chosen; declared = declared }))) q ≡ output_place nodes q
-  places_declared nodes number chosen declared stands q =
-      let found = found_at (is_output chosen) nodes number stands in
-      position_set (is_output q) nodes number found.0 (OfOutput (record { chosen = chosen; declared = declared })) found.1 (output_stands chosen found.0 found.2 q)
+  places_declared nodes number chosen declared exists q =
+      let found = found_at (is_output chosen) nodes number exists in
+      position_set (is_output q) nodes number found.0 (OfOutput (record { chosen = chosen; declared = declared })) found.1 (output_exists chosen found.0 found.2 q)
 
 -- the number of an output is within the table
 pub place_within : {M F Z : Type 0} (nodes : List (Expression M F Z)) (chosen : Chosen) → PlaceWithin (length nodes) (output_place nodes chosen)
@@ -190,18 +190,18 @@ module _ {M F Z : Type 0} (chosen : Chosen) (source : ℕ) where
   declared_one (Zipped left right call) new is made = cc
   declared_one (OrElse left right) new is made = cc
 
-module _ {M F Z : Type 0} (nodes : List (Expression M F Z)) (at : ℕ) (below : at < length nodes) (old new : Expression M F Z) (stood : old ≡ get_or nodes at old) where
-  stood_there : slice_get nodes at ≡ Some old
-  stood_there = slice_get_read nodes (length nodes) at old refl below stood
+module _ {M F Z : Type 0} (nodes : List (Expression M F Z)) (at : ℕ) (below : at < length nodes) (old new : Expression M F Z) (existed : old ≡ get_or nodes at old) where
+  existed_there : slice_get nodes at ≡ Some old
+  existed_there = slice_get_read nodes (length nodes) at old refl below existed
 
   -- a change of one expression is a change of them all
   pub node_changed : (change : Change) (result : Result (Unit {0}) Final) → IsNodeChanged change old new result → AreChanged change nodes at (set nodes at new) result
-  node_changed change (Ok done) made = (made.0, ap (open_property change) stood_there ∙ made.1, ap (set nodes at) made.2)
-  node_changed change (Err final) kept = (ap (open_property change) stood_there ∙ kept.0, ap (set nodes at) (kept.1 ∙ stood) ∙ set-get_or nodes at old)
+  node_changed change (Ok done) made = (made.0, ap (open_property change) existed_there ∙ made.1, ap (set nodes at) made.2)
+  node_changed change (Err final) kept = (ap (open_property change) existed_there ∙ kept.0, ap (set nodes at) (kept.1 ∙ existed) ∙ set-get_or nodes at old)
 
   -- and so where an output is declared
   pub node_declared : (chosen : Chosen) (source : ℕ) → output_place nodes chosen ≡ Some at → IsNodeDeclared source old new → set nodes at new ≡ set nodes at (OfOutput (record { chosen = chosen; declared = Some source }))
-  node_declared chosen source stands made =
-      let found = found_at (is_output chosen) nodes at stands in
-      let same : found.0 ≡ old = some_same found.0 old (sym found.1 ∙ stood_there) in
+  node_declared chosen source exists made =
+      let found = found_at (is_output chosen) nodes at exists in
+      let same : found.0 ≡ old = some_same found.0 old (sym found.1 ∙ existed_there) in
       ap (set nodes at) (declared_one chosen source old new (subst (λ node. is_output chosen node ≡ true) same found.2) made)

@@ -54,12 +54,12 @@ module _ (f : ℕ → Option Outcome) where
   given_of None is = cc
 
   -- the operands read after an element, whatever value it is
-  reads_behind : (operand n : ℕ) (go_on : List ℕ → Rule Outcome) (other : Rule Outcome) → ((text : List ℕ) → ReadsAfter f operand n (go_on text)) → ReadsAfter f operand n other → (value : Value) → ReadsAfter f operand n (on_text go_on other value)
-  reads_behind operand n go_on other all also (values.Text text) = all text
-  reads_behind operand n go_on other all also (values.Flag flag) = also
-  reads_behind operand n go_on other all also (values.List texts) = also
-  reads_behind operand n go_on other all also (values.Place place) = also
-  reads_behind operand n go_on other all also (values.Task task) = also
+  reads_after : (operand n : ℕ) (go_on : List ℕ → Rule Outcome) (other : Rule Outcome) → ((text : List ℕ) → ReadsAfter f operand n (go_on text)) → ReadsAfter f operand n other → (value : Value) → ReadsAfter f operand n (on_text go_on other value)
+  reads_after operand n go_on other all also (values.Text text) = all text
+  reads_after operand n go_on other all also (values.Flag flag) = also
+  reads_after operand n go_on other all also (values.List texts) = also
+  reads_after operand n go_on other all also (values.Place place) = also
+  reads_after operand n go_on other all also (values.Task task) = also
 
   -- after elements that are values a list reads the next
   pub texts_read : (operands : List ℕ) (is_wrong : Bool) (texts : List (List ℕ)) (n : ℕ) → AreBefore (λ o. is_given (f o)) operands n → n < length operands → ReadsAfter f (slice_index operands n) n (list_rule is_wrong texts operands)
@@ -68,7 +68,7 @@ module _ (f : ℕ → Option Outcome) where
   texts_read (operand ∷ operands) is_wrong texts (suc n) all below =
       let first = given_of (f operand) (all 0 (omega arith) (omega arith)) in
       let rest = rest_before (λ o. is_given (f o)) operand operands n all in
-      (Given first.0, first.1, reads_behind (slice_index operands n) n (λ text. list_rule is_wrong (texts ++ text ∷ []) operands) (list_rule true texts operands) (λ text. texts_read operands is_wrong (texts ++ text ∷ []) n rest (omega arith)) (texts_read operands true texts n rest (omega arith)) first.0)
+      (Given first.0, first.1, reads_after (slice_index operands n) n (λ text. list_rule is_wrong (texts ++ text ∷ []) operands) (list_rule true texts operands) (λ text. texts_read operands is_wrong (texts ++ text ∷ []) n rest (omega arith)) (texts_read operands true texts n rest (omega arith)) first.0)
 
   reads_texts : (operands : List ℕ) (is_wrong : Bool) (texts : List (List ℕ)) (operand n : ℕ) → ReadsAfter f operand n (list_rule is_wrong texts operands) → AreBefore (λ o. is_given (f o)) operands n
   reads_texts [] is_wrong texts operand n reads = absurd (no_reads f operand n (listed is_wrong texts) reads)

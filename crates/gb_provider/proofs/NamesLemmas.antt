@@ -23,9 +23,9 @@ not_before a b r is other greater =
     by r (names_total.antisymm b a ∙ ap ordering_reverse is) other
   where
     by : (s : Ordering) → names_order b a ≡ ordering_reverse s → s ≢ Less → ⊥
-    by Less e apart = apart refl
-    by Equal e apart = cc
-    by Greater e apart = cc
+    by Less e separate = separate refl
+    by Equal e separate = cc
+    by Greater e separate = cc
 
 -- what comes before a least one is less than all
 before_least : (a b c : List (List ℕ)) → names_order a b ≡ Less → names_order b c ≢ Greater → names_order a c ≢ Greater

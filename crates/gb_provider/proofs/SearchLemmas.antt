@@ -45,27 +45,27 @@ known_opened states at is = ap (and_then known_answer) is
 known_new : {A : Type 0} (states : List (State A)) (at : ℕ) → slice_get states at ≡ Some New → known states at ≡ None
 known_new states at is = ap (and_then known_answer) is
 
-module _ {A : Type 0} (rules : List (Rule A)) (entry : ℕ) (states : List (State A)) (front : List ℕ) (at : ℕ) (search : IsSearch rules entry states (front ++ at ∷ [])) where
-  longer : length (front ++ at ∷ []) ≡ length front + 1
+module _ {A : Type 0} (rules : List (Rule A)) (entry : ℕ) (states : List (State A)) (prefix : List ℕ) (at : ℕ) (search : IsSearch rules entry states (prefix ++ at ∷ [])) where
+  longer : length (prefix ++ at ∷ []) ≡ length prefix + 1
   longer = simp length-append refl
 
-  top : get_or (front ++ at ∷ []) (length front) 0 ≡ at
-  top = get_or-append_seam front at [] 0
+  top : get_or (prefix ++ at ∷ []) (length prefix) 0 ≡ at
+  top = get_or-append_seam prefix at [] 0
 
-  below_top : (k : ℕ) → k < length front → get_or (front ++ at ∷ []) k 0 ≡ get_or front k 0
-  below_top k less = get_or-append front (at ∷ []) 0 k less
+  below_top : (k : ℕ) → k < length prefix → get_or (prefix ++ at ∷ []) k 0 ≡ get_or prefix k 0
+  below_top k less = get_or-append prefix (at ∷ []) 0 k less
 
   -- the entry at the end of the path is open
   pub top_open : slice_get states at ≡ Some Open
-  top_open = rw top at (search.opened (length front) (omega (arith, longer)))
+  top_open = rw top at (search.opened (length prefix) (omega (arith, longer)))
 
   pub top_within : at < length states
   top_within = slice_get_within states at Open top_open
 
   -- the entries of the path before its end are others
-  front_other : (k : ℕ) → k < length front → at ≢ get_or front k 0
-  front_other k less same =
-      search.different k (length front) less (omega (arith, longer)) (below_top k less ∙ (sym same ∙ sym top))
+  prefix_other : (k : ℕ) → k < length prefix → at ≢ get_or prefix k 0
+  prefix_other k less same =
+      search.different k (length prefix) less (omega (arith, longer)) (below_top k less ∙ (sym same ∙ sym top))
 
   module _ (rule : Rule A) (there : slice_get rules at ≡ Some rule) (o : A) (is : reading (known states) rule ≡ Settles o) where
     known_more : Extends (known states) (known (set states at (Known o)))
@@ -102,25 +102,25 @@ module _ {A : Type 0} (rules : List (Rule A)) (entry : ℕ) (states : List (Stat
               (was.0, was.1, reading_kept (known states) (known (set states at (Known o))) known_more was.0 a was.2)
         ]
 
-    opened_then : (k : ℕ) → k < length front → slice_get (set states at (Known o)) (get_or front k 0) ≡ Some Open
+    opened_then : (k : ℕ) → k < length prefix → slice_get (set states at (Known o)) (get_or prefix k 0) ≡ Some Open
     opened_then k less =
-        get_set_other states at (get_or front k 0) (Known o) (front_other k less)
+        get_set_other states at (get_or prefix k 0) (Known o) (prefix_other k less)
         ∙ rw (below_top k less) at (search.opened k (omega (arith, longer)))
 
-    waits_then : (k : ℕ) → k + 1 < length front → WaitsFor rules (known (set states at (Known o))) (get_or front k 0) (get_or front (k + 1) 0)
+    waits_then : (k : ℕ) → k + 1 < length prefix → WaitsFor rules (known (set states at (Known o))) (get_or prefix k 0) (get_or prefix (k + 1) 0)
     waits_then k less =
         let w = rw (below_top k (omega arith), below_top (k + 1) less) at (search.waits k (omega (arith, longer))) in
         record {
           rule = w.rule;
           there = w.there;
-          waits = reading_waits (known states) (known (set states at (Known o))) known_more w.rule (get_or front (k + 1) 0) w.waits (known_opened (set states at (Known o)) (get_or front (k + 1) 0) (opened_then (k + 1) less));
+          waits = reading_waits (known states) (known (set states at (Known o))) known_more w.rule (get_or prefix (k + 1) 0) w.waits (known_opened (set states at (Known o)) (get_or prefix (k + 1) 0) (opened_then (k + 1) less));
         }
 
-    different_then : (i j : ℕ) → i < j → j < length front → get_or front i 0 ≢ get_or front j 0
+    different_then : (i j : ℕ) → i < j → j < length prefix → get_or prefix i 0 ≢ get_or prefix j 0
     different_then i j less below same =
         search.different i j less (omega (arith, longer)) (below_top i (omega arith) ∙ (same ∙ sym (below_top j below)))
 
-    listed_then : (e : ℕ) → slice_get (set states at (Known o)) e ≡ Some Open → (k : ℕ) × (k < length front) × (get_or front k 0 ≡ e)
+    listed_then : (e : ℕ) → slice_get (set states at (Known o)) e ≡ Some Open → (k : ℕ) × (k < length prefix) × (get_or prefix k 0 ≡ e)
     listed_then e is_open =
         elim (cases_eq at e) [
           | inl same ↦
@@ -129,22 +129,22 @@ module _ {A : Type 0} (rules : List (Rule A)) (entry : ℕ) (states : List (Stat
               absurd (cc)
           | inr other ↦
               let l = search.listed e (sym (get_set_other states at e (Known o) other) ∙ is_open) in
-              elim (cases_lt l.0 (length front)) [
+              elim (cases_lt l.0 (length prefix)) [
                 | inl less ↦ (l.0, less, sym (below_top l.0 less) ∙ l.2)
                 | inr past ↦
-                    let last : l.0 ≡ length front = omega (arith, longer, l.1) in
+                    let last : l.0 ≡ length prefix = omega (arith, longer, l.1) in
                     absurd (other (sym top ∙ (rw last at l.2)))
               ]
         ]
 
-    done_then : length front ≡ 0 → (a : A) × (known (set states at (Known o)) entry ≡ Some a)
+    done_then : length prefix ≡ 0 → (a : A) × (known (set states at (Known o)) entry ≡ Some a)
     done_then none =
-        let first : get_or (front ++ at ∷ []) 0 0 ≡ entry = search.first (omega (arith, longer)) in
+        let first : get_or (prefix ++ at ∷ []) 0 0 ≡ entry = search.first (omega (arith, longer)) in
         let same : at ≡ entry = sym (rw none at top) ∙ first in
         (o, rw (← same) (known_same states at o top_within))
 
     -- the entry at the end of the path is answered
-    pub settled_search : IsSearch rules entry (set states at (Known o)) front
+    pub settled_search : IsSearch rules entry (set states at (Known o)) prefix
     settled_search = record {
       same = length-set states at (Known o) ∙ search.same;
       right = right_then;
@@ -183,49 +183,49 @@ module _ {A : Type 0} (rules : List (Rule A)) (entry : ℕ) (states : List (Stat
       same_extends : Extends (known states) (known (set states operand Open))
       same_extends = record { keeps = λ e a was. keeps_then e ∙ was }
 
-      longest : length ((front ++ at ∷ []) ++ operand ∷ []) ≡ length (front ++ at ∷ []) + 1
+      longest : length ((prefix ++ at ∷ []) ++ operand ∷ []) ≡ length (prefix ++ at ∷ []) + 1
       longest = simp length-append refl
 
-      end : get_or ((front ++ at ∷ []) ++ operand ∷ []) (length (front ++ at ∷ [])) 0 ≡ operand
-      end = get_or-append_seam (front ++ at ∷ []) operand [] 0
+      end : get_or ((prefix ++ at ∷ []) ++ operand ∷ []) (length (prefix ++ at ∷ [])) 0 ≡ operand
+      end = get_or-append_seam (prefix ++ at ∷ []) operand [] 0
 
-      before_end : (k : ℕ) → k < length (front ++ at ∷ []) → get_or ((front ++ at ∷ []) ++ operand ∷ []) k 0 ≡ get_or (front ++ at ∷ []) k 0
-      before_end k less = get_or-append (front ++ at ∷ []) (operand ∷ []) 0 k less
+      before_end : (k : ℕ) → k < length (prefix ++ at ∷ []) → get_or ((prefix ++ at ∷ []) ++ operand ∷ []) k 0 ≡ get_or (prefix ++ at ∷ []) k 0
+      before_end k less = get_or-append (prefix ++ at ∷ []) (operand ∷ []) 0 k less
 
-      operand_other : (k : ℕ) → k < length (front ++ at ∷ []) → operand ≢ get_or (front ++ at ∷ []) k 0
+      operand_other : (k : ℕ) → k < length (prefix ++ at ∷ []) → operand ≢ get_or (prefix ++ at ∷ []) k 0
       operand_other k less same =
           let was = search.opened k less in
           let clash : slice_get states operand ≡ Some Open = ap (slice_get states) same ∙ was in
           absurd (cc)
 
-      opened_next : (k : ℕ) → k < length ((front ++ at ∷ []) ++ operand ∷ []) → slice_get (set states operand Open) (get_or ((front ++ at ∷ []) ++ operand ∷ []) k 0) ≡ Some Open
+      opened_next : (k : ℕ) → k < length ((prefix ++ at ∷ []) ++ operand ∷ []) → slice_get (set states operand Open) (get_or ((prefix ++ at ∷ []) ++ operand ∷ []) k 0) ≡ Some Open
       opened_next k below =
-          elim (cases_lt k (length (front ++ at ∷ []))) [
+          elim (cases_lt k (length (prefix ++ at ∷ []))) [
             | inl less ↦
                 ap (slice_get (set states operand Open)) (before_end k less)
-                ∙ (get_set_other states operand (get_or (front ++ at ∷ []) k 0) Open (operand_other k less) ∙ search.opened k less)
+                ∙ (get_set_other states operand (get_or (prefix ++ at ∷ []) k 0) Open (operand_other k less) ∙ search.opened k less)
             | inr past ↦
-                let last : k ≡ length (front ++ at ∷ []) = omega (arith, longest) in
-                ap (λ i. slice_get (set states operand Open) (get_or ((front ++ at ∷ []) ++ operand ∷ []) i 0)) last
+                let last : k ≡ length (prefix ++ at ∷ []) = omega (arith, longest) in
+                ap (λ i. slice_get (set states operand Open) (get_or ((prefix ++ at ∷ []) ++ operand ∷ []) i 0)) last
                 ∙ (ap (slice_get (set states operand Open)) end ∙ get_set_same states operand Open new_within)
           ]
 
-      waits_next : (k : ℕ) → k + 1 < length ((front ++ at ∷ []) ++ operand ∷ []) → WaitsFor rules (known (set states operand Open)) (get_or ((front ++ at ∷ []) ++ operand ∷ []) k 0) (get_or ((front ++ at ∷ []) ++ operand ∷ []) (k + 1) 0)
+      waits_next : (k : ℕ) → k + 1 < length ((prefix ++ at ∷ []) ++ operand ∷ []) → WaitsFor rules (known (set states operand Open)) (get_or ((prefix ++ at ∷ []) ++ operand ∷ []) k 0) (get_or ((prefix ++ at ∷ []) ++ operand ∷ []) (k + 1) 0)
       waits_next k below =
-          elim (cases_lt (k + 1) (length (front ++ at ∷ []))) [
+          elim (cases_lt (k + 1) (length (prefix ++ at ∷ []))) [
             | inl less ↦
                 let w = search.waits k less in
-                let shut = known_opened (set states operand Open) (get_or ((front ++ at ∷ []) ++ operand ∷ []) (k + 1) 0) (opened_next (k + 1) below) in
+                let shut = known_opened (set states operand Open) (get_or ((prefix ++ at ∷ []) ++ operand ∷ []) (k + 1) 0) (opened_next (k + 1) below) in
                 rw (before_end k (omega arith)) (record {
                   rule = w.rule;
                   there = w.there;
-                  waits = reading_waits (known states) (known (set states operand Open)) same_extends w.rule (get_or ((front ++ at ∷ []) ++ operand ∷ []) (k + 1) 0) (w.waits ∙ ap Waits (sym (before_end (k + 1) less))) shut;
+                  waits = reading_waits (known states) (known (set states operand Open)) same_extends w.rule (get_or ((prefix ++ at ∷ []) ++ operand ∷ []) (k + 1) 0) (w.waits ∙ ap Waits (sym (before_end (k + 1) less))) shut;
                 })
             | inr past ↦
-                let last : k ≡ length front = omega (arith, longest, longer) in
-                let next : k + 1 ≡ length (front ++ at ∷ []) = omega (arith, longest) in
-                let here : get_or ((front ++ at ∷ []) ++ operand ∷ []) k 0 ≡ at = before_end k (omega (arith, longer)) ∙ (ap (λ i. get_or (front ++ at ∷ []) i 0) last ∙ top) in
-                let there_is : get_or ((front ++ at ∷ []) ++ operand ∷ []) (k + 1) 0 ≡ operand = ap (λ i. get_or ((front ++ at ∷ []) ++ operand ∷ []) i 0) next ∙ end in
+                let last : k ≡ length prefix = omega (arith, longest, longer) in
+                let next : k + 1 ≡ length (prefix ++ at ∷ []) = omega (arith, longest) in
+                let here : get_or ((prefix ++ at ∷ []) ++ operand ∷ []) k 0 ≡ at = before_end k (omega (arith, longer)) ∙ (ap (λ i. get_or (prefix ++ at ∷ []) i 0) last ∙ top) in
+                let there_is : get_or ((prefix ++ at ∷ []) ++ operand ∷ []) (k + 1) 0 ≡ operand = ap (λ i. get_or ((prefix ++ at ∷ []) ++ operand ∷ []) i 0) next ∙ end in
                 let shut : known (set states operand Open) operand ≡ None = keeps_then operand ∙ known_new states operand is_new in
                 record {
                   rule = rule;
@@ -234,27 +234,27 @@ module _ {A : Type 0} (rules : List (Rule A)) (entry : ℕ) (states : List (Stat
                 }
           ]
 
-      different_next : (i j : ℕ) → i < j → j < length ((front ++ at ∷ []) ++ operand ∷ []) → get_or ((front ++ at ∷ []) ++ operand ∷ []) i 0 ≢ get_or ((front ++ at ∷ []) ++ operand ∷ []) j 0
+      different_next : (i j : ℕ) → i < j → j < length ((prefix ++ at ∷ []) ++ operand ∷ []) → get_or ((prefix ++ at ∷ []) ++ operand ∷ []) i 0 ≢ get_or ((prefix ++ at ∷ []) ++ operand ∷ []) j 0
       different_next i j less below same =
-          elim (cases_lt j (length (front ++ at ∷ []))) [
+          elim (cases_lt j (length (prefix ++ at ∷ []))) [
             | inl within ↦ search.different i j less within (sym (before_end i (omega arith)) ∙ (same ∙ before_end j within))
             | inr past ↦
-                let last : j ≡ length (front ++ at ∷ []) = omega (arith, longest) in
-                let at_end : get_or ((front ++ at ∷ []) ++ operand ∷ []) j 0 ≡ operand = ap (λ k. get_or ((front ++ at ∷ []) ++ operand ∷ []) k 0) last ∙ end in
+                let last : j ≡ length (prefix ++ at ∷ []) = omega (arith, longest) in
+                let at_end : get_or ((prefix ++ at ∷ []) ++ operand ∷ []) j 0 ≡ operand = ap (λ k. get_or ((prefix ++ at ∷ []) ++ operand ∷ []) k 0) last ∙ end in
                 operand_other i (omega arith) (sym at_end ∙ (sym same ∙ before_end i (omega arith)))
           ]
 
-      listed_next : (e : ℕ) → slice_get (set states operand Open) e ≡ Some Open → (k : ℕ) × (k < length ((front ++ at ∷ []) ++ operand ∷ [])) × (get_or ((front ++ at ∷ []) ++ operand ∷ []) k 0 ≡ e)
+      listed_next : (e : ℕ) → slice_get (set states operand Open) e ≡ Some Open → (k : ℕ) × (k < length ((prefix ++ at ∷ []) ++ operand ∷ [])) × (get_or ((prefix ++ at ∷ []) ++ operand ∷ []) k 0 ≡ e)
       listed_next e is_open =
           elim (cases_eq operand e) [
-            | inl same ↦ (length (front ++ at ∷ []), omega (arith, longest), end ∙ same)
+            | inl same ↦ (length (prefix ++ at ∷ []), omega (arith, longest), end ∙ same)
             | inr other ↦
                 let l = search.listed e (sym (get_set_other states operand e Open other) ∙ is_open) in
                 (l.0, omega (arith, longest, l.1), before_end l.0 l.1 ∙ l.2)
           ]
 
       -- the operand is opened, and joins the path
-      pub opened_search : IsSearch rules entry (set states operand Open) ((front ++ at ∷ []) ++ operand ∷ [])
+      pub opened_search : IsSearch rules entry (set states operand Open) ((prefix ++ at ∷ []) ++ operand ∷ [])
       opened_search = record {
         same = length-set states operand Open ∙ search.same;
         right = λ e a now. search.right e a (sym (keeps_then e) ∙ now);
@@ -277,22 +277,22 @@ module _ {A : Type 0} (rules : List (Rule A)) (entry : ℕ) (states : List (Stat
           omega arith
 
     -- the operand is on the path, at this position
-    module _ (place : ℕ) (on_path : place < length (front ++ at ∷ [])) (found : get_or (front ++ at ∷ []) place 0 ≡ operand) where
+    module _ (place : ℕ) (on_path : place < length (prefix ++ at ∷ [])) (found : get_or (prefix ++ at ∷ []) place 0 ≡ operand) where
       right_record : Extends (known states) (answer rules)
       right_record = record { keeps = search.right }
 
-      last_waits : (k : ℕ) → k ≡ length front → WaitsFor rules (known states) (get_or (front ++ at ∷ []) k 0) (get_or (front ++ at ∷ []) place 0)
+      last_waits : (k : ℕ) → k ≡ length prefix → WaitsFor rules (known states) (get_or (prefix ++ at ∷ []) k 0) (get_or (prefix ++ at ∷ []) place 0)
       last_waits k last =
-          let here : get_or (front ++ at ∷ []) k 0 ≡ at = ap (λ i. get_or (front ++ at ∷ []) i 0) last ∙ top in
+          let here : get_or (prefix ++ at ∷ []) k 0 ≡ at = ap (λ i. get_or (prefix ++ at ∷ []) i 0) last ∙ top in
           record {
             rule = rule;
             there = ap (slice_get rules) here ∙ there;
             waits = is ∙ ap Waits (sym found);
           }
 
-      each_waits : (k : ℕ) → k < length (front ++ at ∷ []) → (j : ℕ) × (j < length (front ++ at ∷ [])) × WaitsFor rules (known states) (get_or (front ++ at ∷ []) k 0) (get_or (front ++ at ∷ []) j 0)
+      each_waits : (k : ℕ) → k < length (prefix ++ at ∷ []) → (j : ℕ) × (j < length (prefix ++ at ∷ [])) × WaitsFor rules (known states) (get_or (prefix ++ at ∷ []) k 0) (get_or (prefix ++ at ∷ []) j 0)
       each_waits k below =
-          elim (cases_lt (k + 1) (length (front ++ at ∷ []))) [
+          elim (cases_lt (k + 1) (length (prefix ++ at ∷ []))) [
             | inl less ↦ (k + 1, less, search.waits k less)
             | inr past ↦ (place, on_path, last_waits k (omega (arith, longer)))
           ]
@@ -301,48 +301,48 @@ module _ {A : Type 0} (rules : List (Rule A)) (entry : ℕ) (states : List (Stat
       pub no_answer : answer rules entry ≡ None
       no_answer =
           ap (answer rules) (sym (search.first (omega (arith, longer))))
-          ∙ never rules (known states) right_record (λ k. get_or (front ++ at ∷ []) k 0) (length (front ++ at ∷ [])) each_waits (length rules) 0 (omega (arith, longer))
+          ∙ never rules (known states) right_record (λ k. get_or (prefix ++ at ∷ []) k 0) (length (prefix ++ at ∷ [])) each_waits (length rules) 0 (omega (arith, longer))
 
-      awaits_next : (k : ℕ) → k + 1 < length (front ++ at ∷ []) → next_awaited rules (get_or (front ++ at ∷ []) k 0) ≡ Some (get_or (front ++ at ∷ []) (k + 1) 0)
-      awaits_next k less = awaits rules (known states) right_record (λ i. get_or (front ++ at ∷ []) i 0) (length (front ++ at ∷ [])) each_waits k (k + 1) less (search.waits k less)
+      awaits_next : (k : ℕ) → k + 1 < length (prefix ++ at ∷ []) → next_awaited rules (get_or (prefix ++ at ∷ []) k 0) ≡ Some (get_or (prefix ++ at ∷ []) (k + 1) 0)
+      awaits_next k less = awaits rules (known states) right_record (λ i. get_or (prefix ++ at ∷ []) i 0) (length (prefix ++ at ∷ [])) each_waits k (k + 1) less (search.waits k less)
 
-      awaits_first : (k : ℕ) → k ≡ length front → next_awaited rules (get_or (front ++ at ∷ []) k 0) ≡ Some (get_or (front ++ at ∷ []) place 0)
-      awaits_first k last = awaits rules (known states) right_record (λ i. get_or (front ++ at ∷ []) i 0) (length (front ++ at ∷ [])) each_waits k place on_path (last_waits k last)
+      awaits_first : (k : ℕ) → k ≡ length prefix → next_awaited rules (get_or (prefix ++ at ∷ []) k 0) ≡ Some (get_or (prefix ++ at ∷ []) place 0)
+      awaits_first k last = awaits rules (known states) right_record (λ i. get_or (prefix ++ at ∷ []) i 0) (length (prefix ++ at ∷ [])) each_waits k place on_path (last_waits k last)
 
-      path_reached : (k : ℕ) → k < length (front ++ at ∷ []) → awaited_after rules k entry ≡ Some (get_or (front ++ at ∷ []) k 0)
+      path_reached : (k : ℕ) → k < length (prefix ++ at ∷ []) → awaited_after rules k entry ≡ Some (get_or (prefix ++ at ∷ []) k 0)
       path_reached zero below = ap Some (sym (search.first below))
       path_reached (suc k) below =
           ap (and_then (next_awaited rules)) (path_reached k (omega arith))
-          ∙ (awaits_next k (omega arith) ∙ let same : k + 1 ≡ suc k = omega arith in ap (λ i. Some (get_or (front ++ at ∷ []) i 0)) same)
+          ∙ (awaits_next k (omega arith) ∙ let same : k + 1 ≡ suc k = omega arith in ap (λ i. Some (get_or (prefix ++ at ∷ []) i 0)) same)
 
-      circle_length : length (drop place (front ++ at ∷ [])) ≡ length (front ++ at ∷ []) - place
-      circle_length = length-drop place (front ++ at ∷ [])
+      circle_length : length (drop place (prefix ++ at ∷ [])) ≡ length (prefix ++ at ∷ []) - place
+      circle_length = length-drop place (prefix ++ at ∷ [])
 
-      circle_at : (i : ℕ) → get_or (drop place (front ++ at ∷ [])) i 0 ≡ get_or (front ++ at ∷ []) (place + i) 0
-      circle_at i = get_or-drop place (front ++ at ∷ []) i 0
+      circle_at : (i : ℕ) → get_or (drop place (prefix ++ at ∷ [])) i 0 ≡ get_or (prefix ++ at ∷ []) (place + i) 0
+      circle_at i = get_or-drop place (prefix ++ at ∷ []) i 0
 
-      circle_first : get_or (drop place (front ++ at ∷ [])) 0 0 ≡ get_or (front ++ at ∷ []) place 0
-      circle_first = circle_at 0 ∙ (let same : place + 0 ≡ place = omega arith in ap (λ i. get_or (front ++ at ∷ []) i 0) same)
+      circle_first : get_or (drop place (prefix ++ at ∷ [])) 0 0 ≡ get_or (prefix ++ at ∷ []) place 0
+      circle_first = circle_at 0 ∙ (let same : place + 0 ≡ place = omega arith in ap (λ i. get_or (prefix ++ at ∷ []) i 0) same)
 
-      circle_next : (i : ℕ) → i + 1 < length (drop place (front ++ at ∷ [])) → next_awaited rules (get_or (drop place (front ++ at ∷ [])) i 0) ≡ Some (get_or (drop place (front ++ at ∷ [])) (i + 1) 0)
+      circle_next : (i : ℕ) → i + 1 < length (drop place (prefix ++ at ∷ [])) → next_awaited rules (get_or (drop place (prefix ++ at ∷ [])) i 0) ≡ Some (get_or (drop place (prefix ++ at ∷ [])) (i + 1) 0)
       circle_next i less =
           let same : (place + i) + 1 ≡ place + (i + 1) = omega arith in
           ap (next_awaited rules) (circle_at i)
           ∙ (awaits_next (place + i) (omega (arith, circle_length))
-          ∙ (ap (λ k. Some (get_or (front ++ at ∷ []) k 0)) same ∙ ap Some (sym (circle_at (i + 1)))))
+          ∙ (ap (λ k. Some (get_or (prefix ++ at ∷ []) k 0)) same ∙ ap Some (sym (circle_at (i + 1)))))
 
-      circle_closed : next_awaited rules (get_or (drop place (front ++ at ∷ [])) (length (drop place (front ++ at ∷ [])) - 1) 0) ≡ Some (get_or (drop place (front ++ at ∷ [])) 0 0)
+      circle_closed : next_awaited rules (get_or (drop place (prefix ++ at ∷ [])) (length (drop place (prefix ++ at ∷ [])) - 1) 0) ≡ Some (get_or (drop place (prefix ++ at ∷ [])) 0 0)
       circle_closed =
-          ap (next_awaited rules) (circle_at (length (drop place (front ++ at ∷ [])) - 1))
-          ∙ (awaits_first (place + (length (drop place (front ++ at ∷ [])) - 1)) (omega (arith, circle_length, longer))
+          ap (next_awaited rules) (circle_at (length (drop place (prefix ++ at ∷ [])) - 1))
+          ∙ (awaits_first (place + (length (drop place (prefix ++ at ∷ [])) - 1)) (omega (arith, circle_length, longer))
           ∙ ap Some (sym circle_first))
 
-      circle_different : (i j : ℕ) → i < j → j < length (drop place (front ++ at ∷ [])) → get_or (drop place (front ++ at ∷ [])) i 0 ≢ get_or (drop place (front ++ at ∷ [])) j 0
+      circle_different : (i j : ℕ) → i < j → j < length (drop place (prefix ++ at ∷ [])) → get_or (drop place (prefix ++ at ∷ [])) i 0 ≢ get_or (drop place (prefix ++ at ∷ [])) j 0
       circle_different i j less below same =
           search.different (place + i) (place + j) (omega arith) (omega (arith, circle_length)) (sym (circle_at i) ∙ (same ∙ circle_at j))
 
       -- the path from that place on is the circle
-      pub path_circle : IsCircle rules entry (drop place (front ++ at ∷ []))
+      pub path_circle : IsCircle rules entry (drop place (prefix ++ at ∷ []))
       path_circle = record {
         some = omega (arith, circle_length);
         reached = (place, path_reached place on_path ∙ ap Some (sym circle_first));

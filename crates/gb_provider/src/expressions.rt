@@ -172,7 +172,7 @@ impl<'a, M: Drop, F: Drop, Z: Drop> Expressions<'a, M, F, Z> {
     /// Declares the output with this number as an expression.
     pub fn declare(&mut self, number: usize, chosen: &Chosen, source: usize)
         requires within { number < length self.old }
-        requires stands { output_place self.old chosen.now ≡ Some number }
+        requires exists { output_place self.old chosen.now ≡ Some number }
         ensures { self.new
             ≡ slice_set self.old number
             (Expression.OfOutput (record { chosen = chosen.now; declared = Some source })) }

@@ -14,7 +14,7 @@ use crate::expressions::Outputs;
 use crate::fault::ProviderFault;
 use crate::produced::Produced;
 use crate::reading::State;
-use crate::recall::{extend, recall, tell_circle};
+use crate::recall::{extend, recall, report_circle};
 use crate::search::evaluate;
 use crate::shared::Shared;
 use crate::transforms::Transforms;
@@ -54,7 +54,7 @@ fn evaluate_producers<T: Transforms>(
 }
 
 /// The fault of an expression whose value has to choose but never has an answer.
-fn tell_endless<T: Transforms>(
+fn report_endless<T: Transforms>(
     alloc: Global,
     nodes: &[Expression<T::Map, T::FlatMap, T::Zip>],
     outputs: &Outputs,
@@ -76,7 +76,7 @@ fn tell_endless<T: Transforms>(
 }
 
 /// Returns the tasks that are known.
-fn tell_producers<T: Transforms>(
+fn report_producers<T: Transforms>(
     alloc: Global,
     nodes: &[Expression<T::Map, T::FlatMap, T::Zip>],
     outputs: &Outputs,
@@ -97,7 +97,7 @@ fn tell_producers<T: Transforms>(
         Some(Produced::Tasks(tasks)) => Ok(tasks.copy(alloc)?),
         Some(Produced::Refused(fault)) => Err(ProviderFault::Value(fault.copy()?)),
         Some(Produced::Endless(chooser)) => {
-            Err(tell_endless::<T>(alloc, nodes, outputs, values, *chooser))
+            Err(report_endless::<T>(alloc, nodes, outputs, values, *chooser))
         }
         None => unreachable!(),
     }
@@ -122,10 +122,10 @@ pub(crate) fn recall_producers<T: Transforms>(
     ensures producers { AreProducers T.meanings nodes.now number result }
 {
     match evaluate_producers::<T>(alloc, nodes, outputs, values, states, number) {
-        Ok(None) => tell_producers::<T>(alloc, nodes, outputs, values, states, number),
+        Ok(None) => report_producers::<T>(alloc, nodes, outputs, values, states, number),
         Ok(Some(circle)) => {
             states.clear();
-            Err(tell_circle(alloc, nodes, &circle))
+            Err(report_circle(alloc, nodes, &circle))
         }
         Err(AllocError) => {
             states.clear();

@@ -179,7 +179,7 @@ impl<'a, T: Transforms> Providers<'a, T> {
     /// Declares the output with this number as an expression.
     fn declare(&mut self, number: usize, chosen: &Chosen, source: usize)
         requires within { number < length self.old.nodes }
-        requires stands { output_place self.old.nodes chosen.now ≡ Some number }
+        requires exists { output_place self.old.nodes chosen.now ≡ Some number }
         requires source { source < length self.old.nodes }
         ensures { self.new
             ≡ record self.old {

@@ -56,7 +56,7 @@ fn is_known_at<A>(states: &[State<A>], number: usize) -> bool
 }
 
 /// Returns the answer that is known.
-fn tell(
+fn report(
     alloc: Global,
     states: &[State<Shared<Outcome>>],
     number: usize,
@@ -97,7 +97,7 @@ fn evaluate_value<T: Transforms>(
 }
 
 /// The fault of a circle, with its names.
-pub(crate) fn tell_circle<M, F, Z>(
+pub(crate) fn report_circle<M, F, Z>(
     alloc: Global,
     nodes: &[Expression<M, F, Z>],
     circle: &[usize],
@@ -126,10 +126,10 @@ pub(crate) fn recall<T: Transforms>(
     ensures got { IsGot T.meanings nodes.now number result }
 {
     match evaluate_value::<T>(alloc, nodes, outputs, states, number) {
-        Ok(None) => tell(alloc, states, number),
+        Ok(None) => report(alloc, states, number),
         Ok(Some(circle)) => {
             states.clear();
-            Err(tell_circle(alloc, nodes, &circle))
+            Err(report_circle(alloc, nodes, &circle))
         }
         Err(AllocError) => {
             states.clear();

@@ -76,13 +76,13 @@ any_distinct : (p : Place → Bool) (places : List Place) → list_any p (distin
 any_distinct p [] = refl
 any_distinct p (place ∷ places) = by (any_distinct p places) (p place) refl
   where
-    apart : (other : Place) → p place ≡ false → p other ≡ true → (b : Bool) → bytes_eq place other ≡ b → not b ≡ true
-    apart other fails passes true same = absurd (false≢true (sym fails ∙ ap p ((bytes_decides place other).0 same) ∙ passes))
-    apart other fails passes false same = refl
+    separate : (other : Place) → p place ≡ false → p other ≡ true → (b : Bool) → bytes_eq place other ≡ b → not b ≡ true
+    separate other fails passes true same = absurd (false≢true (sym fails ∙ ap p ((bytes_decides place other).0 same) ∙ passes))
+    separate other fails passes false same = refl
 
     by : list_any p (distinct places) ≡ list_any p places → (b : Bool) → p place ≡ b → (b || list_any p (filter (λ other. not (bytes_eq place other)) (distinct places))) ≡ (b || list_any p places)
     by rest true is = refl
-    by rest false is = any-filter_same p (λ other. not (bytes_eq place other)) true (λ other passes. apart other is passes (bytes_eq place other) refl) (distinct places) ∙ rest
+    by rest false is = any-filter_same p (λ other. not (bytes_eq place other)) true (λ other passes. separate other is passes (bytes_eq place other) refl) (distinct places) ∙ rest
 
 -- ---- The files of a root
 

@@ -14,8 +14,8 @@ use Rattle.gb_tree.proofs.Rest.{rest_is_place}
 use Rattle.gb_tree.proofs.Under.{under_parts}
 
 -- what is left after the last slash
-pub last_is_place : (place front back : List ℕ) → SplitsAroundMatch (RFindsChar 47) place front back → is_place place ≡ true → is_place back ≡ true
-last_is_place place front back (i, j, finds, at_front, at_back, order, long_front, long_back) good =
+pub last_is_place : (place prefix back : List ℕ) → SplitsAroundMatch (RFindsChar 47) place prefix back → is_place place ≡ true → is_place back ≡ true
+last_is_place place prefix back (i, j, finds, at_prefix, at_back, order, long_prefix, long_back) good =
     let ends : j ≡ i + 1 = finds.1.ends ∙ ap (λ n. i + n) (len_utf8_ascii 47 (omega arith)) in
     let whole : place ≡ take i place ++ 47 ∷ back =
     sym (take-append-drop i place)

@@ -2,7 +2,7 @@
 use Rattle.std.specs.Prelude.{ℕ, ◌≡◌, ◌⊎◌, Bool, false, List, [], ◌∷◌, ◌++◌, Some, None, IsTrue}
 use Rattle.std.specs.Prelude.{codes, if◌then◌else◌}
 use Rattle.std.specs.List.{AllZip}
-use Rattle.gb_folder.specs.Files.{Contents, Files, Place, is_odd_under, places_under}
+use Rattle.gb_folder.specs.Files.{Contents, Files, Place, is_special_under, places_under}
 use Rattle.gb_history.specs.Record.{Record}
 use Rattle.gb_plan.specs.Task.{Path, has_path}
 use Rattle.gb_records.specs.Said.{IsReadAt}
@@ -60,11 +60,11 @@ AreLeftAt files registered (place ∷ places) found =
 abbrev pub AreUnregistered : Contents → List Path → List Path → Type 0
 AreUnregistered contents registered found =
     AreLeftAt contents.files registered (places_under contents.files (codes ".gb")) found
-    ⊎ (IsTrue (is_odd_under contents (codes ".gb")) × (found ≡ []))
+    ⊎ (IsTrue (is_special_under contents (codes ".gb")) × (found ≡ []))
 
 -- Why the files of `.gb` cannot be listed or read: memory ran out, the device failed between these counts, or
 -- a file there has a name that is no place's.
 abbrev pub IsUnlisted : Contents → ℕ → ℕ → Fault → Type 0
 IsUnlisted contents before after fault =
     IsOfMachine before after fault
-    ⊎ (IsTrue (is_odd_under contents (codes ".gb")) × (fault ≡ faults.BadFileName (codes ".gb")))
+    ⊎ (IsTrue (is_special_under contents (codes ".gb")) × (fault ≡ faults.BadFileName (codes ".gb")))

@@ -31,6 +31,6 @@ IsStatusText notations.Json activity found text = IsJsonOf (status_data activity
 
 -- the text of some entries; if contents are known, exactly those of the folder's files
 abbrev pub IsStatusOf : Bool → Notation → Activity → Files → List Path → List ℕ → Type 0
-IsStatusOf tells notation activity files registered text =
-    (found : List Entry) × (IsTrue tells → AreEntriesOf files registered found)
+IsStatusOf faithful notation activity files registered text =
+    (found : List Entry) × (IsTrue faithful → AreEntriesOf files registered found)
     × IsStatusText notation activity found text

@@ -1,6 +1,6 @@
 //! The whole answer to a query.
 ghost use Rattle.std.specs.Prelude.{◌≡◌, IfErr, IfOk, IsTrue, string_bytes};
-ghost use Rattle.gb_folder.specs.Calls.{Asks, no_change};
+ghost use Rattle.gb_folder.specs.Calls.{Requests, no_change};
 ghost use Rattle.gb_plan.specs.Graph.{paths_of};
 ghost use Rattle.gb_query.specs.Inventory.{IsUnlisted};
 ghost use Rattle.gb_query.specs.Notation.{IsFoundText, IsStatusOf, IsTasksText};
@@ -65,11 +65,11 @@ pub fn inventory_text<F: Folder>(
     folder: &mut F,
     registered: &[TaskPath],
 ) -> Result<String, Fault>
-    ensures asks { Asks F.failures F.may_leave F.asked no_change folder.old folder.new }
-    ensures same { IsTrue F.tells → F.contents folder.new ≡ F.contents folder.old }
-    ensures text { IfOk result (λ text. IsStatusOf F.tells notation activity
+    ensures requests { Requests F.failures F.may_leave F.allowed no_change folder.old folder.new }
+    ensures same { IsTrue F.faithful → F.contents folder.new ≡ F.contents folder.old }
+    ensures text { IfOk result (λ text. IsStatusOf F.faithful notation activity
         (F.contents folder.old).files registered.now (string_bytes text)) }
-    ensures refused { IsTrue F.tells → IfErr result
+    ensures refused { IsTrue F.faithful → IfErr result
         (IsUnlisted (F.contents folder.old) (F.failures folder.old) (F.failures folder.new)) }
 {
     let entries = inventory(alloc, folder, registered)?;

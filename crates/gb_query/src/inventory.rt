@@ -2,7 +2,7 @@
 ghost use Rattle.std.specs.Prelude.{◌≡◌, ◌++◌, List, Option, Some, IfErr, IfOk, IsTrue, OnOk, codes};
 ghost use Rattle.std.specs.Prelude.{if◌then◌else◌, is_some, not};
 ghost use Rattle.std.specs.List.{AllZip};
-ghost use Rattle.gb_folder.specs.Calls.{Asks, no_change};
+ghost use Rattle.gb_folder.specs.Calls.{Requests, no_change};
 ghost use Rattle.gb_folder.specs.Files.{Place as PlaceOf};
 ghost use Rattle.gb_history.specs.Record.{Record};
 ghost use Rattle.gb_plan.specs.Task.{Path, has_path};
@@ -42,11 +42,11 @@ pub fn inventory<F: Folder>(
     folder: &mut F,
     registered: &[TaskPath],
 ) -> Result<Vec<Entry>, Fault>
-    ensures asks { Asks F.failures F.may_leave F.asked no_change folder.old folder.new }
-    ensures same { IsTrue F.tells → F.contents folder.new ≡ F.contents folder.old }
-    ensures entries { IsTrue F.tells → IfOk result
+    ensures requests { Requests F.failures F.may_leave F.allowed no_change folder.old folder.new }
+    ensures same { IsTrue F.faithful → F.contents folder.new ≡ F.contents folder.old }
+    ensures entries { IsTrue F.faithful → IfOk result
         (λ entries. AreEntriesOf (F.contents folder.old).files registered.now entries.items) }
-    ensures refused { IsTrue F.tells → IfErr result
+    ensures refused { IsTrue F.faithful → IfErr result
         (IsUnlisted (F.contents folder.old) (F.failures folder.old) (F.failures folder.new)) }
 {
     let own = own_folder(alloc)?;
@@ -61,11 +61,11 @@ pub fn unregistered<F: Folder>(
     folder: &mut F,
     registered: &[TaskPath],
 ) -> Result<Vec<TaskPath>, Fault>
-    ensures asks { Asks F.failures F.may_leave F.asked no_change folder.old folder.new }
-    ensures same { IsTrue F.tells → F.contents folder.new ≡ F.contents folder.old }
-    ensures left { IsTrue F.tells → IfOk result
+    ensures requests { Requests F.failures F.may_leave F.allowed no_change folder.old folder.new }
+    ensures same { IsTrue F.faithful → F.contents folder.new ≡ F.contents folder.old }
+    ensures left { IsTrue F.faithful → IfOk result
         (λ left. AreUnregistered (F.contents folder.old) registered.now left.items) }
-    ensures err { IsTrue F.tells
+    ensures err { IsTrue F.faithful
         → IfErr result (IsOfMachine (F.failures folder.old) (F.failures folder.new)) }
 {
     let own = own_folder(alloc)?;
@@ -83,9 +83,9 @@ fn left_at<F: Folder>(
     registered: &[TaskPath],
     places: &[Place],
 ) -> Result<Vec<TaskPath>, Fault>
-    ensures asks { Asks F.failures F.may_leave F.asked no_change folder.old folder.new }
-    ensures same { IsTrue F.tells → F.contents folder.new ≡ F.contents folder.old }
-    ensures left { IsTrue F.tells → IfOk result (λ left.
+    ensures requests { Requests F.failures F.may_leave F.allowed no_change folder.old folder.new }
+    ensures same { IsTrue F.faithful → F.contents folder.new ≡ F.contents folder.old }
+    ensures left { IsTrue F.faithful → IfOk result (λ left.
         AreLeftAt (F.contents folder.old).files registered.now places.now left.items) }
     ensures err { IfErr result (IsOfMachine (F.failures folder.old) (F.failures folder.new)) }
 {
@@ -104,9 +104,9 @@ fn push_left<F: Folder>(
     registered: &[TaskPath],
     place: &Place,
 ) -> Result<(), Fault>
-    ensures asks { Asks F.failures F.may_leave F.asked no_change folder.old folder.new }
-    ensures same { IsTrue F.tells → F.contents folder.new ≡ F.contents folder.old }
-    ensures left { IsTrue F.tells → OnOk result ((row : List Path)
+    ensures requests { Requests F.failures F.may_leave F.allowed no_change folder.old folder.new }
+    ensures same { IsTrue F.faithful → F.contents folder.new ≡ F.contents folder.old }
+    ensures left { IsTrue F.faithful → OnOk result ((row : List Path)
         × IsLeftAt (F.contents folder.old).files registered.now place.now row
         × (left.new.items ≡ left.old.items ++ row)) }
     ensures err { IfErr result (IsOfMachine (F.failures folder.old) (F.failures folder.new)) }
@@ -127,9 +127,9 @@ fn push_owner<F: Folder>(
     path: &TaskPath,
 ) -> Result<(), Fault>
     requires { IsOwner place.now (Some path.now) }
-    ensures asks { Asks F.failures F.may_leave F.asked no_change folder.old folder.new }
-    ensures same { IsTrue F.tells → F.contents folder.new ≡ F.contents folder.old }
-    ensures left { IsTrue F.tells → OnOk result ((row : List Path)
+    ensures requests { Requests F.failures F.may_leave F.allowed no_change folder.old folder.new }
+    ensures same { IsTrue F.faithful → F.contents folder.new ≡ F.contents folder.old }
+    ensures left { IsTrue F.faithful → OnOk result ((row : List Path)
         × IsLeftAt (F.contents folder.old).files registered.now place.now row
         × (left.new.items ≡ left.old.items ++ row)) }
     ensures err { IfErr result (IsOfMachine (F.failures folder.old) (F.failures folder.new)) }
@@ -146,9 +146,9 @@ fn is_left<F: Folder>(
     registered: &[TaskPath],
     path: &TaskPath,
 ) -> Result<bool, Fault>
-    ensures asks { Asks F.failures F.may_leave F.asked no_change folder.old folder.new }
-    ensures same { IsTrue F.tells → F.contents folder.new ≡ F.contents folder.old }
-    ensures left { IsTrue F.tells → IfOk result (λ is. (place : PlaceOf) → IsOwner place (Some path.now)
+    ensures requests { Requests F.failures F.may_leave F.allowed no_change folder.old folder.new }
+    ensures same { IsTrue F.faithful → F.contents folder.new ≡ F.contents folder.old }
+    ensures left { IsTrue F.faithful → IfOk result (λ is. (place : PlaceOf) → IsOwner place (Some path.now)
         → IsLeftAt (F.contents folder.old).files registered.now place (row_if is path.now)) }
     ensures err { IfErr result (IsOfMachine (F.failures folder.old) (F.failures folder.new)) }
 {
@@ -186,9 +186,9 @@ fn entries_of<F: Folder>(
     registered: &[TaskPath],
     places: &[Place],
 ) -> Result<Vec<Entry>, Fault>
-    ensures asks { Asks F.failures F.may_leave F.asked no_change folder.old folder.new }
-    ensures same { IsTrue F.tells → F.contents folder.new ≡ F.contents folder.old }
-    ensures entries { IsTrue F.tells → IfOk result (λ entries.
+    ensures requests { Requests F.failures F.may_leave F.allowed no_change folder.old folder.new }
+    ensures same { IsTrue F.faithful → F.contents folder.new ≡ F.contents folder.old }
+    ensures entries { IsTrue F.faithful → IfOk result (λ entries.
         AllZip (IsEntryOf (F.contents folder.old).files registered.now) places.now entries.items) }
     ensures err { IfErr result (IsOfMachine (F.failures folder.old) (F.failures folder.new)) }
 {
@@ -206,9 +206,9 @@ fn entry_of<F: Folder>(
     registered: &[TaskPath],
     place: &Place,
 ) -> Result<Entry, Fault>
-    ensures asks { Asks F.failures F.may_leave F.asked no_change folder.old folder.new }
-    ensures same { IsTrue F.tells → F.contents folder.new ≡ F.contents folder.old }
-    ensures entry { IsTrue F.tells → IfOk result
+    ensures requests { Requests F.failures F.may_leave F.allowed no_change folder.old folder.new }
+    ensures same { IsTrue F.faithful → F.contents folder.new ≡ F.contents folder.old }
+    ensures entry { IsTrue F.faithful → IfOk result
         (IsEntryOf (F.contents folder.old).files registered.now place.now) }
     ensures err { IfErr result (IsOfMachine (F.failures folder.old) (F.failures folder.new)) }
 {
@@ -227,9 +227,9 @@ fn record_entry<F: Folder>(
     path: TaskPath,
 ) -> Result<Entry, Fault>
     requires { IsOwner place.now (Some path) }
-    ensures asks { Asks F.failures F.may_leave F.asked no_change folder.old folder.new }
-    ensures same { IsTrue F.tells → F.contents folder.new ≡ F.contents folder.old }
-    ensures entry { IsTrue F.tells → IfOk result
+    ensures requests { Requests F.failures F.may_leave F.allowed no_change folder.old folder.new }
+    ensures same { IsTrue F.faithful → F.contents folder.new ≡ F.contents folder.old }
+    ensures entry { IsTrue F.faithful → IfOk result
         (IsEntryOf (F.contents folder.old).files registered.now place.now) }
     ensures err { IfErr result (IsOfMachine (F.failures folder.old) (F.failures folder.new)) }
 {
@@ -259,9 +259,9 @@ fn is_among(registered: &[TaskPath], path: &TaskPath) -> bool
 
 /// Whether there is a record of the task.
 fn has_record<F: Folder>(alloc: Global, folder: &mut F, path: &TaskPath) -> Result<bool, Fault>
-    ensures asks { Asks F.failures F.may_leave F.asked no_change folder.old folder.new }
-    ensures same { IsTrue F.tells → F.contents folder.new ≡ F.contents folder.old }
-    ensures read { IsTrue F.tells → IfOk result (λ has_record. (read : Option Record)
+    ensures requests { Requests F.failures F.may_leave F.allowed no_change folder.old folder.new }
+    ensures same { IsTrue F.faithful → F.contents folder.new ≡ F.contents folder.old }
+    ensures read { IsTrue F.faithful → IfOk result (λ has_record. (read : Option Record)
         × IsReadAt (F.contents folder.old).files path.now read × (has_record ≡ is_some read)) }
     ensures err { IfErr result (IsOfMachine (F.failures folder.old) (F.failures folder.new)) }
 {

@@ -3,7 +3,7 @@
 #![tactic(auto)]
 
 pub mod answers;
-pub mod asked;
+pub mod requested;
 pub mod drawn;
 pub mod inventory;
 pub mod laws;

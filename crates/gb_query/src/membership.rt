@@ -1,7 +1,7 @@
 //! Whether a file property includes a place.
 ghost use Rattle.std.specs.Prelude.{◌≡◌, ◌⊎◌, IfOk, IsTrue, false};
 ghost use Rattle.gb_core.specs.Place.{is_place, is_under};
-ghost use Rattle.gb_tree.specs.Property.{is_in, last_segment, lets_in, matches_any, seen_from};
+ghost use Rattle.gb_tree.specs.Property.{is_in, last_segment, lets_in, matches_any, relative_to};
 ghost use Rattle.gb_query.specs.Membership.{takes_in, takes_in_from};
 
 use gb_core::place::{Place, PlaceFault};
@@ -60,7 +60,7 @@ fn is_in(
     if is_own(place) {
         return Ok(false);
     }
-    let path = seen_from(alloc, root, place)?;
+    let path = relative_to(alloc, root, place)?;
     Ok(lets_in(include, exclude, &path))
 }
 
@@ -79,9 +79,9 @@ fn matches_any(patterns: &[Pattern], path: &Place) -> bool
 
 /// The path of a place from a root, as patterns match it: for the root itself, the name of the
 /// file.
-fn seen_from(alloc: Global, root: &Place, place: &Place) -> Result<Place, AllocError>
+fn relative_to(alloc: Global, root: &Place, place: &Place) -> Result<Place, AllocError>
     requires { IsTrue (is_under place.now root.now) }
-    ensures { IfOk result (λ path. path ≡ seen_from root.now place.now) }
+    ensures { IfOk result (λ path. path ≡ relative_to root.now place.now) }
 {
     if place == root {
         read_place(alloc, last_segment(place.as_str()))

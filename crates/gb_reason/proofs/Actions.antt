@@ -75,8 +75,8 @@ pub record Differs (kind : List ℕ) (first : ℕ) (xs ys : List Value) (reason 
   pub was : Value
   pub is : Value
   pub says : reasons.Argument kind (first + number) was is ≡ reason
-  pub in_old : (before : List Value) × (behind : List Value) × (xs ≡ before ++ was ∷ behind) × (number ≡ length before)
-  pub in_new : (before : List Value) × (behind : List Value) × (ys ≡ before ++ is ∷ behind) × (number ≡ length before)
+  pub in_old : (before : List Value) × (following : List Value) × (xs ≡ before ++ was ∷ following) × (number ≡ length before)
+  pub in_new : (before : List Value) × (following : List Value) × (ys ≡ before ++ is ∷ following) × (number ≡ length before)
   pub other : was ≢ is
 
 pub argument_of : (kind : List ℕ) (first : ℕ) (xs ys : List Value) (reason : Reason) → Contains (of_arguments kind first xs ys) reason → Differs kind first xs ys reason
@@ -85,7 +85,7 @@ argument_of kind first (x ∷ xs) [] reason h = absurd (contains_none reason h)
 argument_of kind first (x ∷ xs) (y ∷ ys) reason h =
     elim (Contains-append_cases (cond (is_value x y) [] (reasons.Argument kind first x y ∷ [])) (of_arguments kind (first + 1) xs ys) reason h) [
       | inl here ↦ at (is_value x y) refl here
-      | inr later ↦ behind (argument_of kind (first + 1) xs ys reason later)
+      | inr later ↦ following (argument_of kind (first + 1) xs ys reason later)
     ]
   where
     at : (b : Bool) → is_value x y ≡ b → Contains (cond b [] (reasons.Argument kind first x y ∷ [])) reason → Differs kind first (x ∷ xs) (y ∷ ys) reason
@@ -103,8 +103,8 @@ argument_of kind first (x ∷ xs) (y ∷ ys) reason h =
     one_more : (first number : ℕ) → first + suc number ≡ first + 1 + number
     one_more first number = omega arith
 
-    behind : Differs kind (first + 1) xs ys reason → Differs kind first (x ∷ xs) (y ∷ ys) reason
-    behind found = record {
+    following : Differs kind (first + 1) xs ys reason → Differs kind first (x ∷ xs) (y ∷ ys) reason
+    following found = record {
       number = suc found.number;
       was = found.was;
       is = found.is;
@@ -132,10 +132,10 @@ one_like action (other ∷ others) h = by (has_kind action other) refl (one_like
   where
     by : (b : Bool) → has_kind action other ≡ b → (Contains (map kind_of others) action.kind → list_any (has_kind action) others ≡ true)
         → (b || list_any (has_kind action) others) ≡ true
-    by true e behind = refl
-    by false e behind = elim (Contains-append_cases (other.kind ∷ []) (map kind_of others) action.kind h) [
+    by true e following = refl
+    by false e following = elim (Contains-append_cases (other.kind ∷ []) (map kind_of others) action.kind h) [
       | inl here ↦ absurd (true≢false (sym (kind_alike action other (sym (contains_one other.kind action.kind here))) ∙ e))
-      | inr later ↦ behind later
+      | inr later ↦ following later
     ]
 
 some_same : (kind other : List ℕ) → Some kind ≡ Some other → kind ≡ other

@@ -160,10 +160,10 @@ pub record AreOne (old new : OutputRecord) : Type 0 where
 pub output_back : (old new : OutputRecord) → is_output old new ≡ true → AreOne old new
 output_back old new e =
     let first = and_parts (bytes_eq old.prints.0 new.prints.0 && is_form old.form new.form) (bytes_eq old.place new.place) e in
-    let front = and_parts (bytes_eq old.prints.0 new.prints.0) (is_form old.form new.form) first.0 in
+    let prefix = and_parts (bytes_eq old.prints.0 new.prints.0) (is_form old.form new.form) first.0 in
     record {
-      name = bytes_back old.prints.0 new.prints.0 front.0;
-      form = form_back old.form new.form front.1;
+      name = bytes_back old.prints.0 new.prints.0 prefix.0;
+      form = form_back old.form new.form prefix.1;
       place = bytes_back old.place new.place first.1;
     }
 

@@ -51,8 +51,8 @@ module _ (old new : Record) where
   -- runs without a reported difference are the same
   pub no_difference : HasPathsInOrder old → HasPathsInOrder new → differences old new ≡ [] → old ≡ new
   no_difference p q none =
-      let front = both_none ((of_actions old new ++ of_values old new) ++ of_outputs old new) (of_inputs old new) none in
-      let middle = both_none (of_actions old new ++ of_values old new) (of_outputs old new) front.0 in
+      let prefix = both_none ((of_actions old new ++ of_values old new) ++ of_outputs old new) (of_inputs old new) none in
+      let middle = both_none (of_actions old new ++ of_values old new) (of_outputs old new) prefix.0 in
       let first = both_none (of_actions old new) (of_values old new) middle.0 in
       let actions : old.actions ≡ new.actions =
       part_same has_kind of_action (kind_reason old.actions new.actions) (λ _. Unit {0}) (λ x y _ _ e n. action_same x y e n) old.actions new.actions
@@ -64,7 +64,7 @@ module _ (old new : Record) where
       part_same is_output of_output reasons.OutputNames (λ output. HasOrder output.prints) output_same old.outputs new.outputs
       (orders old.outputs p.outputs) (orders new.outputs q.outputs) middle.1 in
       let inputs : old.inputs ≡ new.inputs =
-      part_same has_name of_files reasons.FileNames HasOrder files_same old.inputs new.inputs p.inputs q.inputs front.1 in
+      part_same has_name of_files reasons.FileNames HasOrder files_same old.inputs new.inputs p.inputs q.inputs prefix.1 in
       λ i. record { actions = actions i; values = values i; inputs = inputs i; outputs = outputs i }
 
 pub none_differs : (run : Record) → differences run run ≡ []
@@ -178,10 +178,10 @@ module _ (run : Record) (present : Present) where
       pair reported true e c = absurd (contains_none reason c)
       pair reported false e c =
           let same : reported.old.0 ≡ reported.new.0 = name_back reported.old reported.new reported.declared in
-          let stands : Contains present.now.values (reported.old.0, reported.new.1) =
+          let exists : Contains present.now.values (reported.old.0, reported.new.1) =
           subst (λ (name : List ℕ). Contains present.now.values (name, reported.new.1)) (sym same) reported.in_new in
           subst Real (contains_one (reasons.Value reported.old.0 reported.old.1 reported.new.1) reason c)
-          (reported.in_old, stands, value_other reported.old.1 reported.new.1 e)
+          (reported.in_old, exists, value_other reported.old.1 reported.new.1 e)
 
   real_output : (reason : Reason) → Contains (of_outputs run present.now) reason → Real reason
   real_output reason h = elim (part_reported is_output of_output reasons.OutputNames run.outputs present.now.outputs reason h) [
@@ -203,16 +203,16 @@ module _ (run : Record) (present : Present) where
     | inr reported ↦
         let m = from_map (reasons.File reported.old.0) (changes_between reported.old.1 reported.new.1) reason reported.reported in
         let same : reported.old.0 ≡ reported.new.0 = name_back reported.old reported.new reported.declared in
-        let stands : Contains present.now.inputs (reported.old.0, reported.new.1) =
+        let exists : Contains present.now.inputs (reported.old.0, reported.new.1) =
         subst (λ (name : List ℕ). Contains present.now.inputs (name, reported.new.1)) (sym same) reported.in_new in
-        subst Real m.is (reported.old.1, reported.new.1, reported.in_old, stands, reported-is_change reported.old.1 reported.new.1 m.from m.in_list)
+        subst Real m.is (reported.old.1, reported.new.1, reported.in_old, exists, reported-is_change reported.old.1 reported.new.1 m.from m.in_list)
   ]
 
   real_difference : (reason : Reason) → Contains (differences run present.now) reason → Real reason
   real_difference reason h =
       elim (Contains-append_cases ((of_actions run present.now ++ of_values run present.now) ++ of_outputs run present.now) (of_inputs run present.now) reason h) [
         | inr input ↦ real_input reason input
-        | inl front ↦ elim (Contains-append_cases (of_actions run present.now ++ of_values run present.now) (of_outputs run present.now) reason front) [
+        | inl prefix ↦ elim (Contains-append_cases (of_actions run present.now ++ of_values run present.now) (of_outputs run present.now) reason prefix) [
           | inr output ↦ real_output reason output
           | inl first ↦ elim (Contains-append_cases (of_actions run present.now) (of_values run present.now) reason first) [
             | inl action ↦ real_action reason action

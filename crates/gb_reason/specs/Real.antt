@@ -46,7 +46,7 @@ AreOfKind old new kind was is =
 -- the value of this number, counted from 1
 abbrev pub IsArgument : List Value → ℕ → Value → Type 0
 IsArgument args number value =
-    (before : List Value) × (behind : List Value) × (args ≡ before ++ value ∷ behind)
+    (before : List Value) × (following : List Value) × (args ≡ before ++ value ∷ following)
     × (number ≡ length before + 1)
 
 -- an input value of this name is not what it was
@@ -57,14 +57,14 @@ IsOtherValue old new name was is =
 -- the files of the output at this place changed in this way
 abbrev pub IsOutputChange : Record → Record → List ℕ → Change → Type 0
 IsOutputChange old new place change =
-    (left : OutputRecord) × (stands : OutputRecord) × Contains old.outputs left × Contains new.outputs stands
-    × (left.place ≡ place) × (stands.place ≡ place) × IsChange left.prints.1 stands.prints.1 change
+    (left : OutputRecord) × (exists : OutputRecord) × Contains old.outputs left × Contains new.outputs exists
+    × (left.place ≡ place) × (exists.place ≡ place) × IsChange left.prints.1 exists.prints.1 change
 
 -- the files of this property changed in this way
 abbrev pub IsFileChange : Record → Record → List ℕ → Change → Type 0
 IsFileChange old new name change =
-    (read : Tree) × (stands : Tree) × Contains old.inputs (name, read) × Contains new.inputs (name, stands)
-    × IsChange read stands change
+    (read : Tree) × (exists : Tree) × Contains old.inputs (name, read) × Contains new.inputs (name, exists)
+    × IsChange read exists change
 
 -- the reason is true of a record and of what the task has now
 abbrev pub IsRealFrom : Record → Present → Reason → Type 0

@@ -29,7 +29,7 @@ pub(crate) trait Part {
         ensures { result ≡ is_declared self.now other.now };
 
     /// Adds how the other differs.
-    fn tell(&self, other: &Self, alloc: Global, reasons: &mut Vec<Reason>) -> Result<(), AllocError>
+    fn report(&self, other: &Self, alloc: Global, reasons: &mut Vec<Reason>) -> Result<(), AllocError>
         ensures { OnOk result (reasons.new.items ≡ reasons.old.items ++ reported (self.now, other.now)) };
 }
 
@@ -49,7 +49,7 @@ fn are_declared_as<T: Part>(old: &[T], new: &[T]) -> bool
 }
 
 /// Adds how each differs from the one at the same index.
-fn tell_each<T: Part>(
+fn report_each<T: Part>(
     alloc: Global,
     old: &[T],
     new: &[T],
@@ -60,13 +60,13 @@ fn tell_each<T: Part>(
         ++ flat_map T.reported (zip old.now new.now)) }
 {
     for (at, one) in old.iter().enumerate() {
-        one.tell(&new[at], alloc, reasons)?;
+        one.report(&new[at], alloc, reasons)?;
     }
     Ok(())
 }
 
 /// Adds the one reason if the two are declared differently, and else how each differs.
-pub(crate) fn tell_part<T: Part>(
+pub(crate) fn report_part<T: Part>(
     alloc: Global,
     old: &[T],
     new: &[T],
@@ -77,7 +77,7 @@ pub(crate) fn tell_part<T: Part>(
         ≡ reasons.old.items ++ part T.is_declared T.reported otherwise old.now new.now) }
 {
     if are_declared_as(old, new) {
-        return tell_each(alloc, old, new, reasons);
+        return report_each(alloc, old, new, reasons);
     }
     reasons.push(otherwise)?;
     Ok(())
@@ -85,7 +85,7 @@ pub(crate) fn tell_part<T: Part>(
 
 /// Adds how actions differ: one by one if they are of the same kinds in order, and else by their
 /// kinds.
-pub(crate) fn tell_actions(
+pub(crate) fn report_actions(
     alloc: Global,
     old: &[Action],
     new: &[Action],
@@ -95,7 +95,7 @@ pub(crate) fn tell_actions(
         ++ part has_kind of_action (kind_reason old.now new.now) old.now new.now) }
 {
     if are_declared_as(old, new) {
-        return tell_each(alloc, old, new, reasons);
+        return report_each(alloc, old, new, reasons);
     }
     reasons.push(kind_reason(old, new)?)?;
     Ok(())
@@ -134,7 +134,7 @@ fn has_one_like(actions: &[Action], action: &Action) -> bool
 }
 
 /// Adds the arguments that differ.
-fn tell_arguments(
+fn report_arguments(
     alloc: Global,
     kind: &Name,
     old: &[Value],
@@ -146,13 +146,13 @@ fn tell_arguments(
         ≡ reasons.old.items ++ of_arguments kind.now 1 old.now new.now) }
 {
     for (at, was) in old.iter().enumerate() {
-        tell_argument(alloc, kind, at + 1, was, &new[at], reasons)?;
+        report_argument(alloc, kind, at + 1, was, &new[at], reasons)?;
     }
     Ok(())
 }
 
 /// Adds an argument, if it differs.
-fn tell_argument(
+fn report_argument(
     alloc: Global,
     kind: &Name,
     number: usize,
@@ -189,7 +189,7 @@ impl Part for (Name, Value) {
         self.0 == other.0
     }
 
-    fn tell(
+    fn report(
         &self,
         other: &(Name, Value),
         alloc: Global,
@@ -214,7 +214,7 @@ impl Part for Action {
         self.kind == other.kind
     }
 
-    fn tell(
+    fn report(
         &self,
         other: &Action,
         alloc: Global,
@@ -229,7 +229,7 @@ impl Part for Action {
             reasons.push(Reason::ArgumentCount(self.kind.copy()?))?;
             return Ok(());
         }
-        tell_arguments(alloc, &self.kind, was, is, reasons)
+        report_arguments(alloc, &self.kind, was, is, reasons)
     }
 }
 
@@ -246,7 +246,7 @@ impl Part for OutputRecord {
             && self.place == other.place
     }
 
-    fn tell(
+    fn report(
         &self,
         other: &OutputRecord,
         alloc: Global,
@@ -271,7 +271,7 @@ impl Part for Prints {
         self.name() == other.name()
     }
 
-    fn tell(
+    fn report(
         &self,
         other: &Prints,
         alloc: Global,

@@ -10,7 +10,7 @@ ghost use Rattle.gb_history.specs.declared.decide.Decision.{Decision};
 ghost use Rattle.gb_reason.specs.Real.{HasPathsInOrder};
 ghost use Rattle.gb_reason.specs.Reasons.{differences, reason_without, reasons_from, reasons_of};
 
-use crate::differing::{tell_actions, tell_part};
+use crate::differing::{report_actions, report_part};
 use crate::laws::none_is_up_to_date;
 use crate::reason::Reason;
 use gb_history::decide::Present;
@@ -100,12 +100,12 @@ fn differences(alloc: Global, old: &Record, new: &Record) -> Result<Vec<Reason>,
     ensures { IfOk result (λ found. found.items ≡ differences old.now new.now) }
 {
     let mut reasons = Vec::new(alloc);
-    tell_actions(alloc, old.actions(), new.actions(), &mut reasons)?;
+    report_actions(alloc, old.actions(), new.actions(), &mut reasons)?;
     let (was, is) = (old.values().as_slice(), new.values().as_slice());
-    tell_part(alloc, was, is, Reason::ValueNames, &mut reasons)?;
+    report_part(alloc, was, is, Reason::ValueNames, &mut reasons)?;
     let (was, is) = (old.outputs(), new.outputs());
-    tell_part(alloc, was, is, Reason::OutputNames, &mut reasons)?;
-    tell_part(
+    report_part(alloc, was, is, Reason::OutputNames, &mut reasons)?;
+    report_part(
         alloc,
         old.inputs(),
         new.inputs(),

@@ -14,7 +14,7 @@ use Rattle.gb_history.specs.Text.{record_text}
 use Rattle.gb_meaning.specs.Events.{max_record}
 use Rattle.gb_plan.specs.Task.{Path}
 use Rattle.gb_records.specs.Called.{Deletion, Storing, WasHindered, deletion_ending, has_no_place, storing_ending}
-use Rattle.gb_records.specs.Standing.{is_too_long}
+use Rattle.gb_records.specs.Holding.{is_too_long}
 use Rattle.gb_records.specs.declared.fault.Unwritten.{Unwritten}
 use Rattle.gb_records.specs.declared.fault.Unwritten.TheVariants as unwritten
 

@@ -24,14 +24,14 @@ use Rattle.gb_history.specs.Text.{record_text}
 use Rattle.gb_history.specs.declared.record.Edition.TheVariants as editions
 use Rattle.gb_history.proofs.Lists.{all_true}
 use Rattle.gb_meaning.specs.Events.{max_record}
-use Rattle.gb_meaning.specs.Headline.{TearsAreSeen}
+use Rattle.gb_meaning.specs.Headline.{TornWritesAreDetected}
 use Rattle.gb_meaning.specs.Memory.{Entry, Memory, remember, forget}
 use Rattle.gb_meaning.specs.TrueRecord.{SaysNoRecord}
 use Rattle.gb_meaning.proofs.Lemmas.Files.{same_place}
 use Rattle.gb_records.specs.Faults.{none_for, removed_by, unwritten_for}
 use Rattle.gb_records.specs.Said.{IsText, IsSaidOf, IsReadAt}
-use Rattle.gb_records.specs.Standing.{ComesToNothing, Standing, StandsWithout, StandsWith, taken_out, written_in}
-use Rattle.gb_records.proofs.Standing.{at_left, elsewhere_left, forgotten, remembered, torn_in, torn_out}
+use Rattle.gb_records.specs.Holding.{ComesToNothing, HoldsRecords, HoldsWithout, HoldsWith, taken_out, written_in}
+use Rattle.gb_records.proofs.Holding.{at_left, elsewhere_left, forgotten, remembered, torn_in, torn_out}
 
 or_true : (b : Bool) → (b || true) ≡ true
 or_true true = refl
@@ -69,30 +69,30 @@ nothing_of may_leave path before after old new folders.Blocked same rose torn bl
 nothing_of may_leave path before after old new folders.TooLarge same rose torn blocked large named = absurd (large refl)
 nothing_of may_leave path before after old new folders.BadFileName same rose torn blocked large named = absurd (named refl)
 
-pub gone : (path : Path) (old new : Contents) (memory : Memory) → IsTrue (is_task_path path) → new ≡ taken_out true path old → Standing old.files memory
-    → Standing new.files (forget memory path)
-gone path old new memory good out stood =
-    subst (λ (c : Contents). Standing c.files (forget memory path)) (sym out)
-    (forgotten old.files (without old.files (record_place path)) memory path good stood (elsewhere_left old.files path None)
+pub gone : (path : Path) (old new : Contents) (memory : Memory) → IsTrue (is_task_path path) → new ≡ taken_out true path old → HoldsRecords old.files memory
+    → HoldsRecords new.files (forget memory path)
+gone path old new memory good out existed =
+    subst (λ (c : Contents). HoldsRecords c.files (forget memory path)) (sym out)
+    (forgotten old.files (without old.files (record_place path)) memory path good existed (elsewhere_left old.files path None)
     (subst (SaysNoRecord IsText path) (sym (at_left old.files (record_place path) None)) tt))
 
-same_stands : (old new : Contents) (memory : Memory) → new ≡ old → Standing old.files memory → Standing new.files memory
-same_stands old new memory same stood = subst (λ (c : Contents). Standing c.files memory) (sym same) stood
+same_exists : (old new : Contents) (memory : Memory) → new ≡ old → HoldsRecords old.files memory → HoldsRecords new.files memory
+same_exists old new memory same existed = subst (λ (c : Contents). HoldsRecords c.files memory) (sym same) existed
 
-pub stands_out : (may_leave : Tearing) (path : Path) (old new : Contents) (fault : FolderFault) (memory : Memory) → IsTrue (is_task_path path)
+pub exists_out : (may_leave : Tearing) (path : Path) (old new : Contents) (fault : FolderFault) (memory : Memory) → IsTrue (is_task_path path)
     → IsFolder old.files → (fault ≢ folders.Device → new ≡ old) → (fault ≡ folders.Missing → file_at old.files (record_place path) ≡ None)
-    → (fault ≡ folders.Device → LeftAt may_leave (record_place path) None old new) → TearsAreSeen IsText record_place may_leave
-    → Standing old.files memory → StandsWithout path memory (removed_by fault) new.files
-stands_out may_leave path old new folders.OutOfMemory memory good sound same missing torn seen stood = same_stands old new memory (same (λ e. cc)) stood
-stands_out may_leave path old new folders.Device memory good sound same missing torn seen stood =
+    → (fault ≡ folders.Device → LeftAt may_leave (record_place path) None old new) → TornWritesAreDetected IsText record_place may_leave
+    → HoldsRecords old.files memory → HoldsWithout path memory (removed_by fault) new.files
+exists_out may_leave path old new folders.OutOfMemory memory good sound same missing torn observed existed = same_exists old new memory (same (λ e. cc)) existed
+exists_out may_leave path old new folders.Device memory good sound same missing torn observed existed =
     let t = torn refl in
-    subst (λ (c : Contents). Standing c.files memory ⊎ Standing c.files (forget memory path)) (sym t.2)
-    (torn_out may_leave old.files memory path t.0 good seen t.1 stood)
-stands_out may_leave path old new folders.Missing memory good sound same missing torn seen stood =
-    gone path old new memory good (out_missing path old new sound (same (λ e. cc)) (missing refl)) stood
-stands_out may_leave path old new folders.Blocked memory good sound same missing torn seen stood = inl (same_stands old new memory (same (λ e. cc)) stood)
-stands_out may_leave path old new folders.TooLarge memory good sound same missing torn seen stood = inl (same_stands old new memory (same (λ e. cc)) stood)
-stands_out may_leave path old new folders.BadFileName memory good sound same missing torn seen stood = inl (same_stands old new memory (same (λ e. cc)) stood)
+    subst (λ (c : Contents). HoldsRecords c.files memory ⊎ HoldsRecords c.files (forget memory path)) (sym t.2)
+    (torn_out may_leave old.files memory path t.0 good observed t.1 existed)
+exists_out may_leave path old new folders.Missing memory good sound same missing torn observed existed =
+    gone path old new memory good (out_missing path old new sound (same (λ e. cc)) (missing refl)) existed
+exists_out may_leave path old new folders.Blocked memory good sound same missing torn observed existed = inl (same_exists old new memory (same (λ e. cc)) existed)
+exists_out may_leave path old new folders.TooLarge memory good sound same missing torn observed existed = inl (same_exists old new memory (same (λ e. cc)) existed)
+exists_out may_leave path old new folders.BadFileName memory good sound same missing torn observed existed = inl (same_exists old new memory (same (λ e. cc)) existed)
 
 -- ---- a write
 
@@ -107,27 +107,27 @@ text_said path run utf8 held short = record {
 }
 
 pub put : (path : Path) (old new : Contents) (memory : Memory) (entry : Entry) (run : Record) → IsTrue (is_task_path path) → new ≡ written_in path run old
-    → IsText path run (record_text path run) → IsSaidOf run entry → Standing old.files memory → Standing new.files (remember memory path entry)
-put path old new memory entry run good written said of stood =
-    subst (λ (c : Contents). Standing c.files (remember memory path entry)) (sym written)
-    (remembered old.files (with_file old.files (record_place path) (record_text path run)) memory path entry (record_text path run) good stood
+    → IsText path run (record_text path run) → IsSaidOf run entry → HoldsRecords old.files memory → HoldsRecords new.files (remember memory path entry)
+put path old new memory entry run good written said of existed =
+    subst (λ (c : Contents). HoldsRecords c.files (remember memory path entry)) (sym written)
+    (remembered old.files (with_file old.files (record_place path) (record_text path run)) memory path entry (record_text path run) good existed
     (elsewhere_left old.files path (Some (record_text path run))) (at_left old.files (record_place path) (Some (record_text path run)))
     (subst (λ s. IsText path s (record_text path run)) of said))
 
-pub stands_in : (may_leave : Tearing) (path : Path) (old new : Contents) (fault : FolderFault) (memory : Memory) (entry : Entry) (run : Record)
+pub exists_in : (may_leave : Tearing) (path : Path) (old new : Contents) (fault : FolderFault) (memory : Memory) (entry : Entry) (run : Record)
     → IsTrue (is_task_path path) → (fault ≢ folders.Device → new ≡ old)
-    → (fault ≡ folders.Device → LeftAt may_leave (record_place path) (Some (record_text path run)) old new) → TearsAreSeen IsText record_place may_leave
-    → IsText path run (record_text path run) → IsSaidOf run entry → Standing old.files memory
-    → StandsWith path entry memory (Err (unwritten_for fault)) new.files
-stands_in may_leave path old new folders.OutOfMemory memory entry run good same torn seen said of stood = same_stands old new memory (same (λ e. cc)) stood
-stands_in may_leave path old new folders.Device memory entry run good same torn seen said of stood =
+    → (fault ≡ folders.Device → LeftAt may_leave (record_place path) (Some (record_text path run)) old new) → TornWritesAreDetected IsText record_place may_leave
+    → IsText path run (record_text path run) → IsSaidOf run entry → HoldsRecords old.files memory
+    → HoldsWith path entry memory (Err (unwritten_for fault)) new.files
+exists_in may_leave path old new folders.OutOfMemory memory entry run good same torn observed said of existed = same_exists old new memory (same (λ e. cc)) existed
+exists_in may_leave path old new folders.Device memory entry run good same torn observed said of existed =
     let t = torn refl in
-    subst (λ (c : Contents). Standing c.files memory ⊎ Standing c.files (remember memory path entry) ⊎ Standing c.files (forget memory path)) (sym t.2)
-    (torn_in may_leave old.files memory path entry (record_text path run) t.0 good seen (subst (λ s. IsText path s (record_text path run)) of said) t.1 stood)
-stands_in may_leave path old new folders.Missing memory entry run good same torn seen said of stood = inl (same_stands old new memory (same (λ e. cc)) stood)
-stands_in may_leave path old new folders.Blocked memory entry run good same torn seen said of stood = inl (same_stands old new memory (same (λ e. cc)) stood)
-stands_in may_leave path old new folders.TooLarge memory entry run good same torn seen said of stood = inl (same_stands old new memory (same (λ e. cc)) stood)
-stands_in may_leave path old new folders.BadFileName memory entry run good same torn seen said of stood = inl (same_stands old new memory (same (λ e. cc)) stood)
+    subst (λ (c : Contents). HoldsRecords c.files memory ⊎ HoldsRecords c.files (remember memory path entry) ⊎ HoldsRecords c.files (forget memory path)) (sym t.2)
+    (torn_in may_leave old.files memory path entry (record_text path run) t.0 good observed (subst (λ s. IsText path s (record_text path run)) of said) t.1 existed)
+exists_in may_leave path old new folders.Missing memory entry run good same torn observed said of existed = inl (same_exists old new memory (same (λ e. cc)) existed)
+exists_in may_leave path old new folders.Blocked memory entry run good same torn observed said of existed = inl (same_exists old new memory (same (λ e. cc)) existed)
+exists_in may_leave path old new folders.TooLarge memory entry run good same torn observed said of existed = inl (same_exists old new memory (same (λ e. cc)) existed)
+exists_in may_leave path old new folders.BadFileName memory entry run good same torn observed said of existed = inl (same_exists old new memory (same (λ e. cc)) existed)
 
 -- ---- a read
 

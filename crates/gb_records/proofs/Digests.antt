@@ -23,11 +23,11 @@ use Rattle.gb_meaning.specs.Memory.{Entry, entry_of, output_files}
 use Rattle.gb_meaning.specs.TrueRecord.{contents_in, contents_of, output_record_of, prints_of, record_of}
 use Rattle.gb_meaning.proofs.Lemmas.Files.{at-where, same_files, sorted-where}
 use Rattle.gb_meaning.proofs.Lemmas.Making.{IsRight, made_of_is_right}
-use Rattle.gb_records.specs.Digests.{IsClearTo, RecordsTellEntries, UpToDateIsCurrent}
+use Rattle.gb_records.specs.Digests.{IsClearTo, RecordsDetermineEntries, UpToDateIsCurrent}
 use Rattle.gb_meaning.specs.Label.{IsCurrent}
 use Rattle.gb_meaning.proofs.Common.{some_same}
 use Rattle.gb_history.specs.Decision.{IsUpToDate}
-use Rattle.gb_records.proofs.Apart.{found_from, output_seen, trees_back}
+use Rattle.gb_records.proofs.Separate.{found_from, output_observed, trees_back}
 use Rattle.gb_records.proofs.Calls.{unplaced}
 use Rattle.gb_records.proofs.Placed.{made_placed}
 use Rattle.gb_records.proofs.Outputs.{output_trees, prints_reported, same_outputs}
@@ -95,7 +95,7 @@ trees_in all (tree ∷ trees) h = (
 
 outputs_in : (all : List Bytes) (files : Files) → InAll all files → (outputs : List Output) → AllByRecursion (λ (tree : List ℕ × Tree). InAll all tree.1) (output_trees files outputs)
 outputs_in all files in_all [] = tt
-outputs_in all files in_all (output ∷ outputs) = (output_seen (Contains all) files in_all output.place, outputs_in all files in_all outputs)
+outputs_in all files in_all (output ∷ outputs) = (output_observed (Contains all) files in_all output.place, outputs_in all files in_all outputs)
 
 -- ---- entries
 
@@ -151,11 +151,11 @@ files_reported kinds task files entry clear e =
         ∙ ap prints_in e ∙ prints_reported now.files task.outputs
 
     trees : output_trees entry.files task.outputs ≡ output_trees now.files task.outputs
-    trees = trees_back sha256 (Contains all) clear.apart _ _ (outputs_in all entry.files (files_in all entry (old_in entry now)) task.outputs)
+    trees = trees_back sha256 (Contains all) clear.separate _ _ (outputs_in all entry.files (files_in all entry (old_in entry now)) task.outputs)
         (outputs_in all now.files (files_in all now (now_in entry now)) task.outputs) reported
 
-pub records_tell_entries : RecordsTellEntries
-records_tell_entries kinds task files entry clear e =
+pub records_determine_entries : RecordsDetermineEntries
+records_determine_entries kinds task files entry clear e =
     same_entries entry now (ap (λ (r : Record). r.actions) e) (ap (λ (r : Record). r.values) e) inputs outputs
     (files_reported kinds task files entry clear (ap (λ (r : Record). r.outputs) e))
   where
@@ -169,7 +169,7 @@ records_tell_entries kinds task files entry clear e =
     outputs = same_outputs entry now (ap (λ (r : Record). r.outputs) e)
 
     inputs : entry.inputs ≡ now.inputs
-    inputs = trees_back sha256 (Contains all) clear.apart entry.inputs now.inputs (inputs_in all entry (old_in entry now)) (inputs_in all now (now_in entry now)) (ap (λ (r : Record). r.inputs) e)
+    inputs = trees_back sha256 (Contains all) clear.separate entry.inputs now.inputs (inputs_in all entry (old_in entry now)) (inputs_in all now (now_in entry now)) (ap (λ (r : Record). r.inputs) e)
 
 -- ---- up to date
 
@@ -188,7 +188,7 @@ up_to_date_is_current kinds options task world entry run present remembered of i
       has_outputs = sym outputs ∙ u.has_outputs;
       not_stale = sym is.stale ∙ u.not_stale;
       no_rerun = sym is.rerun ∙ u.no_rerun;
-      same = remembered ∙ ap Some (records_tell_entries kinds task world.folder.files entry clear (sym of ∙ u.same ∙ is.now));
+      same = remembered ∙ ap Some (records_determine_entries kinds task world.folder.files entry clear (sym of ∙ u.same ∙ is.now));
     }
 
     backward : IsCurrent options task world → IsUpToDate run present

@@ -40,11 +40,11 @@ module _ (kinds : Kinds) (options : Options) (task : Task) (files : Files) (entr
   right : IsRight (is_incremental present.incremental.items) task.files
   right = subst (λ names. IsRight (is_incremental names) task.files) (sym is.incremental) (names_right files task.files sorted)
 
-  old_seen : AllByRecursion (λ (tree : List ℕ × Tree). InAll all tree.1) entry.inputs
-  old_seen = inputs_in all entry (old_in entry (entry_of task files))
+  old_observed : AllByRecursion (λ (tree : List ℕ × Tree). InAll all tree.1) entry.inputs
+  old_observed = inputs_in all entry (old_in entry (entry_of task files))
 
-  now_seen : AllByRecursion (λ (tree : List ℕ × Tree). InAll all tree.1) (named_trees files task.files)
-  now_seen = inputs_in all (entry_of task files) (now_in entry (entry_of task files))
+  now_observed : AllByRecursion (λ (tree : List ℕ × Tree). InAll all tree.1) (named_trees files task.files)
+  now_observed = inputs_in all (entry_of task files) (now_in entry (entry_of task files))
 
   run_inputs : run.inputs ≡ prints_of sha256 entry.inputs
   run_inputs = ap (λ (r : Record). r.inputs) of
@@ -53,7 +53,7 @@ module _ (kinds : Kinds) (options : Options) (task : Task) (files : Files) (entr
   now_inputs = ap (λ (r : Record). r.inputs) is.now
 
   pub same_trees : AllZip (IsAlike present.incremental.items) run.inputs present.now.inputs → AllZip (SameUnless (is_incremental present.incremental.items)) entry.inputs (named_trees files task.files)
-  same_trees alike = alike_trees all clear.apart present.incremental.items entry.inputs (named_trees files task.files) old_seen now_seen
+  same_trees alike = alike_trees all clear.separate present.incremental.items entry.inputs (named_trees files task.files) old_observed now_observed
       (subst (λ (inputs : List Prints). AllZip (IsAlike present.incremental.items) (prints_of sha256 entry.inputs) inputs) now_inputs
       (subst (λ (inputs : List Prints). AllZip (IsAlike present.incremental.items) inputs present.now.inputs) run_inputs alike))
 
@@ -61,12 +61,12 @@ module _ (kinds : Kinds) (options : Options) (task : Task) (files : Files) (entr
   same_prints same =
       subst (λ (inputs : List Prints). AllZip (IsAlike present.incremental.items) inputs present.now.inputs) (sym run_inputs)
       (subst (λ (inputs : List Prints). AllZip (IsAlike present.incremental.items) (prints_of sha256 entry.inputs) inputs) (sym now_inputs)
-      (alike_prints all clear.apart present.incremental.items entry.inputs (named_trees files task.files) same))
+      (alike_prints all clear.separate present.incremental.items entry.inputs (named_trees files task.files) same))
 
   pub reported : IsSince run present → changes_since run present ≡ changes_from task entry.inputs files
   reported since =
       ap₂ (λ (x y : List Prints). flat_map (changes_of present.incremental.items) (zip x y)) run_inputs now_inputs
-      ∙ changes_reported all clear.apart files present.incremental.items entry.inputs task.files old_seen now_seen (same_trees since.alike) right sorted
+      ∙ changes_reported all clear.separate files present.incremental.items entry.inputs task.files old_observed now_observed (same_trees since.alike) right sorted
 
 pub changes_are_of_contents : ChangesAreOfContents
 changes_are_of_contents kinds options task files entry run present of is clear since = reported kinds options task files entry run present of is clear since

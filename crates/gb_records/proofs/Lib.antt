@@ -1,7 +1,7 @@
-pub mod Standing
+pub mod Holding
 pub mod Calls
 pub mod Reported
-pub mod Apart
+pub mod Separate
 pub mod Placed
 pub mod Outputs
 pub mod Digests

@@ -18,31 +18,31 @@ use Rattle.gb_plan.specs.declared.task.Output.{Output}
 use Rattle.gb_meaning.specs.Kinds.{Kinds, kind_of}
 use Rattle.gb_meaning.specs.Made.{act, fault_if, file_faults, made_of, placed, put_over, put_result, step_faults}
 
-abbrev stand : List (Place × Bytes) → Bool
-stand files = list_all (λ (file : Place × Bytes). is_place file.0) files
+abbrev exist : List (Place × Bytes) → Bool
+exist files = list_all (λ (file : Place × Bytes). is_place file.0) files
 
 both : (a b : Bool) → a ≡ true → b ≡ true → (a && b) ≡ true
 both a b p q = rw (p, q) refl
 
 -- files put over others are at places if both are
-put_stands : (held : Files) (files : List (Place × Bytes)) → stand files ≡ true → are_placed held ≡ true → are_placed (put_over held files) ≡ true
-put_stands held [] all placed = placed
-put_stands held (file ∷ files) all at =
-    let parts = and_parts (is_place file.0) (stand files) all in
-    put_stands (with_file held file.0 file.1) files parts.1 (all_put is_place file.0 file.1 held ∙ both (is_place file.0) (are_placed held) parts.0 at)
+put_exists : (held : Files) (files : List (Place × Bytes)) → exist files ≡ true → are_placed held ≡ true → are_placed (put_over held files) ≡ true
+put_exists held [] all placed = placed
+put_exists held (file ∷ files) all at =
+    let parts = and_parts (is_place file.0) (exist files) all in
+    put_exists (with_file held file.0 file.1) files parts.1 (all_put is_place file.0 file.1 held ∙ both (is_place file.0) (are_placed held) parts.0 at)
 
 -- and only then
-held_stands : (held : Files) (files : List (Place × Bytes)) → are_placed (put_over held files) ≡ true → are_placed held ≡ true
-held_stands held [] at = at
-held_stands held (file ∷ files) at =
-    let more : (is_place file.0 && are_placed held) ≡ true = sym (all_put is_place file.0 file.1 held) ∙ held_stands (with_file held file.0 file.1) files at in
+held_exists : (held : Files) (files : List (Place × Bytes)) → are_placed (put_over held files) ≡ true → are_placed held ≡ true
+held_exists held [] at = at
+held_exists held (file ∷ files) at =
+    let more : (is_place file.0 && are_placed held) ≡ true = sym (all_put is_place file.0 file.1 held) ∙ held_exists (with_file held file.0 file.1) files at in
     (and_parts (is_place file.0) (are_placed held) more).1
 
-new_stand : (held : Files) (files : List (Place × Bytes)) → are_placed (put_over held files) ≡ true → stand files ≡ true
-new_stand held [] at = refl
-new_stand held (file ∷ files) at =
-    let more : (is_place file.0 && are_placed held) ≡ true = sym (all_put is_place file.0 file.1 held) ∙ held_stands (with_file held file.0 file.1) files at in
-    both (is_place file.0) (stand files) (and_parts (is_place file.0) (are_placed held) more).0 (new_stand (with_file held file.0 file.1) files at)
+new_exist : (held : Files) (files : List (Place × Bytes)) → are_placed (put_over held files) ≡ true → exist files ≡ true
+new_exist held [] at = refl
+new_exist held (file ∷ files) at =
+    let more : (is_place file.0 && are_placed held) ≡ true = sym (all_put is_place file.0 file.1 held) ∙ held_exists (with_file held file.0 file.1) files at in
+    both (is_place file.0) (exist files) (and_parts (is_place file.0) (are_placed held) more).0 (new_exist (with_file held file.0 file.1) files at)
 
 -- parts of a list without a fault have none
 none_before : (faults more : List Fault) → is_empty (faults ++ more) ≡ true → is_empty more ≡ true
@@ -53,10 +53,10 @@ none_first : (one two more : List Fault) → is_empty ((one ++ two) ++ more) ≡
 none_first [] two more e = e
 none_first (fault ∷ one) two more e = absurd (true≢false (sym e))
 
-unhindered : (all : Files) (files : List (Place × Bytes)) (more : List Fault) → is_empty (flat_map (file_faults all) files ++ more) ≡ true → stand files ≡ true
+unhindered : (all : Files) (files : List (Place × Bytes)) (more : List Fault) → is_empty (flat_map (file_faults all) files ++ more) ≡ true → exist files ≡ true
 unhindered all [] more e = refl
 unhindered all (file ∷ files) more e =
-    both (is_place file.0) (stand files) (by (is_place file.0) e)
+    both (is_place file.0) (exist files) (by (is_place file.0) e)
     (unhindered all files more (none_first (file_faults all file) (flat_map (file_faults all) files) more e))
   where
     by : (b : Bool) → is_empty (((fault_if (not b) (faults.BadPlace file.0) ++ fault_if (is_blocked all file.0) (faults.Blocked file.0)
@@ -78,7 +78,7 @@ module _ (kinds : Kinds) (outputs : List Output) (values : Values) (trees : Tree
       by : (b : Bool) → is_empty (step_faults outputs held (placed outputs written)) ≡ b
           → AreAtPlaces (cond b (Ok (put_over held (placed outputs written))) (Err (step_faults outputs held (placed outputs written))))
       by false e = tt
-      by true e = put_stands held (placed outputs written) (new_stand [] (placed outputs written) (unhindered (put_over held (placed outputs written)) (put_over [] (placed outputs written)) _ e)) at
+      by true e = put_exists held (placed outputs written) (new_exist [] (placed outputs written) (unhindered (put_over held (placed outputs written)) (put_over [] (placed outputs written)) _ e)) at
 
   act_at_places : (held : Result Files (List Fault)) → AreAtPlaces held → (action : Action) → AreAtPlaces (act kinds outputs values trees held action)
   act_at_places (Err fault) at action = tt

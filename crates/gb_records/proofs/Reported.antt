@@ -5,8 +5,8 @@ use Rattle.gb_folder.proofs.Changes.{file_at-files_where}
 use Rattle.gb_plan.specs.Task.{Path}
 use Rattle.gb_history.specs.Places.{record_place}
 use Rattle.gb_history.proofs.OneText.{one_text}
-use Rattle.gb_history.proofs.Places.{apart, none_beneath, IsUtf8-path}
-use Rattle.gb_records.specs.Laws.{TextsAreRecords, StandsElsewhere, StandsForMemory}
+use Rattle.gb_history.proofs.Places.{separate, none_beneath, IsUtf8-path}
+use Rattle.gb_records.specs.Laws.{TextsAreRecords, HoldsElsewhere, HoldsForMemory}
 use Rattle.gb_records.proofs.Calls.{text_said}
 
 pub texts_are_records : TextsAreRecords
@@ -15,18 +15,18 @@ texts_are_records = record {
   short = λ path run bytes a. a.short;
   back = λ path run good held short. text_said path run (IsUtf8-path path good) held short;
   own = λ path. refl;
-  apart = apart;
+  separate = separate;
   none_beneath = none_beneath;
 }
 
 own_place : (path : Path) → is_own (record_place path) ≡ true
 own_place path = refl
 
-pub stands_elsewhere : StandsElsewhere
-stands_elsewhere old new memory differs stood = record {
-  in_order = stood.in_order;
-  of_tasks = stood.of_tasks;
-  records = λ path good. rw (same path) (stood.records path good);
+pub holds_elsewhere : HoldsElsewhere
+holds_elsewhere old new memory differs existed = record {
+  in_order = existed.in_order;
+  of_tasks = existed.of_tasks;
+  records = λ path good. rw (same path) (existed.records path good);
 }
   where
     found : (files : Files) (path : Path) → file_at (files_where (λ place. not (not (is_own place))) files) (record_place path) ≡ file_at files (record_place path)
@@ -35,11 +35,11 @@ stands_elsewhere old new memory differs stood = record {
     same : (path : Path) → file_at new (record_place path) ≡ file_at old (record_place path)
     same path = sym (found new path) ∙ ap (λ files. file_at files (record_place path)) differs ∙ found old path
 
-pub stands_for_memory : StandsForMemory
-stands_for_memory kinds folder memory sound made stood = record {
+pub holds_for_memory : HoldsForMemory
+holds_for_memory kinds folder memory sound made existed = record {
   is_folder = sound;
-  in_order = stood.in_order;
-  of_tasks = stood.of_tasks;
-  records = stood.records;
+  in_order = existed.in_order;
+  of_tasks = existed.of_tasks;
+  records = existed.records;
   made = made;
 }

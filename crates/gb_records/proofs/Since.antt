@@ -21,7 +21,7 @@ use Rattle.gb_plan.specs.declared.task.FileProperty.{FileProperty}
 use Rattle.gb_meaning.specs.Tree.{tree_of}
 use Rattle.gb_meaning.specs.TrueRecord.{prints_of}
 use Rattle.gb_history.specs.Decision.{IsAlike, changes_of, is_incremental}
-use Rattle.gb_records.proofs.Apart.{tree_back}
+use Rattle.gb_records.proofs.Separate.{tree_back}
 
 -- ---- properties by their names, which strictly rise
 
@@ -43,18 +43,18 @@ not_tied Less e = refl
 not_tied Equal e = absurd (true≢false (sym e))
 not_tied Greater e = absurd (true≢false (sym e))
 
-apart_names : (name : List ℕ) (files : Files) (properties : List FileProperty) → below_all byte_order name (named_trees files properties) ≡ true
+distinct_names : (name : List ℕ) (files : Files) (properties : List FileProperty) → below_all byte_order name (named_trees files properties) ≡ true
     → AllByRecursion (λ (property : FileProperty). bytes_eq property.name name ≡ false) properties
-apart_names name files [] h = tt
-apart_names name files (property ∷ properties) h =
+distinct_names name files [] h = tt
+distinct_names name files (property ∷ properties) h =
     let parts = and_parts (is_lt (byte_order name property.name)) (below_all byte_order name (named_trees files properties)) h in
-    (by (bytes_eq property.name name) refl (not_tied (byte_order name property.name) parts.0), apart_names name files properties parts.1)
+    (by (bytes_eq property.name name) refl (not_tied (byte_order name property.name) parts.0), distinct_names name files properties parts.1)
   where
     by : (b : Bool) → bytes_eq property.name name ≡ b → eq_by_cmp byte_order name property.name ≡ false → b ≡ false
-    by true e apart =
+    by true e separate =
         let same : property.name ≡ name = (bytes_decides property.name name).0 e in
-        absurd (true≢false (sym (is_eq-slice_cmp name property.name ∙ (bytes_decides name property.name).1 (sym same)) ∙ apart))
-    by false e apart = refl
+        absurd (true≢false (sym (is_eq-slice_cmp name property.name ∙ (bytes_decides name property.name).1 (sym same)) ∙ separate))
+    by false e separate = refl
 
 ties_itself : (name : List ℕ) → eq_by_cmp byte_order name name ≡ true
 ties_itself name = is_eq-slice_cmp name name ∙ (bytes_decides name name).1 refl
@@ -72,29 +72,29 @@ at_later name other tree trees e = ap (λ b. unwrap_or (cond b (Some tree) (find
 abbrev pub SameUnless : (List ℕ → Bool) → List ℕ × Tree → List ℕ × Tree → Type 0
 SameUnless test old new = (old.0 ≡ new.0) × (test old.0 ≡ false → old.1 ≡ new.1)
 
-module _ (all : List Bytes) (apart : (a b : Bytes) → Contains all a → Contains all b → sha256 a ≡ sha256 b → a ≡ b) where
-  abbrev AreSeen : Trees → Type 0
-  AreSeen trees = AllByRecursion (λ (tree : List ℕ × Tree). AllByRecursion (λ (file : Place × Bytes). Contains all file.1) tree.1) trees
+module _ (all : List Bytes) (separate : (a b : Bytes) → Contains all a → Contains all b → sha256 a ≡ sha256 b → a ≡ b) where
+  abbrev AreObserved : Trees → Type 0
+  AreObserved trees = AllByRecursion (λ (tree : List ℕ × Tree). AllByRecursion (λ (file : Place × Bytes). Contains all file.1) tree.1) trees
 
-  pub alike_trees : (incremental : List (List ℕ)) (old new : Trees) → AreSeen old → AreSeen new
+  pub alike_trees : (incremental : List (List ℕ)) (old new : Trees) → AreObserved old → AreObserved new
       → AllZip (IsAlike incremental) (prints_of sha256 old) (prints_of sha256 new) → AllZip (SameUnless (is_incremental incremental)) old new
   alike_trees incremental [] [] p q alike = tt
   alike_trees incremental [] (b ∷ new) p q alike = absurd alike
   alike_trees incremental (a ∷ old) [] p q alike = absurd alike
   alike_trees incremental (a ∷ old) (b ∷ new) p q alike =
-      ((alike.0.0, λ no. tree_back sha256 (Contains all) apart a.1 b.1 p.0 q.0 (alike.0.1 no)), alike_trees incremental old new p.1 q.1 alike.1)
+      ((alike.0.0, λ no. tree_back sha256 (Contains all) separate a.1 b.1 p.0 q.0 (alike.0.1 no)), alike_trees incremental old new p.1 q.1 alike.1)
 
-  seen_in : (tree : Tree) → AllByRecursion (λ (file : Place × Bytes). Contains all file.1) tree → (path bytes : List ℕ) → file_at tree path ≡ Some bytes → Contains all bytes
-  seen_in [] h path bytes e = absurd (cc)
-  seen_in (file ∷ tree) h path bytes e =
+  observed_in : (tree : Tree) → AllByRecursion (λ (file : Place × Bytes). Contains all file.1) tree → (path bytes : List ℕ) → file_at tree path ≡ Some bytes → Contains all bytes
+  observed_in [] h path bytes e = absurd (cc)
+  observed_in (file ∷ tree) h path bytes e =
       elim (eq_by_cmp byte_order path file.0) as (λ b. cond b (Some file.1) (file_at tree path) ≡ Some bytes → Contains all bytes) [
         | true ↦ λ is. let same : file.1 ≡ bytes = cc in subst (Contains all) same h.0
-        | false ↦ λ is. seen_in tree h.1 path bytes is
+        | false ↦ λ is. observed_in tree h.1 path bytes is
       ] e
 
   changes_back : (old new : Tree) → AllByRecursion (λ (file : Place × Bytes). Contains all file.1) old → AllByRecursion (λ (file : Place × Bytes). Contains all file.1) new
       → changes_between (digests_of old) (digests_of new) ≡ changes_between old new
-  changes_back old new p q = same_changes old new (λ path a b at to same. apart a b (seen_in old p path a at) (seen_in new q path b to) same)
+  changes_back old new p q = same_changes old new (λ path a b at to same. separate a b (observed_in old p path a at) (observed_in new q path b to) same)
 
   pub alike_prints : (incremental : List (List ℕ)) (old new : Trees) → AllZip (SameUnless (is_incremental incremental)) old new
       → AllZip (IsAlike incremental) (prints_of sha256 old) (prints_of sha256 new)
@@ -118,7 +118,7 @@ module _ (all : List Bytes) (apart : (a b : Bytes) → Contains all a → Contai
       (changes_back a.1 (tree_of property files) p q ∙ ap (λ t. changes_between t (tree_of property files)) (sym found))
 
   -- the changes of digests, property by property
-  pub changes_reported : (files : Files) (incremental : List (List ℕ)) (old : Trees) (properties : List FileProperty) → AreSeen old → AreSeen (named_trees files properties)
+  pub changes_reported : (files : Files) (incremental : List (List ℕ)) (old : Trees) (properties : List FileProperty) → AreObserved old → AreObserved (named_trees files properties)
       → AllZip (SameUnless (is_incremental incremental)) old (named_trees files properties)
       → AllByRecursion (λ (property : FileProperty). is_incremental incremental property.name ≡ property.incremental) properties
       → is_sorted byte_order (named_trees files properties) ≡ true
@@ -132,7 +132,7 @@ module _ (all : List Bytes) (apart : (a b : Bytes) → Contains all a → Contai
       let rest = changes_reported files incremental old properties p.1 q.1 same.1 right.1 parts.1 in
       let later : map (reported_at files old) (filter (λ property. property.incremental) properties) ≡ map (reported_at files (a ∷ old)) (filter (λ property. property.incremental) properties) =
       map_same (reported_at files old) (reported_at files (a ∷ old)) (λ property. property.incremental) properties
-      (each_later files a old property.name same.0.0 properties (apart_names property.name files properties parts.0)) in
+      (each_later files a old property.name same.0.0 properties (distinct_names property.name files properties parts.0)) in
       let test : is_incremental incremental a.0 ≡ property.incremental = ap (is_incremental incremental) same.0.0 ∙ right.0 in
       ap (λ b. cond b (reported_of a.0 (digests_of a.1) (digests_of (tree_of property files)) ∷ []) [] ++ flat_map (changes_of incremental) (zip (prints_of sha256 old) (prints_of sha256 (named_trees files properties)))) test
       ∙ both (first_reported files a old property same.0.0 p.0 q.0) (rest ∙ later) property.incremental
@@ -166,20 +166,20 @@ module _ (all : List Bytes) (apart : (a b : Bytes) → Contains all a → Contai
 abbrev pub FoundUnless : Files → Trees → List FileProperty → Type 0
 FoundUnless files old properties = AllByRecursion (λ (property : FileProperty). property.incremental ≡ false → tree_at old property.name ≡ tree_of property files) properties
 
-found_behind : (files : Files) (a : List ℕ × Tree) (old : Trees) (name : List ℕ) → a.0 ≡ name → (properties : List FileProperty)
+found_after : (files : Files) (a : List ℕ × Tree) (old : Trees) (name : List ℕ) → a.0 ≡ name → (properties : List FileProperty)
     → AllByRecursion (λ (property : FileProperty). bytes_eq property.name name ≡ false) properties → FoundUnless files old properties → FoundUnless files (a ∷ old) properties
-found_behind files a old name is [] apart found = tt
-found_behind files a old name is (property ∷ properties) apart found = (
-  λ no. at_later a.0 property.name a.1 old (ap (bytes_eq property.name) is ∙ apart.0) ∙ found.0 no,
-  found_behind files a old name is properties apart.1 found.1,
+found_after files a old name is [] separate found = tt
+found_after files a old name is (property ∷ properties) separate found = (
+  λ no. at_later a.0 property.name a.1 old (ap (bytes_eq property.name) is ∙ separate.0) ∙ found.0 no,
+  found_after files a old name is properties separate.1 found.1,
 )
 
 found_without : (files : Files) (a : List ℕ × Tree) (old : Trees) (name : List ℕ) → a.0 ≡ name → (properties : List FileProperty)
     → AllByRecursion (λ (property : FileProperty). bytes_eq property.name name ≡ false) properties → FoundUnless files (a ∷ old) properties → FoundUnless files old properties
-found_without files a old name is [] apart found = tt
-found_without files a old name is (property ∷ properties) apart found = (
-  λ no. sym (at_later a.0 property.name a.1 old (ap (bytes_eq property.name) is ∙ apart.0)) ∙ found.0 no,
-  found_without files a old name is properties apart.1 found.1,
+found_without files a old name is [] separate found = tt
+found_without files a old name is (property ∷ properties) separate found = (
+  λ no. sym (at_later a.0 property.name a.1 old (ap (bytes_eq property.name) is ∙ separate.0)) ∙ found.0 no,
+  found_without files a old name is properties separate.1 found.1,
 )
 
 abbrev pub IsRight : (List ℕ → Bool) → List FileProperty → Type 0
@@ -198,7 +198,7 @@ found_of files test (a ∷ old) (property ∷ properties) right sorted same =
       ap₂ (λ (x : List ℕ) (l : List (List ℕ)). x ∷ l) same.0.0 rest.0,
       (
         λ no. here ∙ same.0.1 (ap test same.0.0 ∙ right.0 ∙ no),
-        found_behind files a old property.name same.0.0 properties (apart_names property.name files properties parts.0) rest.1,
+        found_after files a old property.name same.0.0 properties (distinct_names property.name files properties parts.0) rest.1,
       ),
     )
 
@@ -214,7 +214,7 @@ same_of files test (a ∷ old) (property ∷ properties) right sorted names foun
     let rest : map (λ (tree : List ℕ × Tree). tree.0) old ≡ map (λ (p : FileProperty). p.name) properties = cc in
     let here : tree_at (a ∷ old) property.name ≡ a.1 = ap (tree_at (a ∷ old)) (sym name) ∙ at_first a.0 a.1 old in (
       (name, λ no. sym here ∙ found.0 (sym right.0 ∙ ap test (sym name) ∙ no)),
-      same_of files test old properties right.1 parts.1 rest (found_without files a old property.name name properties (apart_names property.name files properties parts.0) found.1),
+      same_of files test old properties right.1 parts.1 rest (found_without files a old property.name name properties (distinct_names property.name files properties parts.0) found.1),
     )
 
 -- equations over all properties that are not incremental
@@ -268,16 +268,16 @@ pub names_right : (files : Files) (properties : List FileProperty) → is_sorted
 names_right files [] sorted = tt
 names_right files (property ∷ properties) sorted =
     let parts = and_parts (below_all byte_order property.name (named_trees files properties)) (is_sorted byte_order (named_trees files properties)) sorted in
-    let apart = apart_names property.name files properties parts.0 in
-    by (names_right files properties parts.1) apart (property.incremental) refl
+    let separate = distinct_names property.name files properties parts.0 in
+    by (names_right files properties parts.1) separate (property.incremental) refl
   where
-    behind : (xs : List FileProperty) → AllByRecursion (λ (x : FileProperty). bytes_eq x.name property.name ≡ false) xs → IsRight (is_incremental (incremental_names properties)) xs
+    following : (xs : List FileProperty) → AllByRecursion (λ (x : FileProperty). bytes_eq x.name property.name ≡ false) xs → IsRight (is_incremental (incremental_names properties)) xs
         → IsRight (is_incremental (property.name ∷ incremental_names properties)) xs
-    behind [] apart right = tt
-    behind (x ∷ xs) apart right = (ap (λ b. b || is_incremental (incremental_names properties) x.name) apart.0 ∙ right.0, behind xs apart.1 right.1)
+    following [] separate right = tt
+    following (x ∷ xs) separate right = (ap (λ b. b || is_incremental (incremental_names properties) x.name) separate.0 ∙ right.0, following xs separate.1 right.1)
 
     by : IsRight (is_incremental (incremental_names properties)) properties → AllByRecursion (λ (x : FileProperty). bytes_eq x.name property.name ≡ false) properties
         → (b : Bool) → property.incremental ≡ b
         → IsRight (is_incremental (map (λ (p : FileProperty). p.name) (cond b (property ∷ filter (λ p. p.incremental) properties) (filter (λ p. p.incremental) properties)))) (property ∷ properties)
-    by rest apart true is = (ap (λ b. b || is_incremental (incremental_names properties) property.name) ((bytes_decides property.name property.name).1 refl) ∙ sym is, behind properties apart rest)
-    by rest apart false is = (none_named property.name properties apart ∙ sym is, rest)
+    by rest separate true is = (ap (λ b. b || is_incremental (incremental_names properties) property.name) ((bytes_decides property.name property.name).1 refl) ∙ sym is, following properties separate rest)
+    by rest separate false is = (none_named property.name properties separate ∙ sym is, rest)

@@ -12,7 +12,7 @@ use Rattle.gb_records.specs.Said.{IsText}
 -- a read of the record's place on the way returned a text of the record
 abbrev pub WasAnswered : {F : Type 0} → (F → ℕ) → (F → Tearing) → (F → Call → F → Type 0) → F → F → Path
     → Option Record → Type 0
-WasAnswered failures may_leave asked old new path None = ⊤
-WasAnswered failures may_leave asked old new path (Some run) =
+WasAnswered failures may_leave allowed old new path None = ⊤
+WasAnswered failures may_leave allowed old new path (Some run) =
     (bytes : Bytes) × IsText path run bytes
-    × IsOnWay failures may_leave asked (Reads (record_place path) max_record (Ok bytes)) old new
+    × IsOnWay failures may_leave allowed (Reads (record_place path) max_record (Ok bytes)) old new

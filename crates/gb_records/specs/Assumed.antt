@@ -2,7 +2,7 @@
 use Rattle.gb_action.specs.Meanings.{Meanings}
 use Rattle.gb_folder.specs.Files.{Tearing}
 use Rattle.gb_history.specs.Places.{record_place}
-use Rattle.gb_meaning.specs.Headline.{Agrees, TearsAreSeen}
+use Rattle.gb_meaning.specs.Headline.{Agrees, TornWritesAreDetected}
 use Rattle.gb_meaning.specs.Kinds.{Kinds}
 use Rattle.gb_plan.specs.Ready.{Rows}
 use Rattle.gb_records.specs.Said.{IsText}
@@ -12,4 +12,4 @@ use Rattle.gb_records.specs.Said.{IsText}
 pub record IsAssumed {S : Type 0} (meanings : Meanings S) (rows : Rows S) (kinds : Kinds)
     (may_leave : Tearing) : Type 0 where
   pub agrees : Agrees meanings rows kinds
-  pub tears : TearsAreSeen IsText record_place may_leave
+  pub tears : TornWritesAreDetected IsText record_place may_leave

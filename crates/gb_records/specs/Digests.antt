@@ -11,7 +11,7 @@ use Rattle.gb_history.specs.declared.decide.Present.{Present}
 use Rattle.gb_meaning.specs.Kinds.{Kinds}
 use Rattle.gb_meaning.specs.Label.{IsCurrent, IsIncremental, changes_from, has_one_writer}
 use Rattle.gb_meaning.specs.Memory.{Entry, World, entry_of, recalled}
-use Rattle.gb_meaning.specs.TrueRecord.{AreApart, IsMade, contents_of, record_of}
+use Rattle.gb_meaning.specs.TrueRecord.{AreCollisionFree, IsMade, contents_of, record_of}
 use Rattle.gb_records.specs.Said.{IsSaidOf}
 
 -- The entry is true, the folder's files are at places, no output is the tool's own, and no two contents of
@@ -21,11 +21,11 @@ pub record IsClearTo (kinds : Kinds) (task : Task) (files : Files) (entry : Entr
   pub is_folder : IsFolder files
   pub placed : IsTrue (are_placed files)
   pub not_own : list_any (λ output. is_own output.place) task.outputs ≡ false
-  pub apart : AreApart sha256 (contents_of entry ++ contents_of (entry_of task files))
+  pub separate : AreCollisionFree sha256 (contents_of entry ++ contents_of (entry_of task files))
 
 -- equal digests mean equal contents
-abbrev pub RecordsTellEntries : Type 0
-RecordsTellEntries =
+abbrev pub RecordsDetermineEntries : Type 0
+RecordsDetermineEntries =
     (kinds : Kinds) (task : Task) (files : Files) (entry : Entry) → IsClearTo kinds task files entry
     → record_of sha256 entry ≡ record_of sha256 (entry_of task files) → entry ≡ entry_of task files
 

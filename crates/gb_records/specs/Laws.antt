@@ -12,12 +12,12 @@ use Rattle.gb_history.specs.Text.{record_text}
 use Rattle.gb_meaning.specs.Events.{max_record}
 use Rattle.gb_meaning.specs.Kinds.{Kinds}
 use Rattle.gb_meaning.specs.Memory.{Memory}
-use Rattle.gb_meaning.specs.TrueRecord.{RecordTexts, StandsFor, IsMade}
+use Rattle.gb_meaning.specs.TrueRecord.{RecordTexts, HoldsTrue, IsMade}
 use Rattle.gb_records.specs.Said.{IsText}
-use Rattle.gb_records.specs.Standing.{Standing}
+use Rattle.gb_records.specs.Holding.{HoldsRecords}
 
 -- How records read, where each is, and which text is written for one, as builds require.
-pub record AreRecords (says : RecordTexts) (stands_at : Path → Place)
+pub record AreRecords (says : RecordTexts) (exists_at : Path → Place)
     (written : Path → Record → Bytes) : Type 0 where
   -- a text says one record of a task at most
   pub one : (path : Path) (one other : Record) (bytes : Bytes) → says path one bytes → says path other bytes
@@ -28,25 +28,25 @@ pub record AreRecords (says : RecordTexts) (stands_at : Path → Place)
   pub back : (path : Path) (run : Record) → IsTrue (is_task_path path) → IsWellFormed run
       → length (written path run) ≤ max_record → says path run (written path run)
   -- records are where the tool keeps its own
-  pub own : (path : Path) → IsTrue (is_own (stands_at path))
+  pub own : (path : Path) → IsTrue (is_own (exists_at path))
   -- two tasks' records are not at one place, nor is one under another
-  pub apart : (one other : Path) → IsTrue (is_task_path one) → IsTrue (is_task_path other)
-      → stands_at one ≡ stands_at other → one ≡ other
+  pub separate : (one other : Path) → IsTrue (is_task_path one) → IsTrue (is_task_path other)
+      → exists_at one ≡ exists_at other → one ≡ other
   pub none_beneath : (one other : Path) → IsTrue (is_task_path one) → IsTrue (is_task_path other)
-      → ¬ IsTrue (is_beneath (stands_at one) (stands_at other))
+      → ¬ IsTrue (is_beneath (exists_at one) (exists_at other))
 
 abbrev pub TextsAreRecords : Type 0
 TextsAreRecords = AreRecords IsText record_place record_text
 
 -- if files differ outside of the tool's own alone, they have the same records
-abbrev pub StandsElsewhere : Type 0
-StandsElsewhere =
+abbrev pub HoldsElsewhere : Type 0
+HoldsElsewhere =
     (old new : Files) (memory : Memory) → DiffersOnlyAt (λ place. not (is_own place)) old new
-    → Standing old memory → Standing new memory
+    → HoldsRecords old memory → HoldsRecords new memory
 
 -- a folder whose files hold the records of a memory that is true represents it
-abbrev pub StandsForMemory : Type 0
-StandsForMemory =
+abbrev pub HoldsForMemory : Type 0
+HoldsForMemory =
     (kinds : Kinds) (folder : Contents) (memory : Memory) → IsFolder folder.files
-    → AllByRecursion (λ entry. IsMade kinds entry.1) memory → Standing folder.files memory
-    → StandsFor kinds sha256 IsText record_place folder memory
+    → AllByRecursion (λ entry. IsMade kinds entry.1) memory → HoldsRecords folder.files memory
+    → HoldsTrue kinds sha256 IsText record_place folder memory

@@ -2,7 +2,7 @@ pub mod Faults
 pub mod Said
 pub mod Assumed
 pub mod Setting
-pub mod Standing
+pub mod Holding
 pub mod Laws
 pub mod Digests
 pub mod Answered

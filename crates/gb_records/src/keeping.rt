@@ -3,17 +3,17 @@ ghost use Rattle.std.specs.Prelude.{◌≡◌, ◌∷◌, [], ℕ, List, Some, N
 ghost use Rattle.std.specs.Prelude.{IfErr, IsErrOf, OnOk};
 ghost use Rattle.gb_core.specs.Path.{is_task_path};
 ghost use Rattle.gb_core.specs.Place.{is_place};
-ghost use Rattle.gb_folder.specs.Calls.{Asks, Call, put_at, taken_at};
+ghost use Rattle.gb_folder.specs.Calls.{Requests, Call, put_at, taken_at};
 ghost use Rattle.gb_folder.specs.Device.{Leads};
 ghost use Rattle.gb_history.specs.Places.{record_place};
 ghost use Rattle.gb_history.specs.Text.{record_text};
-ghost use Rattle.gb_meaning.specs.Headline.{TearsAreSeen};
+ghost use Rattle.gb_meaning.specs.Headline.{TornWritesAreDetected};
 ghost use Rattle.gb_meaning.specs.Memory.{Entry, Memory, recalled};
 ghost use Rattle.gb_records.specs.Called.{Deletion, Storing};
 ghost use Rattle.gb_records.specs.Faults.{removed_by};
 ghost use Rattle.gb_records.specs.Said.{IsText, IsSaidOf};
-ghost use Rattle.gb_records.specs.Standing.{ComesToNothing, Standing, StandsWithout};
-ghost use Rattle.gb_records.specs.Standing.{StandsWith, taken_out, written_in};
+ghost use Rattle.gb_records.specs.Holding.{ComesToNothing, HoldsRecords, HoldsWithout};
+ghost use Rattle.gb_records.specs.Holding.{HoldsWith, taken_out, written_in};
 
 use crate::fault::{Unwritten, unwritten_by};
 use crate::reading::MAX_RECORD;
@@ -35,19 +35,19 @@ pub fn delete_record<F: Folder>(
     // Over any folder: by one call, or by none if no record was read.
     ensures calls { (calls : List Call) × Leads F.device folder.old calls folder.new
         × Deletion path.now was_read calls result }
-    ensures asks { Asks F.failures F.may_leave F.asked (taken_at (record_place path.now)) folder.old
+    ensures requests { Requests F.failures F.may_leave F.allowed (taken_at (record_place path.now)) folder.old
         folder.new }
     ensures unread { was_read ≡ false → folder.new ≡ folder.old }
-    ensures out { IsTrue F.tells → OnOk result
+    ensures out { IsTrue F.faithful → OnOk result
         (F.contents folder.new ≡ taken_out was_read path.now (F.contents folder.old)) }
-    ensures err { IsTrue F.tells → IfErr result (λ fault. ComesToNothing (F.may_leave folder.old)
+    ensures err { IsTrue F.faithful → IfErr result (λ fault. ComesToNothing (F.may_leave folder.old)
         path.now None (F.failures folder.old) (F.failures folder.new) (F.contents folder.old) fault
         (F.contents folder.new)) }
     // Which records exist then.
-    ensures stands { IsTrue F.tells → TearsAreSeen IsText record_place (F.may_leave folder.old)
-        → (memory : Memory) → Standing (F.contents folder.old).files memory
+    ensures exists { IsTrue F.faithful → TornWritesAreDetected IsText record_place (F.may_leave folder.old)
+        → (memory : Memory) → HoldsRecords (F.contents folder.old).files memory
         → (was_read ≡ false → recalled memory path.now ≡ None)
-        → StandsWithout path.now memory result (F.contents folder.new).files }
+        → HoldsWithout path.now memory result (F.contents folder.new).files }
 {
     // The contract is about paths of tasks alone. This shows that the path is one.
     let _path = path.as_str();
@@ -78,22 +78,22 @@ pub fn store_record<F: Folder>(
     path: &TaskPath,
     run: &Record,
 ) -> Result<(), Unwritten>
-    ensures asks { Asks F.failures F.may_leave F.asked (put_at (record_place path.now) (record_text
+    ensures requests { Requests F.failures F.may_leave F.allowed (put_at (record_place path.now) (record_text
         path.now run.now)) folder.old folder.new }
     // Over any folder: by one call, with its very text.
     ensures calls { (calls : List Call) × Leads F.device folder.old calls folder.new
         × Storing path.now run.now calls result }
-    ensures written { IsTrue F.tells → OnOk result
+    ensures written { IsTrue F.faithful → OnOk result
         (F.contents folder.new ≡ written_in path.now run.now (F.contents folder.old)) }
     ensures said { OnOk result (IsText path.now run.now (record_text path.now run.now)) }
-    ensures err { IsTrue F.tells → IfErr result (λ fault. ComesToNothing (F.may_leave folder.old) path.now
+    ensures err { IsTrue F.faithful → IfErr result (λ fault. ComesToNothing (F.may_leave folder.old) path.now
         (Some (record_text path.now run.now)) (F.failures folder.old) (F.failures folder.new)
         (F.contents folder.old) fault (F.contents folder.new)) }
     // Which records exist then.
-    ensures stands { IsTrue F.tells → TearsAreSeen IsText record_place (F.may_leave folder.old)
-        → (memory : Memory) (entry : Entry) → Standing (F.contents folder.old).files memory
+    ensures exists { IsTrue F.faithful → TornWritesAreDetected IsText record_place (F.may_leave folder.old)
+        → (memory : Memory) (entry : Entry) → HoldsRecords (F.contents folder.old).files memory
         → IsSaidOf run.now entry
-        → StandsWith path.now entry memory result (F.contents folder.new).files }
+        → HoldsWith path.now entry memory result (F.contents folder.new).files }
 {
     let text = record_text(alloc, path, run)?;
     if text.len() as u64 > MAX_RECORD {

@@ -1,7 +1,7 @@
 //! Laws of records, each the contract of a function that does nothing.
-ghost use Rattle.gb_records.specs.Digests.{ChangesAreOfContents, RecordsTellEntries, SinceIsIncremental};
+ghost use Rattle.gb_records.specs.Digests.{ChangesAreOfContents, RecordsDetermineEntries, SinceIsIncremental};
 ghost use Rattle.gb_records.specs.Digests.{UpToDateIsCurrent};
-ghost use Rattle.gb_records.specs.Laws.{StandsElsewhere, StandsForMemory, TextsAreRecords};
+ghost use Rattle.gb_records.specs.Laws.{HoldsElsewhere, HoldsForMemory, TextsAreRecords};
 
 /// Texts, places and readings of records are as builds require.
 pub fn texts_are_records()
@@ -9,18 +9,18 @@ pub fn texts_are_records()
 {}
 
 /// A change outside of the tool's own leaves the records as they are.
-pub fn stands_elsewhere()
-    ensures { StandsElsewhere }
+pub fn holds_elsewhere()
+    ensures { HoldsElsewhere }
 {}
 
 /// A folder with the records of true entries represents them as its memory.
-pub fn stands_for_memory()
-    ensures { StandsForMemory }
+pub fn holds_for_memory()
+    ensures { HoldsForMemory }
 {}
 
 /// If no two contents share a digest, equal records are of equal contents.
-pub fn records_tell_entries()
-    ensures { RecordsTellEntries }
+pub fn records_determine_entries()
+    ensures { RecordsDetermineEntries }
 {}
 
 /// A task is up to date by its record exactly if it is by whole contents.

@@ -1,7 +1,7 @@
 //! Reads records.
 ghost use Rattle.std.specs.Prelude.{◌≡◌, ◌≤◌, Option, Some, None, Ok, Err, length, IsTrue, IfOk, IfErr};
 ghost use Rattle.std.specs.List.{AllZip, list_any};
-ghost use Rattle.gb_folder.specs.Calls.{Asks, no_change};
+ghost use Rattle.gb_folder.specs.Calls.{Requests, no_change};
 ghost use Rattle.gb_history.specs.Places.{record_place};
 ghost use Rattle.gb_meaning.specs.Events.{max_record};
 ghost use Rattle.gb_store.specs.Changes.{is_at};
@@ -30,16 +30,16 @@ pub fn read_records<F: Folder>(
     folder: &mut F,
     paths: &[TaskPath],
 ) -> Result<Vec<Option<Record>>, Fault>
-    ensures asks { Asks F.failures F.may_leave F.asked no_change folder.old folder.new }
+    ensures requests { Requests F.failures F.may_leave F.allowed no_change folder.old folder.new }
     ensures blame { Blames result (F.failures folder.old) (F.failures folder.new) }
     ensures blamed { BlamesOnly (λ place. list_any (λ path. is_at (record_place path) place) paths.now)
         result }
-    ensures same { IsTrue F.tells → F.contents folder.new ≡ F.contents folder.old }
-    ensures read { IsTrue F.tells → IfOk result
+    ensures same { IsTrue F.faithful → F.contents folder.new ≡ F.contents folder.old }
+    ensures read { IsTrue F.faithful → IfOk result
         (λ records. AllZip (IsReadAt (F.contents folder.old).files) paths.now records.items) }
     // Over any folder: each record is what a call at its place answered.
     ensures answered { IfOk result (λ records. AllZip
-        (WasAnswered F.failures F.may_leave F.asked folder.old folder.new) paths.now records.items) }
+        (WasAnswered F.failures F.may_leave F.allowed folder.old folder.new) paths.now records.items) }
     ensures err { IfErr result (IsOfMachine (F.failures folder.old) (F.failures folder.new)) }
 {
     let mut records = Vec::new(alloc);
@@ -55,13 +55,13 @@ fn read_at<F: Folder>(
     folder: &mut F,
     path: &TaskPath,
 ) -> Result<Option<Record>, Fault>
-    ensures asks { Asks F.failures F.may_leave F.asked no_change folder.old folder.new }
+    ensures requests { Requests F.failures F.may_leave F.allowed no_change folder.old folder.new }
     ensures blame { Blames result (F.failures folder.old) (F.failures folder.new) }
     ensures blamed { BlamesOnly (is_at (record_place path.now)) result }
-    ensures same { IsTrue F.tells → F.contents folder.new ≡ F.contents folder.old }
-    ensures read { IsTrue F.tells → IfOk result (IsReadAt (F.contents folder.old).files path.now) }
+    ensures same { IsTrue F.faithful → F.contents folder.new ≡ F.contents folder.old }
+    ensures read { IsTrue F.faithful → IfOk result (IsReadAt (F.contents folder.old).files path.now) }
     ensures answered { IfOk result
-        (WasAnswered F.failures F.may_leave F.asked folder.old folder.new path.now) }
+        (WasAnswered F.failures F.may_leave F.allowed folder.old folder.new path.now) }
     ensures err { IfErr result (IsOfMachine (F.failures folder.old) (F.failures folder.new)) }
 {
     let place = match record_place(alloc, path) {

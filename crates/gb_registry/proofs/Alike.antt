@@ -6,16 +6,16 @@ use Rattle.std.proofs.lemmas.List.{append-nil}
 use Rattle.gb_core.specs.Lists.{first_of}
 use Rattle.gb_report.specs.declared.fault.Fault.{Fault}
 use Rattle.gb_script.specs.declared.script.Statement.{Statement}
-use Rattle.gb_registry.specs.declared.seen.Seen.{Seen}
+use Rattle.gb_registry.specs.declared.so_far.SoFar.{SoFar}
 use Rattle.gb_registry.specs.Configure.{each_after, finalizes, statement_faults}
 use Rattle.gb_registry.specs.Faults.{IsFirstFault}
 use Rattle.gb_registry.specs.New.{AreNew}
 use Rattle.gb_registry.specs.Projects.{Path}
 use Rattle.gb_registry.specs.Said.{Said, declared_property, paths_of, said_by, script_of}
-use Rattle.gb_registry.specs.Seen.{begun, script_after, script_faults, scripts_after, scripts_faults, seen_after, seen_faults}
+use Rattle.gb_registry.specs.SoFar.{begun, script_after, script_faults, scripts_after, scripts_faults, so_far_after, faults_so_far}
 use Rattle.gb_registry.specs.Tables.{Tables}
 use Rattle.gb_registry.proofs.Firsts.{first-append}
-use Rattle.gb_registry.proofs.Judged.{IsSeen, count_of, goes_on, judged}
+use Rattle.gb_registry.proofs.Judged.{IsObserved, count_of, goes_on, judged}
 
 -- the same first fault, or no fault in both and also `More`
 abbrev pub Alike : List Fault → List Fault → Type 0 → Type 0
@@ -50,23 +50,23 @@ each_after-append f before (x ∷ xs) ys =
     ∙ ap (λ b. f before x ++ each_after f (before ++ x ∷ []) xs ++ each_after f b ys) (append_assoc before (x ∷ []) xs)
 
 module _ {M F Z S A : Type 0} (tables : Tables M F Z S A) where
-  script_alike : (project : Path) (script : List Statement) (before : List Said) (seen : Seen) → IsSeen before project seen
-      → Alike (script_faults tables project seen script) (each_after (statement_faults tables) before (said_by (project, script))) (IsSeen (before ++ said_by (project, script)) project (script_after project seen script))
-  script_alike project [] before seen is = inr (refl, refl, subst (λ b. IsSeen b project seen) (sym (append-nil before)) is)
-  script_alike project (statement ∷ script) before seen is =
-      both_alike (seen_faults tables project seen statement) (statement_faults tables before (said project statement)) (IsSeen (before ++ said project statement ∷ []) project (seen_after project seen statement)) _ _ _
-      (same_alike _ _ _ (judged tables before project seen is statement) (goes_on tables before project seen is statement))
-      (λ next. subst (λ b. Alike (script_faults tables project (seen_after project seen statement) script) (each_after (statement_faults tables) (before ++ said project statement ∷ []) (said_by (project, script))) (IsSeen b project (script_after project (seen_after project seen statement) script)))
+  script_alike : (project : Path) (script : List Statement) (before : List Said) (so_far : SoFar) → IsObserved before project so_far
+      → Alike (script_faults tables project so_far script) (each_after (statement_faults tables) before (said_by (project, script))) (IsObserved (before ++ said_by (project, script)) project (script_after project so_far script))
+  script_alike project [] before so_far is = inr (refl, refl, subst (λ b. IsObserved b project so_far) (sym (append-nil before)) is)
+  script_alike project (statement ∷ script) before so_far is =
+      both_alike (faults_so_far tables project so_far statement) (statement_faults tables before (said project statement)) (IsObserved (before ++ said project statement ∷ []) project (so_far_after project so_far statement)) _ _ _
+      (same_alike _ _ _ (judged tables before project so_far is statement) (goes_on tables before project so_far is statement))
+      (λ next. subst (λ b. Alike (script_faults tables project (so_far_after project so_far statement) script) (each_after (statement_faults tables) (before ++ said project statement ∷ []) (said_by (project, script))) (IsObserved b project (script_after project (so_far_after project so_far statement) script)))
       (append_assoc before (said project statement ∷ []) (said_by (project, script)))
-      (script_alike project script (before ++ said project statement ∷ []) (seen_after project seen statement) next))
+      (script_alike project script (before ++ said project statement ∷ []) (so_far_after project so_far statement) next))
 
 -- the tasks and the count of properties are those of these statements
-pub record IsBefore (before : List Said) (seen : Seen) : Type 0 where
-  pub tasks : seen.tasks ≡ paths_of before
-  pub count : seen.count ≡ count_of before
+pub record IsBefore (before : List Said) (so_far : SoFar) : Type 0 where
+  pub tasks : so_far.tasks ≡ paths_of before
+  pub count : so_far.count ≡ count_of before
 
-begins : (before : List Said) (project : Path) (seen : Seen) → IsBefore before seen → script_of before project ≡ [] → IsSeen before project (begun seen)
-begins before project seen is new = record {
+begins : (before : List Said) (project : Path) (so_far : SoFar) → IsBefore before so_far → script_of before project ≡ [] → IsObserved before project (begun so_far)
+begins before project so_far is new = record {
   tasks = is.tasks;
   properties = sym (ap (filter_map declared_property) new);
   finals = λ name. sym (ap (list_any (finalizes name)) new);
@@ -74,16 +74,16 @@ begins before project seen is new = record {
 }
 
 module _ {M F Z S A : Type 0} (tables : Tables M F Z S A) where
-  pub scripts_alike : (scripts : List (Path × List Statement)) (before : List Said) (seen : Seen) → IsBefore before seen → AreNew before scripts
-      → Alike (scripts_faults tables seen scripts) (each_after (statement_faults tables) before (flat_map said_by scripts)) (IsBefore (before ++ flat_map said_by scripts) (scripts_after seen scripts))
-  scripts_alike [] before seen is new = inr (refl, refl, subst (λ b. IsBefore b seen) (sym (append-nil before)) is)
-  scripts_alike (script ∷ scripts) before seen is new =
-      let after = script_after script.0 (begun seen) script.1 in
+  pub scripts_alike : (scripts : List (Path × List Statement)) (before : List Said) (so_far : SoFar) → IsBefore before so_far → AreNew before scripts
+      → Alike (scripts_faults tables so_far scripts) (each_after (statement_faults tables) before (flat_map said_by scripts)) (IsBefore (before ++ flat_map said_by scripts) (scripts_after so_far scripts))
+  scripts_alike [] before so_far is new = inr (refl, refl, subst (λ b. IsBefore b so_far) (sym (append-nil before)) is)
+  scripts_alike (script ∷ scripts) before so_far is new =
+      let after = script_after script.0 (begun so_far) script.1 in
       let said_more = before ++ said_by script in
-      subst (λ faults. Alike (scripts_faults tables seen (script ∷ scripts)) faults (IsBefore (before ++ (said_by script ++ flat_map said_by scripts)) (scripts_after after scripts)))
+      subst (λ faults. Alike (scripts_faults tables so_far (script ∷ scripts)) faults (IsBefore (before ++ (said_by script ++ flat_map said_by scripts)) (scripts_after after scripts)))
       (sym (each_after-append (statement_faults tables) before (said_by script) (flat_map said_by scripts)))
-      (both_alike (script_faults tables script.0 (begun seen) script.1) (each_after (statement_faults tables) before (said_by script)) (IsSeen said_more script.0 after) _ _ _
-      (script_alike tables script.0 script.1 before (begun seen) (begins before script.0 seen is new.0))
+      (both_alike (script_faults tables script.0 (begun so_far) script.1) (each_after (statement_faults tables) before (said_by script)) (IsObserved said_more script.0 after) _ _ _
+      (script_alike tables script.0 script.1 before (begun so_far) (begins before script.0 so_far is new.0))
       (λ next. subst (λ b. Alike (scripts_faults tables after scripts) (each_after (statement_faults tables) said_more (flat_map said_by scripts)) (IsBefore b (scripts_after after scripts)))
       (append_assoc before (said_by script) (flat_map said_by scripts))
       (scripts_alike scripts said_more after (record { tasks = next.tasks; count = next.count }) new.1)))

@@ -34,9 +34,9 @@ or_none true b x none = absurd (cc)
 or_none false true x none = absurd (cc)
 or_none false false x none = refl
 
-pub nil_front : {X : Type 0} (xs ys : List X) → xs ++ ys ≡ [] → xs ≡ []
-nil_front [] ys e = refl
-nil_front (x ∷ xs) ys e = absurd (cc)
+pub nil_prefix : {X : Type 0} (xs ys : List X) → xs ++ ys ≡ [] → xs ≡ []
+nil_prefix [] ys e = refl
+nil_prefix (x ∷ xs) ys e = absurd (cc)
 
 pub nil_back : {X : Type 0} (xs ys : List X) → xs ++ ys ≡ [] → ys ≡ []
 nil_back [] ys e = e
@@ -58,13 +58,13 @@ with_fine : (there : List Path) (path : Path) (b : Bool) → AreFine there → i
 with_fine there path true fine good none = fine
 with_fine there path false fine good none =
     list_all-append is_fine there (path ∷ [])
-    ∙ both_true (list_all is_fine there) (is_fine path && true) fine (both_true (is_fine path) true (path_fine path good (nil_front (place_faults path) (crowd_faults there) none)) refl)
+    ∙ both_true (list_all is_fine there) (is_fine path && true) fine (both_true (is_fine path) true (path_fine path good (nil_prefix (place_faults path) (crowd_faults there) none)) refl)
 
 with_all_fine : (there paths : List Path) → AreFine there → list_all is_project_path paths ≡ true → paths_faults there paths ≡ [] → AreFine (with_paths there paths)
 with_all_fine there [] fine good none = fine
 with_all_fine there (path ∷ paths) fine good none =
     with_all_fine (with_path there path) paths
-    (with_fine there path (is_among there path) fine (left_of (is_project_path path) (list_all is_project_path paths) good) (nil_front (path_faults there path) (paths_faults (with_path there path) paths) none))
+    (with_fine there path (is_among there path) fine (left_of (is_project_path path) (list_all is_project_path paths) good) (nil_prefix (path_faults there path) (paths_faults (with_path there path) paths) none))
     (right_of (is_project_path path) (list_all is_project_path paths) good) (nil_back (path_faults there path) (paths_faults (with_path there path) paths) none)
 
 with_both : (there xs ys : List Path) → with_paths there (xs ++ ys) ≡ with_paths (with_paths there xs) ys
@@ -82,7 +82,7 @@ texts_fine there (text ∷ texts) fine none =
     let next = with_paths there (lineage_of text) in
     subst AreFine (sym (with_both there (lineage_of text) (flat_map lineage_of texts)))
     (texts_fine next texts
-    (text_fine there text (is_project_path (absolute root_path text)) refl fine (nil_front (text_faults there text) (texts_faults next texts) none))
+    (text_fine there text (is_project_path (absolute root_path text)) refl fine (nil_prefix (text_faults there text) (texts_faults next texts) none))
     (nil_back (text_faults there text) (texts_faults next texts) none))
 
 pub projects_fine : (settings : List (List (List ℕ))) → settings_faults settings ≡ [] → AreFine (project_paths settings)

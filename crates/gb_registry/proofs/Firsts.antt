@@ -4,7 +4,7 @@ use Rattle.std.proofs.Math.Seq.{drop-cons}
 use Rattle.std.specs.Result.{IsErrAnd}
 use Rattle.gb_core.specs.Lists.{first_of}
 use Rattle.gb_report.specs.declared.fault.Fault.{Fault}
-use Rattle.gb_registry.specs.Faults.{IsFirstFault, TellsFirst}
+use Rattle.gb_registry.specs.Faults.{IsFirstFault, ReportsFirst}
 
 pub first-append : {X : Type 0} (xs more : List X) (x : X) → first_of xs ≡ Some x → first_of (xs ++ more) ≡ Some x
 first-append [] more x e = absurd (cc)
@@ -16,7 +16,7 @@ first_among faults more whole fault same (inl memory) = inl memory
 first_among faults more whole fault same (inr first) = inr (ap first_of same ∙ first-append faults more fault first)
 
 -- a fault that is passed on is reported
-pub reported_on : {T : Type 0} (faults : List Fault) (answer : Result T Fault) (fault : Fault) → IsErrAnd answer (λ handed. handed ≡ fault) → IsFirstFault faults fault → TellsFirst faults answer
+pub reported_on : {T : Type 0} (faults : List Fault) (answer : Result T Fault) (fault : Fault) → IsErrAnd answer (λ handed. handed ≡ fault) → IsFirstFault faults fault → ReportsFirst faults answer
 reported_on faults (Ok x) fault handed first = absurd handed
 reported_on faults (Err reported) fault handed first = subst (IsFirstFault faults) (sym handed) first
 

@@ -69,9 +69,9 @@ rest_of_bytes : (c : ℕ) (parts : List (List ℕ)) → list_all (list_all is_na
     → list_all (list_all is_name_byte) parts ≡ true
 rest_of_bytes c [] h = refl
 rest_of_bytes c (part ∷ parts) h =
-    let front = left_of (is_name_byte c && list_all is_name_byte part) (list_all (list_all is_name_byte) parts) h in
+    let prefix = left_of (is_name_byte c && list_all is_name_byte part) (list_all (list_all is_name_byte) parts) h in
     both (list_all is_name_byte part) (list_all (list_all is_name_byte) parts)
-    (right_of (is_name_byte c) (list_all is_name_byte part) front)
+    (right_of (is_name_byte c) (list_all is_name_byte part) prefix)
     (right_of (is_name_byte c && list_all is_name_byte part) (list_all (list_all is_name_byte) parts) h)
 
 path_bytes : (text : List ℕ) → list_all (list_all is_name_byte) (parts_of text) ≡ true → list_all is_path_byte text ≡ true
@@ -143,24 +143,24 @@ project_bytes path good = by (bytes_eq path (codes ":")) refl
     by false is = all_below (drop 1 path) (bytes_of_path path (names_something path good is))
 
 -- the text is empty, or the path of a task
-abbrev IsFront : List ℕ → Type 0
-IsFront front = (front ≡ []) ⊎ (is_task_path front ≡ true)
+abbrev IsPrefix : List ℕ → Type 0
+IsPrefix prefix = (prefix ≡ []) ⊎ (is_task_path prefix ≡ true)
 
-behind : (front name : List ℕ) → IsFront front → is_name name ≡ true → is_task_path (front ++ 58 ∷ name) ≡ true
-behind front name (inl none) h = subst (λ f. is_task_path (f ++ 58 ∷ name) ≡ true) (sym none) (in_root name h)
-behind [] name (inr path) h = absurd (true≢false (sym path))
-behind (c ∷ front) name (inr path) h =
-    both (c == 58) (list_all is_name (parts_of (front ++ 58 ∷ name))) (left_of (c == 58) (list_all is_name (parts_of front)) path)
-    (ap (list_all is_name) (parts-joined 58 front name) ∙ list_all-append is_name (parts_of front) (parts_of name)
-    ∙ both (list_all is_name (parts_of front)) (list_all is_name (parts_of name)) (right_of (c == 58) (list_all is_name (parts_of front)) path) (in_root name h))
+following : (prefix name : List ℕ) → IsPrefix prefix → is_name name ≡ true → is_task_path (prefix ++ 58 ∷ name) ≡ true
+following prefix name (inl none) h = subst (λ f. is_task_path (f ++ 58 ∷ name) ≡ true) (sym none) (in_root name h)
+following [] name (inr path) h = absurd (true≢false (sym path))
+following (c ∷ prefix) name (inr path) h =
+    both (c == 58) (list_all is_name (parts_of (prefix ++ 58 ∷ name))) (left_of (c == 58) (list_all is_name (parts_of prefix)) path)
+    (ap (list_all is_name) (parts-joined 58 prefix name) ∙ list_all-append is_name (parts_of prefix) (parts_of name)
+    ∙ both (list_all is_name (parts_of prefix)) (list_all is_name (parts_of name)) (right_of (c == 58) (list_all is_name (parts_of prefix)) path) (in_root name h))
 
-all_projects : (front : List ℕ) (names : List (List ℕ)) → IsFront front → list_all is_name names ≡ true → list_all is_project_path (lineage_from front names) ≡ true
-all_projects front [] is h = refl
-all_projects front (name ∷ names) is h =
-    let here = behind front name is (left_of (is_name name) (list_all is_name names) h) in
-    both (is_project_path (front ++ 58 ∷ name)) (list_all is_project_path (lineage_from (front ++ 58 ∷ name) names))
-    (or_right (bytes_eq (front ++ 58 ∷ name) (codes ":")) (is_task_path (front ++ 58 ∷ name)) here)
-    (all_projects (front ++ 58 ∷ name) names (inr here) (right_of (is_name name) (list_all is_name names) h))
+all_projects : (prefix : List ℕ) (names : List (List ℕ)) → IsPrefix prefix → list_all is_name names ≡ true → list_all is_project_path (lineage_from prefix names) ≡ true
+all_projects prefix [] is h = refl
+all_projects prefix (name ∷ names) is h =
+    let here = following prefix name is (left_of (is_name name) (list_all is_name names) h) in
+    both (is_project_path (prefix ++ 58 ∷ name)) (list_all is_project_path (lineage_from (prefix ++ 58 ∷ name) names))
+    (or_right (bytes_eq (prefix ++ 58 ∷ name) (codes ":")) (is_task_path (prefix ++ 58 ∷ name)) here)
+    (all_projects (prefix ++ 58 ∷ name) names (inr here) (right_of (is_name name) (list_all is_name names) h))
 
 -- a project and its parents are projects
 pub lineage_is_good : (path : List ℕ) → is_project_path path ≡ true → list_all is_project_path (lineage path) ≡ true

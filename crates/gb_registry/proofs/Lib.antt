@@ -1,6 +1,6 @@
 pub mod Alike
 pub mod Among
-pub mod Apart
+pub mod Separate
 pub mod Fine
 pub mod Firsts
 pub mod Folders

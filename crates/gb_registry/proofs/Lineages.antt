@@ -64,36 +64,36 @@ module _ (there after : List Path) (includes : List (List (List ℕ))) (i : ℕ)
 
 -- ---- One project of a lineage
 
-module _ (front front' path : Path) (parts : List (List ℕ)) (i n : ℕ) (name : List ℕ) (within : i < length parts) (is : name ≡ get_or parts i name)
-    (path_is : path ≡ front ++ 58 ∷ name) (front_is : front' ≡ path) (next : n ≡ i + 1) where
+module _ (prefix prefix' path : Path) (parts : List (List ℕ)) (i n : ℕ) (name : List ℕ) (within : i < length parts) (is : name ≡ get_or parts i name)
+    (path_is : path ≡ prefix ++ 58 ∷ name) (prefix_is : prefix' ≡ path) (next : n ≡ i + 1) where
   abbrev left : List Path
-  left = lineage_from front (drop i parts)
+  left = lineage_from prefix (drop i parts)
 
-  abbrev behind : List Path
-  behind = lineage_from front' (drop n parts)
+  abbrev following : List Path
+  following = lineage_from prefix' (drop n parts)
 
-  left_is : left ≡ path ∷ behind
+  left_is : left ≡ path ∷ following
   left_is =
-      ap (lineage_from front) (left_from parts i name within is)
+      ap (lineage_from prefix) (left_from parts i name within is)
       ∙ ap (λ p. p ∷ lineage_from p (drop (i + 1) parts)) (sym path_is)
-      ∙ ap (λ f. path ∷ lineage_from f (drop (i + 1) parts)) (sym front_is)
-      ∙ ap (λ k. path ∷ lineage_from front' (drop k parts)) (sym next)
+      ∙ ap (λ f. path ∷ lineage_from f (drop (i + 1) parts)) (sym prefix_is)
+      ∙ ap (λ k. path ∷ lineage_from prefix' (drop k parts)) (sym next)
 
   pub path_good : list_all is_project_path left ≡ true → is_project_path path ≡ true
-  path_good good = left_of (is_project_path path) (list_all is_project_path behind) (sym (ap (list_all is_project_path) left_is) ∙ good)
+  path_good good = left_of (is_project_path path) (list_all is_project_path following) (sym (ap (list_all is_project_path) left_is) ∙ good)
 
-  pub behind_good : list_all is_project_path left ≡ true → list_all is_project_path behind ≡ true
-  behind_good good = right_of (is_project_path path) (list_all is_project_path behind) (sym (ap (list_all is_project_path) left_is) ∙ good)
+  pub after_good : list_all is_project_path left ≡ true → list_all is_project_path following ≡ true
+  after_good good = right_of (is_project_path path) (list_all is_project_path following) (sym (ap (list_all is_project_path) left_is) ∙ good)
 
   module _ (there : List Path) where
-    pub lineage_faults : paths_faults there left ≡ path_faults there path ++ paths_faults (with_path there path) behind
+    pub lineage_faults : paths_faults there left ≡ path_faults there path ++ paths_faults (with_path there path) following
     lineage_faults = ap (paths_faults there) left_is
 
     module _ (after : List Path) (added : after ≡ with_path there path) where
-      pub lineage_paths : with_paths there left ≡ with_paths after behind
-      lineage_paths = ap (with_paths there) left_is ∙ ap (λ paths. with_paths paths behind) (sym added)
+      pub lineage_paths : with_paths there left ≡ with_paths after following
+      lineage_paths = ap (with_paths there) left_is ∙ ap (λ paths. with_paths paths following) (sym added)
 
-      pub lineage_left : path_faults there path ≡ [] → paths_faults there left ≡ paths_faults after behind
+      pub lineage_left : path_faults there path ≡ [] → paths_faults there left ≡ paths_faults after following
       lineage_left none =
-          lineage_faults ∙ ap (λ faults. faults ++ paths_faults (with_path there path) behind) none
-          ∙ ap (λ paths. paths_faults paths behind) (sym added)
+          lineage_faults ∙ ap (λ faults. faults ++ paths_faults (with_path there path) following) none
+          ∙ ap (λ paths. paths_faults paths following) (sym added)

@@ -7,7 +7,7 @@ use Rattle.gb_script.specs.declared.script.Statement.{Statement}
 use Rattle.gb_registry.specs.declared.checking.Scripted.{Scripted}
 use Rattle.gb_registry.specs.Projects.{Path}
 use Rattle.gb_registry.specs.Said.{Said, said_by, script_of}
-use Rattle.gb_registry.specs.Seen.{said_in}
+use Rattle.gb_registry.specs.SoFar.{said_in}
 use Rattle.gb_registry.proofs.Firsts.{left_from}
 
 pub script_of-append : (before after : List Said) (project : Path) → script_of (before ++ after) project ≡ script_of before project ++ script_of after project

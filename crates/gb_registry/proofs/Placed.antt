@@ -10,7 +10,7 @@ use Rattle.gb_registry.specs.Configure.{missing_tasks, script_missing, statement
 use Rattle.gb_registry.specs.Projects.{Path, folder_of, with_folders}
 use Rattle.gb_registry.specs.References.{Names}
 use Rattle.gb_registry.specs.Said.{said_by}
-use Rattle.gb_registry.specs.Seen.{scripts_in}
+use Rattle.gb_registry.specs.SoFar.{scripts_in}
 
 -- a project with its folder, and those after it
 pub folder_at : (projects : List Path) (i : ℕ) (place : Path × Option (List ℕ)) → i < length projects → place ≡ get_or (with_folders projects) i place

@@ -64,7 +64,7 @@ abbrev pub flat_map_means : ℕ → Value → List (List ℕ) → Result (Option
 flat_map_means number value arguments = of_task value (λ task. with_one arguments (λ name. Ok (Some (record { task = task; output = name }))))
 
 abbrev pub zip_means : ℕ → Value → Value → List (List ℕ) → Result Value Refusal
-zip_means number left right arguments = of_text left (λ front. of_text right (λ back. Ok (values.Text (front ++ back))))
+zip_means number left right arguments = of_text left (λ prefix. of_text right (λ back. Ok (values.Text (prefix ++ back))))
 
 abbrev pub test_means : ℕ → Value → List (List ℕ) → Result Bool Refusal
 test_means number value arguments = of_text value (λ text. with_one arguments (λ other. Ok (bytes_eq text other)))

@@ -13,5 +13,5 @@ IsFirstFault faults fault = (fault ≡ OutOfMemory) ⊎ (first_of faults ≡ Som
 
 -- If the call succeeds, there are no such faults. Otherwise it returns the first of them, or that memory ran
 -- out.
-abbrev pub TellsFirst : {T : Type 0} → List Fault → Result T Fault → Type 0
-TellsFirst faults answer = MatchResult answer (λ _. faults ≡ []) (IsFirstFault faults)
+abbrev pub ReportsFirst : {T : Type 0} → List Fault → Result T Fault → Type 0
+ReportsFirst faults answer = MatchResult answer (λ _. faults ≡ []) (IsFirstFault faults)

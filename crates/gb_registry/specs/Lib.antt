@@ -6,7 +6,7 @@ pub mod Faults
 pub mod Tables
 pub mod Wrong
 pub mod Configure
-pub mod Seen
+pub mod SoFar
 pub mod Select
 pub mod New
 pub mod Once

@@ -9,5 +9,5 @@ use Rattle.gb_registry.specs.Tables.{Tables}
 -- a path that a statement registers is not registered before it
 abbrev pub PathsAreNew : {M F Z S A : Type 0} → Tables M F Z S A → Source → Type 0
 PathsAreNew tables source =
-    configure_faults tables source ≡ [] → (front back : List Said) (s : Said) (path : Path) →
-    source.said ≡ front ++ s ∷ back → registered_path s ≡ Some path → is_among (paths_of front) path ≡ false
+    configure_faults tables source ≡ [] → (prefix back : List Said) (s : Said) (path : Path) →
+    source.said ≡ prefix ++ s ∷ back → registered_path s ≡ Some path → is_among (paths_of prefix) path ≡ false

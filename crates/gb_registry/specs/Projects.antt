@@ -25,8 +25,8 @@ absolute project text = if starts_with nat_eq text (codes ":") then text else ta
 
 -- the path of a project and those of its parents, the highest first
 abbrev pub lineage_from : Path → List (List ℕ) → List Path
-lineage_from front [] = []
-lineage_from front (name ∷ names) = (front ++ 58 ∷ name) ∷ lineage_from (front ++ 58 ∷ name) names
+lineage_from prefix [] = []
+lineage_from prefix (name ∷ names) = (prefix ++ 58 ∷ name) ∷ lineage_from (prefix ++ 58 ∷ name) names
 
 -- the same for names with colons between them
 abbrev pub lineage_of_names : List ℕ → List Path

@@ -2,16 +2,16 @@
 ghost use Rattle.std.specs.Prelude.{◌≡◌, OnOk};
 ghost use Rattle.std.specs.List.{flat_map};
 ghost use Rattle.gb_registry.specs.Configure.{script_missing, statement_missing};
-ghost use Rattle.gb_registry.specs.Faults.{TellsFirst};
-ghost use Rattle.gb_registry.specs.Seen.{script_after, scripts_in, script_faults, scripts_after};
-ghost use Rattle.gb_registry.specs.Seen.{scripts_faults, seen_after, seen_assignment_faults, seen_faults};
-ghost use Rattle.gb_registry.specs.Seen.{seen_value_faults};
+ghost use Rattle.gb_registry.specs.Faults.{ReportsFirst};
+ghost use Rattle.gb_registry.specs.SoFar.{script_after, scripts_in, script_faults, scripts_after};
+ghost use Rattle.gb_registry.specs.SoFar.{scripts_faults, so_far_after, assignment_faults_so_far, faults_so_far};
+ghost use Rattle.gb_registry.specs.SoFar.{value_faults_so_far};
 ghost use Rattle.gb_registry.specs.Tables.{tables_of};
 
 use crate::missing::Missing;
 use crate::names::Names;
 use crate::project::Project;
-use crate::seen::Seen;
+use crate::so_far::SoFar;
 use crate::tables::Tables;
 use crate::walk::look_along;
 use crate::wrong::Scope;
@@ -36,24 +36,24 @@ fn check_statement<A: Actions, T: Transforms>(
     alloc: Global,
     tables: &Tables<A, T>,
     project: &Project,
-    seen: &mut Seen,
+    so_far: &mut SoFar,
     statement: &Statement,
 ) -> Result<(), Fault>
-    ensures ok { OnOk result (seen.new ≡ seen_after project.now seen.old statement.now) }
-    ensures faults { TellsFirst
-        (seen_faults (tables_of T.meanings A.meanings tables.now) project.now seen.old statement.now) result }
+    ensures ok { OnOk result (so_far.new ≡ so_far_after project.now so_far.old statement.now) }
+    ensures faults { ReportsFirst
+        (faults_so_far (tables_of T.meanings A.meanings tables.now) project.now so_far.old statement.now) result }
 {
     match statement {
         Statement::DefaultTasks(_) => Ok(()),
-        Statement::Property(name) => seen.declare(name),
+        Statement::Property(name) => so_far.declare(name),
         Statement::Set(assignment) | Statement::Convention(assignment) => {
-            check_assignment(alloc, tables, project, seen, assignment)
+            check_assignment(alloc, tables, project, so_far, assignment)
         }
-        Statement::Unset(name) => seen.check_change(name),
-        Statement::DisallowChanges(name) => seen.finish(name),
-        Statement::Register(registration) => seen.register(alloc, project, &registration.name),
+        Statement::Unset(name) => so_far.check_change(name),
+        Statement::DisallowChanges(name) => so_far.finish(name),
+        Statement::Register(registration) => so_far.register(alloc, project, &registration.name),
         Statement::Named(configuration) => {
-            seen.check_registered(alloc, project, &configuration.name)
+            so_far.check_registered(alloc, project, &configuration.name)
         }
     }
 }
@@ -62,32 +62,32 @@ fn check_assignment<A: Actions, T: Transforms>(
     alloc: Global,
     tables: &Tables<A, T>,
     project: &Project,
-    seen: &Seen,
+    so_far: &SoFar,
     assignment: &Assignment,
 ) -> Result<(), Fault>
-    ensures { TellsFirst
-        (seen_assignment_faults (tables_of T.meanings A.meanings tables.now) project.now seen.now
+    ensures { ReportsFirst
+        (assignment_faults_so_far (tables_of T.meanings A.meanings tables.now) project.now so_far.now
         assignment.now) result }
 {
-    seen.check_change(&assignment.name)?;
-    check_value(alloc, tables, project, seen, &assignment.value)
+    so_far.check_change(&assignment.name)?;
+    check_value(alloc, tables, project, so_far, &assignment.value)
 }
 
 fn check_value<'s, A: Actions, T: Transforms>(
     alloc: Global,
     tables: &'s Tables<A, T>,
     project: &'s Project,
-    seen: &'s Seen,
+    so_far: &'s SoFar,
     value: &Expression,
 ) -> Result<(), Fault>
-    ensures { TellsFirst
-        (seen_value_faults (tables_of T.meanings A.meanings tables.now) project.now seen.now value.now)
+    ensures { ReportsFirst
+        (value_faults_so_far (tables_of T.meanings A.meanings tables.now) project.now so_far.now value.now)
         result }
 {
     let scope: Scope<'s, A, T> = Scope {
         tables,
         project,
-        properties: &seen.properties,
+        properties: &so_far.properties,
         names: None,
     };
     look_along(alloc, &scope, value)
@@ -97,17 +97,17 @@ fn check_value<'s, A: Actions, T: Transforms>(
 fn check_script<A: Actions, T: Transforms>(
     alloc: Global,
     tables: &Tables<A, T>,
-    seen: &mut Seen,
+    so_far: &mut SoFar,
     scripted: &Scripted,
 ) -> Result<(), Fault>
-    ensures ok { OnOk result (seen.new ≡ script_after scripted.now.project seen.old scripted.now.script) }
-    ensures faults { TellsFirst
+    ensures ok { OnOk result (so_far.new ≡ script_after scripted.now.project so_far.old scripted.now.script) }
+    ensures faults { ReportsFirst
         (script_faults (tables_of T.meanings A.meanings tables.now)
-        scripted.now.project seen.old scripted.now.script) result }
+        scripted.now.project so_far.old scripted.now.script) result }
 {
     let statements = scripted.script.statements();
     for statement in statements {
-        check_statement(alloc, tables, &scripted.project, seen, statement)?;
+        check_statement(alloc, tables, &scripted.project, so_far, statement)?;
     }
     Ok(())
 }
@@ -116,17 +116,17 @@ fn check_script<A: Actions, T: Transforms>(
 pub(crate) fn check_scripts<A: Actions, T: Transforms>(
     alloc: Global,
     tables: &Tables<A, T>,
-    seen: &mut Seen,
+    so_far: &mut SoFar,
     scripts: &[Scripted],
 ) -> Result<(), Fault>
-    ensures ok { OnOk result (seen.new ≡ scripts_after seen.old (scripts_in scripts.now)) }
-    ensures faults { TellsFirst
-        (scripts_faults (tables_of T.meanings A.meanings tables.now) seen.old (scripts_in scripts.now))
+    ensures ok { OnOk result (so_far.new ≡ scripts_after so_far.old (scripts_in scripts.now)) }
+    ensures faults { ReportsFirst
+        (scripts_faults (tables_of T.meanings A.meanings tables.now) so_far.old (scripts_in scripts.now))
         result }
 {
     for scripted in scripts {
-        seen.begin(alloc);
-        check_script(alloc, tables, seen, scripted)?;
+        so_far.begin(alloc);
+        check_script(alloc, tables, so_far, scripted)?;
     }
     Ok(())
 }
@@ -137,7 +137,7 @@ pub(crate) fn check_missing<'s>(
     names: &'s Names<'s>,
     scripts: &'s [Scripted],
 ) -> Result<(), Fault>
-    ensures { TellsFirst (flat_map (script_missing names.now) (scripts_in scripts.now)) result }
+    ensures { ReportsFirst (flat_map (script_missing names.now) (scripts_in scripts.now)) result }
 {
     for scripted in scripts {
         check_script_missing(alloc, names, scripted)?;
@@ -150,7 +150,7 @@ fn check_script_missing<'s>(
     names: &'s Names<'s>,
     scripted: &'s Scripted,
 ) -> Result<(), Fault>
-    ensures { TellsFirst
+    ensures { ReportsFirst
         (flat_map (statement_missing names.now scripted.now.project) scripted.now.script) result }
 {
     let statements = scripted.script.statements();
@@ -166,7 +166,7 @@ fn check_statement_missing<'s>(
     project: &'s Project,
     statement: &Statement,
 ) -> Result<(), Fault>
-    ensures { TellsFirst (statement_missing names.now project.now statement.now) result }
+    ensures { ReportsFirst (statement_missing names.now project.now statement.now) result }
 {
     match statement {
         Statement::Set(assignment) | Statement::Convention(assignment) => {

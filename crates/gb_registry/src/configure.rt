@@ -2,11 +2,11 @@
 ghost use Rattle.std.specs.Prelude.{◌≡◌, ◌≤◌, [], ◌++◌, zip, length, IfOk};
 ghost use Rattle.std.specs.List.{flat_map};
 ghost use Rattle.gb_registry.specs.Configure.{configure_faults, each_after, missing_tasks, statement_faults};
-ghost use Rattle.gb_registry.specs.Faults.{TellsFirst};
+ghost use Rattle.gb_registry.specs.Faults.{ReportsFirst};
 ghost use Rattle.gb_registry.specs.New.{AreNew};
 ghost use Rattle.gb_registry.specs.Projects.{folder_of, project_paths, settings_faults};
 ghost use Rattle.gb_registry.specs.Said.{paths_of};
-ghost use Rattle.gb_registry.specs.Seen.{said_in, scripts_in, source_in};
+ghost use Rattle.gb_registry.specs.SoFar.{said_in, scripts_in, source_in};
 ghost use Rattle.gb_registry.specs.Source.{source_of};
 ghost use Rattle.gb_registry.specs.Tables.{tables_of};
 
@@ -14,7 +14,7 @@ use crate::checking::{Scripted, check_missing, check_scripts};
 use crate::names::Names;
 use crate::project::Project;
 use crate::projects::{ProjectSet, projects_in};
-use crate::seen::Seen;
+use crate::so_far::SoFar;
 use crate::tables::Tables;
 use crate::tasks::Tasks;
 use gb_action::actions::Actions;
@@ -73,7 +73,7 @@ pub fn checked<A: Actions, T: Transforms>(
 ) -> Result<Tasks, Fault>
     requires { AreNew [] (scripts_in scripts.now) }
     ensures tasks { IfOk result (λ tasks. tasks ≡ paths_of (said_in scripts.now)) }
-    ensures faults { TellsFirst
+    ensures faults { ReportsFirst
         (configure_faults (tables_of T.meanings A.meanings tables.now)
         (source_in projects.now scripts.now)) result }
 {
@@ -94,19 +94,19 @@ fn checked_in_execution<A: Actions, T: Transforms>(
 ) -> Result<Tasks, Fault>
     requires { AreNew [] (scripts_in scripts.now) }
     ensures tasks { IfOk result (λ tasks. tasks ≡ paths_of (said_in scripts.now)) }
-    ensures faults { TellsFirst
+    ensures faults { ReportsFirst
         (each_after (statement_faults (tables_of T.meanings A.meanings tables.now)) []
         (said_in scripts.now)) result }
 {
-    let mut seen = Seen::new(alloc);
-    match check_scripts(alloc, tables, &mut seen, scripts) {
+    let mut so_far = SoFar::new(alloc);
+    match check_scripts(alloc, tables, &mut so_far, scripts) {
         Ok(()) => {}
         Err(fault) => {
-            drop(seen);
+            drop(so_far);
             return Err(fault);
         }
     }
-    Ok(seen.into_tasks())
+    Ok(so_far.into_tasks())
 }
 
 fn check_names(
@@ -115,7 +115,7 @@ fn check_names(
     tasks: &Tasks,
     scripts: &[Scripted],
 ) -> Result<(), Fault>
-    ensures { TellsFirst
+    ensures { ReportsFirst
         (flat_map (missing_tasks (record { projects = projects.now; tasks = tasks.now }))
         (said_in scripts.now)) result }
 {

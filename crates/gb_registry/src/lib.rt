@@ -12,7 +12,7 @@ pub mod paths;
 pub mod project;
 pub mod projects;
 pub mod registry;
-mod seen;
+mod so_far;
 pub mod tables;
 mod tasks;
 pub mod texts;

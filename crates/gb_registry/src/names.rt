@@ -1,7 +1,7 @@
 //! Tasks that scripts and arguments name.
 ghost use Rattle.std.specs.Prelude.{◌≡◌};
 ghost use Rattle.gb_core.specs.Path.{project_of, root_if_empty};
-ghost use Rattle.gb_registry.specs.Faults.{TellsFirst};
+ghost use Rattle.gb_registry.specs.Faults.{ReportsFirst};
 ghost use Rattle.gb_registry.specs.References.{lookup_faults, name_faults, reference_faults};
 
 use crate::paths::absolute;
@@ -33,7 +33,7 @@ impl<'a> Model for Names<'a> {
 impl<'a> Names<'a> {
     /// Refused where there is no such project (50) or task (52).
     pub fn look_up(&self, alloc: Global, project: &str, text: &Text) -> Result<(), Fault>
-        ensures { TellsFirst (lookup_faults self.now project.now text.now) result }
+        ensures { ReportsFirst (lookup_faults self.now project.now text.now) result }
     {
         let path = absolute(alloc, project, text.as_str())?;
         if !self.projects.contains(project_of(path.as_str())) {
@@ -47,7 +47,7 @@ impl<'a> Names<'a> {
 
     /// Refused where the text is no path (1), or there is no such project (50) or task (52).
     pub(crate) fn refer(&self, alloc: Global, project: &str, text: &Text) -> Result<(), Fault>
-        ensures { TellsFirst (reference_faults self.now project.now text.now) result }
+        ensures { ReportsFirst (reference_faults self.now project.now text.now) result }
     {
         check_name(alloc, project, text)?;
         self.look_up(alloc, project, text)
@@ -56,7 +56,7 @@ impl<'a> Names<'a> {
 
 /// Refused where the text is no path of a task (1).
 pub fn check_name(alloc: Global, project: &str, text: &Text) -> Result<(), Fault>
-    ensures { TellsFirst (name_faults project.now text.now) result }
+    ensures { ReportsFirst (name_faults project.now text.now) result }
 {
     let path = absolute(alloc, project, text.as_str())?;
     if is_task_path(path.as_str()) {

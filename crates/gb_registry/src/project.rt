@@ -1,6 +1,6 @@
 //! A project with its folder.
 ghost use Rattle.std.specs.Prelude.{◌≡◌};
-ghost use Rattle.gb_registry.specs.Faults.{TellsFirst};
+ghost use Rattle.gb_registry.specs.Faults.{ReportsFirst};
 ghost use Rattle.gb_registry.specs.Wrong.{place_faults};
 
 use gb_core::path::ProjectPath;
@@ -56,7 +56,7 @@ impl Project {
 
     /// Refused where the text is no place in the project (2).
     pub(crate) fn check_place(&self, alloc: Global, text: &Text) -> Result<(), Fault>
-        ensures { TellsFirst (place_faults self.now text.now) result }
+        ensures { ReportsFirst (place_faults self.now text.now) result }
     {
         match Place::join(alloc, self.folder.as_ref(), text.as_str()) {
             Ok(_) => Ok(()),

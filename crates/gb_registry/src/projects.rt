@@ -3,7 +3,7 @@ ghost use Rattle.std.specs.Prelude.{◌≡◌, ◌≤◌, false, ◌||◌, [], �
 ghost use Rattle.std.specs.Prelude.{IfOk, OnOk, IsTrue};
 ghost use Rattle.std.specs.List.{flat_map, list_all};
 ghost use Rattle.gb_core.specs.Path.{is_project_path, task_name};
-ghost use Rattle.gb_registry.specs.Faults.{TellsFirst};
+ghost use Rattle.gb_registry.specs.Faults.{ReportsFirst};
 ghost use Rattle.gb_registry.specs.Projects.{crowd_faults, folder_of, folder_text, is_among, lineage};
 ghost use Rattle.gb_registry.specs.Projects.{lineage_of, lineage_of_names, path_faults, paths_faults};
 ghost use Rattle.gb_registry.specs.Projects.{place_faults, project_paths, projects_of, root_path};
@@ -51,7 +51,7 @@ impl ProjectSet {
     /// The root alone.
     pub fn new(alloc: Global) -> Result<ProjectSet, Fault>
         ensures root { IfOk result (λ projects. projects ≡ root_path ∷ []) }
-        ensures faults { TellsFirst [] result }
+        ensures faults { ReportsFirst [] result }
     {
         let root = project_path(alloc, ":")?;
         let mut projects = ProjectSet {
@@ -92,7 +92,7 @@ impl ProjectSet {
     /// Adds the project of a text, after its parents.
     fn include(&mut self, text: &Text) -> Result<(), Fault>
         ensures ok { OnOk result (self.new ≡ with_paths self.old (lineage_of text.now)) }
-        ensures faults { TellsFirst (text_faults self.old text.now) result }
+        ensures faults { ReportsFirst (text_faults self.old text.now) result }
     {
         let path = absolute(self.alloc, ":", text.as_str())?;
         if !is_project_path(path.as_str()) {
@@ -105,7 +105,7 @@ impl ProjectSet {
     fn add_lineage(&mut self, path: &str) -> Result<(), Fault>
         requires { IsTrue (is_project_path path.now) }
         ensures ok { OnOk result (self.new ≡ with_paths self.old (lineage path.now)) }
-        ensures faults { TellsFirst (paths_faults self.old (lineage path.now)) result }
+        ensures faults { ReportsFirst (paths_faults self.old (lineage path.now)) result }
     {
         match path.strip_prefix(':') {
             Some(names) => self.add_names(names),
@@ -117,13 +117,13 @@ impl ProjectSet {
     fn add_names(&mut self, names: &str) -> Result<(), Fault>
         requires { IsTrue (list_all is_project_path (lineage_of_names names.now)) }
         ensures ok { OnOk result (self.new ≡ with_paths self.old (lineage_of_names names.now)) }
-        ensures faults { TellsFirst (paths_faults self.old (lineage_of_names names.now)) result }
+        ensures faults { ReportsFirst (paths_faults self.old (lineage_of_names names.now)) result }
     {
-        let mut front = String::new(self.alloc);
+        let mut prefix = String::new(self.alloc);
         for name in names.split(':') {
-            front.push(':')?;
-            front.push_str(name)?;
-            self.add(front.as_str())?;
+            prefix.push(':')?;
+            prefix.push_str(name)?;
+            self.add(prefix.as_str())?;
         }
         Ok(())
     }
@@ -132,7 +132,7 @@ impl ProjectSet {
     fn add(&mut self, path: &str) -> Result<(), Fault>
         requires { IsTrue (is_project_path path.now) }
         ensures ok { OnOk result (self.new ≡ with_path self.old path.now) }
-        ensures faults { TellsFirst (path_faults self.old path.now) result }
+        ensures faults { ReportsFirst (path_faults self.old path.now) result }
     {
         if self.paths.contains(path) {
             return Ok(());
@@ -146,7 +146,7 @@ impl ProjectSet {
 
     /// Checks whether a project may be added to these.
     fn check_room(&self, path: &ProjectPath) -> Result<(), Fault>
-        ensures faults { TellsFirst (place_faults path.now ++ crowd_faults self.now) result }
+        ensures faults { ReportsFirst (place_faults path.now ++ crowd_faults self.now) result }
         ensures short { OnOk result (length (folder_text path.now) ≤ 896) }
     {
         if is_bad_place(path.as_str()) {
@@ -204,7 +204,7 @@ pub fn projects(
     settings: &Settings,
 ) -> Result<Vec<(ProjectPath, Option<Place>)>, Fault>
     ensures projects { IfOk result (λ projects. projects.items ≡ projects_of settings.now) }
-    ensures faults { TellsFirst (settings_faults settings.now) result }
+    ensures faults { ReportsFirst (settings_faults settings.now) result }
 {
     let projects = projects_in(alloc, settings.includes())?;
     Ok(projects.into_vec())
@@ -213,7 +213,7 @@ pub fn projects(
 /// The projects that includes name.
 pub(crate) fn projects_in(alloc: Global, includes: &[Texts]) -> Result<ProjectSet, Fault>
     ensures projects { IfOk result (λ projects. projects ≡ project_paths includes.now) }
-    ensures faults { TellsFirst (settings_faults includes.now) result }
+    ensures faults { ReportsFirst (settings_faults includes.now) result }
 {
     let mut projects = ProjectSet::new(alloc)?;
     for texts in includes {
@@ -224,7 +224,7 @@ pub(crate) fn projects_in(alloc: Global, includes: &[Texts]) -> Result<ProjectSe
 
 fn include_all(projects: &mut ProjectSet, texts: &[Text]) -> Result<(), Fault>
     ensures ok { OnOk result (projects.new ≡ with_paths projects.old (flat_map lineage_of texts.now)) }
-    ensures faults { TellsFirst (texts_faults projects.old texts.now) result }
+    ensures faults { ReportsFirst (texts_faults projects.old texts.now) result }
 {
     for text in texts {
         projects.include(text)?;

@@ -5,13 +5,13 @@ ghost use Rattle.std.specs.List.{list_any};
 ghost use Rattle.gb_core.specs.Path.{task_name};
 ghost use Rattle.gb_core.specs.Tasks.{with_tasks};
 ghost use Rattle.gb_report.specs.declared.fault.Fault.TheVariants.{OutOfMemory};
-ghost use Rattle.gb_registry.specs.Faults.{TellsFirst};
+ghost use Rattle.gb_registry.specs.Faults.{ReportsFirst};
 ghost use Rattle.gb_registry.specs.Configure.{configure_faults};
 ghost use Rattle.gb_registry.specs.Projects.{absolute, project_paths, root_path, settings_faults};
 ghost use Rattle.gb_registry.specs.References.{lookup_faults, name_faults, reference_faults};
 ghost use Rattle.gb_registry.specs.Said.{paths_of};
 ghost use Rattle.gb_registry.specs.Read.{IsRead};
-ghost use Rattle.gb_registry.specs.Seen.{said_in, scripts_in};
+ghost use Rattle.gb_registry.specs.SoFar.{said_in, scripts_in};
 ghost use Rattle.gb_registry.specs.Source.{source_of};
 ghost use Rattle.gb_registry.specs.Tables.{tables_of};
 ghost use Rattle.gb_registry.specs.Select.{default_tasks, defaults_after, is_path, name_word_faults};
@@ -50,7 +50,7 @@ impl Model for Registry {
     ghost use Rattle.std.specs.Coded.{codes};
     ghost use Rattle.gb_script.specs.Coding.{tree_code};
     ghost use Rattle.gb_registry.specs.Read.{IsRead};
-    ghost use Rattle.gb_registry.specs.Seen.{said_in, scripts_in};
+    ghost use Rattle.gb_registry.specs.SoFar.{said_in, scripts_in};
     ghost use Rattle.gb_registry.specs.Source.{Source};
 
     ghost Value = { Source };
@@ -91,7 +91,7 @@ impl Registry {
         ensures tables { IfOk result (λ configured. configured.tables.now ≡ tables.now) }
         ensures registry { IfOk result (λ configured.
             configured.registry ≡ source_of settings.now scripts.items given.items) }
-        ensures faults { TellsFirst
+        ensures faults { ReportsFirst
             (configure_faults (tables_of T.meanings A.meanings tables.now)
             (source_of settings.now scripts.items given.items)) result }
     {
@@ -154,7 +154,7 @@ impl Registry {
     /// (52).
     pub fn select(&self, alloc: Global, word: &Text) -> Result<TaskPaths, Fault>
         ensures tasks { IfOk result (λ tasks. tasks ≡ selected self.now.names word.now) }
-        ensures faults { TellsFirst (word_faults self.now.names word.now) result }
+        ensures faults { ReportsFirst (word_faults self.now.names word.now) result }
     {
         if has_colon(word.as_str()) {
             self.select_path(alloc, word)
@@ -165,7 +165,7 @@ impl Registry {
 
     fn select_path(&self, alloc: Global, word: &Text) -> Result<TaskPaths, Fault>
         ensures tasks { IfOk result (λ tasks. tasks ≡ absolute root_path word.now ∷ []) }
-        ensures faults { TellsFirst (reference_faults self.now.names root_path word.now) result }
+        ensures faults { ReportsFirst (reference_faults self.now.names root_path word.now) result }
     {
         let path = path_of(alloc, word)?;
         self.look_up(alloc, word)?;
@@ -175,7 +175,7 @@ impl Registry {
     }
 
     fn look_up(&self, alloc: Global, word: &Text) -> Result<(), Fault>
-        ensures { TellsFirst (lookup_faults self.now.names root_path word.now) result }
+        ensures { ReportsFirst (lookup_faults self.now.names root_path word.now) result }
     {
         let names = Names {
             projects: &self.projects,
@@ -186,7 +186,7 @@ impl Registry {
 
     fn select_name(&self, alloc: Global, word: &Text) -> Result<TaskPaths, Fault>
         ensures tasks { IfOk result (λ tasks. tasks ≡ tasks_named self.now.names word.now) }
-        ensures faults { TellsFirst (name_word_faults self.now.names word.now) result }
+        ensures faults { ReportsFirst (name_word_faults self.now.names word.now) result }
     {
         if !is_name(word.as_str()) {
             return Err(Fault::BadName(word.copy()?));
@@ -223,7 +223,7 @@ fn read_all<A: Actions, T: Transforms>(
     ensures scripts { IfOk result (λ read.
         scripts_in read.1.items ≡ zip (project_paths settings.now) scripts.items) }
     ensures tasks { IfOk result (λ read. read.2 ≡ paths_of (said_in read.1.items)) }
-    ensures faults { TellsFirst
+    ensures faults { ReportsFirst
         (configure_faults (tables_of T.meanings A.meanings tables.now)
         (source_of settings.now scripts.items [])) result }
 {
@@ -259,7 +259,7 @@ fn has_colon(word: &str) -> bool
 /// An argument as the path of a task, relative to the root. Refused where it is no path (1).
 fn path_of(alloc: Global, word: &Text) -> Result<TaskPath, Fault>
     ensures path { IfOk result (λ path. path ≡ absolute root_path word.now) }
-    ensures faults { TellsFirst (name_faults root_path word.now) result }
+    ensures faults { ReportsFirst (name_faults root_path word.now) result }
 {
     let path = absolute(alloc, ":", word.as_str())?;
     match TaskPath::read(alloc, path.as_str()) {

@@ -1,7 +1,7 @@
 //! The faults of an expression before its value is computed.
 ghost use Rattle.std.specs.Prelude.{◌≡◌};
 ghost use Rattle.std.specs.Option.{option_copied};
-ghost use Rattle.gb_registry.specs.Faults.{TellsFirst};
+ghost use Rattle.gb_registry.specs.Faults.{ReportsFirst};
 ghost use Rattle.gb_registry.specs.Wrong.{count_faults, property_faults, task_faults_in};
 
 use crate::names::{Names, check_name};
@@ -81,7 +81,7 @@ impl<'a, A: Actions, T: Transforms> Look for Scope<'a, A, T> {
 
 /// Refused where there is no such property (54).
 pub(crate) fn check_property(properties: &TextSet, name: &Name) -> Result<(), Fault>
-    ensures { TellsFirst (property_faults properties.now name.now) result }
+    ensures { ReportsFirst (property_faults properties.now name.now) result }
 {
     if properties.contains(name.as_str()) {
         Ok(())
@@ -97,7 +97,7 @@ pub fn check_task(
     project: &str,
     text: &Text,
 ) -> Result<(), Fault>
-    ensures { TellsFirst (task_faults_in (option_copied names.entry) project.now text.now) result }
+    ensures { ReportsFirst (task_faults_in (option_copied names.entry) project.now text.now) result }
 {
     match names {
         Some(names) => names.refer(alloc, project, text),
@@ -107,7 +107,7 @@ pub fn check_task(
 
 /// Refused where no function has the name (31), or it takes another count of arguments (32).
 pub fn check_count(alloc: Global, function: &Function, count: Option<u8>) -> Result<(), Fault>
-    ensures { TellsFirst (count_faults function.now count) result }
+    ensures { ReportsFirst (count_faults function.now count) result }
 {
     match count {
         None => Err(Fault::UnknownTransform(function.name.copy()?)),

@@ -29,22 +29,22 @@ all_put P [] all = tt
 all_put P (file ∷ files) all = (all.0, all_put P files all.1)
 
 -- some first steps and the others are some first files and the others
-pub record IsParted (files : List (Place × Bytes)) (front behind : List Step) : Type 0 where
+pub record IsParted (files : List (Place × Bytes)) (prefix following : List Step) : Type 0 where
   pub first : List (Place × Bytes)
   pub later : List (Place × Bytes)
   pub all : files ≡ first ++ later
-  pub front_is : front ≡ put first
-  pub behind_is : behind ≡ put later
+  pub prefix_is : prefix ≡ put first
+  pub after_is : following ≡ put later
 
-pub parted : (files : List (Place × Bytes)) (front behind : List Step) → front ++ behind ≡ put files → IsParted files front behind
-parted files [] behind is = record { first = []; later = files; all = refl; front_is = refl; behind_is = is }
-parted [] (step ∷ front) behind is = absurd (let e = is in (cc))
-parted (file ∷ files) (step ∷ front) behind is =
-    let rest = parted files front behind (tails step (file.0, Some file.1) (front ++ behind) (put files) is) in
+pub parted : (files : List (Place × Bytes)) (prefix following : List Step) → prefix ++ following ≡ put files → IsParted files prefix following
+parted files [] following is = record { first = []; later = files; all = refl; prefix_is = refl; after_is = is }
+parted [] (step ∷ prefix) following is = absurd (let e = is in (cc))
+parted (file ∷ files) (step ∷ prefix) following is =
+    let rest = parted files prefix following (tails step (file.0, Some file.1) (prefix ++ following) (put files) is) in
     record {
       first = file ∷ rest.first;
       later = rest.later;
       all = ap (λ fs. file ∷ fs) rest.all;
-      front_is = ap₂ (λ (s : Step) (ss : List Step). s ∷ ss) (heads step (file.0, Some file.1) (front ++ behind) (put files) is) rest.front_is;
-      behind_is = rest.behind_is;
+      prefix_is = ap₂ (λ (s : Step) (ss : List Step). s ∷ ss) (heads step (file.0, Some file.1) (prefix ++ following) (put files) is) rest.prefix_is;
+      after_is = rest.after_is;
     }

@@ -138,22 +138,22 @@ module _ (outputs : List Output) (output : Output) (is : output_named outputs ta
       by true e = absurd (other file.path (sym (same_place q (beneath output.place file.path) e)))
       by false e = refl
 
-  removed_apart : (removes : List OutputPath) → RemovesTarget removes → (q : Place) → IsElsewhere q → AllByRecursion (λ (s : Step). s.0 ≢ q) (removed outputs removes)
-  removed_apart [] all q other = tt
-  removed_apart (path ∷ removes) all q other =
-      subst (λ (ss : List Step). AllByRecursion (λ (s : Step). s.0 ≢ q) (ss ++ removed outputs removes)) (sym (one_removed path all.0)) (other path.path, removed_apart removes all.1 q other)
+  removed_separate : (removes : List OutputPath) → RemovesTarget removes → (q : Place) → IsElsewhere q → AllByRecursion (λ (s : Step). s.0 ≢ q) (removed outputs removes)
+  removed_separate [] all q other = tt
+  removed_separate (path ∷ removes) all q other =
+      subst (λ (ss : List Step). AllByRecursion (λ (s : Step). s.0 ≢ q) (ss ++ removed outputs removes)) (sym (one_removed path all.0)) (other path.path, removed_separate removes all.1 q other)
 
-  put_apart : (written : List Written) → WritesTarget written → (q : Place) → IsElsewhere q → AllByRecursion (λ (s : Step). s.0 ≢ q) (put (placed outputs written))
-  put_apart [] all q other = tt
-  put_apart (file ∷ written) all q other =
-      subst (λ (fs : List (Place × Bytes)). AllByRecursion (λ (s : Step). s.0 ≢ q) (put (fs ++ placed outputs written))) (sym (one_placed file all.0)) (other file.path, put_apart written all.1 q other)
+  put_separate : (written : List Written) → WritesTarget written → (q : Place) → IsElsewhere q → AllByRecursion (λ (s : Step). s.0 ≢ q) (put (placed outputs written))
+  put_separate [] all q other = tt
+  put_separate (file ∷ written) all q other =
+      subst (λ (fs : List (Place × Bytes)). AllByRecursion (λ (s : Step). s.0 ≢ q) (put (fs ++ placed outputs written))) (sym (one_placed file all.0)) (other file.path, put_separate written all.1 q other)
 
-  pub named_apart : (reply : Reply) → WritesTarget reply.writes → RemovesTarget reply.removes → (q : Place) → IsElsewhere q → AllByRecursion (λ (s : Step). s.0 ≢ q) (named outputs reply.removes reply.writes)
-  named_apart reply writes removes q other = all_append (λ (s : Step). s.0 ≢ q) (removed outputs reply.removes) (put (placed outputs reply.writes)) (removed_apart reply.removes removes q other) (put_apart reply.writes writes q other)
+  pub named_distinct : (reply : Reply) → WritesTarget reply.writes → RemovesTarget reply.removes → (q : Place) → IsElsewhere q → AllByRecursion (λ (s : Step). s.0 ≢ q) (named outputs reply.removes reply.writes)
+  named_distinct reply writes removes q other = all_append (λ (s : Step). s.0 ≢ q) (removed outputs reply.removes) (put (placed outputs reply.writes)) (removed_separate reply.removes removes q other) (put_separate reply.writes writes q other)
 
   pub named_elsewhere : (held : List Step) (reply : Reply) → WritesTarget reply.writes → RemovesTarget reply.removes → (q : Place) → IsElsewhere q
       → find byte_order q (put_steps held (named outputs reply.removes reply.writes)) ≡ find byte_order q held
-  named_elsewhere held reply writes removes q other = at_others held (named outputs reply.removes reply.writes) q (named_apart reply writes removes q other)
+  named_elsewhere held reply writes removes q other = at_others held (named outputs reply.removes reply.writes) q (named_distinct reply writes removes q other)
 
   -- a place is that of a path of the output, or of none
   pub data Where (q : Place) : Type 0 where

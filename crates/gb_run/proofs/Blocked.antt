@@ -25,7 +25,7 @@ use Rattle.gb_meaning.specs.Run.{has_room, step_by, unless_hindered}
 use Rattle.gb_meaning.proofs.Lemmas.Files.{at-put_over, left_of, or_else, right_of, same_place, sorted-put_over}
 use Rattle.gb_run.specs.Placing.{count_faults}
 use Rattle.gb_run.proofs.Agreed.{some_same}
-use Rattle.gb_run.proofs.Placed.{all_behind, all_front, free_files_of, none_before}
+use Rattle.gb_run.proofs.Placed.{all_after, all_prefix, free_files_of, none_before}
 use Rattle.gb_run.proofs.Writer.{heads, tails}
 use Rattle.gb_run.specs.Steps.{LeadTo, Step, after_steps, in_turn}
 use Rattle.gb_run.specs.Stepping.{HasRoom, IsFree}
@@ -133,14 +133,14 @@ free_step outputs rest held written none free =
 -- ---- a prefix and what is after it
 
 -- removals come first, so a prefix up to a write contains all removals
-front_comes : (going coming front : List Step) (s : Step) (behind : List Step) → AllByRecursion (λ (x : Step). is_some x.1 ≡ false) going → is_some s.1 ≡ true → going ++ coming ≡ front ++ s ∷ behind
-    → (before : List Step) × (coming ≡ before ++ s ∷ behind) × (front ≡ going ++ before)
-front_comes [] coming front s behind none some e = (front, e, refl)
-front_comes (x ∷ going) coming [] s behind none some e =
-    absurd (true≢false (sym some ∙ ap (λ (y : Step). is_some y.1) (sym (heads x s (going ++ coming) behind e)) ∙ none.0))
-front_comes (x ∷ going) coming (y ∷ front) s behind none some e =
-    let more = front_comes going coming front s behind none.1 some (tails x y (going ++ coming) (front ++ s ∷ behind) e) in
-    (more.0, more.1, ap (λ z. z ∷ front) (sym (heads x y (going ++ coming) (front ++ s ∷ behind) e)) ∙ ap (λ zs. x ∷ zs) more.2)
+prefix_comes : (going coming prefix : List Step) (s : Step) (following : List Step) → AllByRecursion (λ (x : Step). is_some x.1 ≡ false) going → is_some s.1 ≡ true → going ++ coming ≡ prefix ++ s ∷ following
+    → (before : List Step) × (coming ≡ before ++ s ∷ following) × (prefix ≡ going ++ before)
+prefix_comes [] coming prefix s following none some e = (prefix, e, refl)
+prefix_comes (x ∷ going) coming [] s following none some e =
+    absurd (true≢false (sym some ∙ ap (λ (y : Step). is_some y.1) (sym (heads x s (going ++ coming) following e)) ∙ none.0))
+prefix_comes (x ∷ going) coming (y ∷ prefix) s following none some e =
+    let more = prefix_comes going coming prefix s following none.1 some (tails x y (going ++ coming) (prefix ++ s ∷ following) e) in
+    (more.0, more.1, ap (λ z. z ∷ prefix) (sym (heads x y (going ++ coming) (prefix ++ s ∷ following) e)) ∙ ap (λ zs. x ∷ zs) more.2)
 
 sorted_second : {X : Type 0} (xs ys : List (Place × X)) → is_sorted byte_order (xs ++ ys) ≡ true → is_sorted byte_order ys ≡ true
 sorted_second [] ys h = h
@@ -153,15 +153,15 @@ below_more p q (x ∷ xs) less h =
     ∙ below_more p q xs less (right_of (is_lt (byte_order q x.0)) (below_all byte_order q xs) h)
 
 -- what is found before a step is found in the prefix
-found_before : {X : Type 0} (front : List (Place × X)) (s : Place × X) (behind : List (Place × X)) (p : Place) (v : X) → is_sorted byte_order (front ++ s ∷ behind) ≡ true → byte_order p s.0 ≡ Less
-    → find byte_order p (front ++ s ∷ behind) ≡ Some v → find byte_order p front ≡ Some v
-found_before [] s behind p v h less e =
-    no_some (find byte_order p (s ∷ behind)) v
-    (none_below p (s ∷ behind) (ap (λ o. is_lt o && below_all byte_order p behind) less ∙ below_more p s.0 behind less (left_of (below_all byte_order s.0 behind) (is_sorted byte_order behind) h))) e
-found_before (x ∷ front) s behind p v h less e =
-    by (found_before front s behind p v (right_of (below_all byte_order x.0 (front ++ s ∷ behind)) (is_sorted byte_order (front ++ s ∷ behind)) h) less) (eq_by_cmp byte_order p x.0) e
+found_before : {X : Type 0} (prefix : List (Place × X)) (s : Place × X) (following : List (Place × X)) (p : Place) (v : X) → is_sorted byte_order (prefix ++ s ∷ following) ≡ true → byte_order p s.0 ≡ Less
+    → find byte_order p (prefix ++ s ∷ following) ≡ Some v → find byte_order p prefix ≡ Some v
+found_before [] s following p v h less e =
+    no_some (find byte_order p (s ∷ following)) v
+    (none_below p (s ∷ following) (ap (λ o. is_lt o && below_all byte_order p following) less ∙ below_more p s.0 following less (left_of (below_all byte_order s.0 following) (is_sorted byte_order following) h))) e
+found_before (x ∷ prefix) s following p v h less e =
+    by (found_before prefix s following p v (right_of (below_all byte_order x.0 (prefix ++ s ∷ following)) (is_sorted byte_order (prefix ++ s ∷ following)) h) less) (eq_by_cmp byte_order p x.0) e
   where
-    by : (find byte_order p (front ++ s ∷ behind) ≡ Some v → find byte_order p front ≡ Some v) → (b : Bool) → cond b (Some x.1) (find byte_order p (front ++ s ∷ behind)) ≡ Some v → cond b (Some x.1) (find byte_order p front) ≡ Some v
+    by : (find byte_order p (prefix ++ s ∷ following) ≡ Some v → find byte_order p prefix ≡ Some v) → (b : Bool) → cond b (Some x.1) (find byte_order p (prefix ++ s ∷ following)) ≡ Some v → cond b (Some x.1) (find byte_order p prefix) ≡ Some v
     by again true is = is
     by again false is = again is
 
@@ -228,8 +228,8 @@ module _ (task : Task) (files : Files) (folder : IsFolder files) (written : List
           ap (λ (fs : Files). is_blocked fs s.0) (sym is) ∙ blocked_where outside now s.0 (subst (λ o. IsFree now (s.0, o)) e room.0)
 
   -- what was there is not in the way of the rest
-  stood_free : (q : Place) (b : Bytes) → file_at files q ≡ Some b → is_blocked rest q ≡ false
-  stood_free q b e = blocked_where outside files q (free_at files q b folder e)
+  existed_free : (q : Place) (b : Bytes) → file_at files q ≡ Some b → is_blocked rest q ≡ false
+  existed_free q b e = blocked_where outside files q (free_at files q b folder e)
 
   new_made : (q : Place) (b : Bytes) → file_at made q ≡ Some b → file_at (put_over rest made) q ≡ Some b
   new_made q b e = at-put_over rest made q made_sorted ∙ ap (λ o. or_else o (file_at rest q)) e
@@ -255,19 +255,19 @@ module _ (task : Task) (files : Files) (folder : IsFolder files) (written : List
   step_free room = free_step task.outputs rest [] written none (none_of (λ (f : Place × Bytes). is_blocked rest f.0) made (all_found (λ (f : Place × Bytes). is_blocked rest f.0 ≡ false) made made_sorted each))
     where
       all : AllByRecursion (λ (s : Step). is_some s.1 ≡ true → is_blocked rest s.0 ≡ false) (kept comes steps)
-      all = all_behind (λ (s : Step). is_some s.1 ≡ true → is_blocked rest s.0 ≡ false) (kept goes steps) (kept comes steps) (room_rest (in_turn steps) files at_outputs refl room)
+      all = all_after (λ (s : Step). is_some s.1 ≡ true → is_blocked rest s.0 ≡ false) (kept goes steps) (kept comes steps) (room_rest (in_turn steps) files at_outputs refl room)
 
       each : (q : Place) (b : Bytes) → file_at made q ≡ Some b → is_blocked rest q ≡ false
       each q b e = by (came q b e)
         where
           by : (file_at files q ≡ Some b) ⊎ (find byte_order q (kept comes steps) ≡ Some (Some b)) → is_blocked rest q ≡ false
-          by (inl stood) = stood_free q b stood
+          by (inl existed) = existed_free q b existed
           by (inr comes_there) = found_holds (λ (s : Step). is_some s.1 ≡ true → is_blocked rest s.0 ≡ false) (kept comes steps) q (Some b) all comes_there refl
 
   -- ---- a step was shut out
 
-  module _ (front : List Step) (step : Step) (behind : List Step) (all : in_turn steps ≡ front ++ step ∷ behind) (room : HasRoom files front) (some : is_some step.1 ≡ true)
-      (blocked : is_blocked (after_steps files front) step.0 ≡ true) where
+  module _ (prefix : List Step) (step : Step) (following : List Step) (all : in_turn steps ≡ prefix ++ step ∷ following) (room : HasRoom files prefix) (some : is_some step.1 ≡ true)
+      (blocked : is_blocked (after_steps files prefix) step.0 ≡ true) where
     going_none : AllByRecursion (λ (x : Step). is_some x.1 ≡ false) (kept goes steps)
     going_none = picked_all (λ (s : Step). goes s.0 s.1) (λ (x : Step). is_some x.1 ≡ false) steps (λ s e. lone (is_some s.1) (right_of (is_place s.0) (not (is_some s.1)) e))
       where
@@ -275,28 +275,28 @@ module _ (task : Task) (files : Files) (folder : IsFolder files) (written : List
         lone true e = absurd (true≢false (sym e))
         lone false e = refl
 
-    parts : (before : List Step) × (kept comes steps ≡ before ++ step ∷ behind) × (front ≡ kept goes steps ++ before)
-    parts = front_comes (kept goes steps) (kept comes steps) front step behind going_none some all
+    parts : (before : List Step) × (kept comes steps ≡ before ++ step ∷ following) × (prefix ≡ kept goes steps ++ before)
+    parts = prefix_comes (kept goes steps) (kept comes steps) prefix step following going_none some all
 
-    coming_some : AllByRecursion (λ (x : Step). is_some x.1 ≡ true) (step ∷ behind)
-    coming_some = all_behind (λ (x : Step). is_some x.1 ≡ true) parts.0 (step ∷ behind)
+    coming_some : AllByRecursion (λ (x : Step). is_some x.1 ≡ true) (step ∷ following)
+    coming_some = all_after (λ (x : Step). is_some x.1 ≡ true) parts.0 (step ∷ following)
         (subst (λ (xs : List Step). AllByRecursion (λ (x : Step). is_some x.1 ≡ true) xs) parts.1
         (picked_all (λ (s : Step). comes s.0 s.1) (λ (x : Step). is_some x.1 ≡ true) steps (λ s e. right_of (is_place s.0) (is_some s.1) e)))
 
-    each_at : AllByRecursion (λ (s : Step). is_output_of task s.0 ≡ true) (front ++ step ∷ behind)
+    each_at : AllByRecursion (λ (s : Step). is_output_of task s.0 ≡ true) (prefix ++ step ∷ following)
     each_at = subst (λ (xs : List Step). AllByRecursion (λ (s : Step). is_output_of task s.0 ≡ true) xs) all at_outputs
 
     step_at : is_output_of task step.0 ≡ true
-    step_at = (all_behind (λ (s : Step). is_output_of task s.0 ≡ true) front (step ∷ behind) each_at).0
+    step_at = (all_after (λ (s : Step). is_output_of task s.0 ≡ true) prefix (step ∷ following) each_at).0
 
-    front_at : AllByRecursion (λ (s : Step). is_output_of task s.0 ≡ true) front
-    front_at = all_front (λ (s : Step). is_output_of task s.0 ≡ true) front (step ∷ behind) each_at
+    prefix_at : AllByRecursion (λ (s : Step). is_output_of task s.0 ≡ true) prefix
+    prefix_at = all_prefix (λ (s : Step). is_output_of task s.0 ≡ true) prefix (step ∷ following) each_at
 
     abbrev then : Files
-    then = after_steps files front
+    then = after_steps files prefix
 
-    rest_then : files_where outside (after_steps files front) ≡ rest
-    rest_then = rest_kept front files front_at refl
+    rest_then : files_where outside (after_steps files prefix) ≡ rest
+    rest_then = rest_kept prefix files prefix_at refl
 
     rest_at : (q : Place) → file_at rest q ≡ cond (outside q) (file_at files q) None
     rest_at q = file_at-files_where files outside q
@@ -314,7 +314,7 @@ module _ (task : Task) (files : Files) (folder : IsFolder files) (written : List
     value (Some b) e = (b, refl)
 
     step_made : file_at made step.0 ≡ Some (value step.1 some).0
-    step_made = made_new step.0 (value step.1 some).0 step_at (by (all_behind (λ (s : Step). (s.1 ≡ None) ⊎ (s.1 ≡ file_at (put_over rest made) s.0)) front (step ∷ behind)
+    step_made = made_new step.0 (value step.1 some).0 step_at (by (all_after (λ (s : Step). (s.1 ≡ None) ⊎ (s.1 ≡ file_at (put_over rest made) s.0)) prefix (step ∷ following)
         (subst (λ (xs : List Step). AllByRecursion (λ (s : Step). (s.1 ≡ None) ⊎ (s.1 ≡ file_at (put_over rest made) s.0)) xs) all leads.meant)).0)
       where
         by : (step.1 ≡ None) ⊎ (step.1 ≡ file_at (put_over rest made) step.0) → file_at (put_over rest made) step.0 ≡ Some (value step.1 some).0
@@ -329,8 +329,8 @@ module _ (task : Task) (files : Files) (folder : IsFolder files) (written : List
     -- what is at an output then is made
     then_made : (q : Place) (b : Bytes) → is_output_of task q ≡ true → file_at then q ≡ Some b → is_some (file_at made q) ≡ true
     then_made q b at e =
-        let new = value (file_at (put_over rest made) q) (ap (λ (fs : Files). is_some (file_at fs q)) (sym leads.reached ∙ ap (after_steps files) all ∙ after_append files front (step ∷ behind))
-        ∙ stays then (step ∷ behind) q coming_some (ap is_some e)) in
+        let new = value (file_at (put_over rest made) q) (ap (λ (fs : Files). is_some (file_at fs q)) (sym leads.reached ∙ ap (after_steps files) all ∙ after_append files prefix (step ∷ following))
+        ∙ stays then (step ∷ following) q coming_some (ap is_some e)) in
         ap is_some (made_new q new.0 at new.1)
 
     blocked_rest : is_blocked rest step.0 ≡ true
@@ -349,22 +349,22 @@ module _ (task : Task) (files : Files) (folder : IsFolder files) (written : List
 
         by : (b : Bool) → is_blocked rest step.0 ≡ b → b ≡ true
         by true e = refl
-        by false e = absurd (true≢false (sym blocked ∙ none_of hits then (all_found (λ (f : Place × Bytes). hits f ≡ false) then (sorted_after files front folder.in_order) (each e))))
+        by false e = absurd (true≢false (sym blocked ∙ none_of hits then (all_found (λ (f : Place × Bytes). hits f ≡ false) then (sorted_after files prefix folder.in_order) (each e))))
 
     pub step_shut_out : step_by task.outputs rest [] (Ok written) ≡ Err (faults.Blocked step.0)
     step_shut_out =
         blocked_step task.outputs rest [] written step.0 none (first_is rest made step.0 (value step.1 some).0 made_sorted step_made blocked_rest before)
       where
-        front_free : AllByRecursion (λ (s : Step). is_some s.1 ≡ true → is_blocked rest s.0 ≡ false) parts.0
-        front_free = all_behind (λ (s : Step). is_some s.1 ≡ true → is_blocked rest s.0 ≡ false) (kept goes steps) parts.0
-            (subst (λ (xs : List Step). AllByRecursion (λ (s : Step). is_some s.1 ≡ true → is_blocked rest s.0 ≡ false) xs) parts.2 (room_rest front files front_at refl room))
+        prefix_free : AllByRecursion (λ (s : Step). is_some s.1 ≡ true → is_blocked rest s.0 ≡ false) parts.0
+        prefix_free = all_after (λ (s : Step). is_some s.1 ≡ true → is_blocked rest s.0 ≡ false) (kept goes steps) parts.0
+            (subst (λ (xs : List Step). AllByRecursion (λ (s : Step). is_some s.1 ≡ true → is_blocked rest s.0 ≡ false) xs) parts.2 (room_rest prefix files prefix_at refl room))
 
         before : (p : Place) (b : Bytes) → file_at made p ≡ Some b → byte_order p step.0 ≡ Less → is_blocked rest p ≡ false
         before p b e less = by (came p b e)
           where
             by : (file_at files p ≡ Some b) ⊎ (find byte_order p (kept comes steps) ≡ Some (Some b)) → is_blocked rest p ≡ false
-            by (inl stood) = stood_free p b stood
+            by (inl existed) = existed_free p b existed
             by (inr comes_there) =
-                found_holds (λ (s : Step). is_some s.1 ≡ true → is_blocked rest s.0 ≡ false) parts.0 p (Some b) front_free
-                (found_before parts.0 step behind p (Some b) (ap (is_sorted byte_order) (sym parts.1) ∙ sorted_kept comes steps sorted) less
+                found_holds (λ (s : Step). is_some s.1 ≡ true → is_blocked rest s.0 ≡ false) parts.0 p (Some b) prefix_free
+                (found_before parts.0 step following p (Some b) (ap (is_sorted byte_order) (sym parts.1) ∙ sorted_kept comes steps sorted) less
                 (ap (find byte_order p) (sym parts.1) ∙ comes_there)) refl

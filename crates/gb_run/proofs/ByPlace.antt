@@ -100,10 +100,10 @@ pub inside_by_place : (held : ByPlace) (start end : String Global) (place : Plac
 inside_by_place held start end place es at_start at_end is = ap shown is ∙ inside_shown start end place held.entries at_start at_end
 
 -- there is nothing at the root after what is at or after it
-none_behind : (root first : Place) (files : Files) → ((other : Place) → byte_order first other ≡ Less → byte_order root other ≡ Less) → T (below_all byte_order first files) → file_at files root ≡ None
-none_behind root first [] before below = refl
-none_behind root first (file ∷ files) before below =
-    ap (λ o. cond (is_eq o) (Some file.1) (file_at files root)) (before file.0 (less_from _ (first_part _ _ below))) ∙ none_behind root first files before (second_part _ _ below)
+none_after : (root first : Place) (files : Files) → ((other : Place) → byte_order first other ≡ Less → byte_order root other ≡ Less) → T (below_all byte_order first files) → file_at files root ≡ None
+none_after root first [] before below = refl
+none_after root first (file ∷ files) before below =
+    ap (λ o. cond (is_eq o) (Some file.1) (file_at files root)) (before file.0 (less_from _ (first_part _ _ below))) ∙ none_after root first files before (second_part _ _ below)
 
 -- what is at the root itself
 abbrev pub at_root : Place → Option Bytes → Files
@@ -124,14 +124,14 @@ root_first (file ∷ files) root sorted =
     ≡ cond (at || is_beneath file.0 root) (file ∷ files_under files root) (files_under files root)) [
       | true ↦ λ at.
           let same : file.0 ≡ root = (bytes_decides file.0 root).0 at in
-          let none : file_at files root ≡ None = none_behind root file.0 files (λ other h. ap (λ p. byte_order p other) (sym same) ∙ h) (first_part _ _ sorted) in
+          let none : file_at files root ≡ None = none_after root file.0 files (λ other h. ap (λ p. byte_order p other) (sym same) ∙ h) (first_part _ _ sorted) in
           ap (λ b. (root, file.1) ∷ cond b (file ∷ beneath_root root files) (beneath_root root files)) (ap (λ p. is_beneath p root) same ∙ not_beneath_itself root)
           ∙ ap (λ (p : Place). (p, file.1) ∷ beneath_root root files) (sym same)
           ∙ ap (λ (fs : Files). file ∷ fs) (ap (λ (o : Option Bytes). at_root root o ++ beneath_root root files) (sym none) ∙ rest)
       | false ↦ λ at. elim (is_beneath file.0 root) as (λ b. is_beneath file.0 root ≡ b →
           at_root root (file_at files root) ++ cond b (file ∷ beneath_root root files) (beneath_root root files) ≡ cond b (file ∷ files_under files root) (files_under files root)) [
             | true ↦ λ is.
-                let none : file_at files root ≡ None = none_behind root file.0 files (λ other h. nat_list_cmp_total.trans root file.0 other (after_root file.0 root is) h) (first_part _ _ sorted) in
+                let none : file_at files root ≡ None = none_after root file.0 files (λ other h. nat_list_cmp_total.trans root file.0 other (after_root file.0 root is) h) (first_part _ _ sorted) in
                 ap (λ (o : Option Bytes). at_root root o ++ file ∷ beneath_root root files) none
                 ∙ ap (λ (fs : Files). file ∷ fs) (ap (λ (o : Option Bytes). at_root root o ++ beneath_root root files) (sym none) ∙ rest)
             | false ↦ λ is. rest

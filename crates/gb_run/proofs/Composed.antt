@@ -117,23 +117,23 @@ module _ (course : Course) (may_leave : Tearing) (before after : ℕ) (rises : b
       steps_are = ap (λ (r : Result (List Written) Text). put (files_of course.task.outputs r)) is
 
       then_at : (old new : Contents) → old.files ≡ folder → new ≡ folder_after old (part_of course action).steps → new.files ≡ after_steps folder (put (put_over [] (placed course.task.outputs written)))
-      then_at old new stood puts =
-          ap (λ (c : Contents). c.files) puts ∙ ap (after_steps old.files) steps_are ∙ ap (λ (m : Files). after_steps m (put (put_over [] (placed course.task.outputs written)))) stood
+      then_at old new existed puts =
+          ap (λ (c : Contents). c.files) puts ∙ ap (after_steps old.files) steps_are ∙ ap (λ (m : Files). after_steps m (put (put_over [] (placed course.task.outputs written)))) existed
 
       stops_cut : (old new : Contents) (fault : Fault) → old.files ≡ folder → ((place : Place) → fault ≡ faults.Device place → HasRisen before after)
           → IsCutShort may_leave (part_of course action).steps old fault new → Fails course InFull may_leave before fault lines after new.files
-      stops_cut old new fault stood risen cut =
-          stops fault new.files (stops_writing course.task.outputs course.rest held (blank held) folder (made course action) is_held may_leave before fault after written is none_beside old new stood risen
+      stops_cut old new fault existed risen cut =
+          stops fault new.files (stops_writing course.task.outputs course.rest held (blank held) folder (made course action) is_held may_leave before fault after written is none_beside old new existed risen
           (put_over [] (placed course.task.outputs written)) refl (subst (λ (ss : List Step). IsCutShort may_leave ss old fault new) steps_are cut))
 
       stops_late : (old new : Contents) → old.files ≡ folder → new ≡ folder_after old (part_of course action).steps → Fails course InFull may_leave before faults.OutOfMemory lines after new.files
-      stops_late old new stood puts =
+      stops_late old new existed puts =
           stops faults.OutOfMemory new.files (stops_printing course.task.outputs course.rest held (blank held) folder (made course action) is_held may_leave before faults.OutOfMemory after written is none_beside
-          new.files (then_at old new stood puts) refl)
+          new.files (then_at old new existed puts) refl)
 
       goes_on : (old new : Contents) → old.files ≡ folder → new ≡ folder_after old (part_of course action).steps → HasRoom old.files (part_of course action).steps
           → IsOnWay course left (put_over held (placed course.task.outputs written)) new.files (lines ++ (part_of course action).lines)
-      goes_on old new stood puts room = record {
+      goes_on old new existed puts room = record {
         done = on_way.done ++ action ∷ [];
         all = on_way.all ∙ sym (append_assoc on_way.done (action ∷ []) left);
         no_fault = more_fault course.kinds course.task.outputs course.task.values course.trees course.rest on_way.done [] (put_over held (placed course.task.outputs written)) action on_way.no_fault step_is;
@@ -141,7 +141,7 @@ module _ (course : Course) (may_leave : Tearing) (before after : ℕ) (rises : b
         rest_in_order = on_way.rest_in_order;
         in_order = sorted-put_over held (placed course.task.outputs written) on_way.in_order;
         files =
-            then_at old new stood puts ∙ after_put folder (put_over [] (placed course.task.outputs written)) ∙ ap (λ (m : Files). put_over m (put_over [] (placed course.task.outputs written))) on_way.files
+            then_at old new existed puts ∙ after_put folder (put_over [] (placed course.task.outputs written)) ∙ ap (λ (m : Files). put_over m (put_over [] (placed course.task.outputs written))) on_way.files
             ∙ over_rest course.rest held (placed course.task.outputs written) on_way.rest_in_order on_way.in_order;
         printed =
             ap (λ (ls : List Text). ls ++ (part_of course action).lines) on_way.printed
@@ -150,7 +150,7 @@ module _ (course : Course) (may_leave : Tearing) (before after : ℕ) (rises : b
         where
           has : has_room (put_over course.rest held) (put_over [] (placed course.task.outputs written))
           has = subst (λ (m : Files). has_room m (put_over [] (placed course.task.outputs written))) on_way.files
-              (room_of folder (put_over [] (placed course.task.outputs written)) (subst (λ (m : Files). HasRoom m (put (put_over [] (placed course.task.outputs written)))) stood (subst (λ (ss : List Step). HasRoom old.files ss) steps_are room)))
+              (room_of folder (put_over [] (placed course.task.outputs written)) (subst (λ (m : Files). HasRoom m (put (put_over [] (placed course.task.outputs written)))) existed (subst (λ (ss : List Step). HasRoom old.files ss) steps_are room)))
 
           step_is : step_by course.task.outputs course.rest (run_along course on_way.done).held (made course action) ≡ Ok (put_over held (placed course.task.outputs written))
           step_is =
@@ -160,31 +160,31 @@ module _ (course : Course) (may_leave : Tearing) (before after : ℕ) (rises : b
       -- its part was tried
       part_ends : (old new : Contents) → old.files ≡ folder → (own : Option Fault) (more : List Text) (result : Ending) (first later : List Call) (mid : Ending) (Next : List Text → Type 0)
           → Does (part_of course action).steps first mid → AnswersAll may_leave old (first ++ later) new → ((place : Place) → result ≡ Err (faults.Device place) → HasRisen before after)
-          → ((between : Contents) (behind : List Text) → IsOnWay course left (put_over held (placed course.task.outputs written)) between.files (lines ++ (part_of course action).lines)
-          → AnswersAll may_leave between later new → Next behind → End result own ((lines ++ (part_of course action).lines) ++ behind) new.files)
+          → ((between : Contents) (following : List Text) → IsOnWay course left (put_over held (placed course.task.outputs written)) between.files (lines ++ (part_of course action).lines)
+          → AnswersAll may_leave between later new → Next following → End result own ((lines ++ (part_of course action).lines) ++ following) new.files)
           → OrPrints mid (part_of course action).lines Next later more result → End result own (lines ++ more) new.files
-      part_ends old new stood own more result first later (Err fault) Next does all risen next ended =
+      part_ends old new existed own more result first later (Err fault) Next does all risen next ended =
           let parts = answered_then may_leave first later old new all in
           let same : new ≡ parts.0 = subst (λ (cs : List Call). AnswersAll may_leave parts.0 cs new) ended.0 parts.2 in
           let cut = cut_short may_leave (part_of course action).steps first old parts.0 fault small does parts.1 in
           subst (λ (r : Ending). End r own (lines ++ more) new.files) (sym ended.2)
           (subst (λ (ls : List Text). Fails course InFull may_leave before fault ls after new.files) (sym (ap (λ (ms : List Text). lines ++ ms) ended.1 ∙ with_none lines))
-          (subst (λ (c : Contents). Fails course InFull may_leave before fault lines after c.files) (sym same) (stops_cut old parts.0 fault stood (λ place device. risen place (ended.2 ∙ ap Err device)) cut)))
+          (subst (λ (c : Contents). Fails course InFull may_leave before fault lines after c.files) (sym same) (stops_cut old parts.0 fault existed (λ place device. risen place (ended.2 ∙ ap Err device)) cut)))
         where
           small : AllByRecursion IsSmall (part_of course action).steps
           small = subst (λ (ss : List Step). AllByRecursion IsSmall ss) (sym steps_are) (small_put (put_over [] (placed course.task.outputs written)) (small_taken course.task.outputs (blank held) (put_over [] (placed course.task.outputs written)) none_beside))
-      part_ends old new stood own more result first later (Ok done) Next does all risen next (inl memory) =
+      part_ends old new existed own more result first later (Ok done) Next does all risen next (inl memory) =
           let parts = answered_then may_leave first later old new all in
           let same : new ≡ parts.0 = subst (λ (cs : List Call). AnswersAll may_leave parts.0 cs new) memory.0 parts.2 in
           subst (λ (r : Ending). End r own (lines ++ more) new.files) (sym memory.2)
           (subst (λ (ls : List Text). Fails course InFull may_leave before faults.OutOfMemory ls after new.files) (sym (ap (λ (ms : List Text). lines ++ ms) memory.1 ∙ with_none lines))
           (subst (λ (c : Contents). Fails course InFull may_leave before faults.OutOfMemory lines after c.files) (sym same)
-          (stops_late old parts.0 stood (leaves may_leave (part_of course action).steps first old parts.0 does parts.1).0)))
-      part_ends old new stood own more result first later (Ok done) Next does all risen next (inr printed) =
+          (stops_late old parts.0 existed (leaves may_leave (part_of course action).steps first old parts.0 does parts.1).0)))
+      part_ends old new existed own more result first later (Ok done) Next does all risen next (inr printed) =
           let parts = answered_then may_leave first later old new all in
           let left_so = leaves may_leave (part_of course action).steps first old parts.0 does parts.1 in
           subst (λ (ls : List Text). End result own ls new.files) (append_assoc lines (part_of course action).lines printed.0 ∙ ap (λ (ms : List Text). lines ++ ms) (sym printed.1))
-          (next parts.0 printed.0 (goes_on old parts.0 stood left_so.0 left_so.1) parts.2 printed.2)
+          (next parts.0 printed.0 (goes_on old parts.0 existed left_so.0 left_so.1) parts.2 printed.2)
 
   -- all parts were
   parts_end : (left : List Action) (held : Files) (lines more : List Text) (old new : Contents) (calls : List Call) (result : Ending) → IsOnWay course left held old.files lines
@@ -215,8 +215,8 @@ module _ (course : Course) (may_leave : Tearing) (before after : ℕ) (rises : b
         ap (λ (r : Result Files (List Fault)). or_stop r (λ over. with_part (part_of course action) (work_of course over left))) went.3 in
         subst (λ (w : Work). DoesParts w.parts calls more result → End result w.fault (lines ++ more) new.files) (sym is) (λ parts.
         part_ends action left held old.files lines on_way went.0 went.1 went.2 old new refl (work_of course over left).fault more result parts.0 parts.1 parts.2
-        (λ behind. DoesParts (work_of course over left).parts parts.1 behind result) parts.4 (subst (λ (cs : List Call). AnswersAll may_leave old cs new) parts.3 all) risen
-        (λ between behind goes answers next. parts_end left over (lines ++ (part_of course action).lines) behind between new parts.1 result goes next answers risen) parts.5) does
+        (λ following. DoesParts (work_of course over left).parts parts.1 following result) parts.4 (subst (λ (cs : List Call). AnswersAll may_leave old cs new) parts.3 all) risen
+        (λ between following goes answers next. parts_end left over (lines ++ (part_of course action).lines) following between new parts.1 result goes next answers risen) parts.5) does
   ]
 
 -- If calls do such a work, and are answered as by a folder that holds these files, the run ends well or fails
@@ -225,6 +225,6 @@ pub done_work_ends : (may_leave : Tearing) (course : Course) (before after : ℕ
     → IsTrue (is_sorted byte_order course.rest) → old.files ≡ course.rest → before ≤ after → ((place : Place) → result ≡ Err (faults.Device place) → HasRisen before after)
     → DoesParts (work_of course [] course.task.actions).parts calls lines result → AnswersAll may_leave old calls new →
     Ends course InFull may_leave before after result (work_of course [] course.task.actions).fault lines new.files
-done_work_ends may_leave course before after old new calls lines result sorted stood rises risen does all =
+done_work_ends may_leave course before after old new calls lines result sorted existed rises risen does all =
     parts_end course may_leave before after rises course.task.actions [] [] lines old new calls result
-    (record { done = []; all = refl; no_fault = refl; is = refl; rest_in_order = sorted; in_order = refl; files = stood; printed = refl }) does all risen
+    (record { done = []; all = refl; no_fault = refl; is = refl; rest_in_order = sorted; in_order = refl; files = existed; printed = refl }) does all risen

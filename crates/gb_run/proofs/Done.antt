@@ -12,22 +12,22 @@ use Rattle.gb_run.specs.Doing.{Does, OrEnds, Ending, Tried, call_of, ending_of}
 use Rattle.gb_folder.proofs.Leading.{leads_on, leads_once}
 
 -- these steps and then those
-pub does_then : (front behind : List Step) (done last : List Call) (result : Ending) → Does front done (Ok tt) → Does behind last result → Does (front ++ behind) (done ++ last) result
-does_then [] behind done last result first more = subst (λ (calls : List Call). Does behind (calls ++ last) result) (sym first.0) more
-does_then (step ∷ front) behind done last result (inl memory) more = absurd (let e = memory.1 in (cc))
-does_then (step ∷ front) behind done last result (inr asked) more =
-    inr (asked.0, asked.1 ++ last, ap (λ (calls : List Call). calls ++ last) asked.2, on (ending_of step asked.0) asked.3 (λ h. does_then front behind asked.1 last result h more))
+pub does_then : (prefix following : List Step) (done last : List Call) (result : Ending) → Does prefix done (Ok tt) → Does following last result → Does (prefix ++ following) (done ++ last) result
+does_then [] following done last result first more = subst (λ (calls : List Call). Does following (calls ++ last) result) (sym first.0) more
+does_then (step ∷ prefix) following done last result (inl memory) more = absurd (let e = memory.1 in (cc))
+does_then (step ∷ prefix) following done last result (inr allowed) more =
+    inr (allowed.0, allowed.1 ++ last, ap (λ (calls : List Call). calls ++ last) allowed.2, on (ending_of step allowed.0) allowed.3 (λ h. does_then prefix following allowed.1 last result h more))
   where
-    on : (t : Ending) → OrEnds t (Does front asked.1 (Ok tt)) asked.1 (Ok tt) → (Does front asked.1 (Ok tt) → Does (front ++ behind) (asked.1 ++ last) result) → OrEnds t (Does (front ++ behind) (asked.1 ++ last) result) (asked.1 ++ last) result
+    on : (t : Ending) → OrEnds t (Does prefix allowed.1 (Ok tt)) allowed.1 (Ok tt) → (Does prefix allowed.1 (Ok tt) → Does (prefix ++ following) (allowed.1 ++ last) result) → OrEnds t (Does (prefix ++ following) (allowed.1 ++ last) result) (allowed.1 ++ last) result
     on (Ok d) h goes = goes h
     on (Err fault) h goes = absurd (let e = h.1 in (cc))
 
 -- one that was refused is the last
 ends_then : (step : Step) (later : List Step) (calls : List Call) (fault : Fault) → Does (step ∷ []) calls (Err fault) → Does (step ∷ later) calls (Err fault)
 ends_then step later calls fault (inl memory) = inl memory
-ends_then step later calls fault (inr asked) = inr (asked.0, asked.1, asked.2, on (ending_of step asked.0) asked.3)
+ends_then step later calls fault (inr allowed) = inr (allowed.0, allowed.1, allowed.2, on (ending_of step allowed.0) allowed.3)
   where
-    on : (t : Ending) → OrEnds t (Does [] asked.1 (Err fault)) asked.1 (Err fault) → OrEnds t (Does later asked.1 (Err fault)) asked.1 (Err fault)
+    on : (t : Ending) → OrEnds t (Does [] allowed.1 (Err fault)) allowed.1 (Err fault) → OrEnds t (Does later allowed.1 (Err fault)) allowed.1 (Err fault)
     on (Ok d) h = absurd (let e = h.1 in (cc))
     on (Err other) h = h
 
@@ -45,11 +45,11 @@ module _ {F : Type 0} (device : Device F) where
 
   pub of_tried : (step : Step) (old : F) (result : Ending) (new : F) → Tried device step old result new → Led (step ∷ []) old result new
   of_tried step old result new (inl memory) = ([], memory.1, inl (refl, memory.0))
-  of_tried step old result new (inr asked) = (call_of step asked.0 ∷ [], leads_once device old new (call_of step asked.0) asked.1, one_asked step asked.0 result asked.2)
+  of_tried step old result new (inr allowed) = (call_of step allowed.0 ∷ [], leads_once device old new (call_of step allowed.0) allowed.1, one_asked step allowed.0 result allowed.2)
 
-  led_then : (front behind : List Step) (old mid new : F) (result : Ending) → Led front old (Ok tt) mid → Led behind mid result new → Led (front ++ behind) old result new
-  led_then front behind old mid new result first more =
-      (first.0 ++ more.0, leads_on device old mid new first.0 more.0 first.1 more.1, does_then front behind first.0 more.0 result first.2 more.2)
+  led_then : (prefix following : List Step) (old mid new : F) (result : Ending) → Led prefix old (Ok tt) mid → Led following mid result new → Led (prefix ++ following) old result new
+  led_then prefix following old mid new result first more =
+      (first.0 ++ more.0, leads_on device old mid new first.0 more.0 first.1 more.1, does_then prefix following first.0 more.0 result first.2 more.2)
 
   module _ (steps : List Step) (i : ℕ) (step : Step) (within : i < length steps) (is : step ≡ get_or steps i step) (old mid new : F) where
     pub led_more : Led (take i steps) old (Ok tt) mid → Tried device step mid (Ok tt) new → Led (take (i + 1) steps) old (Ok tt) new

@@ -20,17 +20,17 @@ use Rattle.gb_meaning.specs.Tree.{has_no_source, trees_of}
 use Rattle.gb_meaning.specs.Made.{blocked_in, file_faults, full_outputs, placed, put_over, rest_of, step_faults}
 use Rattle.gb_meaning.specs.Run.{Ended, ends, hindrances, or_end, step_by, unless_hindered}
 use Rattle.gb_meaning.specs.Execution.{IsWritten, lines_of}
-use Rattle.gb_meaning.specs.Events.{IsTornInRun, Setting, StandsInRun}
+use Rattle.gb_meaning.specs.Events.{IsTornInRun, Setting, ExistsInRun}
 use Rattle.gb_meaning.proofs.Lemmas.Ending.{ended_is_made}
 use Rattle.gb_run.specs.Course.{Course, files_at_hand, run_along, whole_run}
 use Rattle.gb_run.specs.Failing.{FailsByItself, InFull, Moment, Way, files_then}
-use Rattle.gb_run.specs.Laws.{EndedRunsAreMade, FailedRunsInventNothingInFull, FailedRunsPrintFronts, course_in}
+use Rattle.gb_run.specs.Laws.{EndedRunsAreMade, FailedRunsInventNothingInFull, FailedRunsPrintPrefixes, course_in}
 use Rattle.gb_run.specs.Named.{put}
 use Rattle.gb_run.specs.Stepping.{FailsByMachine}
 use Rattle.gb_run.specs.Steps.{Step, after_steps}
 use Rattle.gb_run.proofs.AsSteps.{IsParted, after_put, parted}
 use Rattle.gb_run.proofs.AtOutputs.{BlamesNone, counts_blame_none, files_blame_none}
-use Rattle.gb_run.proofs.Endings.{behind-done, on, run}
+use Rattle.gb_run.proofs.Endings.{following-done, on, run}
 use Rattle.gb_run.proofs.Invented.{IsOf, found_in, in_over, in_where, none_in, of_free, of_held, of_more}
 use Rattle.gb_run.proofs.Writer.{heads}
 use Rattle.gb_tree.proofs.Holding.{all_append}
@@ -43,9 +43,9 @@ ended_runs_are_made kinds task changes old lines new well =
 
 -- ---- fronts
 
-take_front : {X : Type 0} (xs ys : List X) → take (length xs) (xs ++ ys) ≡ xs
-take_front [] ys = refl
-take_front (x ∷ xs) ys = ap (λ zs. x ∷ zs) (take_front xs ys)
+take_prefix : {X : Type 0} (xs ys : List X) → take (length xs) (xs ++ ys) ≡ xs
+take_prefix [] ys = refl
+take_prefix (x ∷ xs) ys = ap (λ zs. x ∷ zs) (take_prefix xs ys)
 
 take_past : {X : Type 0} (xs ys : List X) (n : ℕ) → take (length xs + n) (xs ++ ys) ≡ xs ++ take n ys
 take_past [] ys n = let e : 0 + n ≡ n = omega arith in ap (λ k. take k ys) e
@@ -59,13 +59,13 @@ module _ (course : Course) (way : Way) (moment : Moment course way) where
   ended_done =
       ap (λ (actions : List Action). (run_along course actions).done) moment.all
       ∙ ap (λ (ended : Ended). ended.done) (on course.kinds course.task.outputs course.task.values course.trees course.rest moment.done moment.left [] moment.no_fault)
-      ∙ behind-done moment.done (run course.kinds course.task.outputs course.task.values course.trees course.rest (run_along course moment.done).held moment.left)
+      ∙ following-done moment.done (run course.kinds course.task.outputs course.task.values course.trees course.rest (run_along course moment.done).held moment.left)
 
   -- the actions that have ended are a prefix of those that can
-  pub front_of : moment.done ≡ take (length moment.done) (whole_run course).done
-  front_of =
+  pub prefix_of : moment.done ≡ take (length moment.done) (whole_run course).done
+  prefix_of =
       sym (ap (take (length moment.done)) ended_done
-      ∙ take_front moment.done (run course.kinds course.task.outputs course.task.values course.trees course.rest (run_along course moment.done).held moment.left).done)
+      ∙ take_prefix moment.done (run course.kinds course.task.outputs course.task.values course.trees course.rest (run_along course moment.done).held moment.left).done)
 
   abbrev reached : List Action
   reached = take (length (whole_run course).done + 1) course.task.actions
@@ -108,16 +108,16 @@ module _ (course : Course) (moment : Moment course InFull) where
           (of_free course.kinds course.task.outputs course.task.values course.trees (run_along course moment.done).held action file g)))))
 
   -- its files, those that were put and those that are left
-  parts : IsParted (files_at_hand course (run_along course moment.done).held moment.left) moment.front moment.behind
-  parts = parted (files_at_hand course (run_along course moment.done).held moment.left) moment.front moment.behind moment.at_hand
+  parts : IsParted (files_at_hand course (run_along course moment.done).held moment.left) moment.prefix moment.following
+  parts = parted (files_at_hand course (run_along course moment.done).held moment.left) moment.prefix moment.following moment.at_hand
 
   then_is : files_then course InFull moment ≡ put_over (put_over course.rest (run_along course moment.done).held) parts.first
-  then_is = ap (after_steps (put_over course.rest (run_along course moment.done).held)) parts.front_is ∙ after_put (put_over course.rest (run_along course moment.done).held) parts.first
+  then_is = ap (after_steps (put_over course.rest (run_along course moment.done).held)) parts.prefix_is ∙ after_put (put_over course.rest (run_along course moment.done).held) parts.first
 
   -- each file of the folder is written by an action that the run reached, or is of the rest
-  pub stands_by : (file : Place × Bytes) → Contains (files_then course InFull moment) file → Among upto file ⊎ Contains course.rest file
-  stands_by file h = elim (in_over (put_over course.rest (run_along course moment.done).held) parts.first file (subst (λ (fs : Files). Contains fs file) then_is h)) [
-    | inl front ↦ inl (of_hand file (subst (λ (fs : List (Place × Bytes)). Contains fs file) (sym parts.all) (Contains-append_left parts.first parts.later file front)))
+  pub exists_by : (file : Place × Bytes) → Contains (files_then course InFull moment) file → Among upto file ⊎ Contains course.rest file
+  exists_by file h = elim (in_over (put_over course.rest (run_along course moment.done).held) parts.first file (subst (λ (fs : Files). Contains fs file) then_is h)) [
+    | inl prefix ↦ inl (of_hand file (subst (λ (fs : List (Place × Bytes)). Contains fs file) (sym parts.all) (Contains-append_left parts.first parts.later file prefix)))
     | inr before ↦ elim (in_over course.rest (run_along course moment.done).held file before) [
       | inl held ↦ elim (of_held course.kinds course.task.outputs course.task.values course.trees course.rest moment.done [] moment.no_fault file held) [
         | inl written ↦ inl (subst (λ (actions : List Action). Among actions file) (sym (reached_is course InFull moment))
@@ -129,8 +129,8 @@ module _ (course : Course) (moment : Moment course InFull) where
   ]
 
   -- the same for each that was to be put
-  pub was_next : (step : Step) (more : List Step) → moment.behind ≡ step ∷ more → (bytes : Bytes) × (step.1 ≡ Some bytes) × Among upto (step.0, bytes)
-  was_next step more is = by parts.later parts.all (sym is ∙ parts.behind_is)
+  pub was_next : (step : Step) (more : List Step) → moment.following ≡ step ∷ more → (bytes : Bytes) × (step.1 ≡ Some bytes) × Among upto (step.0, bytes)
+  was_next step more is = by parts.later parts.all (sym is ∙ parts.after_is)
     where
       by : (later : List (Place × Bytes)) → files_at_hand course (run_along course moment.done).held moment.left ≡ parts.first ++ later → step ∷ more ≡ put later
           → (bytes : Bytes) × (step.1 ≡ Some bytes) × Among upto (step.0, bytes)
@@ -189,11 +189,11 @@ module _ (kinds : Kinds) (task : Task) (trees : Trees) (rest : Files) where
 
 -- ---- what is printed
 
-pub failed_runs_print_fronts : (setting : Setting) → FailedRunsPrintFronts setting
-failed_runs_print_fronts setting way task changes old fault lines new failure =
+pub failed_runs_print_prefixes : (setting : Setting) → FailedRunsPrintPrefixes setting
+failed_runs_print_prefixes setting way task changes old fault lines new failure =
     let moment = failure.fails.moment in (
       length moment.done,
-      failure.fails.printed ∙ ap (λ (actions : List Action). lines_of setting.kinds task (trees_of task old) changes actions) (front_of (course_in setting.kinds task changes old) way moment),
+      failure.fails.printed ∙ ap (λ (actions : List Action). lines_of setting.kinds task (trees_of task old) changes actions) (prefix_of (course_in setting.kinds task changes old) way moment),
     )
 
 -- ---- what is there
@@ -201,15 +201,15 @@ failed_runs_print_fronts setting way task changes old fault lines new failure =
 module _ (setting : Setting) (task : Task) (changes : List Changes) (old : Files) where
   -- where in the run each file at the outputs is, and each that was to be put
   pub record AreOfTheRun (way : Way) (moment : Moment (course_in setting.kinds task changes old) way) (place : Place) : Type 0 where
-    pub stood : StandsInRun setting.kinds task old place (file_at (files_then (course_in setting.kinds task changes old) way moment) place)
-    pub next : (step : Step) (later : List Step) → moment.behind ≡ step ∷ later → step.0 ≡ place → StandsInRun setting.kinds task old place step.1
+    pub existed : ExistsInRun setting.kinds task old place (file_at (files_then (course_in setting.kinds task changes old) way moment) place)
+    pub next : (step : Step) (later : List Step) → moment.following ≡ step ∷ later → step.0 ≡ place → ExistsInRun setting.kinds task old place step.1
 
   module _ (way : Way) (moment : Moment (course_in setting.kinds task changes old) way) where
     -- what is at a place once the run has failed: what was there at the moment, except where the device
     -- failed
     pub left_then : (before after : ℕ) (fault : Fault) (new : Files)
         → FailsByItself (course_in setting.kinds task changes old) way moment fault new
-        ⊎ FailsByMachine setting.may_leave before (files_then (course_in setting.kinds task changes old) way moment) moment.behind fault after new
+        ⊎ FailsByMachine setting.may_leave before (files_then (course_in setting.kinds task changes old) way moment) moment.following fault after new
         → (place : Place) → (file_at new place ≡ file_at (files_then (course_in setting.kinds task changes old) way moment) place) ⊎ (fault ≡ faults.Device place)
     left_then before after fault new (inl itself) place = inl (ap (λ (fs : Files). file_at fs place) itself.files)
     left_then before after fault new (inr (inl memory)) place = inl (ap (λ (fs : Files). file_at fs place) memory.1)
@@ -223,7 +223,7 @@ module _ (setting : Setting) (task : Task) (changes : List Changes) (old : Files
 
     pub torn : (before after : ℕ) (place : Place) (new : Files)
         → FailsByItself (course_in setting.kinds task changes old) way moment (faults.Device place) new
-        ⊎ FailsByMachine setting.may_leave before (files_then (course_in setting.kinds task changes old) way moment) moment.behind (faults.Device place) after new
+        ⊎ FailsByMachine setting.may_leave before (files_then (course_in setting.kinds task changes old) way moment) moment.following (faults.Device place) after new
         → AreOfTheRun way moment place → IsTornInRun setting task old place (file_at new place)
     torn before after place new (inl itself) are =
         absurd (blames_none setting.kinds task (trees_of task old) (rest_of task old) task.actions [] place itself.faulty)
@@ -233,7 +233,7 @@ module _ (setting : Setting) (task : Task) (changes : List Changes) (old : Files
         let then = files_then (course_in setting.kinds task changes old) way moment in (
           file_at then place,
           stopped.step.1,
-          are.stood,
+          are.existed,
           are.next stopped.step stopped.later stopped.next here,
           subst (λ (left : Option Bytes). setting.may_leave place (file_at then place) stopped.step.1 left)
               (sym (ap (λ (fs : Files). file_at fs place) stopped.files
@@ -245,7 +245,7 @@ module _ (setting : Setting) (task : Task) (changes : List Changes) (old : Files
 
   module _ (source : has_no_source task old ≡ false) (moment : Moment (course_in setting.kinds task changes old) InFull) (place : Place) (output : is_output_of task place ≡ true) where
     written_by : (bytes : Bytes) → Contains (files_then (course_in setting.kinds task changes old) InFull moment) (place, bytes) → IsWritten setting.kinds task old place bytes
-    written_by bytes h = elim (stands_by (course_in setting.kinds task changes old) moment (place, bytes) h) [
+    written_by bytes h = elim (exists_by (course_in setting.kinds task changes old) moment (place, bytes) h) [
       | inl w ↦ (source, w.action, w.written, w.among, w.makes, w.put)
       | inr rest ↦ absurd (false≢true (sym (not-true _ (in_where (λ q. not (is_output_of task q)) old (place, bytes) rest)) ∙ output))
     ]
@@ -255,16 +255,16 @@ module _ (setting : Setting) (task : Task) (changes : List Changes) (old : Files
     written_then bytes is = written_by bytes (found_in (files_then (course_in setting.kinds task changes old) InFull moment) place bytes is)
 
     pub are_of_the_run : AreOfTheRun InFull moment place
-    are_of_the_run = record { stood = so (file_at (files_then (course_in setting.kinds task changes old) InFull moment) place) refl; next = next_so }
+    are_of_the_run = record { existed = so (file_at (files_then (course_in setting.kinds task changes old) InFull moment) place) refl; next = next_so }
       where
-        so : (left : Option Bytes) → file_at (files_then (course_in setting.kinds task changes old) InFull moment) place ≡ left → StandsInRun setting.kinds task old place left
+        so : (left : Option Bytes) → file_at (files_then (course_in setting.kinds task changes old) InFull moment) place ≡ left → ExistsInRun setting.kinds task old place left
         so None is = tt
         so (Some bytes) is = inr (written_then bytes is)
 
-        next_so : (step : Step) (later : List Step) → moment.behind ≡ step ∷ later → step.0 ≡ place → StandsInRun setting.kinds task old place step.1
+        next_so : (step : Step) (later : List Step) → moment.following ≡ step ∷ later → step.0 ≡ place → ExistsInRun setting.kinds task old place step.1
         next_so step later next here =
             let w = was_next (course_in setting.kinds task changes old) moment step later next in
-            subst (λ (left : Option Bytes). StandsInRun setting.kinds task old place left) (sym w.1)
+            subst (λ (left : Option Bytes). ExistsInRun setting.kinds task old place left) (sym w.1)
             (inr (subst (λ (p : Place). IsWritten setting.kinds task old p w.0) here (source, w.2.action, w.2.written, w.2.among, w.2.makes, w.2.put)))
 
 pub failed_runs_invent_nothing_in_full : (setting : Setting) → FailedRunsInventNothingInFull setting

@@ -18,7 +18,7 @@ use Rattle.gb_plan.specs.declared.task.Action.{Action}
 use Rattle.gb_plan.specs.declared.task.Output.{Output}
 use Rattle.gb_plan.specs.declared.task.TaskDeclaration.{TaskDeclaration as Task}
 use Rattle.gb_plan.proofs.Tests.{each_all, filter_append}
-use Rattle.gb_meaning.specs.Events.{IsTornInRun, Setting, StandsInRun}
+use Rattle.gb_meaning.specs.Events.{IsTornInRun, Setting, ExistsInRun}
 use Rattle.gb_meaning.specs.Kinds.{Kinds, kind_of}
 use Rattle.gb_meaning.specs.Label.{has_one_writer}
 use Rattle.gb_meaning.specs.Made.{act, made_of, placed, put_over, rest_of, step_faults}
@@ -41,15 +41,15 @@ use Rattle.gb_run.specs.Stepping.{FailsByMachine}
 use Rattle.gb_run.specs.Steps.{LeadTo, Step, after_steps}
 use Rattle.gb_run.proofs.Looks.{at_left}
 use Rattle.gb_run.proofs.Writer.{IsOfWriter, heads, none_made, tails, writer_made, writer_of}
-use Rattle.gb_run.proofs.Placed.{all_behind, all_front, none_after as behind_none, none_before as front_none}
+use Rattle.gb_run.proofs.Placed.{all_after, all_prefix, none_after as after_none, none_before as prefix_none}
 
 -- ---- steps
 
 elsewhere : (files : Files) (p : Place) (left : Option Bytes) (q : Place) → p ≢ q → file_at (with_left files p left) q ≡ file_at files q
-elsewhere files p left q apart = at_left files p left q ∙ by (eq_by_cmp byte_order q p) refl
+elsewhere files p left q separate = at_left files p left q ∙ by (eq_by_cmp byte_order q p) refl
   where
     by : (b : Bool) → eq_by_cmp byte_order q p ≡ b → cond b left (file_at files q) ≡ file_at files q
-    by true e = absurd (apart (sym (same_place q p e)))
+    by true e = absurd (separate (sym (same_place q p e)))
     by false e = refl
 
 untouched : (files : Files) (steps : List Step) (q : Place) → AllByRecursion (λ (s : Step). s.0 ≢ q) steps → file_at (after_steps files steps) q ≡ file_at files q
@@ -60,10 +60,10 @@ abbrev AreMeant : Files → List Step → Type 0
 AreMeant target steps = AllByRecursion (λ (step : Step). (step.1 ≡ None) ⊎ (step.1 ≡ file_at target step.0)) steps
 
 -- what holds of no file, of what was there and of what is to be there, holds in between
-steps_stand : (P : Option Bytes → Type 0) (target files : Files) (q : Place) (steps : List Step) → P None → P (file_at target q) → AreMeant target steps → P (file_at files q) → P (file_at (after_steps files steps) q)
-steps_stand P target files q [] none new meant at = at
-steps_stand P target files q (s ∷ steps) none new meant at =
-    steps_stand P target (with_left files s.0 s.1) q steps none new meant.1 (subst P (sym (at_left files s.0 s.1 q)) (by (eq_by_cmp byte_order q s.0) refl))
+steps_exist : (P : Option Bytes → Type 0) (target files : Files) (q : Place) (steps : List Step) → P None → P (file_at target q) → AreMeant target steps → P (file_at files q) → P (file_at (after_steps files steps) q)
+steps_exist P target files q [] none new meant at = at
+steps_exist P target files q (s ∷ steps) none new meant at =
+    steps_exist P target (with_left files s.0 s.1) q steps none new meant.1 (subst P (sym (at_left files s.0 s.1 q)) (by (eq_by_cmp byte_order q s.0) refl))
   where
     put : q ≡ s.0 → (s.1 ≡ None) ⊎ (s.1 ≡ file_at target s.0) → P s.1
     put is (inl gone) = subst P (sym gone) none
@@ -93,7 +93,7 @@ module _ (kinds : Kinds) where
     where
       by : (any_writes xs ≡ true → writers kinds xs ++ writers kinds ys ≡ w ∷ [] → writers kinds ys ≡ []) → (b : Bool) → (b || any_writes xs) ≡ true
           → cond b (x ∷ writers kinds xs) (writers kinds xs) ++ writers kinds ys ≡ w ∷ [] → writers kinds ys ≡ []
-      by again true f q = behind_none (writers kinds xs) (writers kinds ys) (tails x w (writers kinds xs ++ writers kinds ys) [] q)
+      by again true f q = after_none (writers kinds xs) (writers kinds ys) (tails x w (writers kinds xs ++ writers kinds ys) [] q)
       by again false f q = again f q
 
 sorted_free : (outputs : List Output) (made : Result (List Written) Text) → is_sorted byte_order (free_files outputs [] made) ≡ true
@@ -134,7 +134,7 @@ module _ (setting : Setting) (task : Task) (changes : List Changes) (old : Files
 
   held_none : any_writes setting.kinds moment.done ≡ false → held ≡ []
   held_none none =
-      none_made setting.kinds task task.values (trees_of task old) moment.done [] held (all_front (IsFitting setting.kinds task) moment.done moment.left fits)
+      none_made setting.kinds task task.values (trees_of task old) moment.done [] held (all_prefix (IsFitting setting.kinds task) moment.done moment.left fits)
       (none_of setting.kinds moment.done none) held_made
 
   abbrev found : (w : Action) × (writers setting.kinds task.actions ≡ w ∷ [])
@@ -154,7 +154,7 @@ module _ (setting : Setting) (task : Task) (changes : List Changes) (old : Files
     left : moment.left ≡ action ∷ later
     none_before : any_writes setting.kinds moment.done ≡ false
     alone : writers setting.kinds task.actions ≡ action ∷ []
-    leads : LeadTo old (target_of action) (moment.front ++ moment.behind)
+    leads : LeadTo old (target_of action) (moment.prefix ++ moment.following)
 
   module _ (action : Action) (later : List Action) (is : moment.left ≡ action ∷ later) (writes : setting.kinds.writes (kind_of action) ≡ true) where
     left_writers : writers setting.kinds moment.left ≡ action ∷ writers setting.kinds later
@@ -182,7 +182,7 @@ module _ (setting : Setting) (task : Task) (changes : List Changes) (old : Files
     ended_old = ap (λ b. if b then put_over (rest_of task old) held else old) none
 
     at_writer : LeadTo (ended_files (course_in setting.kinds task changes old) (ByChanges old) moment.done)
-        (put_over (rest_of task old) (put_over held (free_files task.outputs held (made_by setting.kinds task action (trees_of task old))))) (moment.front ++ moment.behind) → IsAtWriter
+        (put_over (rest_of task old) (put_over held (free_files task.outputs held (made_by setting.kinds task action (trees_of task old))))) (moment.prefix ++ moment.following) → IsAtWriter
     at_writer leads = record {
       action = action;
       later = later;
@@ -190,16 +190,16 @@ module _ (setting : Setting) (task : Task) (changes : List Changes) (old : Files
       none_before = none;
       alone = alone_then;
       leads =
-          subst (λ (files : Files). LeadTo files (target_of action) (moment.front ++ moment.behind)) ended_old
+          subst (λ (files : Files). LeadTo files (target_of action) (moment.prefix ++ moment.following)) ended_old
           (subst (λ (h : Files). LeadTo (ended_files (course_in setting.kinds task changes old) (ByChanges old) moment.done)
-          (put_over (rest_of task old) (put_over h (free_files task.outputs h (made_by setting.kinds task action (trees_of task old))))) (moment.front ++ moment.behind)) (held_none none) leads);
+          (put_over (rest_of task old) (put_over h (free_files task.outputs h (made_by setting.kinds task action (trees_of task old))))) (moment.prefix ++ moment.following)) (held_none none) leads);
     }
 
-  hand : (moment.front ++ moment.behind ≡ []) ⊎ IsAtWriter
+  hand : (moment.prefix ++ moment.following ≡ []) ⊎ IsAtWriter
   hand = by moment.left refl moment.at_hand
     where
-      by : (left : List Action) → moment.left ≡ left → AreAtHand (course_in setting.kinds task changes old) (ByChanges old) moment.done left (moment.front ++ moment.behind)
-          → (moment.front ++ moment.behind ≡ []) ⊎ IsAtWriter
+      by : (left : List Action) → moment.left ≡ left → AreAtHand (course_in setting.kinds task changes old) (ByChanges old) moment.done left (moment.prefix ++ moment.following)
+          → (moment.prefix ++ moment.following ≡ []) ⊎ IsAtWriter
       by [] is steps = inl steps
       by (action ∷ later) is (inl steps) = inl steps
       by (action ∷ later) is (inr at) = inr (at_writer action later is at.0 at.1)
@@ -207,7 +207,7 @@ module _ (setting : Setting) (task : Task) (changes : List Changes) (old : Files
   -- ---- what was right
 
   module _ (files : Files) (makes : made_of setting.kinds task.actions task.values (trees_of task old) task.outputs ≡ Ok files)
-      (place : Place) (bytes : Bytes) (right : file_at files place ≡ Some bytes) (stood : file_at old place ≡ Some bytes) where
+      (place : Place) (bytes : Bytes) (right : file_at files place ≡ Some bytes) (existed : file_at old place ≡ Some bytes) where
     in_order : is_sorted byte_order files ≡ true
     in_order = (made_of_is_right setting.kinds task.outputs task.values (trees_of task old) task.actions files makes).in_order
 
@@ -223,7 +223,7 @@ module _ (setting : Setting) (task : Task) (changes : List Changes) (old : Files
     module _ (e : any_writes setting.kinds moment.done ≡ true) where
       all_held : files ≡ held
       all_held =
-          none_made setting.kinds task task.values (trees_of task old) moment.left held files (all_behind (IsFitting setting.kinds task) moment.done moment.left fits)
+          none_made setting.kinds task task.values (trees_of task old) moment.left held files (all_after (IsFitting setting.kinds task) moment.done moment.left fits)
           (none_after setting.kinds moment.done moment.left found.0 e (parted found.0 found.1)) all_made
 
       there : file_at (put_over (rest_of task old) held) place ≡ Some bytes
@@ -236,7 +236,7 @@ module _ (setting : Setting) (task : Task) (changes : List Changes) (old : Files
       where
         by : (b : Bool) → any_writes setting.kinds moment.done ≡ b → file_at (if b then put_over (rest_of task old) held else old) place ≡ Some bytes
         by true e = there e
-        by false e = stood
+        by false e = existed
 
     target_right : (at : IsAtWriter) → file_at (target_of at.action) place ≡ Some bytes
     target_right at =
@@ -254,58 +254,58 @@ module _ (setting : Setting) (task : Task) (changes : List Changes) (old : Files
             ∙ ap (λ b. if b then put_over [] (placed task.outputs of_writer.written) else []) of_writer.free
             ∙ sym of_writer.files
 
-    others : AllByRecursion (λ (s : Step). s.0 ≢ place) (moment.front ++ moment.behind)
+    others : AllByRecursion (λ (s : Step). s.0 ≢ place) (moment.prefix ++ moment.following)
     others = by hand
       where
-        by : (moment.front ++ moment.behind ≡ []) ⊎ IsAtWriter → AllByRecursion (λ (s : Step). s.0 ≢ place) (moment.front ++ moment.behind)
+        by : (moment.prefix ++ moment.following ≡ []) ⊎ IsAtWriter → AllByRecursion (λ (s : Step). s.0 ≢ place) (moment.prefix ++ moment.following)
         by (inl none) = subst (AllByRecursion (λ (s : Step). s.0 ≢ place)) (sym none) tt
         by (inr at) =
             each_all (λ (s : Step). file_at old s.0 ≢ file_at (target_of at.action) s.0) (λ (s : Step). s.0 ≢ place)
-            (λ s differ is. differ (ap (file_at old) is ∙ stood ∙ sym (target_right at) ∙ ap (file_at (target_of at.action)) (sym is)))
-            (moment.front ++ moment.behind) at.leads.needed
+            (λ s differ is. differ (ap (file_at old) is ∙ existed ∙ sym (target_right at) ∙ ap (file_at (target_of at.action)) (sym is)))
+            (moment.prefix ++ moment.following) at.leads.needed
 
     then_right : file_at (files_then (course_in setting.kinds task changes old) (ByChanges old) moment) place ≡ Some bytes
     then_right =
-        untouched (ended_files (course_in setting.kinds task changes old) (ByChanges old) moment.done) moment.front place
-        (all_front (λ (s : Step). s.0 ≢ place) moment.front moment.behind others)
+        untouched (ended_files (course_in setting.kinds task changes old) (ByChanges old) moment.done) moment.prefix place
+        (all_prefix (λ (s : Step). s.0 ≢ place) moment.prefix moment.following others)
         ∙ ended_right
 
     stays : (before after : ℕ) (fault : Fault) (new : Files)
         → FailsByItself (course_in setting.kinds task changes old) (ByChanges old) moment fault new
-        ⊎ FailsByMachine setting.may_leave before (files_then (course_in setting.kinds task changes old) (ByChanges old) moment) moment.behind fault after new
+        ⊎ FailsByMachine setting.may_leave before (files_then (course_in setting.kinds task changes old) (ByChanges old) moment) moment.following fault after new
         → file_at new place ≡ Some bytes
     stays before after fault new (inl itself) = ap (λ (fs : Files). file_at fs place) itself.files ∙ then_right
     stays before after fault new (inr (inl memory)) = ap (λ (fs : Files). file_at fs place) memory.1 ∙ then_right
     stays before after fault new (inr (inr stopped)) =
         ap (λ (fs : Files). file_at fs place) stopped.files
-        ∙ elsewhere (files_then (course_in setting.kinds task changes old) (ByChanges old) moment) stopped.step.0 stopped.left place apart
+        ∙ elsewhere (files_then (course_in setting.kinds task changes old) (ByChanges old) moment) stopped.step.0 stopped.left place separate
         ∙ then_right
       where
-        apart : stopped.step.0 ≢ place
-        apart = (subst (AllByRecursion (λ (s : Step). s.0 ≢ place)) stopped.next (all_behind (λ (s : Step). s.0 ≢ place) moment.front moment.behind others)).0
+        separate : stopped.step.0 ≢ place
+        separate = (subst (AllByRecursion (λ (s : Step). s.0 ≢ place)) stopped.next (all_after (λ (s : Step). s.0 ≢ place) moment.prefix moment.following others)).0
 
   -- ---- what is there
 
   module _ (source : has_no_source task old ≡ false) (q : Place) (output : is_output_of task q ≡ true) where
-    abbrev Stands : Option Bytes → Type 0
-    Stands left = StandsInRun setting.kinds task old q left
+    abbrev Exists : Option Bytes → Type 0
+    Exists left = ExistsInRun setting.kinds task old q left
 
-    stood_so : Stands (file_at old q)
-    stood_so = by (file_at old q) refl
+    existed_so : Exists (file_at old q)
+    existed_so = by (file_at old q) refl
       where
-        by : (left : Option Bytes) → file_at old q ≡ left → Stands left
+        by : (left : Option Bytes) → file_at old q ≡ left → Exists left
         by None e = tt
         by (Some bytes) e = inl e
 
-    ended_stands : Stands (file_at (ended_files (course_in setting.kinds task changes old) (ByChanges old) moment.done) q)
-    ended_stands = by (any_writes setting.kinds moment.done)
+    ended_exists : Exists (file_at (ended_files (course_in setting.kinds task changes old) (ByChanges old) moment.done) q)
+    ended_exists = by (any_writes setting.kinds moment.done)
       where
-        by : (b : Bool) → Stands (file_at (if b then put_over (rest_of task old) held else old) q)
-        by true = (are_of_the_run setting task changes old source (moment_at (course_in setting.kinds task changes old) InFull moment.done moment.left moment.all moment.no_fault) q output).stood
-        by false = stood_so
+        by : (b : Bool) → Exists (file_at (if b then put_over (rest_of task old) held else old) q)
+        by true = (are_of_the_run setting task changes old source (moment_at (course_in setting.kinds task changes old) InFull moment.done moment.left moment.all moment.no_fault) q output).existed
+        by false = existed_so
 
-    target_stands : (at : IsAtWriter) → Stands (file_at (target_of at.action) q)
-    target_stands at = subst (λ (left : Option Bytes). Stands left) same (are_of_the_run setting task changes old source full_moment q output).stood
+    target_exists : (at : IsAtWriter) → Exists (file_at (target_of at.action) q)
+    target_exists at = subst (λ (left : Option Bytes). Exists left) same (are_of_the_run setting task changes old source full_moment q output).existed
       where
         -- a full execution after its files
         full_moment : Moment (course_in setting.kinds task changes old) InFull
@@ -314,8 +314,8 @@ module _ (setting : Setting) (task : Task) (changes : List Changes) (old : Files
           left = moment.left;
           all = moment.all;
           no_fault = moment.no_fault;
-          front = put (hand_of at.action);
-          behind = [];
+          prefix = put (hand_of at.action);
+          following = [];
           at_hand = with_none (put (hand_of at.action)) ∙ sym (λ i. put (files_at_hand (course_in setting.kinds task changes old) (held_none at.none_before i) (at.left i)));
         }
 
@@ -331,59 +331,59 @@ module _ (setting : Setting) (task : Task) (changes : List Changes) (old : Files
             ∙ sym (at-put_over (rest_of task old) (put_over [] (hand_of at.action)) q (sorted-put_over [] (hand_of at.action) refl)
             ∙ ap (λ o. or_else o (file_at (rest_of task old) q)) (at-put_over [] (hand_of at.action) q sorted))
 
-    then_stands : Stands (file_at (files_then (course_in setting.kinds task changes old) (ByChanges old) moment) q)
-    then_stands = by hand
+    then_exists : Exists (file_at (files_then (course_in setting.kinds task changes old) (ByChanges old) moment) q)
+    then_exists = by hand
       where
-        by : (moment.front ++ moment.behind ≡ []) ⊎ IsAtWriter → Stands (file_at (files_then (course_in setting.kinds task changes old) (ByChanges old) moment) q)
+        by : (moment.prefix ++ moment.following ≡ []) ⊎ IsAtWriter → Exists (file_at (files_then (course_in setting.kinds task changes old) (ByChanges old) moment) q)
         by (inl none) =
-            subst (λ (steps : List Step). Stands (file_at (after_steps (ended_files (course_in setting.kinds task changes old) (ByChanges old) moment.done) steps) q)) (sym (front_none moment.front moment.behind none)) ended_stands
+            subst (λ (steps : List Step). Exists (file_at (after_steps (ended_files (course_in setting.kinds task changes old) (ByChanges old) moment.done) steps) q)) (sym (prefix_none moment.prefix moment.following none)) ended_exists
         by (inr at) =
-            steps_stand (λ (left : Option Bytes). Stands left) (target_of at.action) (ended_files (course_in setting.kinds task changes old) (ByChanges old) moment.done) q moment.front tt (target_stands at)
-            (all_front (λ (step : Step). (step.1 ≡ None) ⊎ (step.1 ≡ file_at (target_of at.action) step.0)) moment.front moment.behind at.leads.meant) ended_stands
+            steps_exist (λ (left : Option Bytes). Exists left) (target_of at.action) (ended_files (course_in setting.kinds task changes old) (ByChanges old) moment.done) q moment.prefix tt (target_exists at)
+            (all_prefix (λ (step : Step). (step.1 ≡ None) ⊎ (step.1 ≡ file_at (target_of at.action) step.0)) moment.prefix moment.following at.leads.meant) ended_exists
 
     -- the same for what was to be put next
-    next_stands : (step : Step) (later : List Step) → moment.behind ≡ step ∷ later → step.0 ≡ q → Stands step.1
-    next_stands step later next here = by hand
+    next_exists : (step : Step) (later : List Step) → moment.following ≡ step ∷ later → step.0 ≡ q → Exists step.1
+    next_exists step later next here = by hand
       where
-        so : (at : IsAtWriter) → (step.1 ≡ None) ⊎ (step.1 ≡ file_at (target_of at.action) step.0) → Stands step.1
-        so at (inl gone) = subst (λ (left : Option Bytes). Stands left) (sym gone) tt
-        so at (inr there) = subst (λ (left : Option Bytes). Stands left) (sym (there ∙ ap (file_at (target_of at.action)) here)) (target_stands at)
+        so : (at : IsAtWriter) → (step.1 ≡ None) ⊎ (step.1 ≡ file_at (target_of at.action) step.0) → Exists step.1
+        so at (inl gone) = subst (λ (left : Option Bytes). Exists left) (sym gone) tt
+        so at (inr there) = subst (λ (left : Option Bytes). Exists left) (sym (there ∙ ap (file_at (target_of at.action)) here)) (target_exists at)
 
-        by : (moment.front ++ moment.behind ≡ []) ⊎ IsAtWriter → Stands step.1
-        by (inl none) = absurd (let e : step ∷ later ≡ [] = sym next ∙ behind_none moment.front moment.behind none in (cc))
+        by : (moment.prefix ++ moment.following ≡ []) ⊎ IsAtWriter → Exists step.1
+        by (inl none) = absurd (let e : step ∷ later ≡ [] = sym next ∙ after_none moment.prefix moment.following none in (cc))
         by (inr at) =
             so at (subst (AllByRecursion (λ (s : Step). (s.1 ≡ None) ⊎ (s.1 ≡ file_at (target_of at.action) s.0))) next
-            (all_behind (λ (s : Step). (s.1 ≡ None) ⊎ (s.1 ≡ file_at (target_of at.action) s.0)) moment.front moment.behind at.leads.meant)).0
+            (all_after (λ (s : Step). (s.1 ≡ None) ⊎ (s.1 ≡ file_at (target_of at.action) s.0)) moment.prefix moment.following at.leads.meant)).0
 
     pub are_of_changes : AreOfTheRun setting task changes old (ByChanges old) moment q
-    are_of_changes = record { stood = then_stands; next = next_stands }
+    are_of_changes = record { existed = then_exists; next = next_exists }
 
 -- ---- laws
 
 pub failed_runs_keep_right_files : (setting : Setting) → FailedRunsKeepRightFiles setting
-failed_runs_keep_right_files setting task changes old fault lines new failure files makes place bytes right stood =
-    stays setting task changes old failure.is_way.1 failure.is_way.2 failure.fails.moment files makes place bytes right stood failure.before failure.after fault new failure.fails.why
+failed_runs_keep_right_files setting task changes old fault lines new failure files makes place bytes right existed =
+    stays setting task changes old failure.is_way.1 failure.is_way.2 failure.fails.moment files makes place bytes right existed failure.before failure.after fault new failure.fails.why
 
 pub failed_runs_invent_nothing_by_changes : (setting : Setting) → FailedRunsInventNothingByChanges setting
 failed_runs_invent_nothing_by_changes setting task changes old fault lines new source failure place bytes output e =
     by (left_then setting task changes old (ByChanges old) failure.fails.moment failure.before failure.after fault new failure.fails.why place)
   where
-    as_right : StandsInRun setting.kinds task old place (Some bytes) → (file_at old place ≡ Some bytes) ⊎ IsWritten setting.kinds task old place bytes ⊎ (fault ≡ faults.Device place)
+    as_right : ExistsInRun setting.kinds task old place (Some bytes) → (file_at old place ≡ Some bytes) ⊎ IsWritten setting.kinds task old place bytes ⊎ (fault ≡ faults.Device place)
     as_right (inl there) = inl there
     as_right (inr written) = inr (inl written)
 
     by : (file_at new place ≡ file_at (files_then (course_in setting.kinds task changes old) (ByChanges old) failure.fails.moment) place) ⊎ (fault ≡ faults.Device place)
         → (file_at old place ≡ Some bytes) ⊎ IsWritten setting.kinds task old place bytes ⊎ (fault ≡ faults.Device place)
     by (inl same) =
-        as_right (subst (λ (left : Option Bytes). StandsInRun setting.kinds task old place left) (sym same ∙ e)
-        (are_of_changes setting task changes old failure.is_way.1 failure.is_way.2 failure.fails.moment source place output).stood)
+        as_right (subst (λ (left : Option Bytes). ExistsInRun setting.kinds task old place left) (sym same ∙ e)
+        (are_of_changes setting task changes old failure.is_way.1 failure.is_way.2 failure.fails.moment source place output).existed)
     by (inr device) = inr (inr device)
 
 pub torn_places_are_of_the_run : (setting : Setting) → TornPlacesAreOfTheRun setting
 torn_places_are_of_the_run setting InFull task changes old place lines new source output failure =
     torn setting task changes old InFull failure.fails.moment failure.before failure.after place new failure.fails.why
     (are_of_the_run setting task changes old source failure.fails.moment place output)
-torn_places_are_of_the_run setting (ByChanges stood) task changes old place lines new source output failure =
+torn_places_are_of_the_run setting (ByChanges existed) task changes old place lines new source output failure =
     here (subst (λ (fs : Files). Failure setting (ByChanges fs) task changes old (faults.Device place) lines new) failure.is_way.0 failure)
   where
     here : Failure setting (ByChanges old) task changes old (faults.Device place) lines new → IsTornInRun setting task old place (file_at new place)

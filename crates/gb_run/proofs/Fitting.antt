@@ -12,7 +12,7 @@ use Rattle.gb_action.specs.declared.reply.Written.{Written}
 use Rattle.gb_action.specs.declared.shape.Fit.TheVariants.{Yes, BadArgument, BadShape}
 use Rattle.gb_action.specs.declared.shape.Shape.{Shape}
 use Rattle.gb_plan.specs.Ready.{IsReadyAction, Rows}
-use Rattle.gb_plan.specs.Task.{seen_files, seen_outputs}
+use Rattle.gb_plan.specs.Task.{given_files, given_outputs}
 use Rattle.gb_plan.specs.declared.task.Action.{Action}
 use Rattle.gb_plan.specs.declared.task.Output.{Output}
 use Rattle.gb_plan.specs.declared.task.TaskDeclaration.{TaskDeclaration as Task}
@@ -33,17 +33,17 @@ first_named : (a b : Bool) (o : Output) (rest : Option Output) (c : Bool) → (c
 first_named true b o rest c more e = refl
 first_named false b o rest c more e = more e
 
-names_output : (form : Form) (outputs : List Output) → has_output (Some form) (seen_outputs outputs) ≡ true → is_some (output_named outputs target) ≡ true
+names_output : (form : Form) (outputs : List Output) → has_output (Some form) (given_outputs outputs) ≡ true → is_some (output_named outputs target) ≡ true
 names_output form [] e = absurd (true≢false (sym e))
 names_output form (output ∷ outputs) e =
     first_named (bytes_eq output.name target) (is_form output.form form) output (output_named outputs target) _ (names_output form outputs) e
 
-has_target : (shape : Shape) (outputs : List Output) → has_output shape.out (seen_outputs outputs) ≡ true → is_some shape.out ≡ true → is_some (output_named outputs target) ≡ true
+has_target : (shape : Shape) (outputs : List Output) → has_output shape.out (given_outputs outputs) ≡ true → is_some shape.out ≡ true → is_some (output_named outputs target) ≡ true
 has_target shape outputs fits writes = by shape.out refl writes
   where
     by : (o : Option Form) → shape.out ≡ o → is_some o ≡ true → is_some (output_named outputs target) ≡ true
     by None is e = absurd (true≢false (sym e))
-    by (Some form) is e = names_output form outputs (ap (λ o. has_output o (seen_outputs outputs)) (sym is) ∙ fits)
+    by (Some form) is e = names_output form outputs (ap (λ o. has_output o (given_outputs outputs)) (sym is) ∙ fits)
 
 module _ {S : Type 0} (meanings : Meanings S) (kinds : Kinds) where
   module _ (rows : Rows S) (task : Task) (action : Action) (ready : IsReadyAction meanings rows task action) (agrees : Agrees meanings rows kinds) where
@@ -70,7 +70,7 @@ module _ {S : Type 0} (meanings : Meanings S) (kinds : Kinds) where
           (own (meanings.kind ready.stored) args values trees written (sym (ap (λ f. f args values trees) (kind_is kinds.makes ∙ stored_agrees.makes)) ∙ makes));
       has_target = λ writes.
           has_target (shape_of meanings ready.stored) task.outputs
-          (fits_output (has_source (shape_of meanings ready.stored) (seen_files task.files)) (has_output (shape_of meanings ready.stored).out (seen_outputs task.outputs)) (args_fit (shape_of meanings ready.stored).args action.args) ready.fits)
+          (fits_output (has_source (shape_of meanings ready.stored) (given_files task.files)) (has_output (shape_of meanings ready.stored).out (given_outputs task.outputs)) (args_fit (shape_of meanings ready.stored).args action.args) ready.fits)
           (sym (agreed_writes ready.stored ready.found) ∙ writes);
     }
 

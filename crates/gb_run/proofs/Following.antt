@@ -10,7 +10,7 @@ use Rattle.gb_folder.specs.Files.{Place, Files, are_placed, file_at}
 use Rattle.gb_folder.proofs.Changes.{file_at-files_where}
 use Rattle.gb_action.specs.Changes.{Changes}
 use Rattle.gb_action.specs.Files.{Trees}
-use Rattle.gb_action.specs.Outputs.{stands_at, written_at}
+use Rattle.gb_action.specs.Outputs.{exists_at, written_at}
 use Rattle.gb_action.specs.Replies.{FollowsOn}
 use Rattle.gb_action.specs.Shapes.{target}
 use Rattle.gb_action.specs.declared.output.OutputFiles.{OutputFiles}
@@ -28,7 +28,7 @@ use Rattle.gb_meaning.specs.Made.{output_named, placed, put_over}
 use Rattle.gb_meaning.specs.Memory.{output_files}
 use Rattle.gb_run.specs.AskingChanges.{GoesOn, IsFitting, request_of, writers}
 use Rattle.gb_run.proofs.AtPaths.{Elsewhere, Here, IsElsewhere, Where, WritesTarget, at_placed, placed_elsewhere, whether}
-use Rattle.gb_run.proofs.Seen.{own_named, seen_at, seen_named}
+use Rattle.gb_run.proofs.Observed.{own_named, observed_at, observed_named}
 use Rattle.gb_run.proofs.Writer.{IsOfWriter, writer_made, writes_target}
 
 pub or_none : {X : Type 0} (o : Option X) → option_or o None ≡ o
@@ -62,16 +62,16 @@ any_places (o ∷ outputs) q = ap (λ b. is_under q o.place || b) (any_places ou
 -- no place is under outputs of two names
 pub never_both : (outputs : List Output) (name other : List ℕ) (a b : Output) (q : Place) → bytes_eq name other ≡ false → output_named outputs name ≡ Some a → output_named outputs other ≡ Some b
     → is_under q a.place ≡ true → is_under q b.place ≡ true → some_overlap (map (λ (o : Output). o.place) outputs) ≡ false → ⊥
-never_both [] name other a b q differ e f under_a under_b apart = no_some None a refl e
-never_both (first ∷ outputs) name other a b q differ e f under_a under_b apart =
-    by (λ v w. never_both outputs name other a b q differ v w under_a under_b (none_right (list_any (overlaps first.place) places) (some_overlap places) apart))
+never_both [] name other a b q differ e f under_a under_b separate = no_some None a refl e
+never_both (first ∷ outputs) name other a b q differ e f under_a under_b separate =
+    by (λ v w. never_both outputs name other a b q differ v w under_a under_b (none_right (list_any (overlaps first.place) places) (some_overlap places) separate))
     (bytes_eq first.name name) (bytes_eq first.name other) refl refl e f
   where
     places : List Place
     places = map (λ (o : Output). o.place) outputs
 
     free : list_any (overlaps first.place) (map (λ (o : Output). o.place) outputs) ≡ false
-    free = none_left (list_any (overlaps first.place) (map (λ (o : Output). o.place) outputs)) (some_overlap (map (λ (o : Output). o.place) outputs)) apart
+    free = none_left (list_any (overlaps first.place) (map (λ (o : Output). o.place) outputs)) (some_overlap (map (λ (o : Output). o.place) outputs)) separate
 
     clash : (n : List ℕ) (c d : Output) → is_under q c.place ≡ true → is_under q d.place ≡ true → first ≡ c → output_named outputs n ≡ Some d → ⊥
     clash n c d under_c under_d is named =
@@ -100,8 +100,8 @@ unwritten (file ∷ written) all output path differ =
 
 -- ---- the task
 
-module _ (kinds : Kinds) (task : Task) (old trees : Trees) (changes : List Changes) (seen : List OutputFiles) (files : Files) (good : are_placed files ≡ true)
-    (fitting : AllByRecursion (IsFitting kinds task) task.actions) (goes_on : GoesOn kinds task old trees changes seen files)
+module _ (kinds : Kinds) (task : Task) (old trees : Trees) (changes : List Changes) (observed : List OutputFiles) (files : Files) (good : are_placed files ≡ true)
+    (fitting : AllByRecursion (IsFitting kinds task) task.actions) (goes_on : GoesOn kinds task old trees changes observed files)
     (writer : Action) (is_writer : writers kinds task.actions ≡ writer ∷ []) (fits : IsFitting kinds task writer)
     (output : Output) (is_target : output_named task.outputs target ≡ Some output) where
   -- what its writer made of the old trees
@@ -115,66 +115,66 @@ module _ (kinds : Kinds) (task : Task) (old trees : Trees) (changes : List Chang
   target_before = writes_target kinds writer fits.keeps writer.args task.values old before.written before.makes
 
   -- at an output of the task there is what was made
-  pub stood : (q : Place) → is_output_of task q ≡ true → file_at files q ≡ file_at (put_over [] (placed task.outputs before.written)) q
-  stood q at =
+  pub existed : (q : Place) → is_output_of task q ≡ true → file_at files q ≡ file_at (put_over [] (placed task.outputs before.written)) q
+  existed q at =
       sym (ap (λ b. cond b (file_at files q) None) at) ∙ sym (file_at-files_where files (is_output_of task) q) ∙ ap (λ (fs : Files). file_at fs q) before.files
 
   pub at_target : (path : List ℕ) → is_output_of task (beneath output.place path) ≡ true
   at_target path = under_named task.outputs target output (beneath output.place path) is_target (beneath_under output.place path)
 
-  pub stood_at : (path : List ℕ) → file_at files (beneath output.place path) ≡ written_at before.written target path
-  stood_at path =
-      stood (beneath output.place path) (at_target path) ∙ at_placed task.outputs output is_target [] before.written target_before path
+  pub existed_at : (path : List ℕ) → file_at files (beneath output.place path) ≡ written_at before.written target path
+  existed_at path =
+      existed (beneath output.place path) (at_target path) ∙ at_placed task.outputs output is_target [] before.written target_before path
       ∙ or_none (written_at before.written target path)
 
   -- elsewhere at outputs there is nothing
-  pub stood_elsewhere : (q : Place) → is_output_of task q ≡ true → IsElsewhere task.outputs output is_target q → file_at files q ≡ None
-  stood_elsewhere q at other = stood q at ∙ placed_elsewhere task.outputs output is_target [] before.written target_before q other
+  pub existed_elsewhere : (q : Place) → is_output_of task q ≡ true → IsElsewhere task.outputs output is_target q → file_at files q ≡ None
+  existed_elsewhere q at other = existed q at ∙ placed_elsewhere task.outputs output is_target [] before.written target_before q other
 
   -- there is nothing at an output of another name
-  none_stood : (name path : List ℕ) (other : Output) → bytes_eq name target ≡ false → output_named task.outputs name ≡ Some other → file_at files (beneath other.place path) ≡ None
-  none_stood name path other differ named = by (whether task.outputs output is_target (beneath other.place path))
+  none_existed : (name path : List ℕ) (other : Output) → bytes_eq name target ≡ false → output_named task.outputs name ≡ Some other → file_at files (beneath other.place path) ≡ None
+  none_existed name path other differ named = by (whether task.outputs output is_target (beneath other.place path))
     where
       by : Where task.outputs output is_target (beneath other.place path) → file_at files (beneath other.place path) ≡ None
       by (Here at same) = absurd (never_both task.outputs name target other output (beneath other.place path) differ named is_target (beneath_under other.place path)
-          (ap (λ p. is_under p output.place) same ∙ beneath_under output.place at) goes_on.apart)
-      by (Elsewhere apart) = stood_elsewhere (beneath other.place path) (under_named task.outputs name other (beneath other.place path) named (beneath_under other.place path)) apart
+          (ap (λ p. is_under p output.place) same ∙ beneath_under output.place at) goes_on.separate)
+      by (Elsewhere separate) = existed_elsewhere (beneath other.place path) (under_named task.outputs name other (beneath other.place path) named (beneath_under other.place path)) separate
 
-  seen_is : (name path : List ℕ) → stands_at seen name path ≡ option_and_then (λ (fs : Files). file_at fs path) (option_map (λ (o : Output). files_from files o.place) (output_named task.outputs name))
-  seen_is name path =
-      ap (λ (outs : List OutputFiles). stands_at outs name path) goes_on.stands ∙ ap (option_and_then (λ (fs : Files). file_at fs path)) (seen_named files good task.outputs name)
+  observed_is : (name path : List ℕ) → exists_at observed name path ≡ option_and_then (λ (fs : Files). file_at fs path) (option_map (λ (o : Output). files_from files o.place) (output_named task.outputs name))
+  observed_is name path =
+      ap (λ (outs : List OutputFiles). exists_at outs name path) goes_on.exists ∙ ap (option_and_then (λ (fs : Files). file_at fs path)) (observed_named files good task.outputs name)
 
   -- what is read of an output
-  pub seen_target : (path : List ℕ) → stands_at seen target path ≡ file_at files (beneath output.place path)
-  seen_target path =
-      seen_is target path ∙ ap (λ o. option_and_then (λ (fs : Files). file_at fs path) (option_map (λ (p : Output). files_from files p.place) o)) is_target
-      ∙ seen_at files output.place (own_named files good task.outputs target output goes_on.not_own is_target) good path
+  pub observed_target : (path : List ℕ) → exists_at observed target path ≡ file_at files (beneath output.place path)
+  observed_target path =
+      observed_is target path ∙ ap (λ o. option_and_then (λ (fs : Files). file_at fs path) (option_map (λ (p : Output). files_from files p.place) o)) is_target
+      ∙ observed_at files output.place (own_named files good task.outputs target output goes_on.not_own is_target) good path
 
-  seen_other : (name path : List ℕ) → bytes_eq name target ≡ false → stands_at seen name path ≡ None
-  seen_other name path differ = seen_is name path ∙ by (output_named task.outputs name) refl
+  observed_other : (name path : List ℕ) → bytes_eq name target ≡ false → exists_at observed name path ≡ None
+  observed_other name path differ = observed_is name path ∙ by (output_named task.outputs name) refl
     where
       by : (o : Option Output) → output_named task.outputs name ≡ o → option_and_then (λ (fs : Files). file_at fs path) (option_map (λ (p : Output). files_from files p.place) o) ≡ None
       by None named = refl
       by (Some other) named =
-          seen_at files other.place (own_named files good task.outputs name other goes_on.not_own named) good path ∙ none_stood name path other differ named
+          observed_at files other.place (own_named files good task.outputs name other goes_on.not_own named) good path ∙ none_existed name path other differ named
 
-  seen_before : (name path : List ℕ) → stands_at seen name path ≡ written_at before.written name path
-  seen_before name path = by (bytes_eq name target) refl
+  observed_before : (name path : List ℕ) → exists_at observed name path ≡ written_at before.written name path
+  observed_before name path = by (bytes_eq name target) refl
     where
-      by : (b : Bool) → bytes_eq name target ≡ b → stands_at seen name path ≡ written_at before.written name path
+      by : (b : Bool) → bytes_eq name target ≡ b → exists_at observed name path ≡ written_at before.written name path
       by true e =
-          ap (λ n. stands_at seen n path) ((bytes_decides name target).0 e) ∙ seen_target path ∙ stood_at path
+          ap (λ n. exists_at observed n path) ((bytes_decides name target).0 e) ∙ observed_target path ∙ existed_at path
           ∙ ap (λ n. written_at before.written n path) (sym ((bytes_decides name target).0 e))
-      by false e = seen_other name path e ∙ sym (unwritten before.written target_before name path e)
+      by false e = observed_other name path e ∙ sym (unwritten before.written target_before name path e)
 
-  pub unseen : (name path : List ℕ) → bytes_eq name target ≡ false → stands_at seen name path ≡ None
-  unseen name path differ = seen_other name path differ
+  pub unobserved : (name path : List ℕ) → bytes_eq name target ≡ false → exists_at observed name path ≡ None
+  unobserved name path differ = observed_other name path differ
 
   -- the request follows on
-  pub follows : FollowsOn (kinds.makes (kind_of writer)) (request_of task trees changes seen writer.args) old
+  pub follows : FollowsOn (kinds.makes (kind_of writer)) (request_of task trees changes observed writer.args) old
   follows = record {
-    tells = record { ordered = goes_on.tells.ordered; same_names = goes_on.tells.same_names; same_others = goes_on.tells.same_others; reported = goes_on.tells.reported };
+    faithful = record { ordered = goes_on.faithful.ordered; same_names = goes_on.faithful.same_names; same_others = goes_on.faithful.same_others; reported = goes_on.faithful.reported };
     before = before.written;
     was_made = before.makes;
-    stands = seen_before;
+    exists = observed_before;
   }

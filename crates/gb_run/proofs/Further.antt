@@ -19,7 +19,7 @@ use Rattle.gb_run.specs.Course.{EndsWell, course_of}
 use Rattle.gb_run.specs.AskingChanges.{GoesOn, IsFitting, writers}
 use Rattle.gb_run.specs.Failing.{ByChanges, Fails}
 use Rattle.gb_run.specs.Execution.{Ends, IsItsExecution, Stops}
-use Rattle.gb_run.proofs.Going.{IsGoing, begins, ends_well, fails_reading, fails_writing, reads_on, stands_old, writes_on}
+use Rattle.gb_run.proofs.Going.{IsGoing, begins, ends_well, fails_reading, fails_writing, reads_on, exists_old, writes_on}
 use Rattle.gb_run.proofs.Writer.{heads, writer_of}
 
 le_chain : (a b c : ℕ) → a ≤ b → b ≤ c → a ≤ c
@@ -59,7 +59,7 @@ module _ (kinds : Kinds) (task : Task) (trees : Trees) (changes : List Changes) 
       (subst (λ (fs : Files). IsGoing kinds task trees changes old task.actions fs lines) (sym b)
       (subst (λ (ls : List Text). IsGoing kinds task trees changes old task.actions old ls) (sym c) (begins kinds task trees changes old)))
 
-  module _ (seen : List OutputFiles) (before : Trees) (goes_on : GoesOn kinds task before trees changes seen old) (fitting : AllByRecursion (IsFitting kinds task) task.actions) where
+  module _ (observed : List OutputFiles) (before : Trees) (goes_on : GoesOn kinds task before trees changes observed old) (fitting : AllByRecursion (IsFitting kinds task) task.actions) where
     one : (w : Action) × (writers kinds task.actions ≡ w ∷ [])
     one = writer_of kinds task.actions goes_on.one_writer
 
@@ -75,21 +75,21 @@ module _ (kinds : Kinds) (task : Task) (trees : Trees) (changes : List Changes) 
       is_one : kinds.writes (kind_of action) ≡ true → writers kinds task.actions ≡ action ∷ []
       is_one writes = one.1 ∙ ap (λ (a : Action). a ∷ []) (sym (the_one kinds going.done left action one.0 writes (ap (writers kinds) (sym going.all) ∙ one.1)))
 
-      turn : kinds.writes (kind_of action) ≡ true → IsItsExecution kinds task action trees changes seen folder
-      turn writes = subst (λ (fs : Files). IsItsExecution kinds task action trees changes seen fs) (sym (stands_old kinds task trees changes old folder lines action left going writes (is_one writes)))
+      turn : kinds.writes (kind_of action) ≡ true → IsItsExecution kinds task action trees changes observed folder
+      turn writes = subst (λ (fs : Files). IsItsExecution kinds task action trees changes observed fs) (sym (exists_old kinds task trees changes old folder lines action left going writes (is_one writes)))
           (record { fitting = fitting; old = before; goes_on = goes_on; writes = is_one writes })
 
       -- the next action ends
       pub goes_further : (new : Files) (lines_now : List Text)
           → (IsFitting kinds task action → kinds.writes (kind_of action) ≡ false → (made_by kinds task action trees ≡ Ok []) × (new ≡ folder))
-          → (IsItsExecution kinds task action trees changes seen folder → Ends kinds task action trees folder new)
+          → (IsItsExecution kinds task action trees changes observed folder → Ends kinds task action trees folder new)
           → lines_now ≡ lines ++ printed_by kinds task action trees changes → IsGoing kinds task trees changes old left new lines_now
       goes_further new lines_now read wrote prints = by (kinds.writes (kind_of action)) refl
         where
           by : (b : Bool) → kinds.writes (kind_of action) ≡ b → IsGoing kinds task trees changes old left new lines_now
           by true writes =
               writes_on kinds task trees changes old folder lines action left going writes (is_one writes) new lines_now
-              (subst (λ (fs : Files). Ends kinds task action trees fs new) (stands_old kinds task trees changes old folder lines action left going writes (is_one writes)) (wrote (turn writes))) prints
+              (subst (λ (fs : Files). Ends kinds task action trees fs new) (exists_old kinds task trees changes old folder lines action left going writes (is_one writes)) (wrote (turn writes))) prints
           by false quiet =
               let did = read fits quiet in
               subst (λ (fs : Files). IsGoing kinds task trees changes old left fs lines_now) (sym did.1)
@@ -98,14 +98,14 @@ module _ (kinds : Kinds) (task : Task) (trees : Trees) (changes : List Changes) 
       -- it stops
       pub fails_further : (first second : Tearing) (count between after : ℕ) (fault : Fault) (new : Files) (lines_now : List Text) → SameTearing first second → count ≤ between → between ≤ after
           → (kinds.writes (kind_of action) ≡ false → ((fault ≡ faults.OutOfMemory) ⊎ ((text : Text) × (fault ≡ faults.ActionFailed text) × (made_by kinds task action trees ≡ Err text))) × (new ≡ folder))
-          → (IsItsExecution kinds task action trees changes seen folder → Stops kinds task action trees folder second between fault after new)
+          → (IsItsExecution kinds task action trees changes observed folder → Stops kinds task action trees folder second between fault after new)
           → lines_now ≡ lines → Fails (course_of kinds task trees changes (rest_of task old)) (ByChanges old) first count fault lines_now after new
       fails_further first second count between after fault new lines_now same le more unread unwritten prints = by (kinds.writes (kind_of action)) refl
         where
           by : (b : Bool) → kinds.writes (kind_of action) ≡ b → Fails (course_of kinds task trees changes (rest_of task old)) (ByChanges old) first count fault lines_now after new
           by true writes =
               fails_writing kinds task trees changes old folder lines action left going writes (is_one writes) first second count between after fault new lines_now same le more
-              (subst (λ (fs : Files). Stops kinds task action trees fs second between fault after new) (stands_old kinds task trees changes old folder lines action left going writes (is_one writes)) (unwritten (turn writes))) prints
+              (subst (λ (fs : Files). Stops kinds task action trees fs second between fault after new) (exists_old kinds task trees changes old folder lines action left going writes (is_one writes)) (unwritten (turn writes))) prints
           by false quiet =
               let did = unread quiet in
               subst (λ (fs : Files). Fails (course_of kinds task trees changes (rest_of task old)) (ByChanges old) first count fault lines_now after fs) (sym did.1)

@@ -46,13 +46,13 @@ module _ (kinds : Kinds) (task : Task) (trees : Trees) (changes : List Changes) 
     pub done : List Action
     pub all : task.actions ≡ done ++ left
     pub no_fault : (run_along course done).fault ≡ None
-    pub stands : folder ≡ ended_files course (ByChanges old) done
+    pub exists : folder ≡ ended_files course (ByChanges old) done
     pub few : full_outputs task.outputs (run_along course done).held ≡ []
     pub none_held : any_writes done ≡ false → (run_along course done).held ≡ []
     pub printed : lines ≡ lines_by course done
 
   pub begins : IsGoing task.actions old []
-  begins = record { done = []; all = refl; no_fault = refl; stands = refl; few = none_full task.outputs; none_held = λ _. refl; printed = refl }
+  begins = record { done = []; all = refl; no_fault = refl; exists = refl; few = none_full task.outputs; none_held = λ _. refl; printed = refl }
 
   -- memory ran out before it began
   pub fails_early : (may_leave : Tearing) (before : ℕ) (fault : Fault) (after : ℕ) → fault ≡ faults.OutOfMemory → Fails course (ByChanges old) may_leave before fault [] after old
@@ -84,7 +84,7 @@ module _ (kinds : Kinds) (task : Task) (trees : Trees) (changes : List Changes) 
         let same : task.actions ≡ going.done = going.all ∙ with_none going.done in
         record {
           no_fault = ap (λ (actions : List Action). (run_along course actions).fault) same ∙ going.no_fault;
-          files = going.stands ∙ ap (λ b. if b then put_over course.rest (run_along course going.done).held else old) (ap any_writes (sym same) ∙ some)
+          files = going.exists ∙ ap (λ b. if b then put_over course.rest (run_along course going.done).held else old) (ap any_writes (sym same) ∙ some)
               ∙ ap (λ (actions : List Action). put_over course.rest (run_along course actions).held) (sym same);
           printed = going.printed ∙ ap (lines_by course) (sym same);
         }
@@ -108,7 +108,7 @@ module _ (kinds : Kinds) (task : Task) (trees : Trees) (changes : List Changes) 
         done = going.done ++ action ∷ [];
         all = all_more;
         no_fault = more_fault kinds task.outputs task.values trees (rest_of task old) going.done [] (run_along course going.done).held action going.no_fault (quiet_step is);
-        stands = going.stands ∙ ap (λ b. if b then put_over (rest_of task old) (run_along course going.done).held else old) (sym same_writes)
+        exists = going.exists ∙ ap (λ b. if b then put_over (rest_of task old) (run_along course going.done).held else old) (sym same_writes)
             ∙ ap (λ (held : Files). if any_writes (going.done ++ action ∷ []) then put_over (rest_of task old) held else old) (sym held_same);
         few = ap (full_outputs task.outputs) held_same ∙ going.few;
         none_held = λ none. held_same ∙ going.none_held (sym same_writes ∙ none);
@@ -127,7 +127,7 @@ module _ (kinds : Kinds) (task : Task) (trees : Trees) (changes : List Changes) 
           → Fails course (ByChanges old) may_leave before fault lines_now after folder
       fails_reading may_leave before after fault lines_now why le prints =
           fails_at (course_of kinds task trees changes (rest_of task old)) (ByChanges old) going.done left action going.all going.no_fault may_leave may_leave before before after fault lines_now folder
-          same_tearing (refl_le before) le (prints ∙ going.printed) (record { front = []; behind = []; at_hand = inl refl; why = by why })
+          same_tearing (refl_le before) le (prints ∙ going.printed) (record { prefix = []; following = []; at_hand = inl refl; why = by why })
         where
           same_tearing : SameTearing may_leave may_leave
           same_tearing place was next left = ((λ may. may), (λ may. may))
@@ -139,10 +139,10 @@ module _ (kinds : Kinds) (task : Task) (trees : Trees) (changes : List Changes) 
               → ((step_by task.outputs (rest_of task old) (run_along (course_of kinds task trees changes (rest_of task old)) going.done).held (made_by kinds task action trees) ≡ Err fault)
               × (folder ≡ ended_files (course_of kinds task trees changes (rest_of task old)) (ByChanges old) going.done))
               ⊎ FailsByMachine may_leave before (ended_files (course_of kinds task trees changes (rest_of task old)) (ByChanges old) going.done) [] fault after folder
-          by (inl memory) = inr (inl (memory, going.stands))
+          by (inl memory) = inr (inl (memory, going.exists))
           by (inr failed) = inl (
             ap (step_by task.outputs (rest_of task old) (run_along (course_of kinds task trees changes (rest_of task old)) going.done).held) failed.2 ∙ ap Err (sym failed.1),
-            going.stands,
+            going.exists,
           )
 
       -- ---- the action is the one that writes
@@ -164,15 +164,15 @@ module _ (kinds : Kinds) (task : Task) (trees : Trees) (changes : List Changes) 
         held_none = going.none_held none_before
 
         -- what is there is what was there before
-        pub stands_old : folder ≡ old
-        stands_old = going.stands ∙ ap (λ b. if b then put_over (rest_of task old) (run_along course going.done).held else old) none_before
+        pub exists_old : folder ≡ old
+        exists_old = going.exists ∙ ap (λ b. if b then put_over (rest_of task old) (run_along course going.done).held else old) none_before
 
         pub writes_on : (new : Files) (lines_now : List Text) → Ends kinds task action trees old new → lines_now ≡ lines ++ printed_by kinds task action trees changes → IsGoing left new lines_now
         writes_on new lines_now ended prints = record {
           done = going.done ++ action ∷ [];
           all = all_more;
           no_fault = more_fault kinds task.outputs task.values trees (rest_of task old) going.done [] ended.more action going.no_fault step;
-          stands = ended.files ∙ ap (put_over (rest_of task old)) (sym held_now)
+          exists = ended.files ∙ ap (put_over (rest_of task old)) (sym held_now)
               ∙ ap (λ b. if b then put_over (rest_of task old) (run_along (course_of kinds task trees changes (rest_of task old)) (going.done ++ action ∷ [])).held else old) (sym now_writes);
           few = ap (full_outputs task.outputs) held_now ∙ ended.few;
           none_held = λ none. absurd (true≢false (sym now_writes ∙ none));
@@ -192,27 +192,27 @@ module _ (kinds : Kinds) (task : Task) (trees : Trees) (changes : List Changes) 
             → Stops kinds task action trees old second between fault after new → lines_now ≡ lines → Fails course (ByChanges old) first before fault lines_now after new
         fails_writing first second before between after fault new lines_now same le more stops prints =
             fails_at (course_of kinds task trees changes (rest_of task old)) (ByChanges old) going.done left action going.all going.no_fault first second before between after fault lines_now new
-            same le more (prints ∙ going.printed) (record { front = stops.front; behind = stops.behind; at_hand = at stops.at_hand; why = by stops.why })
+            same le more (prints ∙ going.printed) (record { prefix = stops.prefix; following = stops.following; at_hand = at stops.at_hand; why = by stops.why })
           where
             ended_old : ended_files (course_of kinds task trees changes (rest_of task old)) (ByChanges old) going.done ≡ old
             ended_old = ap (λ b. if b then put_over (rest_of task old) (run_along (course_of kinds task trees changes (rest_of task old)) going.done).held else old) none_before
 
-            at : AreOfExecution kinds task action trees old (stops.front ++ stops.behind)
-                → AreAtHand (course_of kinds task trees changes (rest_of task old)) (ByChanges old) going.done (action ∷ left) (stops.front ++ stops.behind)
+            at : AreOfExecution kinds task action trees old (stops.prefix ++ stops.following)
+                → AreAtHand (course_of kinds task trees changes (rest_of task old)) (ByChanges old) going.done (action ∷ left) (stops.prefix ++ stops.following)
             at (inl none) = inl none
             at (inr leads) = inr (
               writes,
               subst (λ (fs : Files). LeadTo fs (put_over (rest_of task old) (put_over (run_along (course_of kinds task trees changes (rest_of task old)) going.done).held
-                  (files_at_hand (course_of kinds task trees changes (rest_of task old)) (run_along (course_of kinds task trees changes (rest_of task old)) going.done).held (action ∷ left)))) (stops.front ++ stops.behind)) (sym ended_old)
-                  (subst (λ (held : Files). LeadTo old (put_over (rest_of task old) (put_over held (free_files task.outputs held (made_by kinds task action trees)))) (stops.front ++ stops.behind)) (sym held_none) leads),
+                  (files_at_hand (course_of kinds task trees changes (rest_of task old)) (run_along (course_of kinds task trees changes (rest_of task old)) going.done).held (action ∷ left)))) (stops.prefix ++ stops.following)) (sym ended_old)
+                  (subst (λ (held : Files). LeadTo old (put_over (rest_of task old) (put_over held (free_files task.outputs held (made_by kinds task action trees)))) (stops.prefix ++ stops.following)) (sym held_none) leads),
             )
 
-            by : ((step_by task.outputs (rest_of task old) [] (made_by kinds task action trees) ≡ Err fault) × (new ≡ after_steps old stops.front))
-                ⊎ FailsByMachine second between (after_steps old stops.front) stops.behind fault after new
+            by : ((step_by task.outputs (rest_of task old) [] (made_by kinds task action trees) ≡ Err fault) × (new ≡ after_steps old stops.prefix))
+                ⊎ FailsByMachine second between (after_steps old stops.prefix) stops.following fault after new
                 → ((step_by task.outputs (rest_of task old) (run_along (course_of kinds task trees changes (rest_of task old)) going.done).held (made_by kinds task action trees) ≡ Err fault)
-                × (new ≡ after_steps (ended_files (course_of kinds task trees changes (rest_of task old)) (ByChanges old) going.done) stops.front))
-                ⊎ FailsByMachine second between (after_steps (ended_files (course_of kinds task trees changes (rest_of task old)) (ByChanges old) going.done) stops.front) stops.behind fault after new
+                × (new ≡ after_steps (ended_files (course_of kinds task trees changes (rest_of task old)) (ByChanges old) going.done) stops.prefix))
+                ⊎ FailsByMachine second between (after_steps (ended_files (course_of kinds task trees changes (rest_of task old)) (ByChanges old) going.done) stops.prefix) stops.following fault after new
             by why = subst (λ (fs : Files). ((step_by task.outputs (rest_of task old) (run_along (course_of kinds task trees changes (rest_of task old)) going.done).held (made_by kinds task action trees) ≡ Err fault)
-                × (new ≡ after_steps fs stops.front)) ⊎ FailsByMachine second between (after_steps fs stops.front) stops.behind fault after new) (sym ended_old)
-                (subst (λ (held : Files). ((step_by task.outputs (rest_of task old) held (made_by kinds task action trees) ≡ Err fault) × (new ≡ after_steps old stops.front))
-                ⊎ FailsByMachine second between (after_steps old stops.front) stops.behind fault after new) (sym held_none) why)
+                × (new ≡ after_steps fs stops.prefix)) ⊎ FailsByMachine second between (after_steps fs stops.prefix) stops.following fault after new) (sym ended_old)
+                (subst (λ (held : Files). ((step_by task.outputs (rest_of task old) held (made_by kinds task action trees) ≡ Err fault) × (new ≡ after_steps old stops.prefix))
+                ⊎ FailsByMachine second between (after_steps old stops.prefix) stops.following fault after new) (sym held_none) why)

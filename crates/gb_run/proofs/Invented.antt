@@ -52,7 +52,7 @@ in_put (f ∷ files) place bytes file h =
         | inl here ↦ inr (subst (λ x. Contains (f ∷ files) x) here (in_head f files))
         | inr there ↦ elim (in_put files place bytes file there) [
           | inl put ↦ inl put
-          | inr stood ↦ inr (in_tail f file files stood)
+          | inr existed ↦ inr (in_tail f file files existed)
         ]
       ]
     ] refl h
@@ -63,7 +63,7 @@ in_over held (f ∷ files) file h = elim (in_over (with_file held f.0 f.1) files
   | inl later ↦ inl (in_tail f file files later)
   | inr before ↦ elim (in_put held f.0 f.1 file before) [
     | inl put ↦ inl (subst (λ x. Contains (f ∷ files) x) put (in_head f files))
-    | inr stood ↦ inr stood
+    | inr existed ↦ inr existed
   ]
 ]
 
@@ -151,7 +151,7 @@ module _ (kinds : Kinds) (outputs : List Output) (values : Values) (trees : Tree
               | inl later ↦ inl (of_tail action actions file later)
               | inr here ↦ elim (in_over held (placed outputs written) file here) [
                 | inl put ↦ inl (record { action = action; written = written; among = in_head action actions; makes = is; put = put })
-                | inr stood ↦ inr stood
+                | inr existed ↦ inr existed
               ]
             ]
             | fault ∷ others ↦ λ ended k. absurd (let q = ended in (cc))

@@ -13,7 +13,7 @@ use Rattle.gb_folder.specs.Files.{Place, Bytes, Files, are_placed, file_at, with
 use Rattle.gb_report.specs.declared.fault.Fault.TheVariants as faults
 use Rattle.gb_action.specs.Changes.{Changes}
 use Rattle.gb_action.specs.Files.{Trees}
-use Rattle.gb_action.specs.Outputs.{is_named, is_removed, left_at, stands_at, written_at}
+use Rattle.gb_action.specs.Outputs.{is_named, is_removed, left_at, exists_at, written_at}
 use Rattle.gb_action.specs.Shapes.{target}
 use Rattle.gb_action.specs.declared.output.OutputFiles.{OutputFiles}
 use Rattle.gb_action.specs.declared.reply.OutputPath.{OutputPath}
@@ -28,14 +28,14 @@ use Rattle.gb_meaning.specs.Made.{file_faults, fault_if, output_named, placed, p
 use Rattle.gb_meaning.proofs.Lemmas.Files.{at-put_over, at-where, left_of, or_else, right_of, same_files, same_place, sorted-put_over, sorted-where}
 use Rattle.gb_run.specs.AskingChanges.{IsFitting}
 use Rattle.gb_run.specs.ChangeLaws.{IsReplied, RepliesAreMade, RepliesLeadOn}
-use Rattle.gb_run.specs.Named.{files_left, held_after, named, put, standing, steps_of}
+use Rattle.gb_run.specs.Named.{files_left, held_after, named, put, existing, steps_of}
 use Rattle.gb_run.specs.Steps.{LeadTo, Step, after_steps, in_turn, put_steps}
 use Rattle.gb_run.proofs.Agreed.{some_same}
 use Rattle.gb_run.proofs.AtPaths.{Elsewhere, Here, IsElsewhere, RemovesTarget, Where, WritesTarget, at_named, at_placed, named_elsewhere, placed_elsewhere, whether}
-use Rattle.gb_run.proofs.Following.{at_target, follows, no_some, or_none, seen_target, stood_elsewhere, unseen, unwritten}
+use Rattle.gb_run.proofs.Following.{at_target, follows, no_some, or_none, observed_target, existed_elsewhere, unobserved, unwritten}
 use Rattle.gb_run.proofs.Looks.{at_in_execution, both_of, none_again, sorted_steps}
 use Rattle.gb_run.proofs.Placed.{none_after, none_before}
-use Rattle.gb_run.proofs.Seen.{all_back}
+use Rattle.gb_run.proofs.Observed.{all_back}
 use Rattle.gb_run.proofs.Writer.{fits_writer, writes_target}
 use Rattle.gb_tree.proofs.Holding.{all_append}
 use Rattle.gb_tree.proofs.InOrder.{all_filter}
@@ -157,8 +157,8 @@ nowhere (file ∷ files) q good not_one =
 
 -- ---- the reply
 
-module _ (kinds : Kinds) (task : Task) (trees : Trees) (changes : List Changes) (seen : List OutputFiles) (files : Files) (reply : Reply) (written : List Written)
-    (r : IsReplied kinds task trees changes seen files reply written) where
+module _ (kinds : Kinds) (task : Task) (trees : Trees) (changes : List Changes) (observed : List OutputFiles) (files : Files) (reply : Reply) (written : List Written)
+    (r : IsReplied kinds task trees changes observed files reply written) where
   fits : (kinds.writes (kind_of r.writer) ≡ true) × IsFitting kinds task r.writer
   fits = fits_writer kinds task task.actions r.writer [] r.fitting r.writes
 
@@ -190,16 +190,16 @@ module _ (kinds : Kinds) (task : Task) (trees : Trees) (changes : List Changes) 
   made_elsewhere : (q : Place) → IsElsewhere task.outputs output found.1 q → file_at made q ≡ None
   made_elsewhere q other = placed_elsewhere task.outputs output found.1 [] written now_target q other
 
-  seen_here : (path : List ℕ) → stands_at seen target path ≡ file_at files (beneath root path)
-  seen_here path = seen_target kinds task r.old trees changes seen files r.are_placed r.fitting r.goes_on r.writer r.writes fits.1 output found.1 path
+  observed_here : (path : List ℕ) → exists_at observed target path ≡ file_at files (beneath root path)
+  observed_here path = observed_target kinds task r.old trees changes observed files r.are_placed r.fitting r.goes_on r.writer r.writes fits.1 output found.1 path
 
-  carried : (name path : List ℕ) → left_at reply seen name path ≡ written_at written name path
+  carried : (name path : List ℕ) → left_at reply observed name path ≡ written_at written name path
   carried name path =
-      r.carries.carried r.old (follows kinds task r.old trees changes seen files r.are_placed r.fitting r.goes_on r.writer r.writes fits.1 output found.1) written r.makes name path
+      r.carries.carried r.old (follows kinds task r.old trees changes observed files r.are_placed r.fitting r.goes_on r.writer r.writes fits.1 output found.1) written r.makes name path
 
-  frugal : (name path : List ℕ) → is_named reply name path ≡ true → stands_at seen name path ≢ written_at written name path
+  frugal : (name path : List ℕ) → is_named reply name path ≡ true → exists_at observed name path ≢ written_at written name path
   frugal name path is =
-      r.carries.frugal r.old (follows kinds task r.old trees changes seen files r.are_placed r.fitting r.goes_on r.writer r.writes fits.1 output found.1) written r.makes name path is
+      r.carries.frugal r.old (follows kinds task r.old trees changes observed files r.are_placed r.fitting r.goes_on r.writer r.writes fits.1 output found.1) written r.makes name path is
 
   -- only the output that kinds write is named
   only_target : (name path : List ℕ) → is_named reply name path ≡ true → bytes_eq name target ≡ true
@@ -208,7 +208,7 @@ module _ (kinds : Kinds) (task : Task) (trees : Trees) (changes : List Changes) 
       by : (b : Bool) → bytes_eq name target ≡ b → b ≡ true
       by true e = refl
       by false e = absurd (frugal name path is
-          (unseen kinds task r.old trees changes seen files r.are_placed r.fitting r.goes_on r.writer r.writes fits.1 output found.1 name path e ∙ sym (unwritten written now_target name path e)))
+          (unobserved kinds task r.old trees changes observed files r.are_placed r.fitting r.goes_on r.writer r.writes fits.1 output found.1 name path e ∙ sym (unwritten written now_target name path e)))
 
   writes : WritesTarget reply.writes
   writes = named_writes (λ (file : Written). bytes_eq file.output target ≡ true) reply.writes
@@ -228,40 +228,40 @@ module _ (kinds : Kinds) (task : Task) (trees : Trees) (changes : List Changes) 
 
   -- ---- what is held then
 
-  abbrev stood : List Step
-  stood = put_steps [] (put (standing task.outputs seen))
+  abbrev existed : List Step
+  existed = put_steps [] (put (existing task.outputs observed))
 
-  stood_now : (q : Place) → find byte_order q stood ≡ cond (is_output_of task q && is_some (file_at files q)) (Some (Some (unwrap_or (file_at files q) []))) None
-  stood_now q =
-      ap (λ (outs : List OutputFiles). find byte_order q (put_steps [] (put (standing task.outputs outs)))) r.goes_on.stands
+  existed_now : (q : Place) → find byte_order q existed ≡ cond (is_output_of task q && is_some (file_at files q)) (Some (Some (unwrap_or (file_at files q) []))) None
+  existed_now q =
+      ap (λ (outs : List OutputFiles). find byte_order q (put_steps [] (put (existing task.outputs outs)))) r.goes_on.exists
       ∙ all_back files r.are_placed task.outputs r.goes_on.not_own [] q
 
-  pub held_is_made : held_after task.outputs seen reply.removes reply.writes ≡ put_over [] (placed task.outputs written)
+  pub held_is_made : held_after task.outputs observed reply.removes reply.writes ≡ put_over [] (placed task.outputs written)
   held_is_made =
-      same_files (held_after task.outputs seen reply.removes reply.writes) (put_over [] (placed task.outputs written)) (sorted_files (put_steps stood (named task.outputs reply.removes reply.writes)) sorted) (sorted-put_over [] (placed task.outputs written) refl)
-      (λ q. at_files (put_steps stood (named task.outputs reply.removes reply.writes)) sorted q ∙ at q)
+      same_files (held_after task.outputs observed reply.removes reply.writes) (put_over [] (placed task.outputs written)) (sorted_files (put_steps existed (named task.outputs reply.removes reply.writes)) sorted) (sorted-put_over [] (placed task.outputs written) refl)
+      (λ q. at_files (put_steps existed (named task.outputs reply.removes reply.writes)) sorted q ∙ at q)
     where
-      sorted : is_sorted byte_order (put_steps stood (named task.outputs reply.removes reply.writes)) ≡ true
-      sorted = sorted_steps stood (named task.outputs reply.removes reply.writes) (sorted_steps [] (put (standing task.outputs seen)) refl)
+      sorted : is_sorted byte_order (put_steps existed (named task.outputs reply.removes reply.writes)) ≡ true
+      sorted = sorted_steps existed (named task.outputs reply.removes reply.writes) (sorted_steps [] (put (existing task.outputs observed)) refl)
 
-      here : (path : List ℕ) → find byte_order (beneath root path) stood ≡ option_map (λ b. Some b) (stands_at seen target path)
+      here : (path : List ℕ) → find byte_order (beneath root path) existed ≡ option_map (λ b. Some b) (exists_at observed target path)
       here path =
-          stood_now (beneath root path)
+          existed_now (beneath root path)
           ∙ ap (λ b. cond (b && is_some (file_at files (beneath root path))) (Some (Some (unwrap_or (file_at files (beneath root path)) []))) None)
-          (at_target kinds task r.old trees changes seen files r.are_placed r.fitting r.goes_on r.writer r.writes fits.1 output found.1 path)
-          ∙ by (file_at files (beneath root path)) ∙ ap (option_map (λ b. Some b)) (sym (seen_here path))
+          (at_target kinds task r.old trees changes observed files r.are_placed r.fitting r.goes_on r.writer r.writes fits.1 output found.1 path)
+          ∙ by (file_at files (beneath root path)) ∙ ap (option_map (λ b. Some b)) (sym (observed_here path))
         where
           by : (o : Option Bytes) → cond (is_some o) (Some (Some (unwrap_or o []))) None ≡ option_map (λ b. Some b) o
           by None = refl
           by (Some x) = refl
 
-      nothing : (q : Place) → IsElsewhere task.outputs output found.1 q → find byte_order q stood ≡ None
-      nothing q other = stood_now q ∙ by (is_output_of task q) refl
+      nothing : (q : Place) → IsElsewhere task.outputs output found.1 q → find byte_order q existed ≡ None
+      nothing q other = existed_now q ∙ by (is_output_of task q) refl
         where
           by : (b : Bool) → is_output_of task q ≡ b → cond (b && is_some (file_at files q)) (Some (Some (unwrap_or (file_at files q) []))) None ≡ None
           by true e =
               ap (λ o. cond (is_some o) (Some (Some (unwrap_or o []))) None)
-              (stood_elsewhere kinds task r.old trees changes seen files r.are_placed r.fitting r.goes_on r.writer r.writes fits.1 output found.1 q e other)
+              (existed_elsewhere kinds task r.old trees changes observed files r.are_placed r.fitting r.goes_on r.writer r.writes fits.1 output found.1 q e other)
           by false e = refl
 
       left : (w : Option Bytes) (b : Bool) (s : Option Bytes)
@@ -271,17 +271,17 @@ module _ (kinds : Kinds) (task : Task) (trees : Trees) (changes : List Changes) 
       left None false None = refl
       left None false (Some x) = refl
 
-      at : (q : Place) → unwrap_or (find byte_order q (put_steps stood (named task.outputs reply.removes reply.writes))) None ≡ file_at made q
+      at : (q : Place) → unwrap_or (find byte_order q (put_steps existed (named task.outputs reply.removes reply.writes))) None ≡ file_at made q
       at q = by (whether task.outputs output found.1 q)
         where
-          by : Where task.outputs output found.1 q → unwrap_or (find byte_order q (put_steps stood (named task.outputs reply.removes reply.writes))) None ≡ file_at made q
+          by : Where task.outputs output found.1 q → unwrap_or (find byte_order q (put_steps existed (named task.outputs reply.removes reply.writes))) None ≡ file_at made q
           by (Here path same) =
-              ap (λ p. unwrap_or (find byte_order p (put_steps stood (named task.outputs reply.removes reply.writes))) None) same
-              ∙ ap (λ o. unwrap_or o None) (step_at stood path)
+              ap (λ p. unwrap_or (find byte_order p (put_steps existed (named task.outputs reply.removes reply.writes))) None) same
+              ∙ ap (λ o. unwrap_or o None) (step_at existed path)
               ∙ ap (λ o. unwrap_or (option_or (option_map (λ x. Some x) (written_at reply.writes target path)) (cond (is_removed reply.removes target path) (Some None) o)) None) (here path)
-              ∙ left (written_at reply.writes target path) (is_removed reply.removes target path) (stands_at seen target path)
+              ∙ left (written_at reply.writes target path) (is_removed reply.removes target path) (exists_at observed target path)
               ∙ carried target path ∙ sym (made_at path) ∙ ap (file_at made) (sym same)
-          by (Elsewhere other) = ap (λ o. unwrap_or o None) (step_elsewhere stood q other ∙ nothing q other) ∙ sym (made_elsewhere q other)
+          by (Elsewhere other) = ap (λ o. unwrap_or o None) (step_elsewhere existed q other ∙ nothing q other) ∙ sym (made_elsewhere q other)
 
   -- ---- what its steps lead to
 
@@ -304,7 +304,7 @@ module _ (kinds : Kinds) (task : Task) (trees : Trees) (changes : List Changes) 
   new_here path =
       new_at (beneath root path)
       ∙ ap (λ b. or_else (file_at made (beneath root path)) (cond (not b) (file_at files (beneath root path)) None))
-      (at_target kinds task r.old trees changes seen files r.are_placed r.fitting r.goes_on r.writer r.writes fits.1 output found.1 path)
+      (at_target kinds task r.old trees changes observed files r.are_placed r.fitting r.goes_on r.writer r.writes fits.1 output found.1 path)
       ∙ by (file_at made (beneath root path)) ∙ made_at path
     where
       by : (o : Option Bytes) → or_else o None ≡ o
@@ -315,7 +315,7 @@ module _ (kinds : Kinds) (task : Task) (trees : Trees) (changes : List Changes) 
   new_elsewhere q other = new_at q ∙ ap (λ o. or_else o (cond (not (is_output_of task q)) (file_at files q) None)) (made_elsewhere q other) ∙ by (is_output_of task q) refl
     where
       by : (b : Bool) → is_output_of task q ≡ b → cond (not b) (file_at files q) None ≡ file_at files q
-      by true e = sym (stood_elsewhere kinds task r.old trees changes seen files r.are_placed r.fitting r.goes_on r.writer r.writes fits.1 output found.1 q e other)
+      by true e = sym (existed_elsewhere kinds task r.old trees changes observed files r.are_placed r.fitting r.goes_on r.writer r.writes fits.1 output found.1 q e other)
       by false e = refl
 
   -- a step is one of those that the reply names
@@ -334,7 +334,7 @@ module _ (kinds : Kinds) (task : Task) (trees : Trees) (changes : List Changes) 
         path = path;
         place = place;
         name = ap (λ o. is_some o || is_removed reply.removes target path) w;
-        means = inr (sym (some_same (Some x) v is) ∙ sym (ap (λ o. option_or o (if is_removed reply.removes target path then None else stands_at seen target path)) w) ∙ carried target path);
+        means = inr (sym (some_same (Some x) v is) ∙ sym (ap (λ o. option_or o (if is_removed reply.removes target path then None else exists_at observed target path)) w) ∙ carried target path);
       }
       named_by path place None true w f is = record {
         path = path;
@@ -353,7 +353,7 @@ module _ (kinds : Kinds) (task : Task) (trees : Trees) (changes : List Changes) 
   needs : (q : Place) (v : Option Bytes) → IsStep q v → file_at files q ≢ file_at goal_files q
   needs q v is same =
       frugal target is.path is.name
-      (seen_here is.path ∙ ap (file_at files) (sym is.place) ∙ same ∙ ap (file_at goal_files) is.place ∙ new_here is.path)
+      (observed_here is.path ∙ ap (file_at files) (sym is.place) ∙ same ∙ ap (file_at goal_files) is.place ∙ new_here is.path)
 
   means : (q : Place) (v : Option Bytes) → IsStep q v → (v ≡ None) ⊎ (v ≡ file_at goal_files q)
   means q v is = by is.means
@@ -373,8 +373,8 @@ module _ (kinds : Kinds) (task : Task) (trees : Trees) (changes : List Changes) 
             → cond b (unwrap_or (find byte_order (beneath root path) steps) (file_at files (beneath root path))) (file_at files (beneath root path)) ≡ file_at goal_files (beneath root path)
         here path true e =
             ap (λ o. unwrap_or o (file_at files (beneath root path))) (step_at [] path)
-            ∙ ap (unwrap_or (option_or (option_map (λ x. Some x) (written_at reply.writes target path)) (cond (is_removed reply.removes target path) (Some None) None))) (sym (seen_here path))
-            ∙ left (written_at reply.writes target path) (is_removed reply.removes target path) (stands_at seen target path)
+            ∙ ap (unwrap_or (option_or (option_map (λ x. Some x) (written_at reply.writes target path)) (cond (is_removed reply.removes target path) (Some None) None))) (sym (observed_here path))
+            ∙ left (written_at reply.writes target path) (is_removed reply.removes target path) (exists_at observed target path)
             ∙ carried target path ∙ sym (new_here path)
           where
             left : (w : Option Bytes) (b : Bool) (s : Option Bytes)
@@ -406,7 +406,7 @@ module _ (kinds : Kinds) (task : Task) (trees : Trees) (changes : List Changes) 
     }
 
 pub replies_are_made : RepliesAreMade
-replies_are_made kinds task trees changes seen files reply written r = held_is_made kinds task trees changes seen files reply written r
+replies_are_made kinds task trees changes observed files reply written r = held_is_made kinds task trees changes observed files reply written r
 
 pub replies_lead_on : RepliesLeadOn
-replies_lead_on kinds task trees changes seen files reply written r none = leads kinds task trees changes seen files reply written r none
+replies_lead_on kinds task trees changes observed files reply written r none = leads kinds task trees changes observed files reply written r none

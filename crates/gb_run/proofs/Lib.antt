@@ -25,12 +25,12 @@ pub mod CutEmptying
 pub mod Digested
 pub mod ByPlace
 pub mod Keeping
-pub mod Stood
+pub mod Existed
 pub mod Counted
 pub mod Looks
 pub mod AtPaths
 pub mod Writer
-pub mod Seen
+pub mod Observed
 pub mod Owned
 pub mod Following
 pub mod Leading
@@ -46,4 +46,4 @@ pub mod Same
 pub mod Further
 pub mod Failing
 pub mod OneWriter
-pub mod Telling
+pub mod Reporting

@@ -146,8 +146,8 @@ sorted_steps held (s ∷ steps) h = sorted_steps (put byte_order s.0 s.1 held) s
 pub at_put : (held : List Step) (s : Step) (q : Place) → find byte_order q (put byte_order s.0 s.1 held) ≡ cond (eq_by_cmp byte_order q s.0) (Some s.1) (find byte_order q held)
 at_put held s q = find-put byte_order nat_list_cmp_total q s.0 s.1 held
 
-apart_from : (p q : Place) → p ≢ q → eq_by_cmp byte_order q p ≡ false
-apart_from p q other = by (eq_by_cmp byte_order q p) refl
+separate_from : (p q : Place) → p ≢ q → eq_by_cmp byte_order q p ≡ false
+separate_from p q other = by (eq_by_cmp byte_order q p) refl
   where
     by : (b : Bool) → eq_by_cmp byte_order q p ≡ b → b ≡ false
     by true e = absurd (other (sym (same_place q p e)))
@@ -157,7 +157,7 @@ apart_from p q other = by (eq_by_cmp byte_order q p) refl
 pub at_others : (held steps : List Step) (q : Place) → AllByRecursion (λ (s : Step). s.0 ≢ q) steps → find byte_order q (put_steps held steps) ≡ find byte_order q held
 at_others held [] q all = refl
 at_others held (s ∷ steps) q all =
-    at_others (put byte_order s.0 s.1 held) steps q all.1 ∙ at_put held s q ∙ ap (λ b. cond b (Some s.1) (find byte_order q held)) (apart_from s.0 q all.0)
+    at_others (put byte_order s.0 s.1 held) steps q all.1 ∙ at_put held s q ∙ ap (λ b. cond b (Some s.1) (find byte_order q held)) (separate_from s.0 q all.0)
 
 pub steps_append : (held xs ys : List Step) → put_steps held (xs ++ ys) ≡ put_steps (put_steps held xs) ys
 steps_append held [] ys = refl

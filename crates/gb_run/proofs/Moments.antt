@@ -20,10 +20,10 @@ use Rattle.gb_run.proofs.Endings.{stops_done, stops_fault}
 -- ---- calls
 
 -- what stopped a later call stopped all calls
-pub machine_before : (first second : Tearing) (before between after : ℕ) (old new : Files) (behind : List Step) (fault : Fault) → SameTearing first second → before ≤ between → between ≤ after
-    → FailsByMachine second between old behind fault after new → FailsByMachine first before old behind fault after new
-machine_before first second before between after old new behind fault same le more (inl memory) = inl memory
-machine_before first second before between after old new behind fault same le more (inr stopped) = inr (record {
+pub machine_before : (first second : Tearing) (before between after : ℕ) (old new : Files) (following : List Step) (fault : Fault) → SameTearing first second → before ≤ between → between ≤ after
+    → FailsByMachine second between old following fault after new → FailsByMachine first before old following fault after new
+machine_before first second before between after old new following fault same le more (inl memory) = inl memory
+machine_before first second before between after old new following fault same le more (inr stopped) = inr (record {
   step = stopped.step;
   later = stopped.later;
   next = stopped.next;
@@ -35,13 +35,13 @@ machine_before first second before between after old new behind fault same le mo
 })
 
 -- a step was prevented where these files were
-pub by_machine : (may_leave : Tearing) (before after : ℕ) (old : Contents) (stood : Files) (front : List Step) (step : Step) (behind : List Step) (fault : Fault) (new : Contents)
-    → after_steps old.files front ≡ stood → ((place : Place) → fault ≡ faults.Device place → HasRisen before after)
-    → IsHindered may_leave step.0 step.1 (folder_after old front) fault new → FailsByMachine may_leave before stood (step ∷ behind) fault after new.files
-by_machine may_leave before after old stood front step behind fault new is risen (inl memory) = inl (memory.0, ap (λ (c : Contents). c.files) memory.1 ∙ is)
-by_machine may_leave before after old stood front step behind fault new is risen (inr torn) = inr (record {
+pub by_machine : (may_leave : Tearing) (before after : ℕ) (old : Contents) (existed : Files) (prefix : List Step) (step : Step) (following : List Step) (fault : Fault) (new : Contents)
+    → after_steps old.files prefix ≡ existed → ((place : Place) → fault ≡ faults.Device place → HasRisen before after)
+    → IsHindered may_leave step.0 step.1 (folder_after old prefix) fault new → FailsByMachine may_leave before existed (step ∷ following) fault after new.files
+by_machine may_leave before after old existed prefix step following fault new is risen (inl memory) = inl (memory.0, ap (λ (c : Contents). c.files) memory.1 ∙ is)
+by_machine may_leave before after old existed prefix step following fault new is risen (inr torn) = inr (record {
   step = step;
-  later = behind;
+  later = following;
   next = refl;
   device = torn.0;
   risen = risen step.0 torn.0;
@@ -66,15 +66,15 @@ module _ (course : Course) where
       left = left;
       all = all;
       no_fault = no_fault;
-      front = [];
-      behind = (unbegun way done left).0;
+      prefix = [];
+      following = (unbegun way done left).0;
       at_hand = (unbegun way done left).1;
     }
 
     -- memory ran out there
     pub fails_between : (may_leave : Tearing) (before after : ℕ) (fault : Fault) (lines : List Text) (new : Files) → fault ≡ faults.OutOfMemory → lines ≡ lines_by course done → new ≡ ended_files course way done
         → Fails course way may_leave before fault lines after new
-    fails_between may_leave before after fault lines new reported printed stands = record { moment = moment_at; printed = printed; why = inr (inl (reported, stands)) }
+    fails_between may_leave before after fault lines new reported printed exists = record { moment = moment_at; printed = printed; why = inr (inl (reported, exists)) }
 
 -- ---- at an action
 
@@ -89,11 +89,11 @@ module _ (course : Course) (way : Way) (done left : List Action) (action : Actio
   fails_at first second before between after fault lines new same le more printed stops = record { moment = here; printed = printed; why = at_stop stops.why }
     where
       here : Moment course way
-      here = record { done = done; left = action ∷ left; all = all; no_fault = no_fault; front = stops.front; behind = stops.behind; at_hand = stops.at_hand }
+      here = record { done = done; left = action ∷ left; all = all; no_fault = no_fault; prefix = stops.prefix; following = stops.following; at_hand = stops.at_hand }
 
-      at_stop : ((comes_to ≡ Err fault) × (new ≡ after_steps (ended_files course way done) stops.front))
-          ⊎ FailsByMachine second between (after_steps (ended_files course way done) stops.front) stops.behind fault after new
-          → FailsByItself course way here fault new ⊎ FailsByMachine first before (after_steps (ended_files course way done) stops.front) stops.behind fault after new
+      at_stop : ((comes_to ≡ Err fault) × (new ≡ after_steps (ended_files course way done) stops.prefix))
+          ⊎ FailsByMachine second between (after_steps (ended_files course way done) stops.prefix) stops.following fault after new
+          → FailsByItself course way here fault new ⊎ FailsByMachine first before (after_steps (ended_files course way done) stops.prefix) stops.following fault after new
       at_stop (inl itself) = inl (record {
         faulty =
             ap (λ (actions : List Action). (run_along course actions).fault) all
@@ -103,4 +103,4 @@ module _ (course : Course) (way : Way) (done left : List Action) (action : Actio
             ∙ stops_done course.kinds course.task.outputs course.task.values course.trees course.rest done left [] action fault no_fault itself.0;
         files = itself.1;
       })
-      at_stop (inr machine) = inr (machine_before first second before between after (after_steps (ended_files course way done) stops.front) new stops.behind fault same le more machine)
+      at_stop (inr machine) = inr (machine_before first second before between after (after_steps (ended_files course way done) stops.prefix) new stops.following fault same le more machine)

@@ -20,12 +20,12 @@ use Rattle.gb_meaning.specs.Made.{put_over, rest_of}
 use Rattle.gb_meaning.specs.Memory.{output_files}
 use Rattle.gb_meaning.proofs.Lemmas.Files.{at-where, at-with, same_files, sorted-put_over, sorted-where}
 use Rattle.gb_run.proofs.Digested.{files_from_is, from_digests, from_root, where_digests}
-use Rattle.gb_run.specs.AskingChanges.{seen_of}
+use Rattle.gb_run.specs.AskingChanges.{observed_of}
 use Rattle.gb_run.specs.ChangeDigests.{at_places, digests_at}
-use Rattle.gb_run.specs.Named.{put, standing}
+use Rattle.gb_run.specs.Named.{put, existing}
 use Rattle.gb_run.specs.Steps.{Step, put_steps}
 use Rattle.gb_run.proofs.Looks.{at_put}
-use Rattle.gb_run.proofs.Seen.{all_back, placed_all, under_all, whole}
+use Rattle.gb_run.proofs.Observed.{all_back, placed_all, under_all, whole}
 
 -- ---- the files at outputs alone
 
@@ -66,14 +66,14 @@ module _ (test : Place → Bool) (files : Files) (sorted : is_sorted byte_order 
       ∙ sym (files_from_is files root sorted)
 
   -- so outputs are read as they are in the whole folder
-  pub owned_seen : (outputs : List Output) → ((q : Place) → list_any (λ (output : Output). is_under q output.place) outputs ≡ true → test q ≡ true)
-      → map (seen_of (files_where test files)) outputs ≡ map (seen_of files) outputs
-  owned_seen [] within = refl
-  owned_seen (output ∷ outputs) within =
-      ap (λ (tree : Tree). let seen : OutputFiles = record { name = output.name; form = output.form; files = tree } in seen ∷ map (seen_of (files_where test files)) outputs)
+  pub owned_observed : (outputs : List Output) → ((q : Place) → list_any (λ (output : Output). is_under q output.place) outputs ≡ true → test q ≡ true)
+      → map (observed_of (files_where test files)) outputs ≡ map (observed_of files) outputs
+  owned_observed [] within = refl
+  owned_observed (output ∷ outputs) within =
+      ap (λ (tree : Tree). let observed : OutputFiles = record { name = output.name; form = output.form; files = tree } in observed ∷ map (observed_of (files_where test files)) outputs)
       (owned_from output.place (λ q under. within q (ap (λ b. b || list_any (λ (o : Output). is_under q o.place) outputs) under)))
-      ∙ ap (λ (seen : List OutputFiles). seen_of files output ∷ seen)
-      (owned_seen outputs (λ q under. within q (or_right (is_under q output.place) (list_any (λ (o : Output). is_under q o.place) outputs) under)))
+      ∙ ap (λ (observed : List OutputFiles). observed_of files output ∷ observed)
+      (owned_observed outputs (λ q under. within q (or_right (is_under q output.place) (list_any (λ (o : Output). is_under q o.place) outputs) under)))
 
 -- ---- digests, output by output
 
@@ -86,12 +86,12 @@ placed_digests [] = refl
 placed_digests (f ∷ files) = ap (λ b. is_place f.0 && b) (placed_digests files)
 
 -- the digests of outputs as they are read, put back under their places
-pub seen_digests : (files : Files) → is_sorted byte_order files ≡ true → (outputs : List Output)
-    → digests_at outputs (map print_of (map (seen_of files) outputs)) ≡ standing outputs (map (seen_of (digests_of files)) outputs)
-seen_digests files sorted [] = refl
-seen_digests files sorted (output ∷ outputs) =
-    ap (λ (tree : Tree). map (λ (file : Place × Bytes). (beneath output.place file.0, file.1)) tree ++ digests_at outputs (map print_of (map (seen_of files) outputs))) (sym (from_digests files output.place sorted))
-    ∙ ap (λ (fs : Files). map (λ (file : Place × Bytes). (beneath output.place file.0, file.1)) (files_from (digests_of files) output.place) ++ fs) (seen_digests files sorted outputs)
+pub observed_digests : (files : Files) → is_sorted byte_order files ≡ true → (outputs : List Output)
+    → digests_at outputs (map print_of (map (observed_of files) outputs)) ≡ existing outputs (map (observed_of (digests_of files)) outputs)
+observed_digests files sorted [] = refl
+observed_digests files sorted (output ∷ outputs) =
+    ap (λ (tree : Tree). map (λ (file : Place × Bytes). (beneath output.place file.0, file.1)) tree ++ digests_at outputs (map print_of (map (observed_of files) outputs))) (sym (from_digests files output.place sorted))
+    ∙ ap (λ (fs : Files). map (λ (file : Place × Bytes). (beneath output.place file.0, file.1)) (files_from (digests_of files) output.place) ++ fs) (observed_digests files sorted outputs)
 
 module _ (files : Files) (placed : are_placed files ≡ true) where
   back_placed : (root : Place) (places : List Place) → AllByRecursion (λ p. is_under p root ≡ true) places → AllByRecursion (λ p. is_place p ≡ true) places
@@ -112,11 +112,11 @@ module _ (files : Files) (placed : are_placed files ≡ true) where
       ]
 
   -- what is at outputs is at places
-  pub all_placed : (outputs : List Output) → at_places (standing outputs (map (seen_of files) outputs)) ≡ standing outputs (map (seen_of files) outputs)
+  pub all_placed : (outputs : List Output) → at_places (existing outputs (map (observed_of files) outputs)) ≡ existing outputs (map (observed_of files) outputs)
   all_placed [] = refl
   all_placed (output ∷ outputs) =
-      filter_append (λ (file : Place × Bytes). is_place file.0) (map (λ (file : Place × Bytes). (beneath output.place file.0, file.1)) (files_from files output.place)) (standing outputs (map (seen_of files) outputs))
-      ∙ ap (λ (fs : List (Place × Bytes)). fs ++ at_places (standing outputs (map (seen_of files) outputs))) (one_placed output.place)
+      filter_append (λ (file : Place × Bytes). is_place file.0) (map (λ (file : Place × Bytes). (beneath output.place file.0, file.1)) (files_from files output.place)) (existing outputs (map (observed_of files) outputs))
+      ∙ ap (λ (fs : List (Place × Bytes)). fs ++ at_places (existing outputs (map (observed_of files) outputs))) (one_placed output.place)
       ∙ ap (λ (fs : List (Place × Bytes)). map (λ (file : Place × Bytes). (beneath output.place file.0, file.1)) (files_from files output.place) ++ fs) (all_placed outputs)
 
 -- files put one after another are what their steps leave
@@ -144,22 +144,22 @@ only_some (Some y) (Some x) false e = absurd (let q = e in (cc))
 
 -- the files at outputs, put back under their places
 pub put_back : (task : Task) (files : Files) → is_sorted byte_order files ≡ true → are_placed files ≡ true → list_any (λ (output : Output). is_own output.place) task.outputs ≡ false
-    → put_over [] (standing task.outputs (map (seen_of files) task.outputs)) ≡ output_files task files
+    → put_over [] (existing task.outputs (map (observed_of files) task.outputs)) ≡ output_files task files
 put_back task files sorted placed out =
-    let these = standing task.outputs (map (seen_of files) task.outputs) in
+    let these = existing task.outputs (map (observed_of files) task.outputs) in
     same_files (put_over [] these) (output_files task files) (sorted-put_over [] these refl) (sorted-where (is_output_of task) files sorted)
     (λ q.
     only_some (file_at (put_over [] these) q) (file_at files q) (is_output_of task q) (sym (as_steps [] [] these (λ p. refl) q) ∙ all_back files placed task.outputs out [] q)
     ∙ sym (at-where (is_output_of task) files q))
 
 -- the digests from before are those of the files at the outputs
-pub digests_owned : (task : Task) (files : Files) (outputs : List OutputFiles) (stood : Trees) → is_sorted byte_order files ≡ true → are_placed files ≡ true
-    → list_any (λ (output : Output). is_own output.place) task.outputs ≡ false → outputs ≡ map (seen_of files) task.outputs → stood ≡ map print_of outputs
-    → put_over [] (at_places (digests_at task.outputs stood)) ≡ digests_of (output_files task files)
-digests_owned task files outputs stood sorted placed out stands prints =
+pub digests_owned : (task : Task) (files : Files) (outputs : List OutputFiles) (existed : Trees) → is_sorted byte_order files ≡ true → are_placed files ≡ true
+    → list_any (λ (output : Output). is_own output.place) task.outputs ≡ false → outputs ≡ map (observed_of files) task.outputs → existed ≡ map print_of outputs
+    → put_over [] (at_places (digests_at task.outputs existed)) ≡ digests_of (output_files task files)
+digests_owned task files outputs existed sorted placed out exists prints =
     let digests_placed = placed_digests files ∙ placed in
-    ap (λ (trees : Trees). put_over [] (at_places (digests_at task.outputs trees))) (prints ∙ ap (map print_of) stands)
-    ∙ ap (λ (fs : Files). put_over [] (at_places fs)) (seen_digests files sorted task.outputs)
+    ap (λ (trees : Trees). put_over [] (at_places (digests_at task.outputs trees))) (prints ∙ ap (map print_of) exists)
+    ∙ ap (λ (fs : Files). put_over [] (at_places fs)) (observed_digests files sorted task.outputs)
     ∙ ap (put_over []) (all_placed (digests_of files) digests_placed task.outputs)
     ∙ put_back task (digests_of files) (sorted_digests files ∙ sorted) digests_placed out
     ∙ sym (where_digests (is_output_of task) files)

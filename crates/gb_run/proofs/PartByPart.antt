@@ -25,22 +25,22 @@ module _ (part : Part) (calls : List Call) where
   pub part_full : Does part.steps calls (Ok tt) → DoesParts (part ∷ []) calls part.lines (Ok tt)
   part_full does = (calls, [], Ok tt, sym (with_none calls), does, inr ([], sym (with_none part.lines), (refl, refl, refl)))
 
-parts_then : (front behind : List Part) (done last : List Call) (some more : List Text) (result : Ending) → DoesParts front done some (Ok tt) → DoesParts behind last more result
-    → DoesParts (front ++ behind) (done ++ last) (some ++ more) result
-parts_then [] behind done last some more result first next =
-    subst (λ (cs : List Call). DoesParts behind (cs ++ last) (some ++ more) result) (sym first.0) (subst (λ (ls : List Text). DoesParts behind last (ls ++ more) result) (sym first.1) next)
-parts_then (part ∷ front) behind done last some more result first next = (
+parts_then : (prefix following : List Part) (done last : List Call) (some more : List Text) (result : Ending) → DoesParts prefix done some (Ok tt) → DoesParts following last more result
+    → DoesParts (prefix ++ following) (done ++ last) (some ++ more) result
+parts_then [] following done last some more result first next =
+    subst (λ (cs : List Call). DoesParts following (cs ++ last) (some ++ more) result) (sym first.0) (subst (λ (ls : List Text). DoesParts following last (ls ++ more) result) (sym first.1) next)
+parts_then (part ∷ prefix) following done last some more result first next = (
   first.0,
   first.1 ++ last,
   first.2,
   ap (λ (cs : List Call). cs ++ last) first.3 ∙ append_assoc first.0 first.1 last,
   first.4,
-  on first.2 first.5 (λ rest h. parts_then front behind first.1 last rest more result h next),
+  on first.2 first.5 (λ rest h. parts_then prefix following first.1 last rest more result h next),
 )
   where
-    on : (t : Ending) → OrPrints t part.lines (λ rest. DoesParts front first.1 rest (Ok tt)) first.1 some (Ok tt)
-        → ((rest : List Text) → DoesParts front first.1 rest (Ok tt) → DoesParts (front ++ behind) (first.1 ++ last) (rest ++ more) result)
-        → OrPrints t part.lines (λ rest. DoesParts (front ++ behind) (first.1 ++ last) rest result) (first.1 ++ last) (some ++ more) result
+    on : (t : Ending) → OrPrints t part.lines (λ rest. DoesParts prefix first.1 rest (Ok tt)) first.1 some (Ok tt)
+        → ((rest : List Text) → DoesParts prefix first.1 rest (Ok tt) → DoesParts (prefix ++ following) (first.1 ++ last) (rest ++ more) result)
+        → OrPrints t part.lines (λ rest. DoesParts (prefix ++ following) (first.1 ++ last) rest result) (first.1 ++ last) (some ++ more) result
     on (Ok d) (inl memory) goes = absurd (let e = memory.2 in (cc))
     on (Ok d) (inr printed) goes = inr (printed.0 ++ more, ap (λ (ls : List Text). ls ++ more) printed.1 ∙ append_assoc part.lines printed.0 more, goes printed.0 printed.2)
     on (Err fault) ended goes = absurd (let e = ended.2 in (cc))
@@ -58,14 +58,14 @@ module _ {F : Type 0} (device : Device F) where
   PartsLed parts old said result new now =
       (calls : List Call) × (printed : List Text) × Leads device old calls new × DoesParts (map part_held parts) calls printed result × (now ≡ said ++ printed)
 
-  led_then : (front behind : List HeldPart) (old mid new : F) (said between now : List Text) (result : Ending) → PartsLed front old said (Ok tt) mid between → PartsLed behind mid between result new now
-      → PartsLed (front ++ behind) old said result new now
-  led_then front behind old mid new said between now result first more = (
+  led_then : (prefix following : List HeldPart) (old mid new : F) (said between now : List Text) (result : Ending) → PartsLed prefix old said (Ok tt) mid between → PartsLed following mid between result new now
+      → PartsLed (prefix ++ following) old said result new now
+  led_then prefix following old mid new said between now result first more = (
     first.0 ++ more.0,
     first.1 ++ more.1,
     leads_on device old mid new first.0 more.0 first.2 more.2,
-    subst (λ (ps : List Part). DoesParts ps (first.0 ++ more.0) (first.1 ++ more.1) result) (sym (map-append part_held front behind))
-        (parts_then (map part_held front) (map part_held behind) first.0 more.0 first.1 more.1 result first.3 more.3),
+    subst (λ (ps : List Part). DoesParts ps (first.0 ++ more.0) (first.1 ++ more.1) result) (sym (map-append part_held prefix following))
+        (parts_then (map part_held prefix) (map part_held following) first.0 more.0 first.1 more.1 result first.3 more.3),
     more.4 ∙ ap (λ (ls : List Text). ls ++ more.1) first.4 ∙ append_assoc said first.1 more.1,
   )
 

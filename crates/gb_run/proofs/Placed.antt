@@ -30,13 +30,13 @@ pub none_after : {X : Type 0} (xs ys : List X) → xs ++ ys ≡ [] → ys ≡ []
 none_after [] ys e = e
 none_after (x ∷ xs) ys e = absurd (cc)
 
-pub all_front : {X : Type 0} (P : X → Type 0) (xs ys : List X) → AllByRecursion P (xs ++ ys) → AllByRecursion P xs
-all_front P [] ys all = tt
-all_front P (x ∷ xs) ys all = (all.0, all_front P xs ys all.1)
+pub all_prefix : {X : Type 0} (P : X → Type 0) (xs ys : List X) → AllByRecursion P (xs ++ ys) → AllByRecursion P xs
+all_prefix P [] ys all = tt
+all_prefix P (x ∷ xs) ys all = (all.0, all_prefix P xs ys all.1)
 
-pub all_behind : {X : Type 0} (P : X → Type 0) (xs ys : List X) → AllByRecursion P (xs ++ ys) → AllByRecursion P ys
-all_behind P [] ys all = all
-all_behind P (x ∷ xs) ys all = all_behind P xs ys all.1
+pub all_after : {X : Type 0} (P : X → Type 0) (xs ys : List X) → AllByRecursion P (xs ++ ys) → AllByRecursion P ys
+all_after P [] ys all = all
+all_after P (x ∷ xs) ys all = all_after P xs ys all.1
 
 not_so : (hindered : Bool) (fault : Fault) → fault_if hindered fault ≡ [] → hindered ≡ false
 not_so true fault e = absurd (cc)
@@ -48,7 +48,7 @@ not_so false fault e = refl
 pub beside_is : (outputs : List Output) (taken all files by_place : Files) → by_place ≡ files → all ≡ put_over taken (blank by_place)
     → faults_beside outputs taken files ≡ flat_map (file_faults all) by_place ++ count_faults outputs all
 beside_is outputs taken all files by_place a b =
-    ap (λ (seen : Files). flat_map (file_faults (put_over taken (blank seen))) seen ++ count_faults outputs (put_over taken (blank seen))) (sym a)
+    ap (λ (observed : Files). flat_map (file_faults (put_over taken (blank observed))) observed ++ count_faults outputs (put_over taken (blank observed))) (sym a)
     ∙ ap (λ (held : Files). flat_map (file_faults held) by_place ++ count_faults outputs held) (sym b)
 
 -- ---- files without a fault
@@ -79,17 +79,17 @@ free_files_of all (file ∷ files) none =
 
 -- places taken without a fault are places
 pub placed_over : (all files taken : Files) → flat_map (file_faults all) files ≡ [] → are_placed taken ≡ true → are_placed (put_over taken (blank files)) ≡ true
-placed_over all [] taken none stands = stands
-placed_over all (file ∷ files) taken none stands =
+placed_over all [] taken none exists = exists
+placed_over all (file ∷ files) taken none exists =
     let own : file_faults all file ≡ [] = none_before _ (flat_map (file_faults all) files) none in
     let at : is_place file.0 ≡ true = not-false _ (not_so _ _ (none_before (fault_if (not (is_place file.0)) (faults.BadPlace file.0)) _ (none_before _ (fault_if (nat_lt max_file (length file.1)) (faults.TooLarge file.0)) own))) in
-    placed_over all files (with_file taken file.0 []) (none_after (file_faults all file) _ none) (all_put is_place file.0 [] taken ∙ and_from _ _ at stands)
+    placed_over all files (with_file taken file.0 []) (none_after (file_faults all file) _ none) (all_put is_place file.0 [] taken ∙ and_from _ _ at exists)
 
 -- ---- borrowed bytes
 
 -- what holds of files holds of them with their bytes borrowed
-pub all_shown : (P : Place × Bytes → Type 0) (files : List (Place × Bor Bytes)) (seen : List (Place × Bytes)) → shown files ≡ seen → AllByRecursion P seen → AllByRecursion (λ file. P (file.0, file.1.now)) files
-all_shown P files seen is all = go files (subst (λ (fs : List (Place × Bytes)). AllByRecursion P fs) (sym is) all)
+pub all_shown : (P : Place × Bytes → Type 0) (files : List (Place × Bor Bytes)) (observed : List (Place × Bytes)) → shown files ≡ observed → AllByRecursion P observed → AllByRecursion (λ file. P (file.0, file.1.now)) files
+all_shown P files observed is all = go files (subst (λ (fs : List (Place × Bytes)). AllByRecursion P fs) (sym is) all)
   where
     go : (fs : List (Place × Bor Bytes)) → AllByRecursion P (shown fs) → AllByRecursion (λ file. P (file.0, file.1.now)) fs
     go [] h = tt

@@ -57,18 +57,18 @@ none_blocked : (rest : Files) (files : List (Place × Bytes)) → has_room rest 
 none_blocked rest files free = ap (map (λ (f : Place × Bytes). f.0)) (none_passes (λ (f : Place × Bytes). is_blocked rest f.0) files free)
 
 -- the first that is blocked, after some that are not
-first_blocked : (rest : Files) (front : List (Place × Bytes)) (file : Place × Bytes) (behind : List (Place × Bytes)) → has_room rest front → is_blocked rest file.0 ≡ true
-    → blocked_in rest (front ++ file ∷ behind) ≡ file.0 ∷ blocked_in rest behind
-first_blocked rest [] file behind free blocked =
-    ap (λ b. map (λ (f : Place × Bytes). f.0) (cond b (file ∷ filter (λ (f : Place × Bytes). is_blocked rest f.0) behind) (filter (λ (f : Place × Bytes). is_blocked rest f.0) behind))) blocked
-first_blocked rest (f ∷ front) file behind free blocked =
-    let more = filter (λ (g : Place × Bytes). is_blocked rest g.0) (front ++ file ∷ behind) in
-    ap (λ b. map (λ (g : Place × Bytes). g.0) (cond b (f ∷ more) more)) (none_left (is_blocked rest f.0) (list_any (λ (g : Place × Bytes). is_blocked rest g.0) front) free)
-    ∙ first_blocked rest front file behind (none_right (is_blocked rest f.0) (list_any (λ (g : Place × Bytes). is_blocked rest g.0) front) free) blocked
+first_blocked : (rest : Files) (prefix : List (Place × Bytes)) (file : Place × Bytes) (following : List (Place × Bytes)) → has_room rest prefix → is_blocked rest file.0 ≡ true
+    → blocked_in rest (prefix ++ file ∷ following) ≡ file.0 ∷ blocked_in rest following
+first_blocked rest [] file following free blocked =
+    ap (λ b. map (λ (f : Place × Bytes). f.0) (cond b (file ∷ filter (λ (f : Place × Bytes). is_blocked rest f.0) following) (filter (λ (f : Place × Bytes). is_blocked rest f.0) following))) blocked
+first_blocked rest (f ∷ prefix) file following free blocked =
+    let more = filter (λ (g : Place × Bytes). is_blocked rest g.0) (prefix ++ file ∷ following) in
+    ap (λ b. map (λ (g : Place × Bytes). g.0) (cond b (f ∷ more) more)) (none_left (is_blocked rest f.0) (list_any (λ (g : Place × Bytes). is_blocked rest g.0) prefix) free)
+    ∙ first_blocked rest prefix file following (none_right (is_blocked rest f.0) (list_any (λ (g : Place × Bytes). is_blocked rest g.0) prefix) free) blocked
 
-pub all_mid : {X : Type 0} (P : X → Type 0) (front : List X) (x : X) (behind : List X) → AllByRecursion P (front ++ x ∷ behind) → P x
-all_mid P [] x behind all = all.0
-all_mid P (y ∷ front) x behind all = all_mid P front x behind all.1
+pub all_mid : {X : Type 0} (P : X → Type 0) (prefix : List X) (x : X) (following : List X) → AllByRecursion P (prefix ++ x ∷ following) → P x
+all_mid P [] x following all = all.0
+all_mid P (y ∷ prefix) x following all = all_mid P prefix x following all.1
 
 met_first : (faults : List Fault) (held : Files) (fault : Fault) → first_of faults ≡ Some fault → unless_hindered faults held ≡ Err fault
 met_first [] held fault e = absurd (cc)
@@ -90,14 +90,14 @@ module _ (outputs : List Output) (rest held : Files) (written : List Written) wh
       (first_more (step_faults outputs held (placed outputs written)) (map faults.Blocked (blocked_in rest (put_over [] (placed outputs written)))) fault e)
 
   -- the rest of the folder has no room for this file, and it has for those before it
-  pub step_blocked : (front : List (Place × Bytes)) (file : Place × Bytes) (behind : List (Place × Bytes)) → is_sorted byte_order held ≡ true
-      → put_over [] (placed outputs written) ≡ front ++ file ∷ behind
-      → step_faults outputs held (placed outputs written) ≡ [] → has_room (put_over rest held) front
-      → is_blocked (put_over (put_over rest held) front) file.0 ≡ true → step_by outputs rest held (Ok written) ≡ Err (faults.Blocked file.0)
-  step_blocked front file behind sorted is none free blocked =
+  pub step_blocked : (prefix : List (Place × Bytes)) (file : Place × Bytes) (following : List (Place × Bytes)) → is_sorted byte_order held ≡ true
+      → put_over [] (placed outputs written) ≡ prefix ++ file ∷ following
+      → step_faults outputs held (placed outputs written) ≡ [] → has_room (put_over rest held) prefix
+      → is_blocked (put_over (put_over rest held) prefix) file.0 ≡ true → step_by outputs rest held (Ok written) ≡ Err (faults.Blocked file.0)
+  step_blocked prefix file following sorted is none free blocked =
       ap (λ hs. unless_hindered (hs ++ map faults.Blocked (blocked_in rest by_place)) all) none
       ∙ ap (λ (fs : List (Place × Bytes)). unless_hindered (map faults.Blocked (blocked_in rest fs)) all) is
-      ∙ ap (λ (places : List Place). unless_hindered (map faults.Blocked places) all) (first_blocked rest front file behind (fewer_room rest held front free) by_rest)
+      ∙ ap (λ (places : List Place). unless_hindered (map faults.Blocked places) all) (first_blocked rest prefix file following (fewer_room rest held prefix free) by_rest)
     where
       by_place : Files
       by_place = put_over [] (placed outputs written)
@@ -109,28 +109,28 @@ module _ (outputs : List Output) (rest held : Files) (written : List Written) wh
       among = free_files_of (put_over held (placed outputs written)) (put_over [] (placed outputs written)) (none_before _ (count_faults outputs (put_over held (placed outputs written))) none)
 
       own : is_blocked (put_over held (placed outputs written)) file.0 ≡ false
-      own = all_mid (λ (f : Place × Bytes). is_blocked (put_over held (placed outputs written)) f.0 ≡ false) front file behind
+      own = all_mid (λ (f : Place × Bytes). is_blocked (put_over held (placed outputs written)) f.0 ≡ false) prefix file following
           (subst (λ (fs : List (Place × Bytes)). AllByRecursion (λ (f : Place × Bytes). is_blocked (put_over held (placed outputs written)) f.0 ≡ false) fs) is among)
 
-      parts : (is_blocked held file.0 || is_blocked (front ++ file ∷ behind) file.0) ≡ false
+      parts : (is_blocked held file.0 || is_blocked (prefix ++ file ∷ following) file.0) ≡ false
       parts = ap (λ (fs : List (Place × Bytes)). is_blocked held file.0 || is_blocked fs file.0) (sym is)
           ∙ sym (blocked_over held (put_over [] (placed outputs written)) file.0)
           ∙ ap (λ m. is_blocked m file.0) (sym (over_by_place held (placed outputs written) sorted)) ∙ own
 
       by_held : is_blocked held file.0 ≡ false
-      by_held = none_left (is_blocked held file.0) (is_blocked (front ++ file ∷ behind) file.0) parts
+      by_held = none_left (is_blocked held file.0) (is_blocked (prefix ++ file ∷ following) file.0) parts
 
-      by_front : is_blocked front file.0 ≡ false
-      by_front = none_left (is_blocked front file.0) (is_blocked (file ∷ behind) file.0)
-          (sym (any_append (λ (other : Place × Bytes). is_beneath file.0 other.0 || is_beneath other.0 file.0) front (file ∷ behind))
-          ∙ none_right (is_blocked held file.0) (is_blocked (front ++ file ∷ behind) file.0) parts)
+      by_prefix : is_blocked prefix file.0 ≡ false
+      by_prefix = none_left (is_blocked prefix file.0) (is_blocked (file ∷ following) file.0)
+          (sym (any_append (λ (other : Place × Bytes). is_beneath file.0 other.0 || is_beneath other.0 file.0) prefix (file ∷ following))
+          ∙ none_right (is_blocked held file.0) (is_blocked (prefix ++ file ∷ following) file.0) parts)
 
       by_rest : is_blocked rest file.0 ≡ true
       by_rest =
           sym (or_none (is_blocked rest file.0))
           ∙ ap (λ b. is_blocked rest file.0 || b) (sym by_held) ∙ sym (blocked_over rest held file.0)
-          ∙ sym (or_none (is_blocked (put_over rest held) file.0)) ∙ ap (λ b. is_blocked (put_over rest held) file.0 || b) (sym by_front)
-          ∙ sym (blocked_over (put_over rest held) front file.0) ∙ blocked
+          ∙ sym (or_none (is_blocked (put_over rest held) file.0)) ∙ ap (λ b. is_blocked (put_over rest held) file.0 || b) (sym by_prefix)
+          ∙ sym (blocked_over (put_over rest held) prefix file.0) ∙ blocked
 
   -- the files of an action that have no fault within the task
   pub free_is : step_faults outputs held (placed outputs written) ≡ [] → free_files outputs held (Ok written) ≡ put_over [] (placed outputs written)

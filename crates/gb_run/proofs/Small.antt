@@ -20,7 +20,7 @@ use Rattle.gb_run.specs.Placing.{faults_beside}
 use Rattle.gb_run.proofs.Agreed.{some_same}
 use Rattle.gb_run.proofs.AtOutputs.{is_at}
 use Rattle.gb_run.proofs.Placed.{small_taken}
-use Rattle.gb_run.specs.Named.{held_after, named, put, removed, removed_in, standing, steps_of}
+use Rattle.gb_run.specs.Named.{held_after, named, put, removed, removed_in, existing, steps_of}
 use Rattle.gb_run.specs.Stepping.{IsSmall}
 use Rattle.gb_run.specs.Steps.{Step, in_turn, put_steps}
 use Rattle.gb_run.proofs.Following.{no_some, under_named}
@@ -53,34 +53,34 @@ small_at (f ∷ files) all q b e = by (small_at files all.1 q b) (eq_by_cmp byte
     by again false is = again is
 
 -- what is put is held then, and so it is not too large
-pub small_steps : (outputs : List Output) (seen : List OutputFiles) (removes : List OutputPath) (writes : List Written)
-    → faults_beside outputs [] (held_after outputs seen removes writes) ≡ [] → AllByRecursion IsSmall (in_turn (steps_of outputs removes writes))
-small_steps outputs seen removes writes none =
+pub small_steps : (outputs : List Output) (observed : List OutputFiles) (removes : List OutputPath) (writes : List Written)
+    → faults_beside outputs [] (held_after outputs observed removes writes) ≡ [] → AllByRecursion IsSmall (in_turn (steps_of outputs removes writes))
+small_steps outputs observed removes writes none =
     all_in_execution IsSmall (steps_of outputs removes writes)
     (all_found IsSmall (steps_of outputs removes writes) (sorted_steps [] (named outputs removes writes) refl) one)
   where
     base : List Step
-    base = put_steps [] (put (standing outputs seen))
+    base = put_steps [] (put (existing outputs observed))
 
-    sorted : is_sorted byte_order (put_steps (put_steps [] (put (standing outputs seen))) (named outputs removes writes)) ≡ true
-    sorted = sorted_steps (put_steps [] (put (standing outputs seen))) (named outputs removes writes) (sorted_steps [] (put (standing outputs seen)) refl)
+    sorted : is_sorted byte_order (put_steps (put_steps [] (put (existing outputs observed))) (named outputs removes writes)) ≡ true
+    sorted = sorted_steps (put_steps [] (put (existing outputs observed))) (named outputs removes writes) (sorted_steps [] (put (existing outputs observed)) refl)
 
     one : (q : Place) (v : Option Bytes) → find byte_order q (steps_of outputs removes writes) ≡ Some v → IsSmall (q, v)
     one q None e = tt
     one q (Some b) e =
-        small_at (held_after outputs seen removes writes) (small_taken outputs [] (held_after outputs seen removes writes) none) q b
-        (at_files (put_steps (put_steps [] (put (standing outputs seen))) (named outputs removes writes)) sorted q
-        ∙ ap (λ o. unwrap_or o None) (last_or (put_steps [] (put (standing outputs seen))) (named outputs removes writes) [] q refl
-        ∙ ap (λ o. option_or o (find byte_order q (put_steps [] (put (standing outputs seen))))) e))
+        small_at (held_after outputs observed removes writes) (small_taken outputs [] (held_after outputs observed removes writes) none) q b
+        (at_files (put_steps (put_steps [] (put (existing outputs observed))) (named outputs removes writes)) sorted q
+        ∙ ap (λ o. unwrap_or o None) (last_or (put_steps [] (put (existing outputs observed))) (named outputs removes writes) [] q refl
+        ∙ ap (λ o. option_or o (find byte_order q (put_steps [] (put (existing outputs observed))))) e))
 
 -- ---- at outputs
 
 abbrev AtOutputs : List Output → List Step → Type 0
 AtOutputs outputs steps = AllByRecursion (λ (s : Step). is_at outputs s.0 ≡ true) steps
 
-put_apart : (xs ys : List (Place × Bytes)) → put (xs ++ ys) ≡ put xs ++ put ys
-put_apart [] ys = refl
-put_apart (x ∷ xs) ys = ap (λ ss. (x.0, Some x.1) ∷ ss) (put_apart xs ys)
+put_separate : (xs ys : List (Place × Bytes)) → put (xs ++ ys) ≡ put xs ++ put ys
+put_separate [] ys = refl
+put_separate (x ∷ xs) ys = ap (λ ss. (x.0, Some x.1) ∷ ss) (put_separate xs ys)
 
 removed_at : (outputs : List Output) (removes : List OutputPath) → AtOutputs outputs (removed outputs removes)
 removed_at outputs [] = tt
@@ -93,7 +93,7 @@ removed_at outputs (path ∷ removes) = all_append (λ (s : Step). is_at outputs
 written_at : (outputs : List Output) (writes : List Written) → AtOutputs outputs (put (placed outputs writes))
 written_at outputs [] = tt
 written_at outputs (file ∷ writes) =
-    subst (AtOutputs outputs) (sym (put_apart (placed_in (output_named outputs file.output) file) (placed outputs writes)))
+    subst (AtOutputs outputs) (sym (put_separate (placed_in (output_named outputs file.output) file) (placed outputs writes)))
     (all_append (λ (s : Step). is_at outputs s.0 ≡ true) (put (placed_in (output_named outputs file.output) file)) (put (placed outputs writes)) (by (output_named outputs file.output) refl) (written_at outputs writes))
   where
     by : (o : Option Output) → output_named outputs file.output ≡ o → AtOutputs outputs (put (placed_in o file))

@@ -31,11 +31,11 @@ module _ (outputs : List Output) (rest held taken folder : Files) (made : Result
 
   -- nothing was written, and the action itself stops here
   pub stops_itself : step_by outputs rest held made ≡ Err fault → Stops folder
-  stops_itself is = record { front = []; behind = put (free_files outputs held made); at_hand = refl; why = inl (is, is_held.files) }
+  stops_itself is = record { prefix = []; following = put (free_files outputs held made); at_hand = refl; why = inl (is, is_held.files) }
 
   -- nothing was written, and memory ran out
   pub stops_for_memory : fault ≡ faults.OutOfMemory → Stops folder
-  stops_for_memory is = record { front = []; behind = put (free_files outputs held made); at_hand = refl; why = inr (inl (is, is_held.files)) }
+  stops_for_memory is = record { prefix = []; following = put (free_files outputs held made); at_hand = refl; why = inr (inl (is, is_held.files)) }
 
   -- the action failed
   pub stops_asked : (text : Text) → fault ≡ faults.ActionFailed text → made ≡ Err text → Stops folder
@@ -63,51 +63,51 @@ module _ (outputs : List Output) (rest held taken folder : Files) (made : Result
       -- all is written, and memory ran out
       pub stops_printing : (new : Files) → new ≡ after_steps folder (put (put_over [] (placed outputs written))) → fault ≡ faults.OutOfMemory → Stops new
       stops_printing new now reported = record {
-        front = put by_place;
-        behind = [];
+        prefix = put by_place;
+        following = [];
         at_hand = with_none (put by_place) ∙ ap put (sym free_now);
         why = inr (inl (reported, now ∙ ap (λ (m : Files). after_steps m (put by_place)) is_held.files));
       }
 
-      module _ (old new : Contents) (stood : old.files ≡ folder) (risen : (place : Place) → fault ≡ faults.Device place → HasRisen before after) where
-        then : (front : List Step) → after_steps old.files front ≡ after_steps (put_over rest held) front
-        then front = ap (λ (m : Files). after_steps m front) (stood ∙ is_held.files)
+      module _ (old new : Contents) (existed : old.files ≡ folder) (risen : (place : Place) → fault ≡ faults.Device place → HasRisen before after) where
+        then : (prefix : List Step) → after_steps old.files prefix ≡ after_steps (put_over rest held) prefix
+        then prefix = ap (λ (m : Files). after_steps m prefix) (existed ∙ is_held.files)
 
         -- the writing of its files was cut short
         pub stops_writing : (files : List (Place × Bytes)) → files ≡ put_over [] (placed outputs written) → IsCutShort may_leave (put files) old fault new → Stops new.files
         stops_writing files same cut = record {
-          front = cut.front;
-          behind = cut.step ∷ cut.behind;
+          prefix = cut.prefix;
+          following = cut.step ∷ cut.following;
           at_hand = sym cut.all ∙ ap put (same ∙ sym free_now);
           why = at_stop cut.stopped;
         }
           where
-            parts : IsParted files cut.front (cut.step ∷ cut.behind)
-            parts = parted files cut.front (cut.step ∷ cut.behind) (sym cut.all)
+            parts : IsParted files cut.prefix (cut.step ∷ cut.following)
+            parts = parted files cut.prefix (cut.step ∷ cut.following) (sym cut.all)
 
             -- what was put before the one that was shut out
-            blocked : (later : List (Place × Bytes)) → cut.step ∷ cut.behind ≡ put later → files ≡ parts.first ++ later → is_blocked (after_steps old.files cut.front) cut.step.0 ≡ true
+            blocked : (later : List (Place × Bytes)) → cut.step ∷ cut.following ≡ put later → files ≡ parts.first ++ later → is_blocked (after_steps old.files cut.prefix) cut.step.0 ≡ true
                 → step_by outputs rest held (Ok written) ≡ Err (faults.Blocked cut.step.0)
-            blocked [] is_behind all hit = absurd (let e = is_behind in (cc))
-            blocked (file ∷ later) is_behind all hit =
+            blocked [] is_after all hit = absurd (let e = is_after in (cc))
+            blocked (file ∷ later) is_after all hit =
                 step_blocked outputs rest held written parts.first file later is_held.in_order (sym same ∙ all) none_held
                 (room_of (put_over rest held) parts.first
-                (subst (λ (ss : List Step). HasRoom (put_over rest held) ss) parts.front_is (subst (λ (m : Files). HasRoom m cut.front) (stood ∙ is_held.files) cut.room)))
+                (subst (λ (ss : List Step). HasRoom (put_over rest held) ss) parts.prefix_is (subst (λ (m : Files). HasRoom m cut.prefix) (existed ∙ is_held.files) cut.room)))
                 (ap (λ (p : Place). is_blocked (put_over (put_over rest held) parts.first) p) (sym here)
-                ∙ ap (λ (m : Files). is_blocked m cut.step.0) (sym (then cut.front ∙ ap (after_steps (put_over rest held)) parts.front_is ∙ after_put (put_over rest held) parts.first)) ∙ hit)
+                ∙ ap (λ (m : Files). is_blocked m cut.step.0) (sym (then cut.prefix ∙ ap (after_steps (put_over rest held)) parts.prefix_is ∙ after_put (put_over rest held) parts.first)) ∙ hit)
                 ∙ ap (λ (p : Place). Err (faults.Blocked p)) (sym here)
               where
                 here : cut.step.0 ≡ file.0
-                here = ap (λ (s : Step). s.0) (heads cut.step (file.0, Some file.1) cut.behind (put later) is_behind)
+                here = ap (λ (s : Step). s.0) (heads cut.step (file.0, Some file.1) cut.following (put later) is_after)
 
-            at_stop : IsShutOut cut.step (folder_after old cut.front) fault new ⊎ IsHindered may_leave cut.step.0 cut.step.1 (folder_after old cut.front) fault new
-                → ((step_by outputs rest held made ≡ Err fault) × (new.files ≡ after_steps (put_over rest held) cut.front))
-                ⊎ FailsByMachine may_leave before (after_steps (put_over rest held) cut.front) (cut.step ∷ cut.behind) fault after new.files
+            at_stop : IsShutOut cut.step (folder_after old cut.prefix) fault new ⊎ IsHindered may_leave cut.step.0 cut.step.1 (folder_after old cut.prefix) fault new
+                → ((step_by outputs rest held made ≡ Err fault) × (new.files ≡ after_steps (put_over rest held) cut.prefix))
+                ⊎ FailsByMachine may_leave before (after_steps (put_over rest held) cut.prefix) (cut.step ∷ cut.following) fault after new.files
             at_stop (inl shut) = inl (
-              ap (step_by outputs rest held) is ∙ blocked parts.later parts.behind_is parts.all shut.blocked ∙ ap Err (sym shut.reported),
-              ap (λ (c : Contents). c.files) shut.same ∙ then cut.front,
+              ap (step_by outputs rest held) is ∙ blocked parts.later parts.after_is parts.all shut.blocked ∙ ap Err (sym shut.reported),
+              ap (λ (c : Contents). c.files) shut.same ∙ then cut.prefix,
             )
-            at_stop (inr hindered) = inr (by_machine may_leave before after old (after_steps (put_over rest held) cut.front) cut.front cut.step cut.behind fault new (then cut.front) risen hindered)
+            at_stop (inr hindered) = inr (by_machine may_leave before after old (after_steps (put_over rest held) cut.prefix) cut.prefix cut.step cut.following fault new (then cut.prefix) risen hindered)
 
 -- an action ends
 pub goes_on : (outputs : List Output) (rest held taken folder : Files) (made : Result (List Written) Text) → IsHeld rest held taken folder

@@ -55,26 +55,26 @@ module _ (kinds : Kinds) (task : Task) (action : Action) (trees : Trees) (old : 
 
   -- nothing was done, and the action itself stops here
   pub stops_itself : step_by task.outputs (rest_of task old) [] (made_by kinds task action trees) ≡ Err fault → StopsWith old
-  stops_itself is = record { front = []; behind = []; at_hand = inl refl; why = inl (is, refl) }
+  stops_itself is = record { prefix = []; following = []; at_hand = inl refl; why = inl (is, refl) }
 
   -- nothing was done, and memory ran out
   pub stops_for_memory : fault ≡ faults.OutOfMemory → StopsWith old
-  stops_for_memory is = record { front = []; behind = []; at_hand = inl refl; why = inr (inl (is, refl)) }
+  stops_for_memory is = record { prefix = []; following = []; at_hand = inl refl; why = inr (inl (is, refl)) }
 
   -- the action failed
   pub stops_asked : (text : Text) → fault ≡ faults.ActionFailed text → made_by kinds task action trees ≡ Err text → StopsWith old
   stops_asked text reported is = stops_itself (ap (step_by task.outputs (rest_of task old) []) is ∙ ap Err (sym reported))
 
-module _ (kinds : Kinds) (task : Task) (action : Action) (trees : Trees) (changes : List Changes) (seen : List OutputFiles) (files : Files)
-    (folder : IsFolder files) (good : IsTrue (are_placed files)) (turn : IsItsExecution kinds task action trees changes seen files) (reply : Reply)
-    (answers : Answers (kinds.makes (kind_of action)) (kinds.prints (kind_of action)) (request_of task trees changes seen action.args) (Ok reply)) where
+module _ (kinds : Kinds) (task : Task) (action : Action) (trees : Trees) (changes : List Changes) (observed : List OutputFiles) (files : Files)
+    (folder : IsFolder files) (good : IsTrue (are_placed files)) (turn : IsItsExecution kinds task action trees changes observed files) (reply : Reply)
+    (answers : Answers (kinds.makes (kind_of action)) (kinds.prints (kind_of action)) (request_of task trees changes observed action.args) (Ok reply)) where
   made : (written : List Written) × (made_by kinds task action trees ≡ Ok written)
   made = ok_value (made_by kinds task action trees) (answers.succeeds reply refl)
 
   abbrev written : List Written
   written = made.0
 
-  replied : IsReplied kinds task trees changes seen files reply made.0
+  replied : IsReplied kinds task trees changes observed files reply made.0
   replied = record {
     in_order = folder.in_order;
     are_placed = good;
@@ -93,24 +93,24 @@ module _ (kinds : Kinds) (task : Task) (action : Action) (trees : Trees) (change
   steps_sorted : is_sorted byte_order (steps_of task.outputs reply.removes reply.writes) ≡ true
   steps_sorted = sorted_steps [] (named task.outputs reply.removes reply.writes) refl
 
-  same_faults : faults_beside task.outputs [] (held_after task.outputs seen reply.removes reply.writes) ≡ step_faults task.outputs [] (placed task.outputs made.0)
+  same_faults : faults_beside task.outputs [] (held_after task.outputs observed reply.removes reply.writes) ≡ step_faults task.outputs [] (placed task.outputs made.0)
   same_faults =
-      ap (faults_beside task.outputs []) (held_is_made kinds task trees changes seen files reply made.0 replied)
+      ap (faults_beside task.outputs []) (held_is_made kinds task trees changes observed files reply made.0 replied)
       ∙ beside_held task.outputs [] (placed task.outputs made.0) refl
 
   module _ (may_leave : Tearing) (before : ℕ) (fault : Fault) (after : ℕ) where
     -- its files are in conflict with one another
-    pub stops_placing : first_of (faults_beside task.outputs [] (held_after task.outputs seen reply.removes reply.writes)) ≡ Some fault → Stops kinds task action trees files may_leave before fault after files
+    pub stops_placing : first_of (faults_beside task.outputs [] (held_after task.outputs observed reply.removes reply.writes)) ≡ Some fault → Stops kinds task action trees files may_leave before fault after files
     stops_placing first =
         stops_itself kinds task action trees files may_leave before fault after
         (ap (step_by task.outputs (rest_of task files) []) made.1 ∙ step_hindered task.outputs (rest_of task files) [] made.0 fault (ap first_of (sym same_faults) ∙ first))
 
-  module _ (none : faults_beside task.outputs [] (held_after task.outputs seen reply.removes reply.writes) ≡ []) where
+  module _ (none : faults_beside task.outputs [] (held_after task.outputs observed reply.removes reply.writes) ≡ []) where
     none_made : step_faults task.outputs [] (placed task.outputs made.0) ≡ []
     none_made = sym same_faults ∙ none
 
     lead : LeadTo files (put_over (rest_of task files) (put_over [] (placed task.outputs made.0))) (in_turn (steps_of task.outputs reply.removes reply.writes))
-    lead = leads kinds task trees changes seen files reply made.0 replied none_made
+    lead = leads kinds task trees changes observed files reply made.0 replied none_made
 
     free_now : put_over [] (placed task.outputs made.0) ≡ put_over [] (free_files task.outputs [] (made_by kinds task action trees))
     free_now =
@@ -135,8 +135,8 @@ module _ (kinds : Kinds) (task : Task) (action : Action) (trees : Trees) (change
       -- all is done, and memory ran out
       pub stops_printing : (new : Files) → new ≡ after_steps files (in_turn (steps_of task.outputs reply.removes reply.writes)) → fault ≡ faults.OutOfMemory → Stops kinds task action trees files may_leave before fault after new
       stops_printing new is reported = record {
-        front = in_turn (steps_of task.outputs reply.removes reply.writes);
-        behind = [];
+        prefix = in_turn (steps_of task.outputs reply.removes reply.writes);
+        following = [];
         at_hand = inr (subst (λ (ss : List Step). LeadTo files (put_over (rest_of task files) (put_over [] (free_files task.outputs [] (made_by kinds task action trees)))) ss)
             (sym (with_none (in_turn (steps_of task.outputs reply.removes reply.writes)))) lead_now);
         why = inr (inl (reported, is));
@@ -145,25 +145,25 @@ module _ (kinds : Kinds) (task : Task) (action : Action) (trees : Trees) (change
       -- its steps were cut short
       pub stops_taking : (old new : Contents) → old.files ≡ files → ((place : Place) → fault ≡ faults.Device place → HasRisen before after)
           → IsCutShort may_leave (in_turn (steps_of task.outputs reply.removes reply.writes)) old fault new → Stops kinds task action trees files may_leave before fault after new.files
-      stops_taking old new stood risen cut = record {
-        front = cut.front;
-        behind = cut.step ∷ cut.behind;
+      stops_taking old new existed risen cut = record {
+        prefix = cut.prefix;
+        following = cut.step ∷ cut.following;
         at_hand = inr (subst (λ (ss : List Step). LeadTo files (put_over (rest_of task files) (put_over [] (free_files task.outputs [] (made_by kinds task action trees)))) ss) cut.all lead_now);
         why = at_stop cut.stopped;
       }
         where
-          then : after_steps old.files cut.front ≡ after_steps files cut.front
-          then = ap (λ (fs : Files). after_steps fs cut.front) stood
+          then : after_steps old.files cut.prefix ≡ after_steps files cut.prefix
+          then = ap (λ (fs : Files). after_steps fs cut.prefix) existed
 
-          at_stop : IsShutOut cut.step (folder_after old cut.front) fault new ⊎ IsHindered may_leave cut.step.0 cut.step.1 (folder_after old cut.front) fault new
-              → ((step_by task.outputs (rest_of task files) [] (made_by kinds task action trees) ≡ Err fault) × (new.files ≡ after_steps files cut.front))
-              ⊎ FailsByMachine may_leave before (after_steps files cut.front) (cut.step ∷ cut.behind) fault after new.files
+          at_stop : IsShutOut cut.step (folder_after old cut.prefix) fault new ⊎ IsHindered may_leave cut.step.0 cut.step.1 (folder_after old cut.prefix) fault new
+              → ((step_by task.outputs (rest_of task files) [] (made_by kinds task action trees) ≡ Err fault) × (new.files ≡ after_steps files cut.prefix))
+              ⊎ FailsByMachine may_leave before (after_steps files cut.prefix) (cut.step ∷ cut.following) fault after new.files
           at_stop (inl shut) = inl (
             ap (step_by task.outputs (rest_of task files) []) made.1
                 ∙ step_shut_out task files folder made.0 (steps_of task.outputs reply.removes reply.writes) steps_sorted (steps_at_outputs task.outputs reply.removes reply.writes) none_made lead
-                cut.front cut.step cut.behind cut.all (subst (λ (fs : Files). HasRoom fs cut.front) stood cut.room) shut.comes
+                cut.prefix cut.step cut.following cut.all (subst (λ (fs : Files). HasRoom fs cut.prefix) existed cut.room) shut.comes
                 (ap (λ (fs : Files). is_blocked fs cut.step.0) (sym then) ∙ shut.blocked)
                 ∙ ap Err (sym shut.reported),
             ap (λ (c : Contents). c.files) shut.same ∙ then,
           )
-          at_stop (inr hindered) = inr (by_machine may_leave before after old (after_steps files cut.front) cut.front cut.step cut.behind fault new then risen hindered)
+          at_stop (inr hindered) = inr (by_machine may_leave before after old (after_steps files cut.prefix) cut.prefix cut.step cut.following fault new then risen hindered)

@@ -4,7 +4,7 @@ use Rattle.gb_action.specs.Changes.{Changes}
 use Rattle.gb_action.specs.Files.{Trees}
 use Rattle.gb_action.specs.declared.reply.Written.{Written}
 use Rattle.gb_action.specs.declared.request.Request.{Request}
-use Rattle.gb_plan.specs.Task.{Text, seen_outputs}
+use Rattle.gb_plan.specs.Task.{Text, given_outputs}
 use Rattle.gb_plan.specs.declared.task.Action.{Action}
 use Rattle.gb_plan.specs.declared.task.TaskDeclaration.{TaskDeclaration as Task}
 use Rattle.gb_meaning.specs.Kinds.{Kinds, kind_of}
@@ -14,7 +14,7 @@ pub record IsFullRequest (task : Task) (trees : Trees) (changes : List Changes)
     (request : Request) : Type 0 where
   pub values : request.values ≡ task.values
   pub files : request.files ≡ trees
-  pub outputs : map (λ output. (output.name, output.form)) request.outputs ≡ seen_outputs task.outputs
+  pub outputs : map (λ output. (output.name, output.form)) request.outputs ≡ given_outputs task.outputs
   pub in_full : request.changes.incremental ≡ false
   pub lists : request.changes.lists ≡ changes
 

@@ -9,7 +9,7 @@ use Rattle.gb_folder.specs.Files.{Files, is_own}
 use Rattle.gb_action.specs.Changes.{Changes}
 use Rattle.gb_action.specs.Files.{Trees}
 use Rattle.gb_action.specs.Meanings.{Meanings, shape_of}
-use Rattle.gb_action.specs.Replies.{TellsChangesFrom}
+use Rattle.gb_action.specs.Replies.{DescribesChangesFrom}
 use Rattle.gb_action.specs.Shapes.{target}
 use Rattle.gb_action.specs.declared.output.OutputFiles.{OutputFiles}
 use Rattle.gb_action.specs.declared.reply.Written.{Written}
@@ -37,8 +37,8 @@ request_of task trees changes outputs args = record {
 }
 
 -- an output with the files that are there, by their paths
-abbrev pub seen_of : Files → Output → OutputFiles
-seen_of files output =
+abbrev pub observed_of : Files → Output → OutputFiles
+observed_of files output =
     record { name = output.name; form = output.form; files = files_from files output.place }
 
 -- The files at the task's outputs were made of old trees. The lists give the changes from those trees. The
@@ -47,9 +47,9 @@ pub record GoesOn (kinds : Kinds) (task : Task) (old trees : Trees) (changes : L
     (outputs : List OutputFiles) (files : Files) : Type 0 where
   pub one_writer : IsTrue (has_one_writer kinds task.actions)
   pub was_made : made_of kinds task.actions task.values old task.outputs ≡ Ok (output_files task files)
-  pub tells : TellsChangesFrom old (request_of task trees changes outputs [])
-  pub stands : outputs ≡ map (seen_of files) task.outputs
-  pub apart : some_overlap (output_places task) ≡ false
+  pub faithful : DescribesChangesFrom old (request_of task trees changes outputs [])
+  pub exists : outputs ≡ map (observed_of files) task.outputs
+  pub separate : some_overlap (output_places task) ≡ false
   pub not_own : list_any (λ output. is_own output.place) task.outputs ≡ false
 
 -- ---- Actions

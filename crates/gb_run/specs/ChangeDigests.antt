@@ -8,10 +8,10 @@ use Rattle.gb_plan.specs.declared.task.Output.{Output}
 
 -- the digests of outputs, each tree of them under the place of its output
 abbrev pub digests_at : List Output → Trees → List (Place × Bytes)
-digests_at [] stood = []
+digests_at [] existed = []
 digests_at (output ∷ outputs) [] = []
-digests_at (output ∷ outputs) (tree ∷ stood) =
-    map (λ file. (beneath output.place file.0, file.1)) tree.1 ++ digests_at outputs stood
+digests_at (output ∷ outputs) (tree ∷ existed) =
+    map (λ file. (beneath output.place file.0, file.1)) tree.1 ++ digests_at outputs existed
 
 -- those at places
 abbrev pub at_places : List (Place × Bytes) → List (Place × Bytes)

@@ -9,7 +9,7 @@ use Rattle.gb_folder.specs.Files.{Place, Contents, Files, Tearing, places_under}
 use Rattle.gb_folder.specs.declared.folder.FolderFault.{FolderFault}
 use Rattle.gb_report.specs.declared.fault.Fault.{Fault}
 use Rattle.gb_report.specs.declared.fault.Fault.TheVariants as faults
-use Rattle.gb_tree.specs.Tree.{odd_roots}
+use Rattle.gb_tree.specs.Tree.{special_roots}
 use Rattle.gb_plan.specs.declared.task.Output.{Output}
 use Rattle.gb_plan.specs.declared.task.TaskDeclaration.{TaskDeclaration as Task}
 use Rattle.gb_store.specs.Changes.{IsCutShort}
@@ -27,8 +27,8 @@ abbrev pub places_at : List Output → Files → List Place
 places_at outputs files = flat_map (λ output. places_under files output.place) outputs
 
 -- the faults of listing them: entries there that no place can name
-abbrev pub odd_faults : List Output → Contents → List Fault
-odd_faults outputs folder = map reported_of_tree (odd_roots folder (map (λ output. output.place) outputs))
+abbrev pub special_faults : List Output → Contents → List Fault
+special_faults outputs folder = map reported_of_tree (special_roots folder (map (λ output. output.place) outputs))
 
 -- The outputs of a task are not emptied. Either an unsupported entry is there and nothing has changed; or the
 -- machine failed, before the first removal or at one, and some first files are gone.

@@ -21,10 +21,10 @@ use Rattle.gb_run.specs.Steps.{LeadTo, Step}
 -- The action is the one that writes, and its execution is based on the current files.
 pub record IsItsExecution (kinds : Kinds) (task : Task) (action : Action) (trees : Trees)
     (changes : List Changes)
-    (seen : List OutputFiles) (files : Files) : Type 0 where
+    (observed : List OutputFiles) (files : Files) : Type 0 where
   pub fitting : AllByRecursion (IsFitting kinds task) task.actions
   pub old : Trees
-  pub goes_on : GoesOn kinds task old trees changes seen files
+  pub goes_on : GoesOn kinds task old trees changes observed files
   pub writes : writers kinds task.actions ≡ action ∷ []
 
 -- It ends: the folder is the rest with its files.

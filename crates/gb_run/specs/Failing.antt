@@ -45,13 +45,13 @@ pub record Moment (course : Course) (way : Way) : Type 0 where
   pub left : List Action
   pub all : course.task.actions ≡ done ++ left
   pub no_fault : (run_along course done).fault ≡ None
-  pub front : List Step
-  pub behind : List Step
-  pub at_hand : AreAtHand course way done left (front ++ behind)
+  pub prefix : List Step
+  pub following : List Step
+  pub at_hand : AreAtHand course way done left (prefix ++ following)
 
 -- the files of the folder at that moment
 abbrev pub files_then : (course : Course) (way : Way) → Moment course way → Files
-files_then course way moment = after_steps (ended_files course way moment.done) moment.front
+files_then course way moment = after_steps (ended_files course way moment.done) moment.prefix
 
 -- The run itself ends here, with this fault.
 pub record FailsByItself (course : Course) (way : Way) (moment : Moment course way) (fault : Fault)
@@ -67,4 +67,4 @@ pub record Fails (course : Course) (way : Way) (may_leave : Tearing) (before : �
   pub moment : Moment course way
   pub printed : lines ≡ lines_by course moment.done
   pub why : FailsByItself course way moment fault new
-      ⊎ FailsByMachine may_leave before (files_then course way moment) moment.behind fault after new
+      ⊎ FailsByMachine may_leave before (files_then course way moment) moment.following fault after new

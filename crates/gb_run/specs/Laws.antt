@@ -15,7 +15,7 @@ use Rattle.gb_meaning.specs.Tree.{has_no_source, trees_of}
 use Rattle.gb_meaning.specs.Made.{made_of, rest_of, with_outputs}
 use Rattle.gb_meaning.specs.Label.{has_one_writer, run_of}
 use Rattle.gb_meaning.specs.Execution.{IsWritten, lines_of}
-use Rattle.gb_meaning.specs.Events.{IsTornInRun, Setting, StandsInRun}
+use Rattle.gb_meaning.specs.Events.{IsTornInRun, Setting, ExistsInRun}
 use Rattle.gb_run.specs.AskingChanges.{IsFitting}
 use Rattle.gb_run.specs.Course.{Course, EndsWell, course_of}
 use Rattle.gb_run.specs.Digests.{prints_at}
@@ -35,8 +35,8 @@ EndedRunsAreMade =
     × (new ≡ with_outputs task old files)
 
 -- Its digests are those of the files at the outputs then.
-abbrev pub MadeStands : Type 0
-MadeStands =
+abbrev pub MadeExists : Type 0
+MadeExists =
     (kinds : Kinds) (task : Task) (trees : Trees) (changes : List Changes) (old : Files)
     (lines : List Text) (new held : Files) → IsTrue (is_sorted byte_order old)
     → EndsWell (course_of kinds task trees changes (rest_of task old)) lines new
@@ -49,8 +49,8 @@ MadeStands =
 -- keeps to its own output.
 abbrev pub IsWayOf : Kinds → Task → Files → Way → Type 0
 IsWayOf kinds task old InFull = ⊤
-IsWayOf kinds task old (ByChanges stood) =
-    (stood ≡ old) × IsTrue (has_one_writer kinds task.actions)
+IsWayOf kinds task old (ByChanges existed) =
+    (existed ≡ old) × IsTrue (has_one_writer kinds task.actions)
     × AllByRecursion (IsFitting kinds task) task.actions
 
 -- How a task's run of this way fails.
@@ -63,8 +63,8 @@ pub record Failure (setting : Setting) (way : Way) (task : Task) (changes : List
       new
 
 -- It prints the lines of a prefix of the actions that end.
-abbrev pub FailedRunsPrintFronts : Setting → Type 0
-FailedRunsPrintFronts setting =
+abbrev pub FailedRunsPrintPrefixes : Setting → Type 0
+FailedRunsPrintPrefixes setting =
     (way : Way) (task : Task) (changes : List Changes) (old : Files) (fault : Fault)
     (lines : List Text) (new : Files)
     → Failure setting way task changes old fault lines new →
@@ -126,5 +126,5 @@ abbrev pub TornPlacesAreOfTheEmptying : Setting → Type 0
 TornPlacesAreOfTheEmptying setting =
     (task : Task) (before : ℕ) (old : Contents) (place : Place) (after : ℕ) (new : Contents)
     → CannotEmpty task setting.may_leave before old (faults.Device place) after new →
-    StandsInRun setting.kinds task old.files place (file_at new.files place)
+    ExistsInRun setting.kinds task old.files place (file_at new.files place)
     ⊎ IsTornInRun setting task old.files place (file_at new.files place)

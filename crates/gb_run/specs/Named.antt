@@ -32,11 +32,11 @@ abbrev pub steps_of : List Output → List OutputPath → List Written → List 
 steps_of outputs removes writes = put_steps [] (named outputs removes writes)
 
 -- the files of outputs, each tree of them under the place of its output
-abbrev pub standing : List Output → List OutputFiles → List (Place × Bytes)
-standing [] seen = []
-standing (output ∷ outputs) [] = []
-standing (output ∷ outputs) (found ∷ seen) =
-    map (λ file. (beneath output.place file.0, file.1)) found.files ++ standing outputs seen
+abbrev pub existing : List Output → List OutputFiles → List (Place × Bytes)
+existing [] observed = []
+existing (output ∷ outputs) [] = []
+existing (output ∷ outputs) (found ∷ observed) =
+    map (λ file. (beneath output.place file.0, file.1)) found.files ++ existing outputs observed
 
 -- the files of these steps
 abbrev pub left_in : Step → List (Place × Bytes)
@@ -48,5 +48,5 @@ files_left steps = flat_map left_in steps
 
 -- the files after a reply is done, over those that were read
 abbrev pub held_after : List Output → List OutputFiles → List OutputPath → List Written → Files
-held_after outputs seen removes writes =
-    files_left (put_steps (put_steps [] (put (standing outputs seen))) (named outputs removes writes))
+held_after outputs observed removes writes =
+    files_left (put_steps (put_steps [] (put (existing outputs observed))) (named outputs removes writes))

@@ -33,22 +33,22 @@ pub record IsShutOut (step : Step) (old : Contents) (fault : Fault) (new : Conte
 -- The steps were cut short: some first ones are done, and the next was shut out, or stopped by the machine.
 pub record IsCutShort (may_leave : Tearing) (steps : List Step) (old : Contents) (fault : Fault)
     (new : Contents) : Type 0 where
-  pub front : List Step
+  pub prefix : List Step
   pub step : Step
-  pub behind : List Step
-  pub all : steps ≡ front ++ step ∷ behind
-  pub room : HasRoom old.files front
-  pub stopped : IsShutOut step (folder_after old front) fault new
-      ⊎ IsHindered may_leave step.0 step.1 (folder_after old front) fault new
+  pub following : List Step
+  pub all : steps ≡ prefix ++ step ∷ following
+  pub room : HasRoom old.files prefix
+  pub stopped : IsShutOut step (folder_after old prefix) fault new
+      ⊎ IsHindered may_leave step.0 step.1 (folder_after old prefix) fault new
 
 -- ---- Where a run fails
 
 -- The device stopped the first of these steps. At its place is what the device may leave.
-pub record IsStopped (may_leave : Tearing) (before : ℕ) (old : Files) (behind : List Step) (fault : Fault)
+pub record IsStopped (may_leave : Tearing) (before : ℕ) (old : Files) (following : List Step) (fault : Fault)
     (after : ℕ) (new : Files) : Type 0 where
   pub step : Step
   pub later : List Step
-  pub next : behind ≡ step ∷ later
+  pub next : following ≡ step ∷ later
   pub device : fault ≡ faults.Device step.0
   pub risen : HasRisen before after
   pub left : Option Bytes
@@ -57,15 +57,15 @@ pub record IsStopped (may_leave : Tearing) (before : ℕ) (old : Files) (behind 
 
 -- The machine ends a run before these steps: memory ran out, or the device stopped the first of them.
 abbrev pub FailsByMachine : Tearing → ℕ → Files → List Step → Fault → ℕ → Files → Type 0
-FailsByMachine may_leave before old behind fault after new =
-    ((fault ≡ faults.OutOfMemory) × (new ≡ old)) ⊎ IsStopped may_leave before old behind fault after new
+FailsByMachine may_leave before old following fault after new =
+    ((fault ≡ faults.OutOfMemory) × (new ≡ old)) ⊎ IsStopped may_leave before old following fault after new
 
 -- An action stops over these files, by itself, if this is its result, or by the machine: some first steps of
 -- it are done.
 pub record StopsAt (AreSteps : List Step → Type 0) (comes_to : Result Files Fault) (may_leave : Tearing)
     (before : ℕ) (old : Files) (fault : Fault) (after : ℕ) (new : Files) : Type 0 where
-  pub front : List Step
-  pub behind : List Step
-  pub at_hand : AreSteps (front ++ behind)
-  pub why : ((comes_to ≡ Err fault) × (new ≡ after_steps old front))
-      ⊎ FailsByMachine may_leave before (after_steps old front) behind fault after new
+  pub prefix : List Step
+  pub following : List Step
+  pub at_hand : AreSteps (prefix ++ following)
+  pub why : ((comes_to ≡ Err fault) × (new ≡ after_steps old prefix))
+      ⊎ FailsByMachine may_leave before (after_steps old prefix) following fault after new

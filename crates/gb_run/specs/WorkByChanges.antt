@@ -29,11 +29,11 @@ pub record Increment : Type 0 where
   pub task : Task
   pub trees : Trees
   pub changes : List Changes
-  pub seen : List OutputFiles
+  pub observed : List OutputFiles
 
 abbrev pub increment_of : Kinds → Task → Trees → List Changes → List OutputFiles → Increment
-increment_of kinds task trees changes seen =
-    record { kinds = kinds; task = task; trees = trees; changes = changes; seen = seen }
+increment_of kinds task trees changes observed =
+    record { kinds = kinds; task = task; trees = trees; changes = changes; observed = observed }
 
 -- The part of an action that writes no file: no steps, and its lines.
 pub record IsReaderPart (run : Increment) (action : Action) (part : Part) : Type 0 where
@@ -47,8 +47,8 @@ pub record IsWriterPart (run : Increment) (action : Action) (part : Part) : Type
   pub writes : run.kinds.writes (kind_of action) ≡ true
   pub reply : Reply
   pub answers : Answers (run.kinds.makes (kind_of action)) (run.kinds.prints (kind_of action))
-      (request_of run.task run.trees run.changes run.seen action.args) (Ok reply)
-  pub free : faults_beside run.task.outputs [] (held_after run.task.outputs run.seen reply.removes
+      (request_of run.task run.trees run.changes run.observed action.args) (Ok reply)
+  pub free : faults_beside run.task.outputs [] (held_after run.task.outputs run.observed reply.removes
       reply.writes) ≡ []
   pub steps : part.steps ≡ in_turn (steps_of run.task.outputs reply.removes reply.writes)
 
@@ -65,8 +65,8 @@ FailsWith run action fault =
     × (made_by run.kinds run.task action run.trees ≡ Err text))
     ⊎ ((run.kinds.writes (kind_of action) ≡ true) × (reply : Reply)
     × Answers (run.kinds.makes (kind_of action)) (run.kinds.prints (kind_of action))
-    (request_of run.task run.trees run.changes run.seen action.args) (Ok reply)
-    × (first_of (faults_beside run.task.outputs [] (held_after run.task.outputs run.seen reply.removes
+    (request_of run.task run.trees run.changes run.observed action.args) (Ok reply)
+    × (first_of (faults_beside run.task.outputs [] (held_after run.task.outputs run.observed reply.removes
     reply.writes)) ≡ Some fault))
 
 -- the next of these actions fails with this fault, or there is none

@@ -6,7 +6,7 @@ ghost use Rattle.std.specs.List.{AllByRecursion};
 ghost use Rattle.gb_action.specs.Meanings.{shape_of};
 ghost use Rattle.gb_action.specs.Replies.{Answers};
 ghost use Rattle.gb_plan.specs.Ready.{IsReady, IsReadyAction};
-ghost use Rattle.gb_plan.specs.Task.{seen_files, seen_outputs};
+ghost use Rattle.gb_plan.specs.Task.{given_files, given_outputs};
 ghost use Rattle.gb_meaning.specs.Headline.{Agrees};
 ghost use Rattle.gb_meaning.specs.Kinds.{Kinds, kind_of};
 ghost use Rattle.gb_meaning.specs.Label.{has_one_writer};
@@ -79,7 +79,7 @@ pub fn ask<A: Actions>(
     request: &mut Request,
 ) -> Result<Reply, Fault>
     requires ready { IsReadyAction A.meanings table.now task.now action.now }
-    requires asked { IsRequestOf task.now request.old }
+    requires allowed { IsRequestOf task.now request.old }
     requires able { request.old.changes.incremental ≡ true → AnswersChanges A.meanings table.now action.now }
     ensures request { OnOk result (request.new ≡ record request.old { args = action.now.args }) }
     ensures answered { IfOk result (λ reply. (kinds : Kinds) → Agrees A.meanings table.now kinds

@@ -4,14 +4,14 @@ ghost use Rattle.std.specs.FinMap.Entries.{is_sorted};
 ghost use Rattle.std.specs.List.{AllByRecursion};
 ghost use Rattle.gb_core.specs.Lists.{byte_order};
 ghost use Rattle.gb_action.specs.Files.{Trees};
-ghost use Rattle.gb_folder.specs.Calls.{Asks, Call, changes_at};
+ghost use Rattle.gb_folder.specs.Calls.{Requests, Call, changes_at};
 ghost use Rattle.gb_folder.specs.Device.{Leads};
 ghost use Rattle.gb_folder.specs.Files.{Files, are_placed};
 ghost use Rattle.gb_store.specs.Changes.{ChangesOnly};
 ghost use Rattle.gb_store.specs.Faults.{Blames, BlamesOnly};
 ghost use Rattle.gb_tree.specs.Prints.{digests_of};
 ghost use Rattle.gb_plan.specs.Ready.{IsReady};
-ghost use Rattle.gb_plan.specs.Task.{is_output_of, seen_files, seen_outputs};
+ghost use Rattle.gb_plan.specs.Task.{is_output_of, given_files, given_outputs};
 ghost use Rattle.gb_meaning.specs.Headline.{Agrees};
 ghost use Rattle.gb_meaning.specs.Kinds.{Kinds};
 ghost use Rattle.gb_meaning.specs.Made.{made_of, rest_of};
@@ -51,46 +51,46 @@ pub fn run_by_changes<A: Actions, F: Folder>(
     table: &ActionTable<A::Stored>,
     files: Snapshots,
     outputs: OutputSnapshots,
-    stood: Vec<Prints>,
+    existed: Vec<Prints>,
     changes: ChangeLists,
     lines: &mut Texts,
 ) -> Result<Vec<Prints>, Fault>
     requires ready { IsReady A.meanings table.now task.now }
     requires able { AllByRecursion (CanGoOn A.meanings table.now) task.now.actions }
-    requires named { map (λ tree. tree.0) files ≡ seen_files task.now.files }
-    requires formed { map (λ output. (output.name, output.form)) outputs ≡ seen_outputs task.now.outputs }
-    requires prints { stood.items ≡ map (λ output. (output.name, digests_of output.files)) outputs }
+    requires named { map (λ tree. tree.0) files ≡ given_files task.now.files }
+    requires formed { map (λ output. (output.name, output.form)) outputs ≡ given_outputs task.now.outputs }
+    requires prints { existed.items ≡ map (λ output. (output.name, digests_of output.files)) outputs }
     requires no_lines { lines.old ≡ [] }
     ensures named { IfOk result (λ made.
         map (λ prints. prints.0) made.items ≡ map (λ output. output.name) task.now.outputs) }
     ensures made { IfOk result (λ made. (kinds : Kinds) → Agrees A.meanings table.now kinds
-        → (old : Trees) (standing : Files)
-        → IsTrue (is_sorted byte_order standing) → IsTrue (are_placed standing)
-        → GoesOn kinds task.now old files changes outputs standing → (held : Files)
+        → (old : Trees) (existing : Files)
+        → IsTrue (is_sorted byte_order existing) → IsTrue (are_placed existing)
+        → GoesOn kinds task.now old files changes outputs existing → (held : Files)
         × (made_of kinds task.now.actions task.now.values files task.now.outputs ≡ Ok held)
         × (made.items ≡ prints_at task.now.outputs held)) }
     ensures calls { (calls : List Call) × Leads F.device folder.old calls folder.new
         × AreAtOutputs task.now calls × ((kinds : Kinds) → Agrees A.meanings table.now kinds
         → RunsByChanges (increment_of kinds task.now files changes outputs) calls lines.new
         (ending result)) }
-    ensures asks { Asks F.failures F.may_leave F.asked (changes_at (is_output_of task.now)) folder.old
+    ensures requests { Requests F.failures F.may_leave F.allowed (changes_at (is_output_of task.now)) folder.old
         folder.new }
     ensures blame { Blames result (F.failures folder.old) (F.failures folder.new) }
     ensures blamed { BlamesOnly (is_output_of task.now) result }
-    ensures changes { IsTrue F.tells
+    ensures changes { IsTrue F.faithful
         → ChangesOnly (is_output_of task.now) (F.contents folder.old) (F.contents folder.new) }
-    ensures ok { IsTrue F.tells → OnOk result ((kinds : Kinds) → Agrees A.meanings table.now kinds
+    ensures ok { IsTrue F.faithful → OnOk result ((kinds : Kinds) → Agrees A.meanings table.now kinds
         → (old : Trees) → GoesOn kinds task.now old files changes outputs (F.contents folder.old).files
         → EndsWell (course_of kinds task.now files changes (rest_of task.now (F.contents folder.old).files))
         lines.new (F.contents folder.new).files) }
-    ensures err { IsTrue F.tells → IfErr result (λ fault. (kinds : Kinds) → Agrees A.meanings table.now kinds
+    ensures err { IsTrue F.faithful → IfErr result (λ fault. (kinds : Kinds) → Agrees A.meanings table.now kinds
         → (old : Trees) → GoesOn kinds task.now old files changes outputs (F.contents folder.old).files
         → Fails (course_of kinds task.now files changes (rest_of task.now (F.contents folder.old).files))
         (ByChanges (F.contents folder.old).files) (F.may_leave folder.old) (F.failures folder.old) fault
         lines.new (F.failures folder.new) (F.contents folder.new).files) }
 {
     let Work { parts, made } = work_by_changes::<A>(
-        alloc, task, table, files, outputs, stood, changes,
+        alloc, task, table, files, outputs, existed, changes,
     )?;
     let done = do_parts(alloc, folder, parts.as_slice(), lines);
     drop(parts);

@@ -2,7 +2,7 @@
 ghost use Rattle.std.specs.Prelude.{◌≡◌, ◌⊎◌, [], List, Some, IsTrue, IfOk, IfErr, OnOk};
 ghost use Rattle.std.specs.List.{list_all};
 ghost use Rattle.gb_core.specs.Lists.{first_of};
-ghost use Rattle.gb_folder.specs.Calls.{Asks, Call, no_change, takes_at};
+ghost use Rattle.gb_folder.specs.Calls.{Requests, Call, no_change, takes_at};
 ghost use Rattle.gb_folder.specs.Device.{Leads};
 ghost use Rattle.gb_folder.specs.Each.{Each};
 ghost use Rattle.gb_folder.specs.Files.{Place};
@@ -11,7 +11,7 @@ ghost use Rattle.gb_store.specs.Faults.{Blames, BlamesOnly, IsOfMachine};
 ghost use Rattle.gb_plan.specs.Task.{is_output_of};
 ghost use Rattle.gb_meaning.specs.Made.{rest_of};
 ghost use Rattle.gb_meaning.specs.Tree.{listing_faults};
-ghost use Rattle.gb_run.specs.Emptying.{CannotEmpty, Emptying, Listing, is_at_output, odd_faults, places_at};
+ghost use Rattle.gb_run.specs.Emptying.{CannotEmpty, Emptying, Listing, is_at_output, special_faults, places_at};
 ghost use Rattle.gb_run.specs.Work.{ending};
 
 use gb_core::place::Place;
@@ -32,16 +32,16 @@ pub fn empty_outputs<F: Folder>(
     // Over any folder: by these calls.
     ensures calls { (calls : List Call) × Leads F.device folder.old calls folder.new
         × Emptying task.now.outputs calls result }
-    ensures asks { Asks F.failures F.may_leave F.asked (takes_at (is_output_of task.now)) folder.old
+    ensures requests { Requests F.failures F.may_leave F.allowed (takes_at (is_output_of task.now)) folder.old
         folder.new }
     ensures blame { Blames result (F.failures folder.old) (F.failures folder.new) }
     ensures blamed { BlamesOnly (is_output_of task.now) result }
-    ensures changes { IsTrue F.tells
+    ensures changes { IsTrue F.faithful
         → ChangesOnly (is_output_of task.now) (F.contents folder.old) (F.contents folder.new) }
-    ensures ok { IsTrue F.tells → OnOk result
+    ensures ok { IsTrue F.faithful → OnOk result
         ((F.contents folder.new).files ≡ rest_of task.now (F.contents folder.old).files) }
-    ensures none_odd { IsTrue F.tells → OnOk result (listing_faults task.now (F.contents folder.old) ≡ []) }
-    ensures err { IsTrue F.tells → IfErr result (λ fault.
+    ensures none_special { IsTrue F.faithful → OnOk result (listing_faults task.now (F.contents folder.old) ≡ []) }
+    ensures err { IsTrue F.faithful → IfErr result (λ fault.
         CannotEmpty task.now (F.may_leave folder.old) (F.failures folder.old) (F.contents folder.old) fault
         (F.failures folder.new) (F.contents folder.new)) }
 {
@@ -60,17 +60,17 @@ pub fn listed_outputs<F: Folder>(
     ensures calls { (calls : List Call) × (places : List Place) × Leads F.device folder.old calls folder.new
         × Each Listing outputs.now calls places (ending result)
         × IfOk result (λ found. found.items ≡ places) }
-    ensures asks { Asks F.failures F.may_leave F.asked no_change folder.old folder.new }
+    ensures requests { Requests F.failures F.may_leave F.allowed no_change folder.old folder.new }
     ensures blame { Blames result (F.failures folder.old) (F.failures folder.new) }
     ensures blamed { BlamesOnly (is_at_output outputs.now) result }
     ensures under { IfOk result (λ places. IsTrue (list_all (is_at_output outputs.now) places.items)) }
-    ensures same { IsTrue F.tells → F.contents folder.new ≡ F.contents folder.old }
-    ensures listed { IsTrue F.tells → IfOk result
+    ensures same { IsTrue F.faithful → F.contents folder.new ≡ F.contents folder.old }
+    ensures listed { IsTrue F.faithful → IfOk result
         (λ places. places.items ≡ places_at outputs.now (F.contents folder.old).files) }
-    ensures none_odd { IsTrue F.tells → OnOk result (odd_faults outputs.now (F.contents folder.old) ≡ []) }
-    ensures odd { IsTrue F.tells → IfErr result
+    ensures none_special { IsTrue F.faithful → OnOk result (special_faults outputs.now (F.contents folder.old) ≡ []) }
+    ensures special { IsTrue F.faithful → IfErr result
         (λ fault. IsOfMachine (F.failures folder.old) (F.failures folder.new) fault
-        ⊎ (first_of (odd_faults outputs.now (F.contents folder.old)) ≡ Some fault)) }
+        ⊎ (first_of (special_faults outputs.now (F.contents folder.old)) ≡ Some fault)) }
 {
     let mut places = Vec::new(alloc);
     for output in outputs.iter() {

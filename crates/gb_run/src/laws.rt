@@ -1,7 +1,7 @@
 //! Consequences for a task's execution of how the run of its actions ends.
 ghost use Rattle.gb_run.specs.Laws.{CutEmptyingsInventNothing, EndedRunsAreMade};
 ghost use Rattle.gb_run.specs.Laws.{FailedRunsInventNothingByChanges, FailedRunsInventNothingInFull};
-ghost use Rattle.gb_run.specs.Laws.{FailedRunsKeepRightFiles, FailedRunsPrintFronts, MadeStands};
+ghost use Rattle.gb_run.specs.Laws.{FailedRunsKeepRightFiles, FailedRunsPrintPrefixes, MadeExists};
 ghost use Rattle.gb_run.specs.Laws.{TornPlacesAreOfTheEmptying, TornPlacesAreOfTheRun};
 
 use gb_meaning::laws::Grounds;
@@ -12,13 +12,13 @@ pub fn ended_runs_are_made()
 {}
 
 /// The digests of what a run made are those of the files at the outputs once it has ended well.
-pub fn made_stands()
-    ensures { MadeStands }
+pub fn made_exists()
+    ensures { MadeExists }
 {}
 
 /// A run that failed prints the lines of a prefix of the actions that end.
-pub fn failed_runs_print_fronts<G: Grounds>()
-    ensures { FailedRunsPrintFronts G.setting }
+pub fn failed_runs_print_prefixes<G: Grounds>()
+    ensures { FailedRunsPrintPrefixes G.setting }
 {}
 
 /// A full execution that failed leaves at the outputs only what its actions write and what is torn.

@@ -35,7 +35,7 @@ mod placing;
 mod planning;
 mod reply;
 pub mod run;
-mod standing;
+mod existing;
 mod turns;
 pub mod work;
 pub mod work_by_changes;

@@ -8,7 +8,7 @@ ghost use Rattle.gb_run.specs.Steps.{in_turn};
 ghost use Rattle.gb_run.specs.ChangeTexts.{shown_steps, steps_in};
 
 use crate::checking::check_held;
-use crate::reply::{put_reply, put_standing};
+use crate::reply::{put_reply, put_existing};
 use crate::turns::in_turn;
 use gb_action::output::OutputFiles;
 use gb_action::reply::{OutputPath, Written};
@@ -24,19 +24,19 @@ use std::collections::BTreeMap;
 pub fn planned(
     alloc: Global,
     outputs: &[Output],
-    seen: &[OutputFiles],
+    observed: &[OutputFiles],
     removes: &[OutputPath],
     writes: &[Written],
 ) -> Result<Vec<(Place, Option<Bytes>)>, Fault>
     ensures steps { IfOk result (λ ordered.
         ordered.items ≡ in_turn (steps_of outputs.now removes.now writes.now)) }
     ensures ok { OnOk result
-        (faults_beside outputs.now [] (held_after outputs.now seen.now removes.now writes.now) ≡ []) }
+        (faults_beside outputs.now [] (held_after outputs.now observed.now removes.now writes.now) ≡ []) }
     ensures err { IfErr result (λ fault. (fault ≡ Fault.OutOfMemory)
-        ⊎ (first_of (faults_beside outputs.now [] (held_after outputs.now seen.now removes.now writes.now))
+        ⊎ (first_of (faults_beside outputs.now [] (held_after outputs.now observed.now removes.now writes.now))
         ≡ Some fault)) }
 {
-    check_planned(alloc, outputs, seen, removes, writes)?;
+    check_planned(alloc, outputs, observed, removes, writes)?;
     let steps = named_steps(alloc, outputs, removes, writes)?;
     let ordered = in_turn(alloc, &steps)?;
     Ok(owned(alloc, ordered.as_slice())?)
@@ -70,18 +70,18 @@ fn owned_one(place: &Place, bytes: Option<&Bytes>) -> Result<(Place, Option<Byte
 fn check_planned(
     alloc: Global,
     outputs: &[Output],
-    seen: &[OutputFiles],
+    observed: &[OutputFiles],
     removes: &[OutputPath],
     writes: &[Written],
 ) -> Result<(), Fault>
     ensures ok { OnOk result
-        (faults_beside outputs.now [] (held_after outputs.now seen.now removes.now writes.now) ≡ []) }
+        (faults_beside outputs.now [] (held_after outputs.now observed.now removes.now writes.now) ≡ []) }
     ensures err { IfErr result (λ fault. (fault ≡ Fault.OutOfMemory)
-        ⊎ (first_of (faults_beside outputs.now [] (held_after outputs.now seen.now removes.now writes.now))
+        ⊎ (first_of (faults_beside outputs.now [] (held_after outputs.now observed.now removes.now writes.now))
         ≡ Some fault)) }
 {
     let mut held = BTreeMap::new(alloc);
-    put_standing(alloc, &mut held, outputs, seen)?;
+    put_existing(alloc, &mut held, outputs, observed)?;
     put_reply(alloc, &mut held, outputs, removes, writes)?;
     check_held(alloc, outputs, &held)
 }

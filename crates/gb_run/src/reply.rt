@@ -5,7 +5,7 @@ ghost use Rattle.std.specs.FinMap.Entries.{put};
 ghost use Rattle.gb_core.specs.Lists.{byte_order};
 ghost use Rattle.gb_core.specs.Place.{beneath};
 ghost use Rattle.gb_meaning.specs.Made.{output_named, placed};
-ghost use Rattle.gb_run.specs.Named.{named, put as put_files, removed, standing};
+ghost use Rattle.gb_run.specs.Named.{named, put as put_files, removed, existing};
 ghost use Rattle.gb_run.specs.Steps.{put_steps};
 ghost use Rattle.gb_run.specs.ChangeTexts.{steps_in};
 
@@ -36,16 +36,16 @@ pub fn put_reply<'a>(
 }
 
 /// Puts the files of outputs as they were read, each under the place of its output.
-pub fn put_standing<'a>(
+pub fn put_existing<'a>(
     alloc: Global,
     steps: &mut BTreeMap<String, Option<&'a Bytes>>,
     outputs: &[Output],
-    seen: &'a [OutputFiles],
+    observed: &'a [OutputFiles],
 ) -> Result<(), AllocError>
     ensures { OnOk result
-        (steps_in steps.new ≡ put_steps (steps_in steps.old) (put_files (standing outputs.now seen.now))) }
+        (steps_in steps.new ≡ put_steps (steps_in steps.old) (put_files (existing outputs.now observed.now))) }
 {
-    for (output, found) in outputs.iter().zip(seen) {
+    for (output, found) in outputs.iter().zip(observed) {
         put_tree(alloc, steps, &output.place, found.files.as_slice())?;
     }
     Ok(())

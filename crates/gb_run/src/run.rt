@@ -1,12 +1,12 @@
 //! A full execution: computed as a value first, then done in the folder.
 ghost use Rattle.std.specs.Prelude.{◌≡◌, ◌++◌, [], Ok, IsTrue, IfOk, IfErr, OnOk, List, map};
-ghost use Rattle.gb_folder.specs.Calls.{Asks, Call, changes_at};
+ghost use Rattle.gb_folder.specs.Calls.{Requests, Call, changes_at};
 ghost use Rattle.gb_folder.specs.Device.{Leads};
 ghost use Rattle.gb_folder.specs.Files.{Files};
 ghost use Rattle.gb_store.specs.Changes.{ChangesOnly};
 ghost use Rattle.gb_store.specs.Faults.{Blames, BlamesOnly};
 ghost use Rattle.gb_plan.specs.Ready.{IsReady};
-ghost use Rattle.gb_plan.specs.Task.{is_output_of, seen_files};
+ghost use Rattle.gb_plan.specs.Task.{is_output_of, given_files};
 ghost use Rattle.gb_meaning.specs.Headline.{Agrees};
 ghost use Rattle.gb_meaning.specs.Kinds.{Kinds};
 ghost use Rattle.gb_meaning.specs.Made.{made_of};
@@ -42,7 +42,7 @@ pub fn run_in_full<A: Actions, F: Folder>(
     lines: &mut Texts,
 ) -> Result<Vec<Prints>, Fault>
     requires ready { IsReady A.meanings table.now task.now }
-    requires named { map (λ tree. tree.0) files ≡ seen_files task.now.files }
+    requires named { map (λ tree. tree.0) files ≡ given_files task.now.files }
     requires no_lines { lines.old ≡ [] }
     ensures named { IfOk result (λ made.
         map (λ prints. prints.0) made.items ≡ map (λ output. output.name) task.now.outputs) }
@@ -52,16 +52,16 @@ pub fn run_in_full<A: Actions, F: Folder>(
     ensures calls { (calls : List Call) × Leads F.device folder.old calls folder.new
         × AreAtOutputs task.now calls × ((kinds : Kinds) → Agrees A.meanings table.now kinds
         → RunsInFull (course_of kinds task.now files changes []) calls lines.new (ending result)) }
-    ensures asks { Asks F.failures F.may_leave F.asked (changes_at (is_output_of task.now)) folder.old
+    ensures requests { Requests F.failures F.may_leave F.allowed (changes_at (is_output_of task.now)) folder.old
         folder.new }
     ensures blame { Blames result (F.failures folder.old) (F.failures folder.new) }
     ensures blamed { BlamesOnly (is_output_of task.now) result }
-    ensures changes { IsTrue F.tells
+    ensures changes { IsTrue F.faithful
         → ChangesOnly (is_output_of task.now) (F.contents folder.old) (F.contents folder.new) }
-    ensures ok { IsTrue F.tells → OnOk result ((kinds : Kinds) → Agrees A.meanings table.now kinds
+    ensures ok { IsTrue F.faithful → OnOk result ((kinds : Kinds) → Agrees A.meanings table.now kinds
         → EndsWell (course_of kinds task.now files changes (F.contents folder.old).files)
         lines.new (F.contents folder.new).files) }
-    ensures err { IsTrue F.tells → IfErr result (λ fault. (kinds : Kinds) → Agrees A.meanings table.now kinds
+    ensures err { IsTrue F.faithful → IfErr result (λ fault. (kinds : Kinds) → Agrees A.meanings table.now kinds
         → Fails (course_of kinds task.now files changes (F.contents folder.old).files) InFull
         (F.may_leave folder.old) (F.failures folder.old) fault
         lines.new (F.failures folder.new) (F.contents folder.new).files) }

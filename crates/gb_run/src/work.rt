@@ -7,7 +7,7 @@ ghost use Rattle.gb_core.specs.Lists.{first_of};
 ghost use Rattle.gb_folder.specs.Files.{Files, are_placed};
 ghost use Rattle.gb_report.specs.declared.fault.Fault.{Fault};
 ghost use Rattle.gb_plan.specs.Ready.{IsReady, IsReadyAction};
-ghost use Rattle.gb_plan.specs.Task.{is_output_of, seen_files};
+ghost use Rattle.gb_plan.specs.Task.{is_output_of, given_files};
 ghost use Rattle.gb_meaning.specs.Headline.{Agrees};
 ghost use Rattle.gb_meaning.specs.Kinds.{Kinds};
 ghost use Rattle.gb_meaning.specs.Made.{made_of, put_result};
@@ -68,7 +68,7 @@ pub fn work_in_full<A: Actions>(
     changes: ChangeLists,
 ) -> Result<Work, AllocError>
     requires ready { IsReady A.meanings table.now task.now }
-    requires named { map (λ tree. tree.0) files ≡ seen_files task.now.files }
+    requires named { map (λ tree. tree.0) files ≡ given_files task.now.files }
     ensures work { IfOk result (λ work. (kinds : Kinds) → Agrees A.meanings table.now kinds
         → work_held work ≡ work_of (course_of kinds task.now files changes []) [] task.now.actions) }
     ensures named { IfOk result (λ work. IfOk work.made (λ made.
@@ -129,7 +129,7 @@ fn part_of<A: Actions>(
     working: &mut Working,
 ) -> Result<Part, Fault>
     requires ready { IsReadyAction A.meanings table.now task.now action.now }
-    requires named { map (λ tree. tree.0) working.old.request.files ≡ seen_files task.now.files }
+    requires named { map (λ tree. tree.0) working.old.request.files ≡ given_files task.now.files }
     requires full { IsFullLike task.now working.old.request working.old.request }
     requires placed { IsTrue (are_placed working.old.taken) }
     ensures full { OnOk result (IsFullLike task.now working.old.request working.new.request) }

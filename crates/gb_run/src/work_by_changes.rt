@@ -10,7 +10,7 @@ ghost use Rattle.gb_action.specs.Replies.{Answers};
 ghost use Rattle.gb_folder.specs.Files.{Files, are_placed};
 ghost use Rattle.gb_tree.specs.Prints.{digests_of};
 ghost use Rattle.gb_plan.specs.Ready.{IsReady, IsReadyAction};
-ghost use Rattle.gb_plan.specs.Task.{is_output_of, seen_files, seen_outputs};
+ghost use Rattle.gb_plan.specs.Task.{is_output_of, given_files, given_outputs};
 ghost use Rattle.gb_meaning.specs.Headline.{Agrees};
 ghost use Rattle.gb_meaning.specs.Kinds.{Kinds, kind_of};
 ghost use Rattle.gb_meaning.specs.Made.{made_of};
@@ -26,7 +26,7 @@ use crate::asking::full_request;
 use crate::asking_changes::{ask, is_writer};
 use crate::digests::Digests;
 use crate::planning::planned;
-use crate::standing::digests_stood;
+use crate::existing::digests_existed;
 use crate::work::{Part, Work, stopped};
 use gb_action::actions::Actions;
 use gb_action::change::ChangeLists;
@@ -47,7 +47,7 @@ use std::mem;
 #[derive(Drop)]
 struct Working {
     request: Request,
-    seen: OutputSnapshots,
+    observed: OutputSnapshots,
     digests: Digests,
 }
 
@@ -60,7 +60,7 @@ fn part_of_reader<A: Actions>(
     request: &mut Request,
 ) -> Result<Part, Fault>
     requires ready { IsReadyAction A.meanings table.now task.now action.now }
-    requires named { map (λ tree. tree.0) request.old.files ≡ seen_files task.now.files }
+    requires named { map (λ tree. tree.0) request.old.files ≡ given_files task.now.files }
     requires full { IsFullLike task.now request.old request.old }
     ensures full { OnOk result (IsFullLike task.now request.old request.new) }
     ensures steps { IfOk result (λ part. part.steps.items ≡ []) }
@@ -90,25 +90,25 @@ fn ask_by_changes<A: Actions>(
     working: &mut Working,
 ) -> Result<Reply, Fault>
     requires ready { IsReadyAction A.meanings table.now task.now action.now }
-    requires named { map (λ tree. tree.0) working.old.request.files ≡ seen_files task.now.files }
+    requires named { map (λ tree. tree.0) working.old.request.files ≡ given_files task.now.files }
     requires full { IsFullLike task.now working.old.request working.old.request }
-    requires formed { map (λ output. (output.name, output.form)) working.old.seen
-        ≡ seen_outputs task.now.outputs }
+    requires formed { map (λ output. (output.name, output.form)) working.old.observed
+        ≡ given_outputs task.now.outputs }
     requires able { AnswersChanges A.meanings table.now action.now }
     ensures request { OnOk result (working.new.request ≡ request_of task.now working.old.request.files
-        working.old.request.changes.lists working.old.seen action.now.args) }
-    ensures seen { OnOk result (working.new.seen ≡ working.old.request.outputs) }
+        working.old.request.changes.lists working.old.observed action.now.args) }
+    ensures observed { OnOk result (working.new.observed ≡ working.old.request.outputs) }
     ensures digests { working.new.digests ≡ working.old.digests }
     ensures answered { IfOk result (λ reply. (kinds : Kinds) → Agrees A.meanings table.now kinds
         → Answers (kinds.makes (kind_of action.now)) (kinds.prints (kind_of action.now))
-        (request_of task.now working.old.request.files working.old.request.changes.lists working.old.seen
+        (request_of task.now working.old.request.files working.old.request.changes.lists working.old.observed
         action.now.args) (Ok reply)) }
     ensures err { IfErr result (λ fault. (fault ≡ Fault.OutOfMemory)
         ⊎ ((text : List ℕ) × (fault ≡ Fault.ActionFailed text)
         × ((kinds : Kinds) → Agrees A.meanings table.now kinds
         → made_by kinds task.now action.now working.old.request.files ≡ Err text))) }
 {
-    mem::swap(&mut working.request.outputs, &mut working.seen);
+    mem::swap(&mut working.request.outputs, &mut working.observed);
     working.request.changes.incremental = true;
     ask::<A>(alloc, task, table, action, &mut working.request)
 }
@@ -116,13 +116,13 @@ fn ask_by_changes<A: Actions>(
 /// Makes the request a full one again.
 fn go_back(working: &mut Working)
     ensures request { working.new.request ≡ record working.old.request {
-      outputs = working.old.seen;
+      outputs = working.old.observed;
       changes = record { incremental = false; lists = working.old.request.changes.lists };
     } }
-    ensures seen { working.new.seen ≡ working.old.request.outputs }
+    ensures observed { working.new.observed ≡ working.old.request.outputs }
     ensures digests { working.new.digests ≡ working.old.digests }
 {
-    mem::swap(&mut working.request.outputs, &mut working.seen);
+    mem::swap(&mut working.request.outputs, &mut working.observed);
     working.request.changes.incremental = false;
 }
 
@@ -136,27 +136,27 @@ fn part_of_writer<A: Actions>(
     working: &mut Working,
 ) -> Result<Part, Fault>
     requires ready { IsReadyAction A.meanings table.now task.now action.now }
-    requires named { map (λ tree. tree.0) working.old.request.files ≡ seen_files task.now.files }
+    requires named { map (λ tree. tree.0) working.old.request.files ≡ given_files task.now.files }
     requires full { IsFullLike task.now working.old.request working.old.request }
-    requires formed { map (λ output. (output.name, output.form)) working.old.seen
-        ≡ seen_outputs task.now.outputs }
+    requires formed { map (λ output. (output.name, output.form)) working.old.observed
+        ≡ given_outputs task.now.outputs }
     requires able { AnswersChanges A.meanings table.now action.now }
     ensures full { OnOk result (IsFullLike task.now working.old.request working.new.request) }
-    ensures seen { OnOk result (working.new.seen ≡ working.old.seen) }
+    ensures observed { OnOk result (working.new.observed ≡ working.old.observed) }
     ensures ok { IfOk result (λ part. (kinds : Kinds) → Agrees A.meanings table.now kinds
         → kinds.writes (kind_of action.now) ≡ true → IsPart (increment_of kinds task.now
-        working.old.request.files working.old.request.changes.lists working.old.seen) action.now
+        working.old.request.files working.old.request.changes.lists working.old.observed) action.now
         (part_held part)) }
     ensures makes { OnOk result ((kinds : Kinds) → Agrees A.meanings table.now kinds
-        → (standing : Files) → IsTrue (is_sorted byte_order standing) → IsTrue (are_placed standing)
+        → (existing : Files) → IsTrue (is_sorted byte_order existing) → IsTrue (are_placed existing)
         → IsItsExecution kinds task.now action.now working.old.request.files working.old.request.changes.lists
-        working.old.seen standing → working.old.digests ≡ digests_of (output_files task.now standing)
+        working.old.observed existing → working.old.digests ≡ digests_of (output_files task.now existing)
         → Makes kinds task.now action.now working.old.request.files working.new.digests) }
     ensures places { IfOk result (AreStepsAt (is_output_of task.now)) }
     ensures err { IfErr result (λ fault. (fault ≡ Fault.OutOfMemory)
         ⊎ ((kinds : Kinds) → Agrees A.meanings table.now kinds → kinds.writes (kind_of action.now) ≡ true
         → FailsWith (increment_of kinds task.now working.old.request.files
-        working.old.request.changes.lists working.old.seen) action.now fault)) }
+        working.old.request.changes.lists working.old.observed) action.now fault)) }
     ensures blames { IfErr result (λ fault. (place : List ℕ) → fault ≢ Fault.Device place) }
 {
     let reply = ask_by_changes::<A>(alloc, task, table, action, working)?;
@@ -182,30 +182,30 @@ fn part_of<A: Actions>(
     working: &mut Working,
 ) -> Result<Part, Fault>
     requires ready { IsReadyAction A.meanings table.now task.now action.now }
-    requires named { map (λ tree. tree.0) working.old.request.files ≡ seen_files task.now.files }
+    requires named { map (λ tree. tree.0) working.old.request.files ≡ given_files task.now.files }
     requires full { IsFullLike task.now working.old.request working.old.request }
-    requires formed { map (λ output. (output.name, output.form)) working.old.seen
-        ≡ seen_outputs task.now.outputs }
+    requires formed { map (λ output. (output.name, output.form)) working.old.observed
+        ≡ given_outputs task.now.outputs }
     requires able { CanGoOn A.meanings table.now action.now }
     ensures full { OnOk result (IsFullLike task.now working.old.request working.new.request) }
-    ensures seen { OnOk result (working.new.seen ≡ working.old.seen) }
+    ensures observed { OnOk result (working.new.observed ≡ working.old.observed) }
     ensures ok { IfOk result (λ part. (kinds : Kinds) → Agrees A.meanings table.now kinds
         → IsPart (increment_of kinds task.now working.old.request.files working.old.request.changes.lists
-        working.old.seen) action.now (part_held part)) }
+        working.old.observed) action.now (part_held part)) }
     ensures kept { OnOk result ((kinds : Kinds) → Agrees A.meanings table.now kinds
         → IsFitting kinds task.now action.now → kinds.writes (kind_of action.now) ≡ false
         → (made_by kinds task.now action.now working.old.request.files ≡ Ok [])
         × (working.new.digests ≡ working.old.digests)) }
     ensures makes { OnOk result ((kinds : Kinds) → Agrees A.meanings table.now kinds
-        → (standing : Files) → IsTrue (is_sorted byte_order standing) → IsTrue (are_placed standing)
+        → (existing : Files) → IsTrue (is_sorted byte_order existing) → IsTrue (are_placed existing)
         → IsItsExecution kinds task.now action.now working.old.request.files working.old.request.changes.lists
-        working.old.seen standing → working.old.digests ≡ digests_of (output_files task.now standing)
+        working.old.observed existing → working.old.digests ≡ digests_of (output_files task.now existing)
         → Makes kinds task.now action.now working.old.request.files working.new.digests) }
     ensures places { IfOk result (AreStepsAt (is_output_of task.now)) }
     ensures err { IfErr result (λ fault. (fault ≡ Fault.OutOfMemory)
         ⊎ ((kinds : Kinds) → Agrees A.meanings table.now kinds
         → FailsWith (increment_of kinds task.now working.old.request.files
-        working.old.request.changes.lists working.old.seen) action.now fault)) }
+        working.old.request.changes.lists working.old.observed) action.now fault)) }
     ensures blames { IfErr result (λ fault. (place : List ℕ) → fault ≢ Fault.Device place) }
 {
     if is_writer::<A>(table, action) {
@@ -223,22 +223,22 @@ pub fn work_by_changes<A: Actions>(
     table: &ActionTable<A::Stored>,
     files: Snapshots,
     outputs: OutputSnapshots,
-    stood: Vec<Prints>,
+    existed: Vec<Prints>,
     changes: ChangeLists,
 ) -> Result<Work, AllocError>
     requires ready { IsReady A.meanings table.now task.now }
     requires able { AllByRecursion (CanGoOn A.meanings table.now) task.now.actions }
-    requires named { map (λ tree. tree.0) files ≡ seen_files task.now.files }
-    requires formed { map (λ output. (output.name, output.form)) outputs ≡ seen_outputs task.now.outputs }
-    requires prints { stood.items ≡ map (λ output. (output.name, digests_of output.files)) outputs }
+    requires named { map (λ tree. tree.0) files ≡ given_files task.now.files }
+    requires formed { map (λ output. (output.name, output.form)) outputs ≡ given_outputs task.now.outputs }
+    requires prints { existed.items ≡ map (λ output. (output.name, digests_of output.files)) outputs }
     ensures work { IfOk result (λ work. (kinds : Kinds) → Agrees A.meanings table.now kinds
         → IsWorkByChanges (increment_of kinds task.now files changes outputs) (work_held work)) }
     ensures named { IfOk result (λ work. IfOk work.made (λ made.
         map (λ prints. prints.0) made.items ≡ map (λ output. output.name) task.now.outputs)) }
     ensures made { IfOk result (λ work. IfOk work.made (λ made. (kinds : Kinds)
-        → Agrees A.meanings table.now kinds → (old : Trees) (standing : Files)
-        → IsTrue (is_sorted byte_order standing) → IsTrue (are_placed standing)
-        → GoesOn kinds task.now old files changes outputs standing → (held : Files)
+        → Agrees A.meanings table.now kinds → (old : Trees) (existing : Files)
+        → IsTrue (is_sorted byte_order existing) → IsTrue (are_placed existing)
+        → GoesOn kinds task.now old files changes outputs existing → (held : Files)
         × (made_of kinds task.now.actions task.now.values files task.now.outputs ≡ Ok held)
         × (made.items ≡ prints_at task.now.outputs held))) }
     ensures places { IfOk result (λ work.
@@ -246,11 +246,11 @@ pub fn work_by_changes<A: Actions>(
     ensures blames { IfOk result (λ work. IfErr work.made
         (λ fault. (place : List ℕ) → fault ≢ Fault.Device place)) }
 {
-    let digests = digests_stood(alloc, task.outputs.as_slice(), stood.as_slice())?;
-    drop(stood);
+    let digests = digests_existed(alloc, task.outputs.as_slice(), existed.as_slice())?;
+    drop(existed);
     let mut working = Working {
         request: full_request(alloc, task, files, changes)?,
-        seen: outputs,
+        observed: outputs,
         digests,
     };
     let mut parts = Vec::new(alloc);

@@ -11,7 +11,7 @@ use Rattle.gb_script.specs.Grammar.{Leveled, tokens_of, said_spelled}
 use Rattle.gb_script.specs.Reading.{Reader, ◌>>=◌, is_word, skip_at, maybe_at, past_at, pair_at, made_at, closed_at, opened_at, said_at}
 use Rattle.gb_script.proofs.Runs.{cases_bool}
 use Rattle.gb_script.proofs.Readers.{Reads, Taken, StrayIn, DeepIn, always, first_or, Reads-done, Reads-bind}
-use Rattle.gb_script.proofs.Singles.{IsTestOf, tests_word, Reads-skip, IsAny, begins_front}
+use Rattle.gb_script.proofs.Singles.{IsTestOf, tests_word, Reads-skip, IsAny, begins_prefix}
 use Rattle.gb_script.proofs.Opens.{Reads-open}
 use Rattle.gb_script.proofs.Maybe.{stops, Begun, begun_begins, Reads-maybe}
 use Rattle.gb_script.proofs.Many.{both_true, and_true}
@@ -25,10 +25,10 @@ module _ {A : Type 0} {P : A → Type 0} {m : A → List Leveled} {e : A → Opt
     again = λ a k p h. same (tokens_of (m a) ++ k) ∙ R.again a k p h;
     strays = λ ts n h.
         let t = R.strays ts n (sym (same ts) ∙ h) in
-        record { value = t.value; fits = t.fits; front = t.front; more = t.more; bad = t.bad; whole = t.whole; spelled = t.spelled; size = t.size; within = t.within; only = λ b rest other at. same (tokens_of t.front ++ b ∷ other) ∙ t.only b rest other at };
+        record { value = t.value; fits = t.fits; prefix = t.prefix; more = t.more; bad = t.bad; whole = t.whole; spelled = t.spelled; size = t.size; within = t.within; only = λ b rest other at. same (tokens_of t.prefix ++ b ∷ other) ∙ t.only b rest other at };
     deeps = λ ts n h.
         let t = R.deeps ts n (sym (same ts) ∙ h) in
-        record { value = t.value; fits = t.fits; front = t.front; over = t.over; more = t.more; rest = t.rest; whole = t.whole; spelled = t.spelled; size = t.size; within = t.within; past = t.past; only = λ other. same (tokens_of t.front ++ t.over.0 ∷ other) ∙ t.only other };
+        record { value = t.value; fits = t.fits; prefix = t.prefix; over = t.over; more = t.more; rest = t.rest; whole = t.whole; spelled = t.spelled; size = t.size; within = t.within; past = t.past; only = λ other. same (tokens_of t.prefix ++ t.over.0 ∷ other) ∙ t.only other };
   }
 
 -- ---- a value made of what is read
@@ -146,7 +146,7 @@ module _ {A : Type 0} {FitsFirst FitsSecond : A → Type 0} {m : A → List Leve
             record {
               value = s.value;
               fits = inl s.fits;
-              front = s.front;
+              prefix = s.prefix;
               more = s.more;
               bad = s.bad;
               whole = s.whole;
@@ -154,7 +154,7 @@ module _ {A : Type 0} {FitsFirst FitsSecond : A → Type 0} {m : A → List Leve
               size = s.size;
               within = s.within;
               only = λ b rest other at.
-                  one (tokens_of s.front ++ b ∷ other) (begins_front test s.front b other rest ∙ ap (begins test) (sym (s.spelled ∙ ap (λ (l : List Token). tokens_of s.front ++ l) at)) ∙ y)
+                  one (tokens_of s.prefix ++ b ∷ other) (begins_prefix test s.prefix b other rest ∙ ap (begins test) (sym (s.spelled ∙ ap (λ (l : List Token). tokens_of s.prefix ++ l) at)) ∙ y)
                   ∙ s.only b rest other at;
             }
         | inr y ↦
@@ -162,7 +162,7 @@ module _ {A : Type 0} {FitsFirst FitsSecond : A → Type 0} {m : A → List Leve
             record {
               value = s.value;
               fits = inr s.fits;
-              front = s.front;
+              prefix = s.prefix;
               more = s.more;
               bad = s.bad;
               whole = s.whole;
@@ -170,7 +170,7 @@ module _ {A : Type 0} {FitsFirst FitsSecond : A → Type 0} {m : A → List Leve
               size = s.size;
               within = s.within;
               only = λ b rest other at.
-                  other_one (tokens_of s.front ++ b ∷ other) (begins_front test s.front b other rest ∙ ap (begins test) (sym (s.spelled ∙ ap (λ (l : List Token). tokens_of s.front ++ l) at)) ∙ y)
+                  other_one (tokens_of s.prefix ++ b ∷ other) (begins_prefix test s.prefix b other rest ∙ ap (begins test) (sym (s.spelled ∙ ap (λ (l : List Token). tokens_of s.prefix ++ l) at)) ∙ y)
                   ∙ s.only b rest other at;
             }
       ]
@@ -183,7 +183,7 @@ module _ {A : Type 0} {FitsFirst FitsSecond : A → Type 0} {m : A → List Leve
             record {
               value = s.value;
               fits = inl s.fits;
-              front = s.front;
+              prefix = s.prefix;
               over = s.over;
               more = s.more;
               rest = s.rest;
@@ -192,14 +192,14 @@ module _ {A : Type 0} {FitsFirst FitsSecond : A → Type 0} {m : A → List Leve
               size = s.size;
               within = s.within;
               past = s.past;
-              only = λ other. one (tokens_of s.front ++ s.over.0 ∷ other) (begins_front test s.front s.over.0 other s.rest ∙ ap (begins test) (sym s.spelled) ∙ y) ∙ s.only other;
+              only = λ other. one (tokens_of s.prefix ++ s.over.0 ∷ other) (begins_prefix test s.prefix s.over.0 other s.rest ∙ ap (begins test) (sym s.spelled) ∙ y) ∙ s.only other;
             }
         | inr y ↦
             let s = reads_second.deeps ts n (sym (other_one ts y) ∙ h) in
             record {
               value = s.value;
               fits = inr s.fits;
-              front = s.front;
+              prefix = s.prefix;
               over = s.over;
               more = s.more;
               rest = s.rest;
@@ -208,7 +208,7 @@ module _ {A : Type 0} {FitsFirst FitsSecond : A → Type 0} {m : A → List Leve
               size = s.size;
               within = s.within;
               past = s.past;
-              only = λ other. other_one (tokens_of s.front ++ s.over.0 ∷ other) (begins_front test s.front s.over.0 other s.rest ∙ ap (begins test) (sym s.spelled) ∙ y) ∙ s.only other;
+              only = λ other. other_one (tokens_of s.prefix ++ s.over.0 ∷ other) (begins_prefix test s.prefix s.over.0 other s.rest ∙ ap (begins test) (sym s.spelled) ∙ y) ∙ s.only other;
             }
       ]
 

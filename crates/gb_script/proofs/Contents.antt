@@ -18,9 +18,9 @@ pub with_nothing : (found : Content) → with_content [] found ≡ found
 with_nothing None = refl
 with_nothing (Some x) = refl
 
-pub with_both : (front more : List ℕ) (found : Content) → with_content front (with_content more found) ≡ with_content (front ++ more) found
-with_both front more None = refl
-with_both front more (Some x) = ap (λ (l : List ℕ). Some (l, x.1)) (sym (append_assoc front more x.0))
+pub with_both : (prefix more : List ℕ) (found : Content) → with_content prefix (with_content more found) ≡ with_content (prefix ++ more) found
+with_both prefix more None = refl
+with_both prefix more (Some x) = ap (λ (l : List ℕ). Some (l, x.1)) (sym (append_assoc prefix more x.0))
 
 plain_is : (b : ℕ) → is_plain b ≡ true → ((b == 34) ≡ false) × ((b == 92) ≡ false)
 plain_is b h = (grind (arith, nat_tests), grind (arith, nat_tests))
@@ -33,9 +33,9 @@ plain_last : (b : ℕ) → is_plain b ≡ true → content_at (b ∷ []) ≡ Non
 unfolding content_at
 plain_last b h = let p = plain_is b h in rw p.0 refl
 
-none_before : (front : List ℕ) → None ≡ with_content front (content_at [])
+none_before : (prefix : List ℕ) → None ≡ with_content prefix (content_at [])
 unfolding content_at
-none_before front = refl
+none_before prefix = refl
 
 -- a run goes into the content whole
 pub content_at-run : (text : List ℕ) → content_at text ≡ with_content (take_while is_plain text) (content_at (past_run is_plain text))
@@ -80,10 +80,10 @@ closed (b ∷ e ∷ bs) h = rw h refl
 -- a run and the closing mark
 pub content_at-closed : (text : List ℕ) → begins (λ b. b == 34) (past_run is_plain text) ≡ true → content_at text ≡ Some (take_while is_plain text, drop 1 (past_run is_plain text))
 content_at-closed text h =
-    content_at-run text ∙ ap (with_content (take_while is_plain text)) (closed (past_run is_plain text) h) ∙ nil_behind (take_while is_plain text) (drop 1 (past_run is_plain text))
+    content_at-run text ∙ ap (with_content (take_while is_plain text)) (closed (past_run is_plain text) h) ∙ nil_after (take_while is_plain text) (drop 1 (past_run is_plain text))
   where
-    nil_behind : (xs rest : List ℕ) → found_of (xs ++ [], rest) ≡ found_of (xs, rest)
-    nil_behind xs rest = ap (λ (l : List ℕ). Some (l, rest)) (append-nil xs)
+    nil_after : (xs rest : List ℕ) → found_of (xs ++ [], rest) ≡ found_of (xs, rest)
+    nil_after xs rest = ap (λ (l : List ℕ). Some (l, rest)) (append-nil xs)
 
 abbrev pair_of : ℕ × List ℕ → Option (ℕ × List ℕ)
 pair_of x = Some x
@@ -91,10 +91,10 @@ pair_of x = Some x
 pair_is : (x y : ℕ × List ℕ) → pair_of x ≡ pair_of y → x ≡ y
 pair_is x y e = cc
 
-escape_some : (bs : List ℕ) (found : Option ℕ) (c : ℕ) (behind : List ℕ) → escape_of bs found ≡ Some (c, behind) → (found ≡ Some c) × (bs ≡ behind)
-escape_some bs None c behind h = absurd cc
-escape_some bs (Some d) c behind h =
-    let same = pair_is (d, bs) (c, behind) h in
+escape_some : (bs : List ℕ) (found : Option ℕ) (c : ℕ) (following : List ℕ) → escape_of bs found ≡ Some (c, following) → (found ≡ Some c) × (bs ≡ following)
+escape_some bs None c following h = absurd cc
+escape_some bs (Some d) c following h =
+    let same = pair_is (d, bs) (c, following) h in
     (ap (λ (x : ℕ × List ℕ). Some (x.0)) same, ap (λ (x : ℕ × List ℕ). x.1) same)
 
 escape_none : (bs : List ℕ) (found : Option ℕ) → escape_of bs found ≡ None → found ≡ None
@@ -104,33 +104,33 @@ escape_none bs (Some d) h = absurd cc
 unescaped_low : (e c : ℕ) → unescaped e ≡ Some c → c < 128
 unescaped_low e c h = grind (arith, nat_tests)
 
-pub escape_low : (text : List ℕ) (c : ℕ) (behind : List ℕ) → escape_at text ≡ Some (c, behind) → c < 128
+pub escape_low : (text : List ℕ) (c : ℕ) (following : List ℕ) → escape_at text ≡ Some (c, following) → c < 128
 unfolding escape_at
-escape_low [] c behind h = absurd cc
-escape_low (b ∷ []) c behind h = absurd cc
-escape_low (b ∷ e ∷ bs) c behind h =
+escape_low [] c following h = absurd cc
+escape_low (b ∷ []) c following h = absurd cc
+escape_low (b ∷ e ∷ bs) c following h =
     elim (cases_bool (b == 92)) [
-      | inl y ↦ unescaped_low e c (escape_some bs (unescaped e) c behind (rw y at h)).0
-      | inr y ↦ absurd (let no : None ≡ pair_of (c, behind) = rw y at h in cc)
+      | inl y ↦ unescaped_low e c (escape_some bs (unescaped e) c following (rw y at h)).0
+      | inr y ↦ absurd (let no : None ≡ pair_of (c, following) = rw y at h in cc)
     ]
 
-escaped : (text : List ℕ) (c : ℕ) (behind : List ℕ) → begins (λ b. b == 34) text ≡ false → escape_at text ≡ Some (c, behind) → content_at text ≡ with_content (c ∷ []) (content_at behind)
+escaped : (text : List ℕ) (c : ℕ) (following : List ℕ) → begins (λ b. b == 34) text ≡ false → escape_at text ≡ Some (c, following) → content_at text ≡ with_content (c ∷ []) (content_at following)
 unfolding escape_at content_at
-escaped [] c behind q h = absurd cc
-escaped (b ∷ []) c behind q h = absurd cc
-escaped (b ∷ e ∷ bs) c behind q h =
+escaped [] c following q h = absurd cc
+escaped (b ∷ []) c following q h = absurd cc
+escaped (b ∷ e ∷ bs) c following q h =
     elim (cases_bool (b == 92)) [
-      | inl y ↦ (let x = escape_some bs (unescaped e) c behind (rw y at h) in rw (q, y, x.0, ← x.1) refl)
-      | inr y ↦ absurd (let no : None ≡ pair_of (c, behind) = rw y at h in cc)
+      | inl y ↦ (let x = escape_some bs (unescaped e) c following (rw y at h) in rw (q, y, x.0, ← x.1) refl)
+      | inr y ↦ absurd (let no : None ≡ pair_of (c, following) = rw y at h in cc)
     ]
 
 -- a run and an escape
-pub content_at-escaped : (text : List ℕ) (c : ℕ) (behind : List ℕ) → begins (λ b. b == 34) (past_run is_plain text) ≡ false → escape_at (past_run is_plain text) ≡ Some (c, behind) → content_at text ≡ with_content (take_while is_plain text ++ c ∷ []) (content_at behind)
-content_at-escaped text c behind q h =
-    content_at-run text ∙ ap (with_content (take_while is_plain text)) (escaped (past_run is_plain text) c behind q h) ∙ with_both (take_while is_plain text) (c ∷ []) (content_at behind)
+pub content_at-escaped : (text : List ℕ) (c : ℕ) (following : List ℕ) → begins (λ b. b == 34) (past_run is_plain text) ≡ false → escape_at (past_run is_plain text) ≡ Some (c, following) → content_at text ≡ with_content (take_while is_plain text ++ c ∷ []) (content_at following)
+content_at-escaped text c following q h =
+    content_at-run text ∙ ap (with_content (take_while is_plain text)) (escaped (past_run is_plain text) c following q h) ∙ with_both (take_while is_plain text) (c ∷ []) (content_at following)
 
-none_more : (front : List ℕ) → with_content front None ≡ None
-none_more front = refl
+none_more : (prefix : List ℕ) → with_content prefix None ≡ None
+none_more prefix = refl
 
 left_open : (text : List ℕ) → begins (λ b. b == 34) text ≡ false → begins is_plain text ≡ false → escape_at text ≡ None → content_at text ≡ None
 unfolding escape_at content_at
@@ -158,10 +158,10 @@ pub stays_open : (old rest run after : List ℕ) (total : Content) → with_cont
 stays_open old rest run after total so_far a h e =
     sym (ap (with_content old) (content_at-open rest (ap (begins (λ b. b == 34)) (sym a) ∙ h) (ap escape_at (sym a) ∙ e))) ∙ so_far
 
-pub goes_on : (old new rest run after behind : List ℕ) (c : ℕ) (total : Content) → with_content old (content_at rest) ≡ total → run ≡ take_while is_plain rest → after ≡ past_run is_plain rest → new ≡ (old ++ run) ++ c ∷ [] → begins (λ b. b == 34) after ≡ false → escape_at after ≡ Some (c, behind) → with_content new (content_at behind) ≡ total
-goes_on old new rest run after behind c total so_far r a n h e =
-    let here = content_at-escaped rest c behind (ap (begins (λ b. b == 34)) (sym a) ∙ h) (ap escape_at (sym a) ∙ e) in
-    ap (λ (l : List ℕ). with_content l (content_at behind)) (n ∙ ap (λ (l : List ℕ). (old ++ l) ++ c ∷ []) r ∙ append_assoc old (take_while is_plain rest) (c ∷ []))
-    ∙ sym (with_both old (take_while is_plain rest ++ c ∷ []) (content_at behind))
+pub goes_on : (old new rest run after following : List ℕ) (c : ℕ) (total : Content) → with_content old (content_at rest) ≡ total → run ≡ take_while is_plain rest → after ≡ past_run is_plain rest → new ≡ (old ++ run) ++ c ∷ [] → begins (λ b. b == 34) after ≡ false → escape_at after ≡ Some (c, following) → with_content new (content_at following) ≡ total
+goes_on old new rest run after following c total so_far r a n h e =
+    let here = content_at-escaped rest c following (ap (begins (λ b. b == 34)) (sym a) ∙ h) (ap escape_at (sym a) ∙ e) in
+    ap (λ (l : List ℕ). with_content l (content_at following)) (n ∙ ap (λ (l : List ℕ). (old ++ l) ++ c ∷ []) r ∙ append_assoc old (take_while is_plain rest) (c ∷ []))
+    ∙ sym (with_both old (take_while is_plain rest ++ c ∷ []) (content_at following))
     ∙ ap (with_content old) (sym here)
     ∙ so_far

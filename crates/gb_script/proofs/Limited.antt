@@ -77,7 +77,7 @@ module _ {A : Type 0} {P : A → Type 0} (m : A → List Leveled) {r : Reader A}
             record {
               value = some.0 ∷ [];
               fits = (some.1, tt);
-              front = [];
+              prefix = [];
               over = (Mark Dot, n);
               more = m some.0 ++ [];
               rest = drop 1 ts;

@@ -14,7 +14,7 @@ use Rattle.gb_script.specs.Scanning.{scan}
 use Rattle.gb_script.specs.Grammar.{Leveled, clause_spelled, statement_spelled, script_spelled}
 use Rattle.gb_script.specs.Fits.{IsScript}
 use Rattle.gb_script.specs.Notation.{tokens_in, line_of, IsSaid}
-use Rattle.gb_script.specs.Telling.{line_left, fault_reported}
+use Rattle.gb_script.specs.Reporting.{line_left, fault_reported}
 use Rattle.gb_script.specs.Reading.{Fails, all_at}
 use Rattle.gb_script.specs.Readers.{script_at}
 use Rattle.gb_script.specs.Lines.{each_from, clauses_in, before_clauses, statement_lines, script_lines, AreLinesOf}
@@ -35,32 +35,32 @@ module _ (bytes : List ℕ) (short : length bytes ≤ 1048576) (utf8 : IsUtf8 by
   abbrev line : ℕ → ℕ
   line n = line_left bytes (lines_of all) n
 
-  line_same : (front rest : List Placed) → all ≡ front ++ rest → line (length rest) ≡ line_of bytes rest
-  line_same front rest h = line_is Reads-script script_ends_text bytes short utf8 (length rest) (lines_of all) front rest refl h (sym (length-map rest (λ (p : Placed). p.0)))
+  line_same : (prefix rest : List Placed) → all ≡ prefix ++ rest → line (length rest) ≡ line_of bytes rest
+  line_same prefix rest h = line_is Reads-script script_ends_text bytes short utf8 (length rest) (lines_of all) prefix rest refl h (sym (length-map rest (λ (p : Placed). p.0)))
 
-  each_same : {A B : Type 0} (m : A → List Leveled) (f : A → ℕ → B) (g : A → List Placed → B) → ((x : A) (front rest : List Placed) → all ≡ front ++ rest → f x (length rest) ≡ g x rest) → (xs : List A) (front rest : List Placed) → all ≡ front ++ rest → firsts f m xs (length rest) ≡ each_from g m xs rest
-  each_same m f g same [] front rest h = refl
-  each_same {B} m f g same (x ∷ xs) front rest h =
+  each_same : {A B : Type 0} (m : A → List Leveled) (f : A → ℕ → B) (g : A → List Placed → B) → ((x : A) (prefix rest : List Placed) → all ≡ prefix ++ rest → f x (length rest) ≡ g x rest) → (xs : List A) (prefix rest : List Placed) → all ≡ prefix ++ rest → firsts f m xs (length rest) ≡ each_from g m xs rest
+  each_same m f g same [] prefix rest h = refl
+  each_same {B} m f g same (x ∷ xs) prefix rest h =
       let k = length (m x) in
-      ap (λ (y : B). y ∷ firsts f m xs (length rest - k)) (same x front rest h)
+      ap (λ (y : B). y ∷ firsts f m xs (length rest - k)) (same x prefix rest h)
       ∙ ap (λ n. g x rest ∷ firsts f m xs n) (sym (length-drop k rest))
-      ∙ ap (λ (ys : List B). g x rest ∷ ys) (each_same m f g same xs (front ++ take k rest) (drop k rest) (cut_at k front rest h))
+      ∙ ap (λ (ys : List B). g x rest ∷ ys) (each_same m f g same xs (prefix ++ take k rest) (drop k rest) (cut_at k prefix rest h))
     where
-      cut_at : (k : ℕ) (front rest : List Placed) → all ≡ front ++ rest → all ≡ (front ++ take k rest) ++ drop k rest
-      cut_at k front rest h = h ∙ ap (λ (l : List Placed). front ++ l) (sym (take-append-drop k rest)) ∙ sym (append_assoc front (take k rest) (drop k rest))
+      cut_at : (k : ℕ) (prefix rest : List Placed) → all ≡ prefix ++ rest → all ≡ (prefix ++ take k rest) ++ drop k rest
+      cut_at k prefix rest h = h ∙ ap (λ (l : List Placed). prefix ++ l) (sym (take-append-drop k rest)) ∙ sym (append_assoc prefix (take k rest) (drop k rest))
 
-  clauses_lines : (cs : List Clause) (front rest : List Placed) → all ≡ front ++ rest → clause_firsts line cs (length rest) ≡ each_from (λ c. line_of bytes) (clause_spelled 0) cs rest
-  clauses_lines cs front rest h = each_same (clause_spelled 0) (clause_first line) (λ c. line_of bytes) (λ c. line_same) cs front rest h
+  clauses_lines : (cs : List Clause) (prefix rest : List Placed) → all ≡ prefix ++ rest → clause_firsts line cs (length rest) ≡ each_from (λ c. line_of bytes) (clause_spelled 0) cs rest
+  clauses_lines cs prefix rest h = each_same (clause_spelled 0) (clause_first line) (λ c. line_of bytes) (λ c. line_same) cs prefix rest h
 
-  one_statement : (s : Statement) (front rest : List Placed) → all ≡ front ++ rest → statement_first line s (length rest) ≡ statement_lines bytes s rest
-  one_statement s front rest h =
+  one_statement : (s : Statement) (prefix rest : List Placed) → all ≡ prefix ++ rest → statement_first line s (length rest) ≡ statement_lines bytes s rest
+  one_statement s prefix rest h =
       let k = length (before_clauses s) in
-      ap (λ n. (n, clause_firsts line (clauses_in s) (length rest - k))) (line_same front rest h)
+      ap (λ n. (n, clause_firsts line (clauses_in s) (length rest - k))) (line_same prefix rest h)
       ∙ ap (λ n. (line_of bytes rest, clause_firsts line (clauses_in s) n)) (sym (length-drop k rest))
-      ∙ ap (λ (ls : List ℕ). (line_of bytes rest, ls)) (clauses_lines (clauses_in s) (front ++ take k rest) (drop k rest) (cut_at k))
+      ∙ ap (λ (ls : List ℕ). (line_of bytes rest, ls)) (clauses_lines (clauses_in s) (prefix ++ take k rest) (drop k rest) (cut_at k))
     where
-      cut_at : (k : ℕ) → all ≡ (front ++ take k rest) ++ drop k rest
-      cut_at k = h ∙ ap (λ (l : List Placed). front ++ l) (sym (take-append-drop k rest)) ∙ sym (append_assoc front (take k rest) (drop k rest))
+      cut_at : (k : ℕ) → all ≡ (prefix ++ take k rest) ++ drop k rest
+      cut_at k = h ∙ ap (λ (l : List Placed). prefix ++ l) (sym (take-append-drop k rest)) ∙ sym (append_assoc prefix (take k rest) (drop k rest))
 
   statements_lines : (ss : List Statement) → firsts (statement_first line) (statement_spelled 0) ss (length all) ≡ script_lines bytes ss all
   statements_lines ss = each_same (statement_spelled 0) (statement_first line) (statement_lines bytes) one_statement ss [] all refl

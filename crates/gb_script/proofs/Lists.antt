@@ -12,8 +12,8 @@ use Rattle.gb_script.proofs.Singles.{Reads-skip, tests_sign}
 use Rattle.gb_script.proofs.Many.{Reads-many, AllFrom, ends_all, both_true, and_true}
 
 module _ {A : Type 0} {P : A → Type 0} {m : A → List Leveled} {e : A → Option Token → Bool} {r : Reader A} (R : Reads P m e r) (some : (a : A) × P a) where
-  abbrev behind : A → List Leveled
-  behind a = (Mark Comma, 0) ∷ m a
+  abbrev following : A → List Leveled
+  following a = (Mark Comma, 0) ∷ m a
 
   abbrev pub IsList : List A → Type 0
   IsList [] = ⊥
@@ -21,13 +21,13 @@ module _ {A : Type 0} {P : A → Type 0} {m : A → List Leveled} {e : A → Opt
 
   abbrev pub list_ends : List A → Option Token → Bool
   list_ends [] o = true
-  list_ends (x ∷ xs) o = e x (first_or (flat_map behind xs) o) && ends_all behind e (is_sign Comma) xs o
+  list_ends (x ∷ xs) o = e x (first_or (flat_map following xs) o) && ends_all following e (is_sign Comma) xs o
 
-  Reads-past : Reads P behind e (past_at (is_sign Comma) r)
+  Reads-past : Reads P following e (past_at (is_sign Comma) r)
   unfolding past_at
   Reads-past = Reads-skip (tests_sign Comma) R some
 
-  Reads-others : Reads (AllFrom (λ s. P) no_matter tt) (flat_map behind) (ends_all behind e (is_sign Comma)) (λ ts. many_at (is_sign Comma) no_matter (λ s. past_at (is_sign Comma) r) (length ts) tt ts)
+  Reads-others : Reads (AllFrom (λ s. P) no_matter tt) (flat_map following) (ends_all following e (is_sign Comma)) (λ ts. many_at (is_sign Comma) no_matter (λ s. past_at (is_sign Comma) r) (length ts) tt ts)
   Reads-others =
       Reads-many {P = λ s. P} {r = λ s. past_at (is_sign Comma) r} (is_sign Comma) no_matter (λ s. Reads-past)
       (λ s a p. record { head = (Mark Comma, 0); tail = m a; whole = refl; passes = (tests_sign Comma).same }) tt
@@ -39,7 +39,7 @@ module _ {A : Type 0} {P : A → Type 0} {m : A → List Leveled} {e : A → Opt
   abbrev IsAfter : A → List A → Type 0
   IsAfter a l = (l ≡ a ∷ rest_of l) × AllFrom (λ s. P) no_matter tt (rest_of l)
 
-  Reads-after : (a : A) → Reads (IsAfter a) (λ l. flat_map behind (rest_of l)) (λ l o. ends_all behind e (is_sign Comma) (rest_of l) o) (λ ts. many_at (is_sign Comma) no_matter (λ s. past_at (is_sign Comma) r) (length ts) tt ts >>= λ others. Ok (a ∷ others.0, others.1))
+  Reads-after : (a : A) → Reads (IsAfter a) (λ l. flat_map following (rest_of l)) (λ l o. ends_all following e (is_sign Comma) (rest_of l) o) (λ ts. many_at (is_sign Comma) no_matter (λ s. past_at (is_sign Comma) r) (length ts) tt ts >>= λ others. Ok (a ∷ others.0, others.1))
   Reads-after a = Reads-made Reads-others (λ others. a ∷ others) rest_of (λ others. refl)
 
   list_split : (l : List A) → IsList l → (a : A) × P a × IsAfter a l

@@ -9,55 +9,55 @@ use Rattle.gb_script.specs.declared.token.Token.{Token}
 use Rattle.gb_script.specs.Lexing.{begins}
 use Rattle.gb_script.specs.Reading.{Reader, ◌>>=◌, Fails, deep, is_sign, past_at, many_at, list_at, no_matter}
 
-abbrev pub with_front : {A : Type 0} → List A → Result (List A × List Token) Fault → Result (List A × List Token) Fault
-with_front front read = read >>= λ x. Ok (front ++ x.0, x.1)
+abbrev pub with_prefix : {A : Type 0} → List A → Result (List A × List Token) Fault → Result (List A × List Token) Fault
+with_prefix prefix read = read >>= λ x. Ok (prefix ++ x.0, x.1)
 
-regroup : {A : Type 0} (front : List A) (x : A) (read : Result (List A × List Token) Fault) → with_front front (read >>= λ others. Ok (x ∷ others.0, others.1)) ≡ with_front (front ++ x ∷ []) read
-regroup {A} front x (Ok others) = ap (λ (xs : List A). Ok (xs, others.1)) (sym (append_assoc front (x ∷ []) others.0))
-regroup front x (Err f) = refl
+regroup : {A : Type 0} (prefix : List A) (x : A) (read : Result (List A × List Token) Fault) → with_prefix prefix (read >>= λ others. Ok (x ∷ others.0, others.1)) ≡ with_prefix (prefix ++ x ∷ []) read
+regroup {A} prefix x (Ok others) = ap (λ (xs : List A). Ok (xs, others.1)) (sym (append_assoc prefix (x ∷ []) others.0))
+regroup prefix x (Err f) = refl
 
 module _ {S A : Type 0} (test : Token → Bool) (next : S → A → S) (r : S → Reader A) where
-  step : (front : List A) (n : ℕ) (s : S) (ts after : List Token) (x : A) → begins test ts ≡ true → r s ts ≡ Ok (x, after) → with_front front (many_at test next r (suc n) s ts) ≡ with_front (front ++ x ∷ []) (many_at test next r n (next s x) after)
+  step : (prefix : List A) (n : ℕ) (s : S) (ts after : List Token) (x : A) → begins test ts ≡ true → r s ts ≡ Ok (x, after) → with_prefix prefix (many_at test next r (suc n) s ts) ≡ with_prefix (prefix ++ x ∷ []) (many_at test next r n (next s x) after)
   unfolding many_at
-  step front n s ts after x begun found = rw (begun, found) (regroup front x (many_at test next r n (next s x) after))
+  step prefix n s ts after x begun found = rw (begun, found) (regroup prefix x (many_at test next r n (next s x) after))
 
-  pub goes_on : (front new : List A) (n m : ℕ) (s t : S) (ts after : List Token) (x : A) (total : Result (List A × List Token) Fault) → begins test ts ≡ true → n ≡ suc m → t ≡ next s x → new ≡ front ++ x ∷ [] → r s ts ≡ Ok (x, after) → with_front front (many_at test next r n s ts) ≡ total → with_front new (many_at test next r m t after) ≡ total
-  goes_on front new n m s t ts after x total begun k same longer found so_far =
-      ap (λ (l : List A). with_front l (many_at test next r m t after)) longer
-      ∙ ap (λ (i : S). with_front (front ++ x ∷ []) (many_at test next r m i after)) same
-      ∙ sym (step front m s ts after x begun found)
-      ∙ (ap (λ i. with_front front (many_at test next r i s ts)) (sym k) ∙ so_far)
+  pub goes_on : (prefix new : List A) (n m : ℕ) (s t : S) (ts after : List Token) (x : A) (total : Result (List A × List Token) Fault) → begins test ts ≡ true → n ≡ suc m → t ≡ next s x → new ≡ prefix ++ x ∷ [] → r s ts ≡ Ok (x, after) → with_prefix prefix (many_at test next r n s ts) ≡ total → with_prefix new (many_at test next r m t after) ≡ total
+  goes_on prefix new n m s t ts after x total begun k same longer found so_far =
+      ap (λ (l : List A). with_prefix l (many_at test next r m t after)) longer
+      ∙ ap (λ (i : S). with_prefix (prefix ++ x ∷ []) (many_at test next r m i after)) same
+      ∙ sym (step prefix m s ts after x begun found)
+      ∙ (ap (λ i. with_prefix prefix (many_at test next r i s ts)) (sym k) ∙ so_far)
 
-  stops_here : (e : Stop) (front : List A) (n : ℕ) (s : S) (ts : List Token) → begins test ts ≡ true → Fails e (r s ts) → Fails e (with_front front (many_at test next r (suc n) s ts))
+  stops_here : (e : Stop) (prefix : List A) (n : ℕ) (s : S) (ts : List Token) → begins test ts ≡ true → Fails e (r s ts) → Fails e (with_prefix prefix (many_at test next r (suc n) s ts))
   unfolding many_at
-  stops_here stops.Memory front n s ts begun fails = tt
-  stops_here (stops.Fault f) front n s ts begun fails = rw (begun, fails) refl
+  stops_here stops.Memory prefix n s ts begun fails = tt
+  stops_here (stops.Fault f) prefix n s ts begun fails = rw (begun, fails) refl
 
-  pub ends : (e : Stop) (front : List A) (n m : ℕ) (s : S) (ts : List Token) (total : Result (List A × List Token) Fault) → begins test ts ≡ true → n ≡ suc m → Fails e (r s ts) → with_front front (many_at test next r n s ts) ≡ total → Fails e total
-  ends stops.Memory front n m s ts total begun k fails so_far = tt
-  ends (stops.Fault f) front n m s ts total begun k fails so_far = sym so_far ∙ (ap (λ i. with_front front (many_at test next r i s ts)) k ∙ stops_here (stops.Fault f) front m s ts begun fails)
+  pub ends : (e : Stop) (prefix : List A) (n m : ℕ) (s : S) (ts : List Token) (total : Result (List A × List Token) Fault) → begins test ts ≡ true → n ≡ suc m → Fails e (r s ts) → with_prefix prefix (many_at test next r n s ts) ≡ total → Fails e total
+  ends stops.Memory prefix n m s ts total begun k fails so_far = tt
+  ends (stops.Fault f) prefix n m s ts total begun k fails so_far = sym so_far ∙ (ap (λ i. with_prefix prefix (many_at test next r i s ts)) k ∙ stops_here (stops.Fault f) prefix m s ts begun fails)
 
   pub none_left : (n : ℕ) (s : S) (ts : List Token) → begins test ts ≡ false → many_at test next r n s ts ≡ Ok ([], ts)
   unfolding many_at
   none_left zero s ts over = rw over refl
   none_left (suc n) s ts over = rw over refl
 
-  pub too_many : (front : List A) (n : ℕ) (s : S) (ts : List Token) (total : Result (List A × List Token) Fault) → begins test ts ≡ true → n ≡ 0 → with_front front (many_at test next r n s ts) ≡ total → total ≡ deep ts
+  pub too_many : (prefix : List A) (n : ℕ) (s : S) (ts : List Token) (total : Result (List A × List Token) Fault) → begins test ts ≡ true → n ≡ 0 → with_prefix prefix (many_at test next r n s ts) ≡ total → total ≡ deep ts
   unfolding many_at
-  too_many front n s ts total begun none so_far =
-      let here : with_front front (many_at test next r n s ts) ≡ deep ts = rw (none, begun) refl in
+  too_many prefix n s ts total begun none so_far =
+      let here : with_prefix prefix (many_at test next r n s ts) ≡ deep ts = rw (none, begun) refl in
       sym so_far ∙ here
 
-  pub is_done : (front : List A) (n : ℕ) (s : S) (ts : List Token) (total : Result (List A × List Token) Fault) → begins test ts ≡ false → with_front front (many_at test next r n s ts) ≡ total → total ≡ Ok (front, ts)
-  is_done front n s ts total over so_far =
-      sym so_far ∙ (ap (with_front front) (none_left n s ts over) ∙ ap (λ (xs : List A). Ok (xs, ts)) (append-nil front))
+  pub is_done : (prefix : List A) (n : ℕ) (s : S) (ts : List Token) (total : Result (List A × List Token) Fault) → begins test ts ≡ false → with_prefix prefix (many_at test next r n s ts) ≡ total → total ≡ Ok (prefix, ts)
+  is_done prefix n s ts total over so_far =
+      sym so_far ∙ (ap (with_prefix prefix) (none_left n s ts over) ∙ ap (λ (xs : List A). Ok (xs, ts)) (append-nil prefix))
 
 -- the first of a list, before a loop over the others
-pub starts_list : {A : Type 0} (r : Reader A) (ts after : List Token) (x : A) (front : List A) (n : ℕ) → r ts ≡ Ok (x, after) → front ≡ x ∷ [] → n ≡ length after → with_front front (many_at (is_sign Comma) no_matter (λ s. past_at (is_sign Comma) r) n tt after) ≡ list_at r ts
+pub starts_list : {A : Type 0} (r : Reader A) (ts after : List Token) (x : A) (prefix : List A) (n : ℕ) → r ts ≡ Ok (x, after) → prefix ≡ x ∷ [] → n ≡ length after → with_prefix prefix (many_at (is_sign Comma) no_matter (λ s. past_at (is_sign Comma) r) n tt after) ≡ list_at r ts
 unfolding list_at
-starts_list r ts after x front n found one fuel =
-    ap (λ f. with_front f (many_at (is_sign Comma) no_matter (λ s. past_at (is_sign Comma) r) n tt after)) one
-    ∙ ap (λ i. with_front (x ∷ []) (many_at (is_sign Comma) no_matter (λ s. past_at (is_sign Comma) r) i tt after)) fuel
+starts_list r ts after x prefix n found one fuel =
+    ap (λ f. with_prefix f (many_at (is_sign Comma) no_matter (λ s. past_at (is_sign Comma) r) n tt after)) one
+    ∙ ap (λ i. with_prefix (x ∷ []) (many_at (is_sign Comma) no_matter (λ s. past_at (is_sign Comma) r) i tt after)) fuel
     ∙ sym (ap (λ read. read >>= λ first. many_at (is_sign Comma) no_matter (λ s. past_at (is_sign Comma) r) (length first.1) tt first.1 >>= λ others. Ok (first.0 ∷ others.0, others.1)) found)
 
 -- no list without its first

@@ -12,7 +12,7 @@ use Rattle.gb_script.specs.Reading.{Reader, ◌>>=◌, many_at}
 use Rattle.gb_script.proofs.Runs.{cases_bool}
 use Rattle.gb_script.proofs.Loop.{none_left, begins_some}
 use Rattle.gb_script.proofs.Readers.{Reads, Taken, StrayIn, DeepIn, first, first_or, first_is, first_same, ok_is, bind_ok, bind_err, checked, checked-bind, checked-append, checked-within, tokens_of-append, within-append}
-use Rattle.gb_script.proofs.Singles.{begins_front}
+use Rattle.gb_script.proofs.Singles.{begins_prefix}
 use Rattle.gb_script.proofs.Maybe.{stops, stops_is, is_stop, Begun, begun_begins}
 
 pub both_true : (a b : Bool) → (a && b) ≡ true → (a ≡ true) × (b ≡ true)
@@ -161,12 +161,12 @@ module _ {S A : Type 0} {P : S → A → Type 0} {m : A → List Leveled} {e : A
       ∙ ap (checked (m x) rest) (checked-bind (flat_map m xs) k (Ok (xs, k)) (λ y. Ok (x ∷ y.0, y.1)))
       ∙ sym (checked-append (m x) (flat_map m xs) k (Ok (x ∷ xs, k)))
 
-  again_first : (s : S) (ts rest : List Token) (a : A) (front : List Leveled) (b : Token) (bad other : List Token) → Taken (P s) m e ts a rest → rest ≡ tokens_of front ++ b ∷ bad → whole s (tokens_of (m a ++ front) ++ b ∷ other) ≡ with_one a (whole (next s a) (tokens_of front ++ b ∷ other))
-  again_first s ts rest a front b bad other t at =
-      let k = tokens_of front ++ b ∷ other in
-      ap (whole s) (tokens_of-append (m a) front (b ∷ other))
+  again_first : (s : S) (ts rest : List Token) (a : A) (prefix : List Leveled) (b : Token) (bad other : List Token) → Taken (P s) m e ts a rest → rest ≡ tokens_of prefix ++ b ∷ bad → whole s (tokens_of (m a ++ prefix) ++ b ∷ other) ≡ with_one a (whole (next s a) (tokens_of prefix ++ b ∷ other))
+  again_first s ts rest a prefix b bad other t at =
+      let k = tokens_of prefix ++ b ∷ other in
+      ap (whole s) (tokens_of-append (m a) prefix (b ∷ other))
       ∙ goes_on s (tokens_of (m a) ++ k) (begun_begins test (m a) k (begun s a t.fits))
-      ∙ ap (λ read. read >>= λ x. then_whole s x) ((R s).again a k t.fits (ap (e a) (first_same front b other bad ∙ ap first (sym at)) ∙ t.ends_there) ∙ checked-within (m a) k (Ok (a, k)) t.within)
+      ∙ ap (λ read. read >>= λ x. then_whole s x) ((R s).again a k t.fits (ap (e a) (first_same prefix b other bad ∙ ap first (sym at)) ∙ t.ends_there) ∙ checked-within (m a) k (Ok (a, k)) t.within)
 
   strays_all : (n : ℕ) (s : S) (ts : List Token) (k : ℕ) → length ts ≤ n → whole s ts ≡ Err (Stray k) → StrayIn (AllFrom P next s) (flat_map m) (whole s) ts k
   strays_all zero s ts k p h =
@@ -184,7 +184,7 @@ module _ {S A : Type 0} {P : S → A → Type 0} {m : A → List Leveled} {e : A
                   record {
                     value = t.value ∷ [];
                     fits = (t.fits, tt);
-                    front = t.front;
+                    prefix = t.prefix;
                     more = t.more;
                     bad = t.bad;
                     whole = append-nil (m t.value) ∙ t.whole;
@@ -192,7 +192,7 @@ module _ {S A : Type 0} {P : S → A → Type 0} {m : A → List Leveled} {e : A
                     size = t.size;
                     within = t.within;
                     only = λ b rest other at.
-                        goes_on s (tokens_of t.front ++ b ∷ other) (begins_front test t.front b other rest ∙ ap (begins test) (sym (t.spelled ∙ ap (λ (l : List Token). tokens_of t.front ++ l) at)) ∙ y.0)
+                        goes_on s (tokens_of t.prefix ++ b ∷ other) (begins_prefix test t.prefix b other rest ∙ ap (begins test) (sym (t.spelled ∙ ap (λ (l : List Token). tokens_of t.prefix ++ l) at)) ∙ y.0)
                         ∙ ap (λ read. read >>= λ x. then_whole s x) (t.only b rest other at);
                   }
               | inr x ↦
@@ -204,15 +204,15 @@ module _ {S A : Type 0} {P : S → A → Type 0} {m : A → List Leveled} {e : A
                   record {
                     value = a ∷ u.value;
                     fits = (t.fits, u.fits);
-                    front = m a ++ u.front;
+                    prefix = m a ++ u.prefix;
                     more = u.more;
                     bad = u.bad;
-                    whole = ap (λ (l : List Leveled). m a ++ l) u.whole ∙ sym (append_assoc (m a) u.front u.more);
-                    spelled = t.spelled ∙ ap (λ (l : List Token). tokens_of (m a) ++ l) u.spelled ∙ sym (tokens_of-append (m a) u.front u.bad);
+                    whole = ap (λ (l : List Leveled). m a ++ l) u.whole ∙ sym (append_assoc (m a) u.prefix u.more);
+                    spelled = t.spelled ∙ ap (λ (l : List Token). tokens_of (m a) ++ l) u.spelled ∙ sym (tokens_of-append (m a) u.prefix u.bad);
                     size = u.size;
-                    within = within-append (m a) u.front t.within u.within;
+                    within = within-append (m a) u.prefix t.within u.within;
                     only = λ b rest other at.
-                        again_first s ts x.0.1 a u.front b rest other t (u.spelled ∙ ap (λ (l : List Token). tokens_of u.front ++ l) at)
+                        again_first s ts x.0.1 a u.prefix b rest other t (u.spelled ∙ ap (λ (l : List Token). tokens_of u.prefix ++ l) at)
                         ∙ ap (with_one a) (u.only b rest other at);
                   }
             ]
@@ -234,7 +234,7 @@ module _ {S A : Type 0} {P : S → A → Type 0} {m : A → List Leveled} {e : A
                   record {
                     value = t.value ∷ [];
                     fits = (t.fits, tt);
-                    front = t.front;
+                    prefix = t.prefix;
                     over = t.over;
                     more = t.more;
                     rest = t.rest;
@@ -244,7 +244,7 @@ module _ {S A : Type 0} {P : S → A → Type 0} {m : A → List Leveled} {e : A
                     within = t.within;
                     past = t.past;
                     only = λ other.
-                        goes_on s (tokens_of t.front ++ t.over.0 ∷ other) (begins_front test t.front t.over.0 other t.rest ∙ ap (begins test) (sym t.spelled) ∙ y.0)
+                        goes_on s (tokens_of t.prefix ++ t.over.0 ∷ other) (begins_prefix test t.prefix t.over.0 other t.rest ∙ ap (begins test) (sym t.spelled) ∙ y.0)
                         ∙ ap (λ read. read >>= λ x. then_whole s x) (t.only other);
                   }
               | inr x ↦
@@ -256,16 +256,16 @@ module _ {S A : Type 0} {P : S → A → Type 0} {m : A → List Leveled} {e : A
                   record {
                     value = a ∷ u.value;
                     fits = (t.fits, u.fits);
-                    front = m a ++ u.front;
+                    prefix = m a ++ u.prefix;
                     over = u.over;
                     more = u.more;
                     rest = u.rest;
-                    whole = ap (λ (l : List Leveled). m a ++ l) u.whole ∙ sym (append_assoc (m a) u.front (u.over ∷ u.more));
-                    spelled = t.spelled ∙ ap (λ (l : List Token). tokens_of (m a) ++ l) u.spelled ∙ sym (tokens_of-append (m a) u.front (u.over.0 ∷ u.rest));
+                    whole = ap (λ (l : List Leveled). m a ++ l) u.whole ∙ sym (append_assoc (m a) u.prefix (u.over ∷ u.more));
+                    spelled = t.spelled ∙ ap (λ (l : List Token). tokens_of (m a) ++ l) u.spelled ∙ sym (tokens_of-append (m a) u.prefix (u.over.0 ∷ u.rest));
                     size = u.size;
-                    within = within-append (m a) u.front t.within u.within;
+                    within = within-append (m a) u.prefix t.within u.within;
                     past = u.past;
-                    only = λ other. again_first s ts x.0.1 a u.front u.over.0 u.rest other t u.spelled ∙ ap (with_one a) (u.only other);
+                    only = λ other. again_first s ts x.0.1 a u.prefix u.over.0 u.rest other t u.spelled ∙ ap (with_one a) (u.only other);
                   }
             ]
       ]

@@ -9,7 +9,7 @@ use Rattle.gb_script.specs.Verdict.{AllWithin}
 use Rattle.gb_script.specs.Reading.{Reader, maybe_at}
 use Rattle.gb_script.proofs.Runs.{cases_bool}
 use Rattle.gb_script.proofs.Readers.{Reads, Taken, StrayIn, DeepIn, first, checked, ok_is}
-use Rattle.gb_script.proofs.Singles.{begins_front}
+use Rattle.gb_script.proofs.Singles.{begins_prefix}
 
 -- the next token fails the test, or there is none
 abbrev pub stops : (Token → Bool) → Option Token → Bool
@@ -104,7 +104,7 @@ module _ {A : Type 0} {P : A → Type 0} {m : A → List Leveled} {e : A → Opt
             record {
               value = s.value;
               fits = is-some s.value s.fits;
-              front = s.front;
+              prefix = s.prefix;
               more = s.more;
               bad = s.bad;
               whole = marks-some s.value s.fits ∙ s.whole;
@@ -112,7 +112,7 @@ module _ {A : Type 0} {P : A → Type 0} {m : A → List Leveled} {e : A → Opt
               size = s.size;
               within = s.within;
               only = λ b rest other at.
-                  present (tokens_of s.front ++ b ∷ other) (begins_front test s.front b other rest ∙ ap (begins test) (sym (s.spelled ∙ ap (λ (l : List Token). tokens_of s.front ++ l) at)) ∙ y)
+                  present (tokens_of s.prefix ++ b ∷ other) (begins_prefix test s.prefix b other rest ∙ ap (begins test) (sym (s.spelled ∙ ap (λ (l : List Token). tokens_of s.prefix ++ l) at)) ∙ y)
                   ∙ s.only b rest other at;
             }
         | inr y ↦ absurd (let no : nothing ts ≡ Err (Stray n) = sym (missing ts y) ∙ h in cc)
@@ -126,7 +126,7 @@ module _ {A : Type 0} {P : A → Type 0} {m : A → List Leveled} {e : A → Opt
             record {
               value = s.value;
               fits = is-some s.value s.fits;
-              front = s.front;
+              prefix = s.prefix;
               over = s.over;
               more = s.more;
               rest = s.rest;
@@ -135,7 +135,7 @@ module _ {A : Type 0} {P : A → Type 0} {m : A → List Leveled} {e : A → Opt
               size = s.size;
               within = s.within;
               past = s.past;
-              only = λ other. present (tokens_of s.front ++ s.over.0 ∷ other) (begins_front test s.front s.over.0 other s.rest ∙ ap (begins test) (sym s.spelled) ∙ y) ∙ s.only other;
+              only = λ other. present (tokens_of s.prefix ++ s.over.0 ∷ other) (begins_prefix test s.prefix s.over.0 other s.rest ∙ ap (begins test) (sym s.spelled) ∙ y) ∙ s.only other;
             }
         | inr y ↦ absurd (let no : nothing ts ≡ Err (Deep n) = sym (missing ts y) ∙ h in cc)
       ]

@@ -47,7 +47,7 @@ module _ {B : Type 0} (P : B → Type 0) (m : B → List Leveled) (e : B → Opt
               record {
                 value = some.0;
                 fits = some.1;
-                front = [];
+                prefix = [];
                 over = (Mark s, d + 1);
                 more = m some.0;
                 rest = drop 1 ts;
@@ -65,7 +65,7 @@ module _ {B : Type 0} (P : B → Type 0) (m : B → List Leveled) (e : B → Opt
   opening_strays room ts n y size = record {
     value = some.0;
     fits = some.1;
-    front = [];
+    prefix = [];
     more = (Mark s, d + 1) ∷ m some.0;
     bad = ts;
     whole = refl;
@@ -106,14 +106,14 @@ module _ {B : Type 0} (P : B → Type 0) (m : B → List Leveled) (e : B → Opt
               record {
                 value = t.value;
                 fits = t.fits;
-                front = (Mark s, d + 1) ∷ t.front;
+                prefix = (Mark s, d + 1) ∷ t.prefix;
                 more = t.more;
                 bad = t.bad;
                 whole = ap (λ (l : List Leveled). (Mark s, d + 1) ∷ l) t.whole;
                 spelled = begins_is (tests_sign s) ts y ∙ ap (λ (l : List Token). Mark s ∷ l) t.spelled;
                 size = t.size;
                 within = (fits_level, t.within);
-                only = λ b rest other at. opened_is (Mark s ∷ (tokens_of t.front ++ b ∷ other)) (tests_sign s).same ∙ t.only b rest other at;
+                only = λ b rest other at. opened_is (Mark s ∷ (tokens_of t.prefix ++ b ∷ other)) (tests_sign s).same ∙ t.only b rest other at;
               }
           | inr y ↦ (let at : stray {A = B × List Token} ts ≡ Err (Stray k) = sym (ap (λ read. read >>= λ o. r o.0 o.1) (open_fails s (suc n) ts y)) ∙ h in let size : k ≡ length ts = cc in opening_strays (suc n) ts k y size)
         ]
@@ -126,7 +126,7 @@ module _ {B : Type 0} (P : B → Type 0) (m : B → List Leveled) (e : B → Opt
               record {
                 value = t.value;
                 fits = t.fits;
-                front = (Mark s, d + 1) ∷ t.front;
+                prefix = (Mark s, d + 1) ∷ t.prefix;
                 over = t.over;
                 more = t.more;
                 rest = t.rest;
@@ -135,7 +135,7 @@ module _ {B : Type 0} (P : B → Type 0) (m : B → List Leveled) (e : B → Opt
                 size = t.size;
                 within = (fits_level, t.within);
                 past = t.past;
-                only = λ other. opened_is (Mark s ∷ (tokens_of t.front ++ t.over.0 ∷ other)) (tests_sign s).same ∙ t.only other;
+                only = λ other. opened_is (Mark s ∷ (tokens_of t.prefix ++ t.over.0 ∷ other)) (tests_sign s).same ∙ t.only other;
               }
           | inr y ↦ absurd (let no : stray {A = B × List Token} ts ≡ Err (Deep k) = sym (ap (λ read. read >>= λ o. r o.0 o.1) (open_fails s (suc n) ts y)) ∙ h in cc)
         ]

@@ -10,15 +10,15 @@ use Rattle.gb_script.specs.declared.token.Sign.TheVariants.{OpenBrace, CloseBrac
 use Rattle.gb_script.specs.declared.token.Token.TheVariants.{Word, Text, Mark, Wrong}
 use Rattle.gb_script.specs.declared.lexing.Part.{Part}
 use Rattle.gb_script.specs.declared.lexing.Part.TheVariants.{Newline, Gap, Found}
-use Rattle.gb_script.specs.Lexing.{begins, is_blank, is_newline, is_writable, escaped, sign_byte, Piece, Blank, Comment, Single, written, Stands, IsCut, IsStuck, Placed, newlines, placed, HasTokens}
+use Rattle.gb_script.specs.Lexing.{begins, is_blank, is_newline, is_writable, escaped, sign_byte, Piece, Blank, Comment, Single, written, MayPrecede, IsCut, IsStuck, Placed, newlines, placed, HasTokens}
 use Rattle.gb_script.specs.Scanning.{sign_of, past_run, content_at, lost, text_of, word_at, comment_at, mark_of, part_at, scan_next, scan_at, scan}
 use Rattle.gb_script.proofs.Runs.{cases_bool}
 use Rattle.gb_script.proofs.Contents.{run_stops}
 use Rattle.gb_script.proofs.Scans.{part_short, scan_is}
 use Rattle.gb_script.proofs.Cuts.{run_taken, run_passed, run_back, all_taken, and_both, content_again, content_found}
 
-abbrev Front : Type 0
-Front = Part × List ℕ
+abbrev Prefix : Type 0
+Prefix = Part × List ℕ
 
 -- the part that a piece is
 abbrev blank_part : Bool → Part
@@ -91,7 +91,7 @@ mark_again Dot rest = refl
 mark_again Colon rest = refl
 mark_again Equals rest = refl
 
-pub part_again : (p : Piece) (rest : List ℕ) → Stands p rest → part_at (written p ++ rest) ≡ (part_of p, rest)
+pub part_again : (p : Piece) (rest : List ℕ) → MayPrecede p rest → part_at (written p ++ rest) ≡ (part_of p, rest)
 part_again (Blank b) rest h = blank_again b rest h
 part_again (Comment c) rest h = comment_again c rest h.0 h.1
 part_again (Single (Word w)) rest h = word_again w rest h.0 h.1
@@ -101,18 +101,18 @@ part_again (Single Wrong) rest h = absurd h
 
 -- ---- what is found is a piece
 
-record IsPiece (text : List ℕ) (front : Front) : Type 0 where
+record IsPiece (text : List ℕ) (prefix : Prefix) : Type 0 where
   piece : Piece
   rest : List ℕ
-  is : front ≡ (part_of piece, rest)
+  is : prefix ≡ (part_of piece, rest)
   whole : text ≡ written piece ++ rest
-  stands : Stands piece rest
+  exists : MayPrecede piece rest
 
-abbrev Either : List ℕ → Front → Type 0
-Either text front = (front ≡ lost) ⊎ IsPiece text front
+abbrev Either : List ℕ → Prefix → Type 0
+Either text prefix = (prefix ≡ lost) ⊎ IsPiece text prefix
 
 blank_found : (b : ℕ) (bs : List ℕ) → is_blank b ≡ true → Either (b ∷ bs) (blank_part (is_newline b), bs)
-blank_found b bs h = inr (record { piece = Blank b; rest = bs; is = refl; whole = refl; stands = h })
+blank_found b bs h = inr (record { piece = Blank b; rest = bs; is = refl; whole = refl; exists = h })
 
 newline_blank : (b : ℕ) → (b == 10) ≡ true → is_blank b ≡ true
 newline_blank b h = grind (arith, nat_tests)
@@ -128,7 +128,7 @@ slash_found (e ∷ bs) h =
       rest = past_run (λ b. not (is_newline b)) bs;
       is = ap (λ (l : List ℕ). (Gap, l)) (one_passed bs);
       whole = ap (λ (l : List ℕ). 47 ∷ 47 ∷ l) (sym (run_back (λ b. not (is_newline b)) bs));
-      stands = (all_taken (λ b. not (is_newline b)) bs, run_stops (λ b. not (is_newline b)) bs);
+      exists = (all_taken (λ b. not (is_newline b)) bs, run_stops (λ b. not (is_newline b)) bs);
     })
   where
     use_one : (n : ℕ) → 1 + n ≡ suc n
@@ -154,7 +154,7 @@ text_found bs (Some x) h =
       rest = x.1;
       is = refl;
       whole = ap (λ (l : List ℕ). 34 ∷ l) (w.whole ∙ sym (append_assoc (flat_map escaped x.0) (34 ∷ []) x.1));
-      stands = w.each;
+      exists = w.each;
     })
 
 word_found : (text : List ℕ) → Either text (word_at text)
@@ -168,7 +168,7 @@ word_found text =
             rest = past_run is_name_byte text;
             is = refl;
             whole = sym (run_back is_name_byte text);
-            stands = (y, run_stops is_name_byte text);
+            exists = (y, run_stops is_name_byte text);
           }))
       | inr n ↦ rw n (inl refl)
     ]
@@ -228,7 +228,7 @@ sign_byte-sign_of b s h =
 
 mark_found : (b : ℕ) (bs : List ℕ) (found : Option Sign) → sign_of b ≡ found → Either (b ∷ bs) (mark_of bs found)
 mark_found b bs None h = inl refl
-mark_found b bs (Some s) h = inr (record { piece = Single (Mark s); rest = bs; is = refl; whole = ap (λ (x : ℕ). x ∷ bs) (sym (sign_byte-sign_of b s h)); stands = tt })
+mark_found b bs (Some s) h = inr (record { piece = Single (Mark s); rest = bs; is = refl; whole = ap (λ (x : ℕ). x ∷ bs) (sym (sign_byte-sign_of b s h)); exists = tt })
 
 -- nothing begins there, or a piece does
 part_found : (b : ℕ) (bs : List ℕ) → Either (b ∷ bs) (part_at (b ∷ bs))
@@ -263,16 +263,16 @@ part_found b bs =
 
 -- ---- where nothing begins
 
-wrong_is : (p : Piece) (after : List ℕ) → Stands p after → lost ≡ (part_of p, after) → ⊥
+wrong_is : (p : Piece) (after : List ℕ) → MayPrecede p after → lost ≡ (part_of p, after) → ⊥
 wrong_is (Blank b) after h e =
     elim (cases_bool (is_newline b)) [
-      | inl y ↦ (let no : Found Wrong ≡ Newline = rw y at (ap (λ (x : Front). x.0) e) in absurd cc)
-      | inr n ↦ (let no : Found Wrong ≡ Gap = rw n at (ap (λ (x : Front). x.0) e) in absurd cc)
+      | inl y ↦ (let no : Found Wrong ≡ Newline = rw y at (ap (λ (x : Prefix). x.0) e) in absurd cc)
+      | inr n ↦ (let no : Found Wrong ≡ Gap = rw n at (ap (λ (x : Prefix). x.0) e) in absurd cc)
     ]
-wrong_is (Comment c) after h e = let no : Found Wrong ≡ Gap = ap (λ (x : Front). x.0) e in absurd cc
-wrong_is (Single (Word w)) after h e = let no : Found Wrong ≡ Found (Word w) = ap (λ (x : Front). x.0) e in absurd cc
-wrong_is (Single (Text t)) after h e = let no : Found Wrong ≡ Found (Text t) = ap (λ (x : Front). x.0) e in absurd cc
-wrong_is (Single (Mark s)) after h e = let no : Found Wrong ≡ Found (Mark s) = ap (λ (x : Front). x.0) e in absurd cc
+wrong_is (Comment c) after h e = let no : Found Wrong ≡ Gap = ap (λ (x : Prefix). x.0) e in absurd cc
+wrong_is (Single (Word w)) after h e = let no : Found Wrong ≡ Found (Word w) = ap (λ (x : Prefix). x.0) e in absurd cc
+wrong_is (Single (Text t)) after h e = let no : Found Wrong ≡ Found (Text t) = ap (λ (x : Prefix). x.0) e in absurd cc
+wrong_is (Single (Mark s)) after h e = let no : Found Wrong ≡ Found (Mark s) = ap (λ (x : Prefix). x.0) e in absurd cc
 wrong_is (Single Wrong) after h e = h
 
 stuck_there : (rest : List ℕ) → part_at rest ≡ lost → IsStuck rest
@@ -286,10 +286,10 @@ lost_there : (b : ℕ) (bs : List ℕ) → IsStuck (b ∷ bs) → part_at (b ∷
 lost_there b bs stuck =
     elim (part_found b bs) [
       | inl y ↦ y
-      | inr x ↦ absurd (stuck x.piece x.rest x.whole x.stands)
+      | inr x ↦ absurd (stuck x.piece x.rest x.whole x.exists)
     ]
 
-written_some : (p : Piece) (after : List ℕ) → Stands p after → 0 < length (written p ++ after)
+written_some : (p : Piece) (after : List ℕ) → MayPrecede p after → 0 < length (written p ++ after)
 written_some (Blank b) after h = omega arith
 written_some (Comment c) after h = omega arith
 written_some (Single (Word [])) after h = absurd (let no : false ≡ true = h.0 in cc)
@@ -351,9 +351,9 @@ cut_found (suc n) (b ∷ bs) h =
     elim (part_found b bs) [
       | inl y ↦ record { pieces = []; rest = b ∷ bs; cut = refl; stuck = stuck_there (b ∷ bs) y }
       | inr x ↦
-          let less : length x.rest ≤ length bs = subst (λ (f : Front). length f.1 ≤ length bs) x.is (part_short b bs) in
+          let less : length x.rest ≤ length bs = subst (λ (f : Prefix). length f.1 ≤ length bs) x.is (part_short b bs) in
           let more = cut_found n x.rest (omega arith) in
-          record { pieces = x.piece ∷ more.pieces; rest = more.rest; cut = (x.rest, x.whole, x.stands, more.cut); stuck = more.stuck }
+          record { pieces = x.piece ∷ more.pieces; rest = more.rest; cut = (x.rest, x.whole, x.exists, more.cut); stuck = more.stuck }
     ]
 
 -- the tokens of a text are those that the scan gives

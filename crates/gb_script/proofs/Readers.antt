@@ -25,7 +25,7 @@ pub first_is : (ms : List Leveled) (k : List Token) → first (tokens_of ms ++ k
 first_is [] k = refl
 first_is (m ∷ ms) k = refl
 
-pub first_same : (front : List Leveled) (b : Token) (x y : List Token) → first (tokens_of front ++ b ∷ x) ≡ first (tokens_of front ++ b ∷ y)
+pub first_same : (prefix : List Leveled) (b : Token) (x y : List Token) → first (tokens_of prefix ++ b ∷ x) ≡ first (tokens_of prefix ++ b ∷ y)
 first_same [] b x y = refl
 first_same (m ∷ ms) b x y = refl
 
@@ -73,29 +73,29 @@ pub record Taken {A : Type 0} (P : A → Type 0) (marks : A → List Leveled) (e
 pub record StrayIn {A : Type 0} (P : A → Type 0) (marks : A → List Leveled) (read : Reader A) (ts : List Token) (n : ℕ) : Type 0 where
   pub value : A
   pub fits : P value
-  pub front : List Leveled
+  pub prefix : List Leveled
   pub more : List Leveled
   pub bad : List Token
-  pub whole : marks value ≡ front ++ more
-  pub spelled : ts ≡ tokens_of front ++ bad
+  pub whole : marks value ≡ prefix ++ more
+  pub spelled : ts ≡ tokens_of prefix ++ bad
   pub size : n ≡ length bad
-  pub within : AllWithin front
-  pub only : (b : Token) (rest other : List Token) → bad ≡ b ∷ rest → read (tokens_of front ++ b ∷ other) ≡ stray (b ∷ other)
+  pub within : AllWithin prefix
+  pub only : (b : Token) (rest other : List Token) → bad ≡ b ∷ rest → read (tokens_of prefix ++ b ∷ other) ≡ stray (b ∷ other)
 
 -- n tokens before the end is one that passes the limit, and none before it does
 pub record DeepIn {A : Type 0} (P : A → Type 0) (marks : A → List Leveled) (read : Reader A) (ts : List Token) (n : ℕ) : Type 0 where
   pub value : A
   pub fits : P value
-  pub front : List Leveled
+  pub prefix : List Leveled
   pub over : Leveled
   pub more : List Leveled
   pub rest : List Token
-  pub whole : marks value ≡ front ++ over ∷ more
-  pub spelled : ts ≡ tokens_of front ++ over.0 ∷ rest
+  pub whole : marks value ≡ prefix ++ over ∷ more
+  pub spelled : ts ≡ tokens_of prefix ++ over.0 ∷ rest
   pub size : n ≡ length (over.0 ∷ rest)
-  pub within : AllWithin front
+  pub within : AllWithin prefix
   pub past : is_over over ≡ true
-  pub only : (other : List Token) → read (tokens_of front ++ over.0 ∷ other) ≡ deep (over.0 ∷ other)
+  pub only : (other : List Token) → read (tokens_of prefix ++ over.0 ∷ other) ≡ deep (over.0 ∷ other)
 
 pub record Reads {A : Type 0} (P : A → Type 0) (marks : A → List Leveled) (ends : A → Option Token → Bool) (read : Reader A) : Type 0 where
   -- a value that is read has this spelling
@@ -170,11 +170,11 @@ module _ {A B : Type 0} {FitsFirst : A → Type 0} {m1 : A → List Leveled} {e1
       ∙ ap (λ (l : List Leveled). checked l k (Ok (b, k))) (sym s)
 
   -- what the first reader took is taken once more, whatever comes after the bad token
-  again_before : (ts rest : List Token) (a : A) (front : List Leveled) (b : Token) (bad other : List Token) → Taken FitsFirst m1 e1 ts a rest → rest ≡ tokens_of front ++ b ∷ bad → r1 (tokens_of (m1 a ++ front) ++ b ∷ other) ≡ Ok (a, tokens_of front ++ b ∷ other)
-  again_before ts rest a front b bad other t at =
-      let k = tokens_of front ++ b ∷ other in
-      ap r1 (tokens_of-append (m1 a) front (b ∷ other))
-      ∙ reads_first.again a k t.fits (ap (e1 a) (first_same front b other bad ∙ ap first (sym at)) ∙ t.ends_there)
+  again_before : (ts rest : List Token) (a : A) (prefix : List Leveled) (b : Token) (bad other : List Token) → Taken FitsFirst m1 e1 ts a rest → rest ≡ tokens_of prefix ++ b ∷ bad → r1 (tokens_of (m1 a ++ prefix) ++ b ∷ other) ≡ Ok (a, tokens_of prefix ++ b ∷ other)
+  again_before ts rest a prefix b bad other t at =
+      let k = tokens_of prefix ++ b ∷ other in
+      ap r1 (tokens_of-append (m1 a) prefix (b ∷ other))
+      ∙ reads_first.again a k t.fits (ap (e1 a) (first_same prefix b other bad ∙ ap first (sym at)) ∙ t.ends_there)
       ∙ checked-within (m1 a) k (Ok (a, k)) t.within
 
   both_strays : (ts : List Token) (n : ℕ) → (r1 ts >>= λ x. r2 x.0 x.1) ≡ Err (Stray n) → StrayIn P m (λ ts. r1 ts >>= λ x. r2 x.0 x.1) ts n
@@ -186,10 +186,10 @@ module _ {A B : Type 0} {FitsFirst : A → Type 0} {m1 : A → List Leveled} {e1
             record {
               value = b.0;
               fits = join s.value b.0 s.fits b.1;
-              front = s.front;
+              prefix = s.prefix;
               more = s.more ++ m2 s.value b.0;
               bad = s.bad;
-              whole = seam s.value b.0 s.fits b.1 ∙ ap (λ (l : List Leveled). l ++ m2 s.value b.0) s.whole ∙ append_assoc s.front s.more (m2 s.value b.0);
+              whole = seam s.value b.0 s.fits b.1 ∙ ap (λ (l : List Leveled). l ++ m2 s.value b.0) s.whole ∙ append_assoc s.prefix s.more (m2 s.value b.0);
               spelled = s.spelled;
               size = s.size;
               within = s.within;
@@ -202,15 +202,15 @@ module _ {A B : Type 0} {FitsFirst : A → Type 0} {m1 : A → List Leveled} {e1
             record {
               value = s.value;
               fits = join a s.value t1.fits s.fits;
-              front = m1 a ++ s.front;
+              prefix = m1 a ++ s.prefix;
               more = s.more;
               bad = s.bad;
-              whole = seam a s.value t1.fits s.fits ∙ ap (λ (l : List Leveled). m1 a ++ l) s.whole ∙ sym (append_assoc (m1 a) s.front s.more);
-              spelled = t1.spelled ∙ ap (λ (l : List Token). tokens_of (m1 a) ++ l) s.spelled ∙ sym (tokens_of-append (m1 a) s.front s.bad);
+              whole = seam a s.value t1.fits s.fits ∙ ap (λ (l : List Leveled). m1 a ++ l) s.whole ∙ sym (append_assoc (m1 a) s.prefix s.more);
+              spelled = t1.spelled ∙ ap (λ (l : List Token). tokens_of (m1 a) ++ l) s.spelled ∙ sym (tokens_of-append (m1 a) s.prefix s.bad);
               size = s.size;
-              within = within-append (m1 a) s.front t1.within s.within;
+              within = within-append (m1 a) s.prefix t1.within s.within;
               only = λ t rest other at.
-                  ap (λ read. read >>= λ x. r2 x.0 x.1) (again_before ts x.0.1 a s.front t rest other t1 (s.spelled ∙ ap (λ (l : List Token). tokens_of s.front ++ l) at))
+                  ap (λ read. read >>= λ x. r2 x.0 x.1) (again_before ts x.0.1 a s.prefix t rest other t1 (s.spelled ∙ ap (λ (l : List Token). tokens_of s.prefix ++ l) at))
                   ∙ s.only t rest other at;
             }
       ]
@@ -224,11 +224,11 @@ module _ {A B : Type 0} {FitsFirst : A → Type 0} {m1 : A → List Leveled} {e1
             record {
               value = b.0;
               fits = join s.value b.0 s.fits b.1;
-              front = s.front;
+              prefix = s.prefix;
               over = s.over;
               more = s.more ++ m2 s.value b.0;
               rest = s.rest;
-              whole = seam s.value b.0 s.fits b.1 ∙ ap (λ (l : List Leveled). l ++ m2 s.value b.0) s.whole ∙ append_assoc s.front (s.over ∷ s.more) (m2 s.value b.0);
+              whole = seam s.value b.0 s.fits b.1 ∙ ap (λ (l : List Leveled). l ++ m2 s.value b.0) s.whole ∙ append_assoc s.prefix (s.over ∷ s.more) (m2 s.value b.0);
               spelled = s.spelled;
               size = s.size;
               within = s.within;
@@ -242,17 +242,17 @@ module _ {A B : Type 0} {FitsFirst : A → Type 0} {m1 : A → List Leveled} {e1
             record {
               value = s.value;
               fits = join a s.value t1.fits s.fits;
-              front = m1 a ++ s.front;
+              prefix = m1 a ++ s.prefix;
               over = s.over;
               more = s.more;
               rest = s.rest;
-              whole = seam a s.value t1.fits s.fits ∙ ap (λ (l : List Leveled). m1 a ++ l) s.whole ∙ sym (append_assoc (m1 a) s.front (s.over ∷ s.more));
-              spelled = t1.spelled ∙ ap (λ (l : List Token). tokens_of (m1 a) ++ l) s.spelled ∙ sym (tokens_of-append (m1 a) s.front (s.over.0 ∷ s.rest));
+              whole = seam a s.value t1.fits s.fits ∙ ap (λ (l : List Leveled). m1 a ++ l) s.whole ∙ sym (append_assoc (m1 a) s.prefix (s.over ∷ s.more));
+              spelled = t1.spelled ∙ ap (λ (l : List Token). tokens_of (m1 a) ++ l) s.spelled ∙ sym (tokens_of-append (m1 a) s.prefix (s.over.0 ∷ s.rest));
               size = s.size;
-              within = within-append (m1 a) s.front t1.within s.within;
+              within = within-append (m1 a) s.prefix t1.within s.within;
               past = s.past;
               only = λ other.
-                  ap (λ read. read >>= λ x. r2 x.0 x.1) (again_before ts x.0.1 a s.front s.over.0 s.rest other t1 s.spelled)
+                  ap (λ read. read >>= λ x. r2 x.0 x.1) (again_before ts x.0.1 a s.prefix s.over.0 s.rest other t1 s.spelled)
                   ∙ s.only other;
             }
       ]
@@ -291,10 +291,10 @@ module _ {A : Type 0} {P : A → Type 0} {m : A → List Leveled} {e : A → Opt
     again = as_again;
     strays = λ ts n h.
         let s = R.strays ts n h in
-        record { value = s.value; fits = to s.value s.fits; front = s.front; more = s.more; bad = s.bad; whole = marks-is s.value s.fits ∙ s.whole; spelled = s.spelled; size = s.size; within = s.within; only = s.only };
+        record { value = s.value; fits = to s.value s.fits; prefix = s.prefix; more = s.more; bad = s.bad; whole = marks-is s.value s.fits ∙ s.whole; spelled = s.spelled; size = s.size; within = s.within; only = s.only };
     deeps = λ ts n h.
         let s = R.deeps ts n h in
-        record { value = s.value; fits = to s.value s.fits; front = s.front; over = s.over; more = s.more; rest = s.rest; whole = marks-is s.value s.fits ∙ s.whole; spelled = s.spelled; size = s.size; within = s.within; past = s.past; only = s.only };
+        record { value = s.value; fits = to s.value s.fits; prefix = s.prefix; over = s.over; more = s.more; rest = s.rest; whole = marks-is s.value s.fits ∙ s.whole; spelled = s.spelled; size = s.size; within = s.within; past = s.past; only = s.only };
   }
 
 -- ---- a value made of what is read

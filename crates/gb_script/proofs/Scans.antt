@@ -18,9 +18,9 @@ abbrev IsBelow : ℕ → Option (List ℕ × List ℕ) → Type 0
 IsBelow n None = Unit {0}
 IsBelow n (Some x) = length x.1 ≤ n
 
-below_with : (n : ℕ) (front : List ℕ) (found : Option (List ℕ × List ℕ)) → IsBelow n found → IsBelow n (with_content front found)
-below_with n front None h = tt
-below_with n front (Some x) h = h
+below_with : (n : ℕ) (prefix : List ℕ) (found : Option (List ℕ × List ℕ)) → IsBelow n found → IsBelow n (with_content prefix found)
+below_with n prefix None h = tt
+below_with n prefix (Some x) h = h
 
 below_escaped : (n : ℕ) (b : Option ℕ) (found : Option (List ℕ × List ℕ)) → IsBelow n found → IsBelow n (escaped_before b found)
 below_escaped n None found h = tt
@@ -44,13 +44,13 @@ content_below (b ∷ e ∷ bs) =
     (below_escaped _ (unescaped e) (content_at bs) (below_more (length bs) _ (content_at bs) (omega arith) (content_below bs)))
     (below_cond _ (is_plain b) (with_content (b ∷ []) (content_at (e ∷ bs))) None (below_with _ (b ∷ []) (content_at (e ∷ bs)) (below_more (length (e ∷ bs)) _ (content_at (e ∷ bs)) (omega arith) (content_below (e ∷ bs)))) tt))
 
-abbrev Front : Type 0
-Front = Part × List ℕ
+abbrev Prefix : Type 0
+Prefix = Part × List ℕ
 
-abbrev IsShort : ℕ → Front → Type 0
+abbrev IsShort : ℕ → Prefix → Type 0
 IsShort n x = length x.1 ≤ n
 
-short_cond : (n : ℕ) (b : Bool) (x y : Front) → IsShort n x → IsShort n y → IsShort n (cond b x y)
+short_cond : (n : ℕ) (b : Bool) (x y : Prefix) → IsShort n x → IsShort n y → IsShort n (cond b x y)
 short_cond n true x y h k = h
 short_cond n false x y h k = k
 
@@ -94,7 +94,7 @@ part_short b bs =
     (short_cond (length bs) (b == 34) (text_of (content_at bs)) (cond (is_name_byte b) (word_at (b ∷ bs)) (mark_of bs (sign_of b))) (text_short (length bs) (content_at bs) (content_below bs))
     (word_or_mark b bs))))
 
-next_same : (f g : ℕ → List ℕ → List Placed) (line : ℕ) (x : Front) → ((l : ℕ) → f l x.1 ≡ g l x.1) → scan_next f line x ≡ scan_next g line x
+next_same : (f g : ℕ → List ℕ → List Placed) (line : ℕ) (x : Prefix) → ((l : ℕ) → f l x.1 ≡ g l x.1) → scan_next f line x ≡ scan_next g line x
 next_same f g line (Newline, rest) h = h (line + 1)
 next_same f g line (Gap, rest) h = h line
 next_same f g line (Found t, rest) h = ap (λ (ps : List Placed). (t, line) ∷ ps) (h line)

@@ -82,9 +82,9 @@ tests_word w = record { same = (bytes_eq-Decides w w).1 refl; only = is_word_onl
 pub head_not : (test : Token → Bool) (ts : List Token) (b : Token) (rest : List Token) → begins test ts ≡ false → ts ≡ b ∷ rest → test b ≡ false
 head_not test ts b rest h at = sym (ap (begins test) at) ∙ h
 
-pub begins_front : (test : Token → Bool) (front : List Leveled) (b : Token) (x y : List Token) → begins test (tokens_of front ++ b ∷ x) ≡ begins test (tokens_of front ++ b ∷ y)
-begins_front test [] b x y = refl
-begins_front test (l ∷ front) b x y = refl
+pub begins_prefix : (test : Token → Bool) (prefix : List Leveled) (b : Token) (x y : List Token) → begins test (tokens_of prefix ++ b ∷ x) ≡ begins test (tokens_of prefix ++ b ∷ y)
+begins_prefix test [] b x y = refl
+begins_prefix test (l ∷ prefix) b x y = refl
 
 -- ---- a token before the rest
 
@@ -117,13 +117,13 @@ unfolding skip_at
 skip_fails test ts h = rw h refl
 
 module _ {B : Type 0} {P : B → Type 0} {marks : B → List Leveled} {e : B → Option Token → Bool} {r : Reader B} {test : Token → Bool} {m : Token} (T : IsTestOf test m) (R : Reads P marks e r) (some : (b : B) × P b) (v : ℕ) (low : IsWithin (m, v)) where
-  abbrev behind : B → List Leveled
-  behind b = (m, v) ∷ marks b
+  abbrev following : B → List Leveled
+  following b = (m, v) ∷ marks b
 
   abbrev skipped : Reader B
   skipped ts = skip_at test ts >>= r
 
-  skip_strays : (ts : List Token) (n : ℕ) → skipped ts ≡ Err (Stray n) → StrayIn P behind skipped ts n
+  skip_strays : (ts : List Token) (n : ℕ) → skipped ts ≡ Err (Stray n) → StrayIn P following skipped ts n
   skip_strays ts n h =
       elim (bind_err (skip_at test ts) r (Stray n) h) [
         | inl f ↦
@@ -131,8 +131,8 @@ module _ {B : Type 0} {P : B → Type 0} {marks : B → List Leveled} {e : B →
             record {
               value = some.0;
               fits = some.1;
-              front = [];
-              more = behind some.0;
+              prefix = [];
+              more = following some.0;
               bad = ts;
               whole = refl;
               spelled = refl;
@@ -146,18 +146,18 @@ module _ {B : Type 0} {P : B → Type 0} {marks : B → List Leveled} {e : B →
             record {
               value = t.value;
               fits = t.fits;
-              front = (m, v) ∷ t.front;
+              prefix = (m, v) ∷ t.prefix;
               more = t.more;
               bad = t.bad;
               whole = ap (λ (l : List Leveled). (m, v) ∷ l) t.whole;
               spelled = ts-is ∙ ap (λ (l : List Token). m ∷ l) t.spelled;
               size = t.size;
               within = (low, t.within);
-              only = λ b rest other at. ap (λ read. read >>= r) (skip_again T (tokens_of t.front ++ b ∷ other)) ∙ t.only b rest other at;
+              only = λ b rest other at. ap (λ read. read >>= r) (skip_again T (tokens_of t.prefix ++ b ∷ other)) ∙ t.only b rest other at;
             }
       ]
 
-  skip_deeps : (ts : List Token) (n : ℕ) → skipped ts ≡ Err (Deep n) → DeepIn P behind skipped ts n
+  skip_deeps : (ts : List Token) (n : ℕ) → skipped ts ≡ Err (Deep n) → DeepIn P following skipped ts n
   skip_deeps ts n h =
       elim (bind_err (skip_at test ts) r (Deep n) h) [
         | inl f ↦ absurd (let d = skip_stray test ts (Deep n) f in let no : Deep n ≡ Stray (length ts) = d.0 in cc)
@@ -167,7 +167,7 @@ module _ {B : Type 0} {P : B → Type 0} {marks : B → List Leveled} {e : B →
             record {
               value = t.value;
               fits = t.fits;
-              front = (m, v) ∷ t.front;
+              prefix = (m, v) ∷ t.prefix;
               over = t.over;
               more = t.more;
               rest = t.rest;
@@ -176,18 +176,18 @@ module _ {B : Type 0} {P : B → Type 0} {marks : B → List Leveled} {e : B →
               size = t.size;
               within = (low, t.within);
               past = t.past;
-              only = λ other. ap (λ read. read >>= r) (skip_again T (tokens_of t.front ++ t.over.0 ∷ other)) ∙ t.only other;
+              only = λ other. ap (λ read. read >>= r) (skip_again T (tokens_of t.prefix ++ t.over.0 ∷ other)) ∙ t.only other;
             }
       ]
 
-  pub Reads-skip-at : Reads P behind e skipped
+  pub Reads-skip-at : Reads P following e skipped
   Reads-skip-at = record {
     takes = λ ts rest b h.
         let x = bind_ok (skip_at test ts) r (b, rest) h in
         let t = R.takes x.0 rest b x.2 in
         record { fits = t.fits; spelled = skip_ok T ts x.0 x.1 ∙ ap (λ (l : List Token). m ∷ l) t.spelled; within = (low, t.within); ends_there = t.ends_there };
     again = λ b k p h.
-        let passed : checked (behind b) k (Ok (b, k)) ≡ checked (marks b) k (Ok (b, k)) = rw low refl in
+        let passed : checked (following b) k (Ok (b, k)) ≡ checked (marks b) k (Ok (b, k)) = rw low refl in
         ap (λ read. read >>= r) (skip_again T (tokens_of (marks b) ++ k)) ∙ R.again b k p h ∙ sym passed;
     strays = skip_strays;
     deeps = skip_deeps;
@@ -238,7 +238,7 @@ pub Reads-name : Reads IsName (λ w. (Word w, 0) ∷ []) always name_at
 Reads-name = record {
   takes = λ ts rest w h. let t = name_ok ts rest w h in record { fits = t.1; spelled = t.0; within = (refl, tt); ends_there = refl };
   again = λ w k p h. name_again w k p;
-  strays = λ ts n h. let d = name_bad ts (Stray n) h in let size : n ≡ length ts = (let e = d.0 in cc) in record { value = a_name; fits = refl; front = []; more = (Word a_name, 0) ∷ []; bad = ts; whole = refl; spelled = refl; size = size; within = tt; only = d.1 };
+  strays = λ ts n h. let d = name_bad ts (Stray n) h in let size : n ≡ length ts = (let e = d.0 in cc) in record { value = a_name; fits = refl; prefix = []; more = (Word a_name, 0) ∷ []; bad = ts; whole = refl; spelled = refl; size = size; within = tt; only = d.1 };
   deeps = λ ts n h. absurd (let d = name_bad ts (Deep n) h in let no : Deep n ≡ Stray (length ts) = d.0 in cc);
 }
 
@@ -266,7 +266,7 @@ unfolding text_at
 Reads-text = record {
   takes = λ ts rest w h. record { fits = tt; spelled = text_ok ts rest w h; within = (refl, tt); ends_there = refl };
   again = λ w k p h. refl;
-  strays = λ ts n h. let d = text_bad ts (Stray n) h in let size : n ≡ length ts = (let e = d.0 in cc) in record { value = []; fits = tt; front = []; more = (Text [], 0) ∷ []; bad = ts; whole = refl; spelled = refl; size = size; within = tt; only = d.1 };
+  strays = λ ts n h. let d = text_bad ts (Stray n) h in let size : n ≡ length ts = (let e = d.0 in cc) in record { value = []; fits = tt; prefix = []; more = (Text [], 0) ∷ []; bad = ts; whole = refl; spelled = refl; size = size; within = tt; only = d.1 };
   deeps = λ ts n h. absurd (let d = text_bad ts (Deep n) h in let no : Deep n ≡ Stray (length ts) = d.0 in cc);
 }
 
@@ -329,7 +329,7 @@ module _ {K : Type 0} (words : Meanings K) (spelling : K → List ℕ) (all : Ar
   Reads-meaning = record {
     takes = λ ts rest k h. record { fits = tt; spelled = meaning_ok ts rest k h; within = (refl, tt); ends_there = refl };
     again = λ k rest p h. meaning_again k rest;
-    strays = λ ts n h. let d = meaning_bad ts (Stray n) h in let size : n ≡ length ts = (let e = d.0 in cc) in record { value = some; fits = tt; front = []; more = (Word (spelling some), 0) ∷ []; bad = ts; whole = refl; spelled = refl; size = size; within = tt; only = d.1 };
+    strays = λ ts n h. let d = meaning_bad ts (Stray n) h in let size : n ≡ length ts = (let e = d.0 in cc) in record { value = some; fits = tt; prefix = []; more = (Word (spelling some), 0) ∷ []; bad = ts; whole = refl; spelled = refl; size = size; within = tt; only = d.1 };
     deeps = λ ts n h. absurd (let d = meaning_bad ts (Deep n) h in let no : Deep n ≡ Stray (length ts) = d.0 in cc);
   }
 
@@ -377,6 +377,6 @@ pub Reads-property : Reads IsProperty (λ w. (Word w, 0) ∷ []) always property
 Reads-property = record {
   takes = λ ts rest w h. let t = property_ok ts rest w h in record { fits = t.1; spelled = t.0; within = (refl, tt); ends_there = refl };
   again = λ w k p h. property_again w k p;
-  strays = λ ts n h. let d = property_bad ts (Stray n) h in let size : n ≡ length ts = (let e = d.0 in cc) in record { value = a_name; fits = (refl, refl); front = []; more = (Word a_name, 0) ∷ []; bad = ts; whole = refl; spelled = refl; size = size; within = tt; only = d.1 };
+  strays = λ ts n h. let d = property_bad ts (Stray n) h in let size : n ≡ length ts = (let e = d.0 in cc) in record { value = a_name; fits = (refl, refl); prefix = []; more = (Word a_name, 0) ∷ []; bad = ts; whole = refl; spelled = refl; size = size; within = tt; only = d.1 };
   deeps = λ ts n h. absurd (let d = property_bad ts (Deep n) h in let no : Deep n ≡ Stray (length ts) = d.0 in cc);
 }

@@ -17,7 +17,7 @@ use Rattle.gb_script.specs.Scanning.{scan}
 use Rattle.gb_script.specs.Grammar.{Leveled}
 use Rattle.gb_script.specs.Verdict.{IsFirstStray, IsFirstDeep}
 use Rattle.gb_script.specs.Reading.{Reader, Fails, all_at}
-use Rattle.gb_script.specs.Telling.{line_left, fault_reported}
+use Rattle.gb_script.specs.Reporting.{line_left, fault_reported}
 use Rattle.gb_script.specs.Notation.{tokens_in, IsSource, IsSpelled, line_of, IsSyntaxFault, IsDepthFault, IsSaid}
 use Rattle.gb_script.proofs.Whole.{all_found, all_again, all_stray, all_deep}
 use Rattle.gb_script.proofs.Runs.{cases_bool}
@@ -27,10 +27,10 @@ use Rattle.gb_script.proofs.Pieces.{tokens_found, tokens_again}
 
 -- the tokens of a text, in two parts
 record Split (placed : List Placed) (before bad : List Token) : Type 0 where
-  front : List Placed
+  prefix : List Placed
   rest : List Placed
-  whole : placed ≡ front ++ rest
-  front_is : before ≡ tokens_in front
+  whole : placed ≡ prefix ++ rest
+  prefix_is : before ≡ tokens_in prefix
   rest_is : bad ≡ tokens_in rest
 
 abbrev first_token : List Token → Token → Token
@@ -42,30 +42,30 @@ other_tokens [] = []
 other_tokens (t ∷ ts) = ts
 
 split_at : (before : List Token) (placed : List Placed) (bad : List Token) → tokens_in placed ≡ before ++ bad → Split placed before bad
-split_at [] placed bad h = record { front = []; rest = placed; whole = refl; front_is = refl; rest_is = sym h }
+split_at [] placed bad h = record { prefix = []; rest = placed; whole = refl; prefix_is = refl; rest_is = sym h }
 split_at (t ∷ before) [] bad h = absurd cc
 split_at (t ∷ before) (p ∷ placed) bad h =
     let s = split_at before placed bad (ap other_tokens h) in
     let same : t ≡ p.0 = sym (ap (λ (l : List Token). first_token l t) h) in
     record {
-      front = p ∷ s.front;
+      prefix = p ∷ s.prefix;
       rest = s.rest;
       whole = ap (λ (l : List Placed). p ∷ l) s.whole;
-      front_is = ap (λ (x : Token). x ∷ before) same ∙ ap (λ (l : List Token). p.0 ∷ l) s.front_is;
+      prefix_is = ap (λ (x : Token). x ∷ before) same ∙ ap (λ (l : List Token). p.0 ∷ l) s.prefix_is;
       rest_is = s.rest_is;
     }
 
 -- the line at the place where the second part begins
-line_at : (bytes : List ℕ) (front rest : List Placed) → get_or (map (λ p. p.1) (front ++ rest)) (length front) (1 + newlines bytes) ≡ line_of bytes rest
+line_at : (bytes : List ℕ) (prefix rest : List Placed) → get_or (map (λ p. p.1) (prefix ++ rest)) (length prefix) (1 + newlines bytes) ≡ line_of bytes rest
 line_at bytes [] [] = refl
 line_at bytes [] (p ∷ rest) = refl
-line_at bytes (p ∷ front) rest = line_at bytes front rest
+line_at bytes (p ∷ prefix) rest = line_at bytes prefix rest
 
-left_place : (front rest : List Placed) (n : ℕ) → n ≡ length (tokens_in rest) → length (map (λ (p : Placed). p.1) (front ++ rest)) - n ≡ length front
-left_place front rest n h =
-    let all = length-map (front ++ rest) (λ (p : Placed). p.1) in
+left_place : (prefix rest : List Placed) (n : ℕ) → n ≡ length (tokens_in rest) → length (map (λ (p : Placed). p.1) (prefix ++ rest)) - n ≡ length prefix
+left_place prefix rest n h =
+    let all = length-map (prefix ++ rest) (λ (p : Placed). p.1) in
     let some = length-map rest (λ (p : Placed). p.0) in
-    omega (arith, all, some, length-append front rest)
+    omega (arith, all, some, length-append prefix rest)
 
 module _ {A : Type 0} {P : A → Type 0} {m : A → List Leveled} {e : A → Option Token → Bool} {r : Reader A} (R : Reads P m e r) (ends_text : (a : A) → P a → e a None ≡ true) where
   module _ (bytes : List ℕ) (short : length bytes ≤ 1048576) (utf8 : IsUtf8 bytes) where
@@ -77,23 +77,23 @@ module _ {A : Type 0} {P : A → Type 0} {m : A → List Leveled} {e : A → Opt
         let f = all_found R ends_text tokens script h in
         record { tokens = scan 1 bytes; source = source_is; spelled_so = sym t ∙ f.1; within = f.2; is = f.0 }
 
-    pub line_is : (n : ℕ) (lines : List ℕ) (front rest : List Placed) → lines ≡ map (λ p. p.1) (scan 1 bytes) → scan 1 bytes ≡ front ++ rest → n ≡ length (tokens_in rest) → get_or lines (length lines - n) (1 + newlines bytes) ≡ line_of bytes rest
-    line_is n lines front rest l w h =
-        let e : lines ≡ map (λ p. p.1) (front ++ rest) = l ∙ ap (map (λ (p : Placed). p.1)) w in
+    pub line_is : (n : ℕ) (lines : List ℕ) (prefix rest : List Placed) → lines ≡ map (λ p. p.1) (scan 1 bytes) → scan 1 bytes ≡ prefix ++ rest → n ≡ length (tokens_in rest) → get_or lines (length lines - n) (1 + newlines bytes) ≡ line_of bytes rest
+    line_is n lines prefix rest l w h =
+        let e : lines ≡ map (λ p. p.1) (prefix ++ rest) = l ∙ ap (map (λ (p : Placed). p.1)) w in
         ap (λ (x : List ℕ). get_or x (length x - n) (1 + newlines bytes)) e
-        ∙ ap (λ i. get_or (map (λ p. p.1) (front ++ rest)) i (1 + newlines bytes)) (left_place front rest n h)
-        ∙ line_at bytes front rest
+        ∙ ap (λ i. get_or (map (λ p. p.1) (prefix ++ rest)) i (1 + newlines bytes)) (left_place prefix rest n h)
+        ∙ line_at bytes prefix rest
 
     pub syntax_found : (tokens : List Token) (lines : List ℕ) (n line : ℕ) → tokens ≡ tokens_in (scan 1 bytes) → lines ≡ map (λ p. p.1) (scan 1 bytes) → line ≡ get_or lines (length lines - n) (1 + newlines bytes) → all_at r tokens ≡ Err (Stray n) → IsSyntaxFault P m bytes line
     syntax_found tokens lines n line t l at h =
         let s = all_stray R ends_text tokens n h in
         let x = split_at s.before (scan 1 bytes) s.bad (sym t ∙ s.parts) in
         record {
-          before = x.front;
+          before = x.prefix;
           bad = x.rest;
           source = subst (IsSource bytes) x.whole source_is;
-          first = subst (λ (y : List Token). IsFirstStray P m y (tokens_in x.rest)) x.front_is (subst (IsFirstStray P m s.before) x.rest_is s.first);
-          line_is = at ∙ line_is n lines x.front x.rest l x.whole (s.left ∙ ap length x.rest_is);
+          first = subst (λ (y : List Token). IsFirstStray P m y (tokens_in x.rest)) x.prefix_is (subst (IsFirstStray P m s.before) x.rest_is s.first);
+          line_is = at ∙ line_is n lines x.prefix x.rest l x.whole (s.left ∙ ap length x.rest_is);
         }
 
     pub depth_found : (tokens : List Token) (lines : List ℕ) (n line : ℕ) → tokens ≡ tokens_in (scan 1 bytes) → lines ≡ map (λ p. p.1) (scan 1 bytes) → line ≡ get_or lines (length lines - n) (1 + newlines bytes) → all_at r tokens ≡ Err (Deep n) → IsDepthFault P m bytes line
@@ -101,11 +101,11 @@ module _ {A : Type 0} {P : A → Type 0} {m : A → List Leveled} {e : A → Opt
         let s = all_deep R ends_text tokens n h in
         let x = split_at s.before (scan 1 bytes) (s.over ∷ s.rest) (sym t ∙ s.parts) in
         record {
-          before = x.front;
+          before = x.prefix;
           bad = x.rest;
           source = subst (IsSource bytes) x.whole source_is;
-          first = subst (λ (y : List Token). IsFirstDeep P m y (tokens_in x.rest)) x.front_is (subst (IsFirstDeep P m s.before) x.rest_is s.first);
-          line_is = at ∙ line_is n lines x.front x.rest l x.whole (s.left ∙ ap length x.rest_is);
+          first = subst (λ (y : List Token). IsFirstDeep P m y (tokens_in x.rest)) x.prefix_is (subst (IsFirstDeep P m s.before) x.rest_is s.first);
+          line_is = at ∙ line_is n lines x.prefix x.rest l x.whole (s.left ∙ ap length x.rest_is);
         }
 
   -- what the bytes parse as is read

@@ -40,9 +40,9 @@ IsThere None = ⊥
 IsThere (Some c) = IsCall c
 
 -- the part after the colon
-abbrev behind_colon : ℕ → Option Call → List Leveled
-behind_colon d None = []
-behind_colon d (Some c) = call_spelled d c
+abbrev after_colon : ℕ → Option Call → List Leveled
+after_colon d None = []
+after_colon d (Some c) = call_spelled d c
 
 abbrev there_end : Option Call → Option Token → Bool
 there_end None o = true
@@ -60,7 +60,7 @@ there_action : (a : Option Call) → IsThere a → IsAction a
 there_action None p = tt
 there_action (Some c) p = p
 
-there_marks : (d : ℕ) (a : Option Call) → IsThere a → action_spelled d a ≡ sign Colon ∷ behind_colon d a
+there_marks : (d : ℕ) (a : Option Call) → IsThere a → action_spelled d a ≡ sign Colon ∷ after_colon d a
 there_marks d None p = absurd p
 there_marks d (Some c) p = refl
 
@@ -71,10 +71,10 @@ there_same (Some c) o p = refl
 pub Reads-action : (room d : ℕ) → room + d ≡ 64 → Reads IsAction (action_spelled d) action_end (action_at room)
 unfolding action_at
 Reads-action room d sum =
-    let made = Reads-into (Reads-call room d sum) call_action IsThere (behind_colon d) there_end there_split (λ c p. p) (λ c p. refl) (λ c o p. refl) in
+    let made = Reads-into (Reads-call room d sum) call_action IsThere (after_colon d) there_end there_split (λ c p. p) (λ c p. refl) (λ c o p. refl) in
     Reads-maybe (is_sign Colon) (Reads-past (tests_sign Colon) made (Some a_call, a_call_fits)) None
     IsAction (action_spelled d) action_end
-    (λ a p. record { head = sign Colon; tail = behind_colon d a; whole = refl; passes = refl })
+    (λ a p. record { head = sign Colon; tail = after_colon d a; whole = refl; passes = refl })
     none_or_there
     tt there_action
     refl (there_marks d)

@@ -18,8 +18,8 @@ with_rest a rest = Ok (a, rest)
 abbrev closed : {A : Type 0} → (Token → Bool) → A × List Token → Result (A × List Token) Fault
 closed test x = skip_at test x.1 >>= with_rest x.0
 
-abbrev behind : Tree → Function × List Token → Result ((Tree × Function) × List Token) Fault
-behind tree x = Ok ((tree, x.0), x.1)
+abbrev following : Tree → Function × List Token → Result ((Tree × Function) × List Token) Fault
+following tree x = Ok ((tree, x.0), x.1)
 
 abbrev zipped : (Tree × Function) × List Token → Result (Link × List Token) Fault
 zipped x = Ok (zip_from x.0, x.1)
@@ -32,7 +32,7 @@ closed_of tree function (Ok rest) = refl
 closed_of tree function (Err e) = refl
 
 -- the tree that was read first is given to the function that is read after it
-zip_of : (tree : Tree) (test : Token → Bool) (x : Result (Function × List Token) Fault) → (((x >>= behind tree) >>= zipped) >>= closed test) ≡ ((x >>= closed test) >>= zipped_to tree)
+zip_of : (tree : Tree) (test : Token → Bool) (x : Result (Function × List Token) Fault) → (((x >>= following tree) >>= zipped) >>= closed test) ≡ ((x >>= closed test) >>= zipped_to tree)
 zip_of tree test (Ok y) = closed_of tree y.0 (skip_at test y.1)
 zip_of tree test (Err e) = refl
 

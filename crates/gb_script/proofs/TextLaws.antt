@@ -28,12 +28,12 @@ module _ {A : Type 0} {P : A → Type 0} {m : A → List Leveled} {c : Option To
   IsRow [] = ⊥
   IsRow (x ∷ xs) = P x × AllByRecursion P xs
 
-  abbrev behind : A → List Leveled
-  behind a = (Mark Comma, 0) ∷ m a
+  abbrev following : A → List Leveled
+  following a = (Mark Comma, 0) ∷ m a
 
-  ends_so : (xs : List A) (o : Option Token) → row_end c o ≡ (c (first_or (flat_map behind xs) o) && ends_all behind (λ a. c) (is_sign Comma) xs o)
+  ends_so : (xs : List A) (o : Option Token) → row_end c o ≡ (c (first_or (flat_map following xs) o) && ends_all following (λ a. c) (is_sign Comma) xs o)
   ends_so [] o = refl
-  ends_so (x ∷ xs) o = ends_so xs o ∙ ap (λ (b : Bool). b && (c (first_or (flat_map behind xs) o) && ends_all behind (λ a. c) (is_sign Comma) xs o)) (sym comma)
+  ends_so (x ∷ xs) o = ends_so xs o ∙ ap (λ (b : Bool). b && (c (first_or (flat_map following xs) o) && ends_all following (λ a. c) (is_sign Comma) xs o)) (sym comma)
 
   row_ends : (xs : List A) (o : Option Token) → IsList R some xs → row_end c o ≡ list_ends R some xs o
   row_ends [] o p = absurd p

@@ -15,37 +15,37 @@ abbrev head_or : Token → List Token → Token
 head_or d [] = d
 head_or d (t ∷ ts) = t
 
-abbrev behind_head : List Token → List Token
-behind_head [] = []
-behind_head (t ∷ ts) = ts
+abbrev after_head : List Token → List Token
+after_head [] = []
+after_head (t ∷ ts) = ts
 
 -- one list cut in two ways: the first cut is not after the second
-record NotBehind (x y u v : List Token) : Type 0 where
+record NotAfter (x y u v : List Token) : Type 0 where
   between : List Token
-  front : u ≡ x ++ between
+  prefix : u ≡ x ++ between
   rest : y ≡ between ++ v
 
 -- the first cut is after the second
-record Behind (x y u v : List Token) : Type 0 where
+record After (x y u v : List Token) : Type 0 where
   next : Token
   between : List Token
-  front : x ≡ u ++ next ∷ between
+  prefix : x ≡ u ++ next ∷ between
   rest : v ≡ next ∷ (between ++ y)
 
-two_cuts : (x y u v : List Token) → x ++ y ≡ u ++ v → NotBehind x y u v ⊎ Behind x y u v
-two_cuts [] y u v h = inl (record { between = u; front = refl; rest = h })
-two_cuts (a ∷ x) y [] v h = inr (record { next = a; between = x; front = refl; rest = sym h })
+two_cuts : (x y u v : List Token) → x ++ y ≡ u ++ v → NotAfter x y u v ⊎ After x y u v
+two_cuts [] y u v h = inl (record { between = u; prefix = refl; rest = h })
+two_cuts (a ∷ x) y [] v h = inr (record { next = a; between = x; prefix = refl; rest = sym h })
 two_cuts (a ∷ x) y (b ∷ u) v h =
     let same : a ≡ b = ap (head_or a) h in
-    elim (two_cuts x y u v (ap behind_head h)) [
-      | inl c ↦ inl (record { between = c.between; front = ap (λ (t : Token). t ∷ u) (sym same) ∙ ap (λ (l : List Token). a ∷ l) c.front; rest = c.rest })
-      | inr c ↦ inr (record { next = c.next; between = c.between; front = ap (λ (t : Token). t ∷ x) same ∙ ap (λ (l : List Token). b ∷ l) c.front; rest = c.rest })
+    elim (two_cuts x y u v (ap after_head h)) [
+      | inl c ↦ inl (record { between = c.between; prefix = ap (λ (t : Token). t ∷ u) (sym same) ∙ ap (λ (l : List Token). a ∷ l) c.prefix; rest = c.rest })
+      | inr c ↦ inr (record { next = c.next; between = c.between; prefix = ap (λ (t : Token). t ∷ x) same ∙ ap (λ (l : List Token). b ∷ l) c.prefix; rest = c.rest })
     ]
 
 same_cut : (x y u v : List Token) → x ++ y ≡ u ++ v → length y ≡ length v → (x ≡ u) × (y ≡ v)
 same_cut x y u v h size =
     elim (two_cuts x y u v h) [
-      | inl c ↦ at_once c.between c.front c.rest
+      | inl c ↦ at_once c.between c.prefix c.rest
       | inr c ↦ absurd (let more = ap length c.rest in omega (arith, length-append c.between y))
     ]
   where
@@ -66,26 +66,26 @@ module _ {A : Type 0} (P : A → Type 0) (m : A → List Leveled) where
     value = b.value;
     is = b.is;
     more = tokens_of b.more;
-    whole = ap tokens_of b.whole ∙ map-append (λ (l : Leveled). l.0) b.front b.more ∙ ap (λ (l : List Token). l ++ tokens_of b.more) (sym b.tokens);
+    whole = ap tokens_of b.whole ∙ map-append (λ (l : Leveled). l.0) b.prefix b.more ∙ ap (λ (l : List Token). l ++ tokens_of b.more) (sym b.tokens);
   }
 
   -- no spelling has the first stray token in its place
-  no_spelling : (before bad w : List Token) (b : Token) → IsFirstStray P m before bad → bad ≡ b ∷ w → (a : A) → P a → (front other : List Token) → tokens_of (m a) ≡ front ++ other → (v : List Token) → front ++ other ≡ before ++ b ∷ v → ⊥
-  no_spelling before bad w b s at a p front other h v same = s.none b w at a v p (h ∙ same)
+  no_spelling : (before bad w : List Token) (b : Token) → IsFirstStray P m before bad → bad ≡ b ∷ w → (a : A) → P a → (prefix other : List Token) → tokens_of (m a) ≡ prefix ++ other → (v : List Token) → prefix ++ other ≡ before ++ b ∷ v → ⊥
+  no_spelling before bad w b s at a p prefix other h v same = s.none b w at a v p (h ∙ same)
 
-  same_stray : (before bad front other : List Token) → IsFirstStray P m before bad → IsFirstStray P m front other → before ++ bad ≡ front ++ other → length bad ≡ length other
-  same_stray before bad front other s t h =
-      elim (two_cuts before bad front other h) [
-        | inl c ↦ not_behind c.between c.front c.rest
+  same_stray : (before bad prefix other : List Token) → IsFirstStray P m before bad → IsFirstStray P m prefix other → before ++ bad ≡ prefix ++ other → length bad ≡ length other
+  same_stray before bad prefix other s t h =
+      elim (two_cuts before bad prefix other h) [
+        | inl c ↦ not_after c.between c.prefix c.rest
         | inr c ↦
             let x = begins_spelling before s.begun in
-            absurd (t.none c.next (c.between ++ bad) c.rest x.value (c.between ++ x.more) x.is (x.whole ∙ ap (λ (l : List Token). l ++ x.more) c.front ∙ append_assoc front (c.next ∷ c.between) x.more))
+            absurd (t.none c.next (c.between ++ bad) c.rest x.value (c.between ++ x.more) x.is (x.whole ∙ ap (λ (l : List Token). l ++ x.more) c.prefix ∙ append_assoc prefix (c.next ∷ c.between) x.more))
       ]
     where
-      not_behind : (w : List Token) → front ≡ before ++ w → bad ≡ w ++ other → length bad ≡ length other
-      not_behind [] f r = ap length r
-      not_behind (b ∷ w) f r =
-          let x = begins_spelling front t.begun in
+      not_after : (w : List Token) → prefix ≡ before ++ w → bad ≡ w ++ other → length bad ≡ length other
+      not_after [] f r = ap length r
+      not_after (b ∷ w) f r =
+          let x = begins_spelling prefix t.begun in
           absurd (s.none b (w ++ other) r x.value (w ++ x.more) x.is (x.whole ∙ ap (λ (l : List Token). l ++ x.more) f ∙ append_assoc before (b ∷ w) x.more))
 
 checked_low : {B : Type 0} (ms : List Leveled) (k : List Token) (y : B) (n : ℕ) → checked ms k (Ok y) ≡ Err (Deep n) → n ≤ length (tokens_of ms ++ k)
@@ -117,17 +117,17 @@ module _ {A : Type 0} {P : A → Type 0} {m : A → List Leveled} {e : A → Opt
           ]
 
   -- what begins something within the limits has no depth in it
-  front_not_deep : (before u w : List Token) (over : Token) → Begins P m before → before ≡ u ++ over ∷ w → ((other : List Token) → all_at r (u ++ over ∷ other) ≡ Err (Deep (length (over ∷ other)))) → ⊥
-  front_not_deep before u w over b at only =
+  prefix_not_deep : (before u w : List Token) (over : Token) → Begins P m before → before ≡ u ++ over ∷ w → ((other : List Token) → all_at r (u ++ over ∷ other) ≡ Err (Deep (length (over ∷ other)))) → ⊥
+  prefix_not_deep before u w over b at only =
       let more = tokens_of b.more in
       let ts = tokens_of (m b.value) in
       let spelled : ts ≡ u ++ over ∷ (w ++ more) =
-      ap tokens_of b.whole ∙ map-append (λ (l : Leveled). l.0) b.front b.more ∙ ap (λ (l : List Token). l ++ more) (sym b.tokens ∙ at) ∙ append_assoc u (over ∷ w) more in
+      ap tokens_of b.whole ∙ map-append (λ (l : Leveled). l.0) b.prefix b.more ∙ ap (λ (l : List Token). l ++ more) (sym b.tokens ∙ at) ∙ append_assoc u (over ∷ w) more in
       let fails : r ts ≡ Err (Deep (length (over ∷ (w ++ more)))) = deep_read ts (length (over ∷ (w ++ more))) (ap (all_at r) spelled ∙ only (w ++ more)) in
       let rest : checked (m b.value) [] (Ok (b.value, [])) ≡ checked b.more [] (Ok (b.value, [])) =
       ap (λ (l : List Leveled). checked l [] (Ok (b.value, []))) b.whole
-      ∙ checked-append b.front b.more [] (Ok (b.value, []))
-      ∙ checked-within b.front (tokens_of b.more ++ []) (checked b.more [] (Ok (b.value, []))) b.within in
+      ∙ checked-append b.prefix b.more [] (Ok (b.value, []))
+      ∙ checked-within b.prefix (tokens_of b.more ++ []) (checked b.more [] (Ok (b.value, []))) b.within in
       let low : length (over ∷ (w ++ more)) ≤ length (tokens_of b.more ++ []) = checked_low b.more [] (b.value, []) (length (over ∷ (w ++ more))) (sym (again_all R ends_text b.value ts b.is refl ∙ rest) ∙ fails) in
       too_low w more over low
 
@@ -140,8 +140,8 @@ module _ {A : Type 0} {P : A → Type 0} {m : A → List Leveled} {e : A → Opt
   not_first_deep : (before bad : List Token) (n : ℕ) → IsFirstStray P m before bad → DeepAt P m r (before ++ bad) n → ⊥
   not_first_deep before bad n s d =
       elim (two_cuts before bad d.before (d.over ∷ d.rest) d.parts) [
-        | inl c ↦ not_behind c.between c.front c.rest
-        | inr c ↦ (let same : c.next ≡ d.over = sym (ap (head_or d.over) c.rest) in front_not_deep before d.before c.between d.over s.begun (c.front ∙ ap (λ (t : Token). d.before ++ t ∷ c.between) same) d.only)
+        | inl c ↦ not_after c.between c.prefix c.rest
+        | inr c ↦ (let same : c.next ≡ d.over = sym (ap (head_or d.over) c.rest) in prefix_not_deep before d.before c.between d.over s.begun (c.prefix ∙ ap (λ (t : Token). d.before ++ t ∷ c.between) same) d.only)
       ]
     where
       f : IsFirstDeep P m d.before (d.over ∷ d.rest)
@@ -150,13 +150,13 @@ module _ {A : Type 0} {P : A → Type 0} {m : A → List Leveled} {e : A → Opt
       spelled : tokens_of (m d.first.value) ≡ d.before ++ d.over ∷ tokens_of d.first.more
       spelled =
           ap tokens_of d.first.whole
-          ∙ map-append (λ (l : Leveled). l.0) d.first.front (d.first.over ∷ d.first.more)
+          ∙ map-append (λ (l : Leveled). l.0) d.first.prefix (d.first.over ∷ d.first.more)
           ∙ ap (λ (l : List Token). l ++ d.first.over.0 ∷ tokens_of d.first.more) (sym d.first.tokens)
           ∙ ap (λ (t : Token). d.before ++ t ∷ tokens_of d.first.more) (sym (ap (head_or d.over) d.first.bad_is))
 
-      not_behind : (w : List Token) → d.before ≡ before ++ w → bad ≡ w ++ d.over ∷ d.rest → ⊥
-      not_behind [] x y = s.none d.over d.rest y d.first.value (tokens_of d.first.more) d.first.is (spelled ∙ ap (λ (l : List Token). l ++ d.over ∷ tokens_of d.first.more) (x ∙ append-nil before))
-      not_behind (b ∷ w) x y = s.none b (w ++ d.over ∷ d.rest) y d.first.value (w ++ d.over ∷ tokens_of d.first.more) d.first.is (spelled ∙ ap (λ (l : List Token). l ++ d.over ∷ tokens_of d.first.more) x ∙ append_assoc before (b ∷ w) (d.over ∷ tokens_of d.first.more))
+      not_after : (w : List Token) → d.before ≡ before ++ w → bad ≡ w ++ d.over ∷ d.rest → ⊥
+      not_after [] x y = s.none d.over d.rest y d.first.value (tokens_of d.first.more) d.first.is (spelled ∙ ap (λ (l : List Token). l ++ d.over ∷ tokens_of d.first.more) (x ∙ append-nil before))
+      not_after (b ∷ w) x y = s.none b (w ++ d.over ∷ d.rest) y d.first.value (w ++ d.over ∷ tokens_of d.first.more) d.first.is (spelled ∙ ap (λ (l : List Token). l ++ d.over ∷ tokens_of d.first.more) x ∙ append_assoc before (b ∷ w) (d.over ∷ tokens_of d.first.more))
 
   -- a first stray token is found
   pub stray_again : (before bad : List Token) → IsFirstStray P m before bad → all_at r (before ++ bad) ≡ Err (Stray (length bad))
@@ -176,13 +176,13 @@ module _ {A : Type 0} {P : A → Type 0} {m : A → List Leveled} {e : A → Opt
       let more = tokens_of d.more in
       let ts = tokens_of (m d.value) in
       let spelled : ts ≡ before ++ d.over.0 ∷ more =
-      ap tokens_of d.whole ∙ map-append (λ (l : Leveled). l.0) d.front (d.over ∷ d.more) ∙ ap (λ (l : List Token). l ++ d.over.0 ∷ more) (sym d.tokens) in
+      ap tokens_of d.whole ∙ map-append (λ (l : Leveled). l.0) d.prefix (d.over ∷ d.more) ∙ ap (λ (l : List Token). l ++ d.over.0 ∷ more) (sym d.tokens) in
       let over : checked (d.over ∷ d.more) [] (Ok (d.value, [])) ≡ deep (d.over.0 ∷ (more ++ [])) = rw d.past refl in
       let read : r ts ≡ deep (d.over.0 ∷ (more ++ [])) =
       again_all R ends_text d.value ts d.is refl
       ∙ ap (λ (l : List Leveled). checked l [] (Ok (d.value, []))) d.whole
-      ∙ checked-append d.front (d.over ∷ d.more) [] (Ok (d.value, []))
-      ∙ checked-within d.front (tokens_of (d.over ∷ d.more) ++ []) (checked (d.over ∷ d.more) [] (Ok (d.value, []))) d.within
+      ∙ checked-append d.prefix (d.over ∷ d.more) [] (Ok (d.value, []))
+      ∙ checked-within d.prefix (tokens_of (d.over ∷ d.more) ++ []) (checked (d.over ∷ d.more) [] (Ok (d.value, []))) d.within
       ∙ over in
       let n = length (d.over.0 ∷ (more ++ [])) in
       let found = all_deep R ends_text ts n (ap (λ read. read >>= λ x. cond (eqb (length x.1) 0) (Ok x.0) (stray x.1)) read) in

@@ -60,14 +60,14 @@ module _ {A : Type 0} {P : A → Type 0} {m : A → List Leveled} {e : A → Opt
         | inl f ↦
             let s = R.strays ts n f in
             record {
-              before = tokens_of s.front;
+              before = tokens_of s.prefix;
               bad = s.bad;
               parts = s.spelled;
               left = s.size;
               first = record {
-                begun = record { value = s.value; is = s.fits; front = s.front; more = s.more; whole = s.whole; tokens = refl; within = s.within };
-                none = λ b rest at a other p same. checked_never_stray (m a) [] (a, []) (length (b ∷ other)) (sym (again_all a (tokens_of s.front ++ b ∷ other) p same) ∙ s.only b rest other at);
-                short = λ at a p same. checked_never_stray (m a) [] (a, []) n (sym (again_all a ts p (same ∙ sym (s.spelled ∙ ap (λ (l : List Token). tokens_of s.front ++ l) at ∙ append-nil (tokens_of s.front)))) ∙ f);
+                begun = record { value = s.value; is = s.fits; prefix = s.prefix; more = s.more; whole = s.whole; tokens = refl; within = s.within };
+                none = λ b rest at a other p same. checked_never_stray (m a) [] (a, []) (length (b ∷ other)) (sym (again_all a (tokens_of s.prefix ++ b ∷ other) p same) ∙ s.only b rest other at);
+                short = λ at a p same. checked_never_stray (m a) [] (a, []) n (sym (again_all a ts p (same ∙ sym (s.spelled ∙ ap (λ (l : List Token). tokens_of s.prefix ++ l) at ∙ append-nil (tokens_of s.prefix)))) ∙ f);
               };
             }
         | inr x ↦
@@ -81,7 +81,7 @@ module _ {A : Type 0} {P : A → Type 0} {m : A → List Leveled} {e : A → Opt
               parts = t.spelled;
               left = size;
               first = record {
-                begun = record { value = a0; is = t.fits; front = m a0; more = []; whole = sym (append-nil (m a0)); tokens = refl; within = t.within };
+                begun = record { value = a0; is = t.fits; prefix = m a0; more = []; whole = sym (append-nil (m a0)); tokens = refl; within = t.within };
                 none = λ b rest at a other p same.
                     let one = R.again a0 (b ∷ other) t.fits (ap (λ (l : List Token). e a0 (first l)) (sym at) ∙ t.ends_there) ∙ checked-within (m a0) (b ∷ other) (Ok (a0, b ∷ other)) t.within in
                     let two = sym (again_all a (tokens_of (m a0) ++ b ∷ other) p same) ∙ one in
@@ -109,12 +109,12 @@ module _ {A : Type 0} {P : A → Type 0} {m : A → List Leveled} {e : A → Opt
         | inl f ↦
             let s = R.deeps ts n f in
             record {
-              before = tokens_of s.front;
+              before = tokens_of s.prefix;
               over = s.over.0;
               rest = s.rest;
               parts = s.spelled;
               left = s.size;
-              first = record { value = s.value; is = s.fits; front = s.front; over = s.over; more = s.more; rest = s.rest; whole = s.whole; tokens = refl; within = s.within; past = s.past; bad_is = refl };
+              first = record { value = s.value; is = s.fits; prefix = s.prefix; over = s.over; more = s.more; rest = s.rest; whole = s.whole; tokens = refl; within = s.within; past = s.past; bad_is = refl };
               only = λ other. ap (λ read. read >>= λ x. cond (eqb (length x.1) 0) (Ok x.0) (stray x.1)) (s.only other);
             }
         | inr x ↦ absurd (never x.0 x.2)

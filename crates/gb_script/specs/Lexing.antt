@@ -66,25 +66,25 @@ written (Single Wrong) = []
 
 -- The piece may be followed by this text. A comment goes up to a newline or the end;
 -- a word is all of its run.
-abbrev pub Stands : Piece → List ℕ → Type 0
-Stands (Blank b) rest = IsTrue (is_blank b)
-Stands (Comment c) rest =
+abbrev pub MayPrecede : Piece → List ℕ → Type 0
+MayPrecede (Blank b) rest = IsTrue (is_blank b)
+MayPrecede (Comment c) rest =
     IsTrue (list_all (λ b. not (is_newline b)) c) × (begins (λ b. not (is_newline b)) rest ≡ false)
-Stands (Single (Word w)) rest = IsTrue (is_name w) × (begins is_name_byte rest ≡ false)
-Stands (Single (Text t)) rest = IsTrue (list_all is_writable t)
-Stands (Single (Mark s)) rest = Unit {0}
-Stands (Single Wrong) rest = ⊥
+MayPrecede (Single (Word w)) rest = IsTrue (is_name w) × (begins is_name_byte rest ≡ false)
+MayPrecede (Single (Text t)) rest = IsTrue (list_all is_writable t)
+MayPrecede (Single (Mark s)) rest = Unit {0}
+MayPrecede (Single Wrong) rest = ⊥
 
 -- the text is these pieces, one after another, and then the rest
 abbrev pub IsCut : List ℕ → List Piece → List ℕ → Type 0
 IsCut text [] rest = text ≡ rest
 IsCut text (p ∷ ps) rest =
-    (after : List ℕ) × (text ≡ written p ++ after) × Stands p after × IsCut after ps rest
+    (after : List ℕ) × (text ≡ written p ++ after) × MayPrecede p after × IsCut after ps rest
 
 -- No piece is at the front: the text ends, or the next part is a text that is not closed, a word of more
 -- than 64 bytes, or anything else that begins no piece.
 abbrev pub IsStuck : List ℕ → Type 0
-IsStuck rest = (p : Piece) (after : List ℕ) → rest ≡ written p ++ after → Stands p after → ⊥
+IsStuck rest = (p : Piece) (after : List ℕ) → rest ≡ written p ++ after → MayPrecede p after → ⊥
 
 -- a token and its line
 abbrev pub Placed : Type 0

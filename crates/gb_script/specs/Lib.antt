@@ -10,7 +10,7 @@ pub mod Fits
 pub mod Verdict
 pub mod Notation
 pub mod Script
-pub mod Telling
+pub mod Reporting
 pub mod Scanning
 pub mod Reading
 pub mod Readers

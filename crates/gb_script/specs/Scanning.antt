@@ -46,8 +46,8 @@ past_run test text = drop (prefix_len test text) text
 
 -- the result of a content and the text after it, with this put before the content
 abbrev pub with_content : List ℕ → Option (List ℕ × List ℕ) → Option (List ℕ × List ℕ)
-with_content front None = None
-with_content front (Some x) = Some (front ++ x.0, x.1)
+with_content prefix None = None
+with_content prefix (Some x) = Some (prefix ++ x.0, x.1)
 
 -- a byte after a backslash, and the text after the two
 abbrev pub escape_of : List ℕ → Option ℕ → Option (ℕ × List ℕ)

@@ -19,11 +19,11 @@ pub record Begins {A : Type 0} (Is : A → Type 0) (spelled : A → List Leveled
     (before : List Token) : Type 0 where
   pub value : A
   pub is : Is value
-  pub front : List Leveled
+  pub prefix : List Leveled
   pub more : List Leveled
-  pub whole : spelled value ≡ front ++ more
-  pub tokens : before ≡ tokens_of front
-  pub within : AllWithin front
+  pub whole : spelled value ≡ prefix ++ more
+  pub tokens : before ≡ tokens_of prefix
+  pub within : AllWithin prefix
 
 -- After the tokens before, the bad ones begin with the first that no spelling has there, limits aside. If
 -- there are no bad ones, the end comes too early.
@@ -43,12 +43,12 @@ pub record IsFirstDeep {A : Type 0} (Is : A → Type 0) (spelled : A → List Le
     (before bad : List Token) : Type 0 where
   pub value : A
   pub is : Is value
-  pub front : List Leveled
+  pub prefix : List Leveled
   pub over : Leveled
   pub more : List Leveled
   pub rest : List Token
-  pub whole : spelled value ≡ front ++ over ∷ more
-  pub tokens : before ≡ tokens_of front
-  pub within : AllWithin front
+  pub whole : spelled value ≡ prefix ++ over ∷ more
+  pub tokens : before ≡ tokens_of prefix
+  pub within : AllWithin prefix
   pub past : is_over over ≡ true
   pub bad_is : bad ≡ over.0 ∷ rest

@@ -154,11 +154,11 @@ fn content(alloc: Global, text: &str) -> Result<Option<(Text, &str)>, AllocError
         if begins(after, b'"') {
             return Ok(Some((Text::new(content)?, past_first(after))));
         }
-        let Some((found, behind)) = escape(after) else {
+        let Some((found, following)) = escape(after) else {
             return Ok(None);
         };
         content.push(found)?;
-        rest = behind;
+        rest = following;
     }
 }
 

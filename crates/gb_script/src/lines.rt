@@ -4,7 +4,7 @@
 ghost use Rattle.std.specs.Prelude.{◌≡◌, ◌<◌, ◌≤◌, ◌⊎◌, length, IfOk, IfErr, Err};
 ghost use Rattle.gb_script.specs.Reading.{Gives, many_at, no_matter, all_at};
 ghost use Rattle.gb_script.specs.Readers.{in_block};
-ghost use Rattle.gb_script.specs.Telling.{line_left};
+ghost use Rattle.gb_script.specs.Reporting.{line_left};
 ghost use Rattle.gb_script.specs.Script.{Says};
 ghost use Rattle.gb_script.specs.Lines.{AreLinesOf};
 ghost use Rattle.gb_script.specs.LineReaders.{clause_line_at, block_lines_at, registration_lines_at};

@@ -4,7 +4,7 @@ ghost use Rattle.std.specs.Prelude.{IfErr, IsErrOf, IsUtf8};
 ghost use Rattle.gb_script.specs.Grammar.{script_spelled, settings_spelled};
 ghost use Rattle.gb_script.specs.Fits.{IsScript, IsSettings};
 ghost use Rattle.gb_script.specs.Notation.{IsSyntaxFault, IsDepthFault};
-ghost use Rattle.gb_script.specs.Telling.{IsTextFault, fault_reported};
+ghost use Rattle.gb_script.specs.Reporting.{IsTextFault, fault_reported};
 ghost use Rattle.gb_script.specs.Script.{Spells, Says, SpellsSettings, SaysAsSettings};
 ghost use Rattle.gb_script.specs.declared.fault.ScriptFault.{ScriptFault};
 ghost use Rattle.gb_script.specs.declared.script.Statement.{Statement};

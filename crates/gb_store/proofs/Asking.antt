@@ -2,15 +2,15 @@
 use Rattle.std.proofs.Common.{◌≡◌, ◌<◌, ℕ, List, Option, None, length, get_or}
 use Rattle.std.specs.Cmp.Lexicographic.{bytes_decides}
 use Rattle.std.proofs.Common.{refl}
-use Rattle.gb_folder.specs.Calls.{Asks, Call, taken_at, takes_at}
+use Rattle.gb_folder.specs.Calls.{Requests, Call, taken_at, takes_at}
 use Rattle.gb_folder.specs.Files.{Place, Tearing}
-use Rattle.gb_folder.proofs.Asked.{asks_taken, take_at}
+use Rattle.gb_folder.proofs.Asked.{requests_taken, take_at}
 use Rattle.gb_store.specs.Changes.{is_among, is_at}
 use Rattle.gb_store.proofs.Loops.{any_here}
 
 -- the file at one of these places is removed
-pub taken_among : {F : Type 0} {failures : F → ℕ} {may_leave : F → Tearing} {asked : F → Call → F → Type 0} {old new : F}
+pub taken_among : {F : Type 0} {failures : F → ℕ} {may_leave : F → Tearing} {allowed : F → Call → F → Type 0} {old new : F}
     (places : List Place) (i : ℕ) (place : Place) → i < length places → place ≡ get_or places i place
-    → Asks failures may_leave asked (taken_at place) old new → Asks failures may_leave asked (takes_at (is_among places)) old new
+    → Requests failures may_leave allowed (taken_at place) old new → Requests failures may_leave allowed (takes_at (is_among places)) old new
 taken_among places i place within is takes =
-    asks_taken place (take_at (is_among places) place (any_here (λ other. is_at other place) places i place within is ((bytes_decides place place).1 refl))) takes
+    requests_taken place (take_at (is_among places) place (any_here (λ other. is_at other place) places i place within is ((bytes_decides place place).1 refl))) takes

@@ -47,10 +47,10 @@ found_at true bytes o = refl
 found_at false bytes o = refl
 
 -- a place is among the places of some files exactly if one of these files is at it
-stands_where : (test : Place → Bool) (files : Files) (q : Place) → list_any (bytes_eq q) (map (λ file. file.0) (files_where test files)) ≡ (test q && is_some (file_at files q))
-stands_where test [] q = elim (test q) as (λ b. false ≡ (b && false)) [ true ↦ refl | false ↦ refl ]
-stands_where test (file ∷ files) q =
-    let rest = stands_where test files q in
+exists_where : (test : Place → Bool) (files : Files) (q : Place) → list_any (bytes_eq q) (map (λ file. file.0) (files_where test files)) ≡ (test q && is_some (file_at files q))
+exists_where test [] q = elim (test q) as (λ b. false ≡ (b && false)) [ true ↦ refl | false ↦ refl ]
+exists_where test (file ∷ files) q =
+    let rest = exists_where test files q in
     let more : list_any (bytes_eq q) (map (λ f. f.0) (files_where test (file ∷ files))) ≡ (test file.0 && bytes_eq q file.0 || list_any (bytes_eq q) (map (λ f. f.0) (files_where test files))) =
     elim (test file.0) as (λ b. list_any (bytes_eq q) (map (λ f. f.0) (cond b (file ∷ files_where test files) (files_where test files))) ≡ (b && bytes_eq q file.0 || list_any (bytes_eq q) (map (λ f. f.0) (files_where test files)))) [ true ↦ refl | false ↦ refl ] in
     let same : (test file.0 && bytes_eq q file.0) ≡ (test q && bytes_eq q file.0) =
@@ -58,10 +58,10 @@ stands_where test (file ∷ files) q =
       | true ↦ λ is. ap (λ p. test p && true) (sym ((bytes_decides q file.0).0 is))
       | false ↦ λ is. elim (test file.0) as (λ a. (a && false) ≡ (test q && false)) [ true ↦ none (test q) | false ↦ none (test q) ]
     ] refl in
-    let stands : is_some (file_at (file ∷ files) q) ≡ (bytes_eq q file.0 || is_some (file_at files q)) =
+    let exists : is_some (file_at (file ∷ files) q) ≡ (bytes_eq q file.0 || is_some (file_at files q)) =
     found_at (is_eq (slice_cmp nat_cmp q file.0)) file.1 (file_at files q) ∙ ap (λ b. b || is_some (file_at files q)) (sym (lists_ties nat_cmp unsigned_ties q file.0)) in
     more ∙ ap (λ a. a || list_any (bytes_eq q) (map (λ f. f.0) (files_where test files))) same ∙ ap (λ a. test q && bytes_eq q file.0 || a) rest
-    ∙ joined (test q) (bytes_eq q file.0) (is_some (file_at files q)) ∙ ap (λ a. test q && a) (sym stands)
+    ∙ joined (test q) (bytes_eq q file.0) (is_some (file_at files q)) ∙ ap (λ a. test q && a) (sym exists)
   where
     none : (b : Bool) → false ≡ (b && false)
     none true = refl
@@ -72,13 +72,13 @@ stands_where test (file ∷ files) q =
     joined false b c = refl
 
 -- the places of the files under some roots
-stands_beneath : {X : Type 0} (root : X → Place) (xs : List X) (files : Files) (q : Place)
+exists_beneath : {X : Type 0} (root : X → Place) (xs : List X) (files : Files) (q : Place)
     → list_any (bytes_eq q) (flat_map (λ x. places_under files (root x)) xs) ≡ (list_any (λ x. is_under q (root x)) xs && is_some (file_at files q))
-stands_beneath root [] files q = refl
-stands_beneath root (x ∷ xs) files q =
+exists_beneath root [] files q = refl
+exists_beneath root (x ∷ xs) files q =
     list_any-append (bytes_eq q) (places_under files (root x)) (flat_map (λ y. places_under files (root y)) xs)
-    ∙ ap (λ a. a || list_any (bytes_eq q) (flat_map (λ y. places_under files (root y)) xs)) (stands_where (λ p. is_under p (root x)) files q)
-    ∙ ap (λ a. is_under q (root x) && is_some (file_at files q) || a) (stands_beneath root xs files q)
+    ∙ ap (λ a. a || list_any (bytes_eq q) (flat_map (λ y. places_under files (root y)) xs)) (exists_where (λ p. is_under p (root x)) files q)
+    ∙ ap (λ a. is_under q (root x) && is_some (file_at files q) || a) (exists_beneath root xs files q)
     ∙ joined (is_under q (root x)) (list_any (λ y. is_under q (root y)) xs) (is_some (file_at files q))
   where
     joined : (a b c : Bool) → (a && c || b && c) ≡ ((a || b) && c)
@@ -100,7 +100,7 @@ emptied root xs files sound =
     let places = flat_map (λ x. places_under files (root x)) xs in
     let is_rooted : Place → Bool = λ q. list_any (λ x. is_under q (root x)) xs in
     same_files _ _ (sound_removed places files sound) (sound_where files (λ q. not (is_rooted q)) sound) (λ q.
-    at_removed places files q ∙ ap (λ b. cond b None (file_at files q)) (stands_beneath root xs files q) ∙ left_over (is_rooted q) (file_at files q)
+    at_removed places files q ∙ ap (λ b. cond b None (file_at files q)) (exists_beneath root xs files q) ∙ left_over (is_rooted q) (file_at files q)
     ∙ sym (file_at-files_where files (λ p. not (is_rooted p)) q))
 
 -- there is no file where another one is in the way
@@ -108,7 +108,7 @@ pub blocked_none : (files : Files) (place : Place) → IsFolder files → is_blo
 blocked_none files place sound blocked =
     elim (file_at files place) as (λ o. file_at files place ≡ o → o ≡ None) [
       | None ↦ λ _. refl
-      | Some bytes ↦ λ stands. absurd (false≢true (sym (free_at files place bytes sound stands) ∙ blocked))
+      | Some bytes ↦ λ exists. absurd (false≢true (sym (free_at files place bytes sound exists) ∙ blocked))
     ] refl
 
 unsplit : (b : Bool) → not (b || false) ≡ not b

@@ -52,17 +52,17 @@ of_machine before after place folders.BadFileName reported (inr is) rose other =
 pub changes_chain : (test : Place → Bool) (first second third : Contents) → ChangesOnly test first second → ChangesOnly test second third → ChangesOnly test first third
 changes_chain test first second third a b = record {
   elsewhere = DiffersOnlyAt-chain test first.files second.files third.files a.elsewhere b.elsewhere;
-  odd = b.odd ∙ a.odd;
+  special = b.special ∙ a.special;
 }
 
 -- nothing has changed
 pub changes_none : (test : Place → Bool) (old new : Contents) → new ≡ old → ChangesOnly test old new
-changes_none test old new same = record { elsewhere = ap (λ (c : Contents). files_where (λ place. not (test place)) c.files) same; odd = ap (λ (c : Contents). c.odd) same }
+changes_none test old new same = record { elsewhere = ap (λ (c : Contents). files_where (λ place. not (test place)) c.files) same; special = ap (λ (c : Contents). c.special) same }
 
 changes_to : (test : Place → Bool) (old new : Contents) (files : List (Place × List ℕ)) → new ≡ record old { files = files } → DiffersOnlyAt test old.files files → ChangesOnly test old new
 changes_to test old new files is differs = record {
   elsewhere = ap (λ (c : Contents). files_where (λ place. not (test place)) c.files) is ∙ differs;
-  odd = ap (λ (c : Contents). c.odd) is;
+  special = ap (λ (c : Contents). c.special) is;
 }
 
 -- a file was removed

@@ -17,7 +17,7 @@ is_among places place = list_any (λ other. is_at other place) places
 -- Files differ only where the test holds; special entries stay the same.
 pub record ChangesOnly (test : Place → Bool) (old new : Contents) : Type 0 where
   pub elsewhere : DiffersOnlyAt test old.files new.files
-  pub odd : new.odd ≡ old.odd
+  pub special : new.special ≡ old.special
 
 -- the folder without the files at these places
 abbrev pub without_all : Contents → List Place → Contents

@@ -2,8 +2,8 @@
 ghost use Rattle.std.specs.Prelude.{◌≡◌, ◌⊎◌, false, IsTrue, IfOk, IfErr, OnOk};
 ghost use Rattle.std.specs.List.{AllPass};
 ghost use Rattle.gb_core.specs.Place.{is_under};
-ghost use Rattle.gb_folder.specs.Calls.{Asks, no_change};
-ghost use Rattle.gb_folder.specs.Files.{is_odd_under, places_under};
+ghost use Rattle.gb_folder.specs.Calls.{Requests, no_change};
+ghost use Rattle.gb_folder.specs.Files.{is_special_under, places_under};
 ghost use Rattle.gb_store.specs.Changes.{is_at};
 ghost use Rattle.gb_store.specs.Faults.{Blames, BlamesOnly, IsOfMachine};
 ghost use Rattle.gb_store.specs.Removals.{WasListed};
@@ -22,17 +22,17 @@ pub fn listed_at<F: Folder>(
 ) -> Result<Vec<Place>, Fault>
     // Over any folder: by one call.
     ensures call { WasListed F.device place.now folder.old result folder.new }
-    ensures asks { Asks F.failures F.may_leave F.asked no_change folder.old folder.new }
+    ensures requests { Requests F.failures F.may_leave F.allowed no_change folder.old folder.new }
     ensures blame { Blames result (F.failures folder.old) (F.failures folder.new) }
     ensures blamed { BlamesOnly (is_at place.now) result }
     ensures under { IfOk result (λ places. AllPass (λ at. is_under at place.now) places.items) }
-    ensures same { IsTrue F.tells → F.contents folder.new ≡ F.contents folder.old }
-    ensures listed { IsTrue F.tells → IfOk result
+    ensures same { IsTrue F.faithful → F.contents folder.new ≡ F.contents folder.old }
+    ensures listed { IsTrue F.faithful → IfOk result
         (λ places. places.items ≡ places_under (F.contents folder.old).files place.now) }
-    ensures none_odd { IsTrue F.tells → OnOk result (is_odd_under (F.contents folder.old) place.now ≡ false) }
-    ensures odd { IsTrue F.tells → IfErr result
+    ensures none_special { IsTrue F.faithful → OnOk result (is_special_under (F.contents folder.old) place.now ≡ false) }
+    ensures special { IsTrue F.faithful → IfErr result
         (λ fault. IsOfMachine (F.failures folder.old) (F.failures folder.new) fault
-        ⊎ (IsTrue (is_odd_under (F.contents folder.old) place.now) × (fault ≡ Fault.BadFileName place.now))) }
+        ⊎ (IsTrue (is_special_under (F.contents folder.old) place.now) × (fault ≡ Fault.BadFileName place.now))) }
 {
     match folder.list(alloc, place) {
         Ok(places) => Ok(places),

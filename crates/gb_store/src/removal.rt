@@ -1,7 +1,7 @@
 //! Removing files.
 ghost use Rattle.std.specs.Prelude.{◌≡◌, ◌≢◌, ◌⊎◌, Bool, List, ℕ, [], ◌∷◌, None, true, IsTrue, IfErr, OnOk};
 ghost use Rattle.std.specs.List.{AllByRecursion};
-ghost use Rattle.gb_folder.specs.Calls.{Asks, Call, taken_at, takes_at};
+ghost use Rattle.gb_folder.specs.Calls.{Requests, Call, taken_at, takes_at};
 ghost use Rattle.gb_folder.specs.Device.{Leads};
 ghost use Rattle.gb_store.specs.Changes.{ChangesOnly, IsCutShort, IsHindered, is_among, is_at, without_all};
 ghost use Rattle.gb_store.specs.Faults.{Blames, BlamesOnly, IsOfMachine};
@@ -17,18 +17,18 @@ pub fn remove_all<F: Folder>(folder: &mut F, places: &[Place]) -> Result<(), Fau
     // Over any folder: by these calls.
     ensures calls { (calls : List Call) × Leads F.device folder.old calls folder.new
         × Removals places.now calls result }
-    ensures asks { Asks F.failures F.may_leave F.asked (takes_at (is_among places.now)) folder.old
+    ensures requests { Requests F.failures F.may_leave F.allowed (takes_at (is_among places.now)) folder.old
         folder.new }
     ensures blame { Blames result (F.failures folder.old) (F.failures folder.new) }
     ensures blamed { BlamesOnly (is_among places.now) result }
-    ensures ok { IsTrue F.tells
+    ensures ok { IsTrue F.faithful
         → OnOk result (F.contents folder.new ≡ without_all (F.contents folder.old) places.now) }
-    ensures err { IsTrue F.tells
+    ensures err { IsTrue F.faithful
         → IfErr result (IsOfMachine (F.failures folder.old) (F.failures folder.new)) }
-    ensures cut { IsTrue F.tells → IfErr result
+    ensures cut { IsTrue F.faithful → IfErr result
         (λ fault. IsCutShort (F.may_leave folder.old) places.now (F.contents folder.old)
         fault (F.contents folder.new)) }
-    ensures changes { IsTrue F.tells → (test : List ℕ → Bool)
+    ensures changes { IsTrue F.faithful → (test : List ℕ → Bool)
         → AllByRecursion (λ place. test place ≡ true) places.now
         → ChangesOnly test (F.contents folder.old) (F.contents folder.new) }
 {
@@ -43,17 +43,17 @@ pub fn remove_all<F: Folder>(folder: &mut F, places: &[Place]) -> Result<(), Fau
 pub fn remove_at<F: Folder>(folder: &mut F, place: &Place) -> Result<(), Fault>
     // Over any folder: by one call.
     ensures call { WasRemoved F.device place.now folder.old result folder.new }
-    ensures asks { Asks F.failures F.may_leave F.asked (taken_at place.now) folder.old folder.new }
+    ensures requests { Requests F.failures F.may_leave F.allowed (taken_at place.now) folder.old folder.new }
     ensures blame { Blames result (F.failures folder.old) (F.failures folder.new) }
     ensures blamed { BlamesOnly (is_at place.now) result }
-    ensures ok { IsTrue F.tells
+    ensures ok { IsTrue F.faithful
         → OnOk result (F.contents folder.new ≡ without_all (F.contents folder.old) (place.now ∷ [])) }
-    ensures err { IsTrue F.tells
+    ensures err { IsTrue F.faithful
         → IfErr result (IsOfMachine (F.failures folder.old) (F.failures folder.new)) }
-    ensures hindered { IsTrue F.tells → IfErr result
+    ensures hindered { IsTrue F.faithful → IfErr result
         (λ fault. IsHindered (F.may_leave folder.old) place.now None (F.contents folder.old)
         fault (F.contents folder.new)) }
-    ensures changes { IsTrue F.tells → (test : List ℕ → Bool) → test place.now ≡ true
+    ensures changes { IsTrue F.faithful → (test : List ℕ → Bool) → test place.now ≡ true
         → ChangesOnly test (F.contents folder.old) (F.contents folder.new) }
 {
     let at = place.copy()?;

@@ -16,8 +16,8 @@ pub is_none : {X : Type 0} (o : Option X) → is_some o ≡ false → o ≡ None
 is_none None e = refl
 is_none (Some x) e = absurd (true≢false e)
 
-apart : (fault : AddFault) → fault ≡ OutOfMemory → IsErrOf {T = Unit {0}} (Err fault) Taken → ⊥
-apart fault h is = cc
+separate : (fault : AddFault) → fault ≡ OutOfMemory → IsErrOf {T = Unit {0}} (Err fault) Taken → ⊥
+separate fault h is = cc
 
 pub ok_is_no_fault : (x : Unit {0}) → IsErrOf {E = AddFault} (Ok x) Taken → ⊥
 ok_is_no_fault x is = cc
@@ -25,7 +25,7 @@ ok_is_no_fault x is = cc
 -- an out-of-memory fault is no duplicate, and an absent name is no duplicate
 pub no_memory : {P : Type 0} (r : Result (Unit {0}) AddFault) → IsErrAnd r (λ fault. fault ≡ OutOfMemory) → ¬ P → (IsErrOf r Taken → P) × (P → IsErrOf r Taken)
 no_memory (Ok x) h absent = absurd h
-no_memory (Err fault) h absent = (λ is. absurd (apart fault h is), λ p. absurd (absent p))
+no_memory (Err fault) h absent = (λ is. absurd (separate fault h is), λ p. absurd (absent p))
 
 module _ {K S : Type 0} (text : K → List ℕ) where
   abbrev pub named : List (K × S) → List (List ℕ × S)

@@ -17,19 +17,19 @@ use Rattle.gb_label.specs.Deciding.{IsPresentOf}
 use Rattle.gb_label.specs.Preparing.{MayPrepare}
 use Rattle.gb_label.specs.declared.prepare.Prepared.{Prepared}
 use Rattle.gb_label.specs.declared.prepare.Prepared.TheVariants as prepared
-use Rattle.gb_plan.specs.Task.{Path, seen_outputs}
+use Rattle.gb_plan.specs.Task.{Path, given_outputs}
 use Rattle.gb_plan.specs.declared.task.FileProperty.{FileProperty}
 use Rattle.gb_plan.specs.declared.task.Output.{Output}
 use Rattle.gb_plan.specs.declared.task.TaskDeclaration.{TaskDeclaration as Task}
 use Rattle.gb_report.specs.declared.fault.Fault.{Fault}
 use Rattle.gb_report.specs.declared.report.Options.{Options}
 use Rattle.gb_report.specs.declared.report.Outcome.TheVariants as outcomes
-use Rattle.gb_tree.specs.Answered.{IsTreeRead, WereSeen}
+use Rattle.gb_tree.specs.Answered.{IsTreeRead, WereObserved}
 use Rattle.gb_tree.specs.Prints.{digests_of}
-use Rattle.gb_tree.specs.Reading.{digests_seen, entries_seen}
-use Rattle.gb_tree.specs.declared.kept.SeenFile.{SeenFile}
+use Rattle.gb_tree.specs.Reading.{digests_observed, entries_observed}
+use Rattle.gb_tree.specs.declared.kept.ScannedFile.{ScannedFile}
 use Rattle.gb_label.specs.ReadingAnswered.{AreInputsAnswered, AreInputsRead, AreOutputsAnswered, AreOutputsRead, IsInputAnswered, IsInputRead, IsOutputAnswered, IsOutputRead}
-use Rattle.gb_label.specs.Reading.{AreInputs, AreOutputs, Read, digests_in, prints_read, prints_seen, records_with}
+use Rattle.gb_label.specs.Reading.{AreInputs, AreOutputs, Read, digests_in, prints_read, prints_observed, records_with}
 use Rattle.gb_task.specs.Recheck.{recheck_by}
 use Rattle.gb_task.specs.Current.{IsCurrentOn, WasReadRecheck, WasSettled}
 use Rattle.gb_task.specs.Settled.{settled_as}
@@ -43,79 +43,79 @@ first_name a b l m e = cc
 other_names : (a b : List ℕ) (l m : List (List ℕ)) → a ∷ l ≡ b ∷ m → l ≡ m
 other_names a b l m e = cc
 
-module _ {F : Type 0} (failures : F → ℕ) (may_leave : F → Tearing) (asked : F → Call → F → Type 0) (old new : F) where
+module _ {F : Type 0} (failures : F → ℕ) (may_leave : F → Tearing) (allowed : F → Call → F → Type 0) (old new : F) where
   -- ---- the contents whose digests were taken
 
-  abbrev tree_of_seen : (files : List SeenFile) → WereSeen failures may_leave asked old new files → Tree
-  tree_of_seen [] were = []
-  tree_of_seen (seen ∷ files) were = (seen.path, were.0.0) ∷ tree_of_seen files were.1
+  abbrev tree_of_observed : (files : List ScannedFile) → WereObserved failures may_leave allowed old new files → Tree
+  tree_of_observed [] were = []
+  tree_of_observed (observed ∷ files) were = (observed.path, were.0.0) ∷ tree_of_observed files were.1
 
-  tree_was_read : (files : List SeenFile) (were : WereSeen failures may_leave asked old new files)
-      → IsTreeRead failures may_leave asked old new (entries_seen files) (tree_of_seen files were)
+  tree_was_read : (files : List ScannedFile) (were : WereObserved failures may_leave allowed old new files)
+      → IsTreeRead failures may_leave allowed old new (entries_observed files) (tree_of_observed files were)
   tree_was_read [] were = tt
-  tree_was_read (seen ∷ files) were = ((refl, were.0.1), tree_was_read files were.1)
+  tree_was_read (observed ∷ files) were = ((refl, were.0.1), tree_was_read files were.1)
 
-  tree_digests : (files : List SeenFile) (were : WereSeen failures may_leave asked old new files) → digests_of (tree_of_seen files were) ≡ digests_seen files
+  tree_digests : (files : List ScannedFile) (were : WereObserved failures may_leave allowed old new files) → digests_of (tree_of_observed files were) ≡ digests_observed files
   tree_digests [] were = refl
-  tree_digests (seen ∷ files) were =
-      ap₂ (λ (digest : List ℕ) (tree : Tree). (seen.path, digest) ∷ tree) (sym were.0.2) (tree_digests files were.1)
+  tree_digests (observed ∷ files) were =
+      ap₂ (λ (digest : List ℕ) (tree : Tree). (observed.path, digest) ∷ tree) (sym were.0.2) (tree_digests files were.1)
 
-  abbrev trees_seen : (properties : List FileProperty) (readings : List Read) → AllZip (IsInputAnswered failures may_leave asked old new) properties readings → Trees
-  trees_seen [] [] were = []
-  trees_seen [] (reading ∷ readings) were = []
-  trees_seen (property ∷ properties) [] were = []
-  trees_seen (property ∷ properties) (reading ∷ readings) were =
-      (reading.0, tree_of_seen reading.1 were.0.1) ∷ trees_seen properties readings were.1
+  abbrev trees_observed : (properties : List FileProperty) (readings : List Read) → AllZip (IsInputAnswered failures may_leave allowed old new) properties readings → Trees
+  trees_observed [] [] were = []
+  trees_observed [] (reading ∷ readings) were = []
+  trees_observed (property ∷ properties) [] were = []
+  trees_observed (property ∷ properties) (reading ∷ readings) were =
+      (reading.0, tree_of_observed reading.1 were.0.1) ∷ trees_observed properties readings were.1
 
-  trees_were_read : (properties : List FileProperty) (readings : List Read) (were : AllZip (IsInputAnswered failures may_leave asked old new) properties readings)
-      → AllZip (IsInputRead failures may_leave asked old new) properties (trees_seen properties readings were)
+  trees_were_read : (properties : List FileProperty) (readings : List Read) (were : AllZip (IsInputAnswered failures may_leave allowed old new) properties readings)
+      → AllZip (IsInputRead failures may_leave allowed old new) properties (trees_observed properties readings were)
   trees_were_read [] [] were = tt
   trees_were_read [] (reading ∷ readings) were = absurd were
   trees_were_read (property ∷ properties) [] were = absurd were
   trees_were_read (property ∷ properties) (reading ∷ readings) were =
-      ((entries_seen reading.1, were.0.0, tree_was_read reading.1 were.0.1), trees_were_read properties readings were.1)
+      ((entries_observed reading.1, were.0.0, tree_was_read reading.1 were.0.1), trees_were_read properties readings were.1)
 
-  trees_digests : (properties : List FileProperty) (readings : List Read) (were : AllZip (IsInputAnswered failures may_leave asked old new) properties readings)
-      → digests_in (trees_seen properties readings were) ≡ prints_read readings
+  trees_digests : (properties : List FileProperty) (readings : List Read) (were : AllZip (IsInputAnswered failures may_leave allowed old new) properties readings)
+      → digests_in (trees_observed properties readings were) ≡ prints_read readings
   trees_digests [] [] were = refl
   trees_digests [] (reading ∷ readings) were = absurd were
   trees_digests (property ∷ properties) [] were = absurd were
   trees_digests (property ∷ properties) (reading ∷ readings) were =
       ap₂ (λ (tree : Tree) (trees : List Prints). (reading.0, tree) ∷ trees) (tree_digests reading.1 were.0.1) (trees_digests properties readings were.1)
 
-  trees_named : (properties : List FileProperty) (readings : List Read) (were : AllZip (IsInputAnswered failures may_leave asked old new) properties readings)
-      → map (λ (tree : List ℕ × Tree). tree.0) (trees_seen properties readings were) ≡ map (λ (reading : Read). reading.0) readings
+  trees_named : (properties : List FileProperty) (readings : List Read) (were : AllZip (IsInputAnswered failures may_leave allowed old new) properties readings)
+      → map (λ (tree : List ℕ × Tree). tree.0) (trees_observed properties readings were) ≡ map (λ (reading : Read). reading.0) readings
   trees_named [] [] were = refl
   trees_named [] (reading ∷ readings) were = absurd were
   trees_named (property ∷ properties) [] were = absurd were
   trees_named (property ∷ properties) (reading ∷ readings) were = ap (λ (names : List (List ℕ)). reading.0 ∷ names) (trees_named properties readings were.1)
 
-  abbrev files_seen : (outputs : List Output) (readings : List Read) → AllZip (IsOutputAnswered failures may_leave asked old new) outputs readings → List OutputFiles
-  files_seen [] [] were = []
-  files_seen [] (reading ∷ readings) were = []
-  files_seen (output ∷ outputs) [] were = []
-  files_seen (output ∷ outputs) (reading ∷ readings) were =
-      record { name = reading.0; form = output.form; files = tree_of_seen reading.1 were.0.1 } ∷ files_seen outputs readings were.1
+  abbrev files_observed : (outputs : List Output) (readings : List Read) → AllZip (IsOutputAnswered failures may_leave allowed old new) outputs readings → List OutputFiles
+  files_observed [] [] were = []
+  files_observed [] (reading ∷ readings) were = []
+  files_observed (output ∷ outputs) [] were = []
+  files_observed (output ∷ outputs) (reading ∷ readings) were =
+      record { name = reading.0; form = output.form; files = tree_of_observed reading.1 were.0.1 } ∷ files_observed outputs readings were.1
 
-  files_were_read : (outputs : List Output) (readings : List Read) (were : AllZip (IsOutputAnswered failures may_leave asked old new) outputs readings)
-      → AllZip (IsOutputRead failures may_leave asked old new) outputs (files_seen outputs readings were)
+  files_were_read : (outputs : List Output) (readings : List Read) (were : AllZip (IsOutputAnswered failures may_leave allowed old new) outputs readings)
+      → AllZip (IsOutputRead failures may_leave allowed old new) outputs (files_observed outputs readings were)
   files_were_read [] [] were = tt
   files_were_read [] (reading ∷ readings) were = absurd were
   files_were_read (output ∷ outputs) [] were = absurd were
   files_were_read (output ∷ outputs) (reading ∷ readings) were =
-      ((entries_seen reading.1, were.0.0, tree_was_read reading.1 were.0.1), files_were_read outputs readings were.1)
+      ((entries_observed reading.1, were.0.0, tree_was_read reading.1 were.0.1), files_were_read outputs readings were.1)
 
-  files_digests : (outputs : List Output) (readings : List Read) (were : AllZip (IsOutputAnswered failures may_leave asked old new) outputs readings)
-      → prints_seen (files_seen outputs readings were) ≡ prints_read readings
+  files_digests : (outputs : List Output) (readings : List Read) (were : AllZip (IsOutputAnswered failures may_leave allowed old new) outputs readings)
+      → prints_observed (files_observed outputs readings were) ≡ prints_read readings
   files_digests [] [] were = refl
   files_digests [] (reading ∷ readings) were = absurd were
   files_digests (output ∷ outputs) [] were = absurd were
   files_digests (output ∷ outputs) (reading ∷ readings) were =
       ap₂ (λ (tree : Tree) (trees : List Prints). (reading.0, tree) ∷ trees) (tree_digests reading.1 were.0.1) (files_digests outputs readings were.1)
 
-  files_formed : (outputs : List Output) (readings : List Read) (were : AllZip (IsOutputAnswered failures may_leave asked old new) outputs readings)
+  files_formed : (outputs : List Output) (readings : List Read) (were : AllZip (IsOutputAnswered failures may_leave allowed old new) outputs readings)
       → map (λ (reading : Read). reading.0) readings ≡ map (λ (output : Output). output.name) outputs
-      → map (λ (output : OutputFiles). let form : List ℕ × Form = (output.name, output.form) in form) (files_seen outputs readings were) ≡ seen_outputs outputs
+      → map (λ (output : OutputFiles). let form : List ℕ × Form = (output.name, output.form) in form) (files_observed outputs readings were) ≡ given_outputs outputs
   files_formed [] [] were named = refl
   files_formed [] (reading ∷ readings) were named = absurd were
   files_formed (output ∷ outputs) [] were named = absurd were
@@ -125,53 +125,53 @@ module _ {F : Type 0} (failures : F → ℕ) (may_leave : F → Tearing) (asked 
 
   -- ---- what is decided
 
-  current_on : (options : Options) (task : Task) (last : Option Record) (inputs outputs : List Read) → AreInputs task inputs → AreInputsAnswered failures may_leave asked old new task inputs
-      → AreOutputs task outputs → AreOutputsAnswered failures may_leave asked old new task outputs
-      → IsFoundCurrent options task last (prints_read inputs) (prints_read outputs) → IsCurrentOn failures may_leave asked options task last old new
-  current_on options task last inputs outputs of read are stood found = record {
+  current_on : (options : Options) (task : Task) (last : Option Record) (inputs outputs : List Read) → AreInputs task inputs → AreInputsAnswered failures may_leave allowed old new task inputs
+      → AreOutputs task outputs → AreOutputsAnswered failures may_leave allowed old new task outputs
+      → IsFoundCurrent options task last (prints_read inputs) (prints_read outputs) → IsCurrentOn failures may_leave allowed options task last old new
+  current_on options task last inputs outputs of read are existed found = record {
     run = found.run;
     remembered = found.read;
-    trees = trees_seen task.files inputs read;
+    trees = trees_observed task.files inputs read;
     inputs_read = trees_were_read task.files inputs read;
     named = trees_named task.files inputs read ∙ of.named;
-    seen = files_seen task.outputs outputs stood;
-    outputs_read = files_were_read task.outputs outputs stood;
-    formed = files_formed task.outputs outputs stood are.named;
+    observed = files_observed task.outputs outputs existed;
+    outputs_read = files_were_read task.outputs outputs existed;
+    formed = files_formed task.outputs outputs existed are.named;
     present = found.present;
-    has = subst (λ (ins : List Prints). IsPresentOf options task ins (records_with task.outputs (prints_seen (files_seen task.outputs outputs stood))) found.present)
+    has = subst (λ (ins : List Prints). IsPresentOf options task ins (records_with task.outputs (prints_observed (files_observed task.outputs outputs existed))) found.present)
         (sym (trees_digests task.files inputs read))
         (subst (λ (outs : List Prints). IsPresentOf options task (prints_read inputs) (records_with task.outputs outs) found.present)
-        (sym (files_digests task.outputs outputs stood)) found.has);
+        (sym (files_digests task.outputs outputs existed)) found.has);
     decides = found.decides;
   }
 
   pub was_settled : (options : Options) (task : Task) (last : Option Record) (path : Path) (need : Bool) (result : Result Prepared Fault)
-      → IfOk result (MayPrepare task) → IfOk result (WasPrepared failures may_leave asked old new options task last)
-      → WasSettled failures may_leave asked old new options task last (settled_as task path result need)
+      → IfOk result (MayPrepare task) → IfOk result (WasPrepared failures may_leave allowed old new options task last)
+      → WasSettled failures may_leave allowed old new options task last (settled_as task path result need)
   was_settled options task last path need (Err fault) may was = λ reported acts. absurd (let e = reported in (cc))
   was_settled options task last path need (Ok prepared.Skips) may was = λ reported acts. absurd (let e = reported in (cc))
   was_settled options task last path need (Ok prepared.HasNoActions) may was = λ reported acts. absurd (true≢false (sym may.1 ∙ acts))
   was_settled options task last path need (Ok prepared.HasNoSource) may was = was
-  was_settled options task last path need (Ok (prepared.Decided decisions.UpToDate basis seen)) may was =
-      λ reported acts. current_on options task last seen.inputs.items seen.outputs.items was.0 was.1 was.2.0 was.2.1 was.2.2
-  was_settled options task last path need (Ok (prepared.Decided (decisions.Incremental changes) basis seen)) may was = (was.1, was.2)
-  was_settled options task last path need (Ok (prepared.Decided decisions.Full basis seen)) may was = (was.1, was.2)
+  was_settled options task last path need (Ok (prepared.Decided decisions.UpToDate basis observed)) may was =
+      λ reported acts. current_on options task last observed.inputs.items observed.outputs.items was.0 was.1 was.2.0 was.2.1 was.2.2
+  was_settled options task last path need (Ok (prepared.Decided (decisions.Incremental changes) basis observed)) may was = (was.1, was.2)
+  was_settled options task last path need (Ok (prepared.Decided decisions.Full basis observed)) may was = (was.1, was.2)
 
   -- where an incremental run was decided, calls returned the outputs that the decision is based on
   pub outputs_answered : (options : Options) (task : Task) (last : Option Record) (inputs : List Read) (decision : Decision) (changes : List Changes) (outputs : List Read)
-      → decision ≡ decisions.Incremental changes → WasDecided failures may_leave asked old new options task last inputs decision outputs
-      → AreOutputsAnswered failures may_leave asked old new task outputs
+      → decision ≡ decisions.Incremental changes → WasDecided failures may_leave allowed old new options task last inputs decision outputs
+      → AreOutputsAnswered failures may_leave allowed old new task outputs
   outputs_answered options task last inputs decision changes outputs is was =
-      by (subst (λ (d : Decision). WasDecided failures may_leave asked old new options task last inputs d outputs) is was)
+      by (subst (λ (d : Decision). WasDecided failures may_leave allowed old new options task last inputs d outputs) is was)
     where
-      by : WasDecided failures may_leave asked old new options task last inputs (decisions.Incremental changes) outputs → AreOutputsAnswered failures may_leave asked old new task outputs
+      by : WasDecided failures may_leave allowed old new options task last inputs (decisions.Incremental changes) outputs → AreOutputsAnswered failures may_leave allowed old new task outputs
       by so = so
 
-  pub read_recheck : (task : Task) (decision : Decision) (inputs : Inputs) (outputs : Outputs) → AreInputsRead failures may_leave asked old new task inputs.trees
-      → AreOutputsRead failures may_leave asked old new task outputs.seen → WasReadRecheck failures may_leave asked old new task (recheck_by decision inputs outputs)
-  read_recheck task decisions.UpToDate inputs outputs read stood = read
-  read_recheck task (decisions.Incremental changes) inputs outputs read stood = (read, stood)
-  read_recheck task decisions.Full inputs outputs read stood = read
+  pub read_recheck : (task : Task) (decision : Decision) (inputs : Inputs) (outputs : Outputs) → AreInputsRead failures may_leave allowed old new task inputs.trees
+      → AreOutputsRead failures may_leave allowed old new task outputs.observed → WasReadRecheck failures may_leave allowed old new task (recheck_by decision inputs outputs)
+  read_recheck task decisions.UpToDate inputs outputs read existed = read
+  read_recheck task (decisions.Incremental changes) inputs outputs read existed = (read, existed)
+  read_recheck task decisions.Full inputs outputs read existed = read
 
 -- the outcome of a run, or of deleted outputs, is never that the task is up to date
 pub run_not_current : (ended : Result (Unit {0}) Fault) → ¬ (outcome_of ended ≡ outcomes.UpToDate)

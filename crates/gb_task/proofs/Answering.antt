@@ -16,7 +16,7 @@ use Rattle.gb_report.specs.declared.report.Options.{Options}
 use Rattle.gb_report.specs.declared.report.Outcome.{Outcome}
 use Rattle.gb_report.specs.declared.report.Outcome.TheVariants as outcomes
 use Rattle.gb_report.specs.declared.report.TaskReport.{TaskReport}
-use Rattle.gb_task.specs.Settled.{IsAnswer, TellsAnswer, settled_as}
+use Rattle.gb_task.specs.Settled.{IsAnswer, ReportsAnswer, settled_as}
 use Rattle.gb_task.specs.Executing.{IsReportedOf, cleared_outcome, outcome_of}
 
 -- a report without a line prints nothing
@@ -29,15 +29,15 @@ no_lines (outcomes.Failed fault) report none = tt
 no_lines outcomes.NotRun report none = none
 
 module _ (options : Options) (task : Task) where
-  pub tells : (path : Path) (need : Bool) (result : Result Prepared Fault) → IfOk result (MayPrepare task) → IfOk result (MayDecideAs options task)
-      → TellsAnswer options task (settled_as task path result need)
-  tells path need (Err fault) may decides = λ runs acts. tt
-  tells path need (Ok prepared.Skips) may decides = λ runs acts. not_true (sym may ∙ runs)
-  tells path need (Ok prepared.HasNoActions) may decides = λ runs acts. not_true (sym acts ∙ may.1)
-  tells path need (Ok prepared.HasNoSource) may decides = tt
-  tells path need (Ok (prepared.Decided decisions.UpToDate basis seen)) may decides = λ runs acts. decides
-  tells path need (Ok (prepared.Decided (decisions.Incremental changes) basis seen)) may decides = tt
-  tells path need (Ok (prepared.Decided decisions.Full basis seen)) may decides = tt
+  pub faithful : (path : Path) (need : Bool) (result : Result Prepared Fault) → IfOk result (MayPrepare task) → IfOk result (MayDecideAs options task)
+      → ReportsAnswer options task (settled_as task path result need)
+  faithful path need (Err fault) may decides = λ runs acts. tt
+  faithful path need (Ok prepared.Skips) may decides = λ runs acts. not_true (sym may ∙ runs)
+  faithful path need (Ok prepared.HasNoActions) may decides = λ runs acts. not_true (sym acts ∙ may.1)
+  faithful path need (Ok prepared.HasNoSource) may decides = tt
+  faithful path need (Ok (prepared.Decided decisions.UpToDate basis observed)) may decides = λ runs acts. decides
+  faithful path need (Ok (prepared.Decided (decisions.Incremental changes) basis observed)) may decides = tt
+  faithful path need (Ok (prepared.Decided decisions.Full basis observed)) may decides = tt
 
   pub reported_answers : (report : TaskReport) → report.lines ≡ [] → (task.runs ≡ true → is_empty task.actions ≡ false → MayAnswer options task report.outcome)
       → IsAnswer options task report

@@ -7,7 +7,7 @@ use Rattle.gb_action.specs.Meanings.{Values}
 use Rattle.gb_action.specs.declared.reply.Written.{Written}
 use Rattle.gb_folder.specs.Files.{Place, Bytes, Files, file_at, files_where, is_blocked, is_own}
 use Rattle.gb_folder.proofs.Changes.{file_at-files_where}
-use Rattle.gb_meaning.specs.Events.{IsTornInRun, Setting, StandsInRun}
+use Rattle.gb_meaning.specs.Events.{IsTornInRun, Setting, ExistsInRun}
 use Rattle.gb_meaning.specs.Kinds.{Kinds, kind_of}
 use Rattle.gb_meaning.specs.Label.{run_of}
 use Rattle.gb_meaning.specs.Made.{blocked_in, placed, put_over, rest_of, step_faults}
@@ -82,10 +82,10 @@ module _ (kinds : Kinds) (task : Task) (out : list_any (λ (o : Output). is_own 
 
 -- what is in a run is there without the tool's own files, too
 module _ (setting : Setting) (task : Task) (out : list_any (λ (o : Output). is_own o.place) task.outputs ≡ false) (files : Files) (place : Place) (at : is_output_of task place ≡ true) where
-  pub stands_outside : (left : Option Bytes) → StandsInRun setting.kinds task files place left → StandsInRun setting.kinds task (kept files) place left
-  stands_outside None stands = tt
-  stands_outside (Some bytes) (inl stood) = inl (file_at-files_where files is_kept place ∙ ap (λ b. cond b (file_at files place) None) (kept_at task.outputs out place at) ∙ stood)
-  stands_outside (Some bytes) (inr written) = inr (written_outside setting.kinds task out files place bytes written)
+  pub exists_outside : (left : Option Bytes) → ExistsInRun setting.kinds task files place left → ExistsInRun setting.kinds task (kept files) place left
+  exists_outside None exists = tt
+  exists_outside (Some bytes) (inl existed) = inl (file_at-files_where files is_kept place ∙ ap (λ b. cond b (file_at files place) None) (kept_at task.outputs out place at) ∙ existed)
+  exists_outside (Some bytes) (inr written) = inr (written_outside setting.kinds task out files place bytes written)
 
   pub torn_outside : (left : Option Bytes) → IsTornInRun setting task files place left → IsTornInRun setting task (kept files) place left
-  torn_outside left torn = (torn.0, torn.1, stands_outside torn.0 torn.2, stands_outside torn.1 torn.3, torn.4)
+  torn_outside left torn = (torn.0, torn.1, exists_outside torn.0 torn.2, exists_outside torn.1 torn.3, torn.4)

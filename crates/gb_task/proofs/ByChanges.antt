@@ -24,7 +24,7 @@ use Rattle.gb_plan.specs.Task.{Text, is_output_of, output_places}
 use Rattle.gb_plan.specs.declared.task.Output.{Output}
 use Rattle.gb_plan.specs.declared.task.TaskDeclaration.{TaskDeclaration as Task}
 use Rattle.gb_records.specs.Said.{IsSaidOf}
-use Rattle.gb_records.specs.Standing.{Standing}
+use Rattle.gb_records.specs.Holding.{HoldsRecords}
 use Rattle.gb_report.specs.declared.fault.Fault.{Fault}
 use Rattle.gb_report.specs.declared.fault.Fault.TheVariants as faults
 use Rattle.gb_report.specs.declared.report.Options.{Options}
@@ -33,7 +33,7 @@ use Rattle.gb_run.specs.Laws.{course_in}
 use Rattle.gb_store.specs.Changes.{ChangesOnly, is_at}
 use Rattle.gb_store.specs.Faults.{IsOfMachine}
 use Rattle.gb_label.specs.Reading.{digests_in, is_input_of}
-use Rattle.gb_run.specs.AskingChanges.{GoesOn, IsFitting, seen_of}
+use Rattle.gb_run.specs.AskingChanges.{GoesOn, IsFitting, observed_of}
 use Rattle.gb_run.specs.Failing.{ByChanges, Fails}
 use Rattle.gb_task.specs.Keeping.{IsForgotten, IsRemembered, IsUnwritten, run_now}
 use Rattle.gb_task.specs.Executing.{BeginsAt, HasExecuted, IsDueByChanges, Registering, is_of_execution, report_of, setting_with}
@@ -46,7 +46,7 @@ use Rattle.gb_task.proofs.Whole.{as_found, fails_before, le_chain, refl_le}
 
 module _ (kinds : Kinds) (registry_of : Registering) (may_leave : Tearing) (options : Options) (plan : Plan) (task : Task) (was_read : Bool)
     (moment : Moment) (old : Contents) (before : ℕ) (reported : List Changes)
-    (out : list_any (λ (o : Output). is_own o.place) task.outputs ≡ false) (apart : reads_output_of task task ≡ false)
+    (out : list_any (λ (o : Output). is_own o.place) task.outputs ≡ false) (separate : reads_output_of task task ≡ false)
     (at : BeginsAt task was_read old before moment) (due : IsDueByChanges kinds options task moment.world reported) where
   abbrev memory : Memory
   memory = moment.world.memory
@@ -79,14 +79,14 @@ module _ (kinds : Kinds) (registry_of : Registering) (may_leave : Tearing) (opti
       → ((place : Place) → fault ≡ faults.Device place → (is_input_of task place || is_output_of task place) ≡ true) → Executions (Err fault) lines after new
   reading_failed fault lines after new none same why blamed =
       silent (Err fault) lines after new none
-      (unread kinds registry_of may_leave options plan task was_read memory moment.outcomes before old out apart at.read at.records reported due_then fault after new same why blamed)
+      (unread kinds registry_of may_leave options plan task was_read memory moment.outcomes before old out separate at.read at.records reported due_then fault after new same why blamed)
 
-  pub forgetting_failed : (fault : Fault) (lines : List Text) (between after : ℕ) (stood new : Contents) → lines ≡ [] → stood ≡ old → before ≤ between → between ≤ after
-      → was_read ≡ true → IsUnwritten task.path None stood.files between after fault → ChangesOnly (is_at (record_place task.path)) stood new
+  pub forgetting_failed : (fault : Fault) (lines : List Text) (between after : ℕ) (existed new : Contents) → lines ≡ [] → existed ≡ old → before ≤ between → between ≤ after
+      → was_read ≡ true → IsUnwritten task.path None existed.files between after fault → ChangesOnly (is_at (record_place task.path)) existed new
       → IsForgotten task.path memory (Err fault) new.files → Executions (Err fault) lines after new
-  forgetting_failed fault lines between after stood new none same le more read why changes records =
+  forgetting_failed fault lines between after existed new none same le more read why changes records =
       silent (Err fault) lines after new none
-      (kept_record kinds registry_of may_leave options plan task was_read memory moment.outcomes before old out apart at.read at.records reported due_then fault between after new le more
+      (kept_record kinds registry_of may_leave options plan task was_read memory moment.outcomes before old out separate at.read at.records reported due_then fault between after new le more
       (record {
         read = read;
         why = subst (λ (c : Contents). IsUnwritten task.path None c.files between after fault) same why;
@@ -95,14 +95,14 @@ module _ (kinds : Kinds) (registry_of : Registering) (may_leave : Tearing) (opti
       }))
 
   module _ (second : Tearing) (lines : List Text) (between : ℕ) (taken ran : Contents) (trees : Trees) (tearing : SameTearing may_leave second) (le : before ≤ between)
-      (gone : ChangesOnly (is_at (record_place task.path)) old taken) (forgotten : Standing taken.files (forget memory task.path)) (are_trees : trees ≡ trees_of task old.files)
+      (gone : ChangesOnly (is_at (record_place task.path)) old taken) (forgotten : HoldsRecords taken.files (forget memory task.path)) (are_trees : trees ≡ trees_of task old.files)
       (ran_at : ChangesOnly (is_output_of task) taken ran) (changed : ChangesOnly (is_of_execution task) old ran) where
     same_course : course_of kinds task trees reported (rest_of task taken.files) ≡ course_in kinds task reported taken.files
     same_course =
-        on_course kinds registry_of may_leave options plan task was_read memory moment.outcomes before old out apart at.read at.records reported due_then taken gone
+        on_course kinds registry_of may_leave options plan task was_read memory moment.outcomes before old out separate at.read at.records reported due_then taken gone
         (rest_of task taken.files) trees reported refl are_trees refl
 
-    records_then : Standing ran.files (forget memory task.path)
+    records_then : HoldsRecords ran.files (forget memory task.path)
     records_then = records_stay task out taken ran (forget memory task.path) ran_at forgotten
 
     pub running_failed : (fault : Fault) (after : ℕ) → between ≤ after → ((place : Place) → fault ≡ faults.Device place → is_output_of task place ≡ true)
@@ -110,7 +110,7 @@ module _ (kinds : Kinds) (registry_of : Registering) (may_leave : Tearing) (opti
         → Fails (course_of kinds task trees reported (rest_of task taken.files)) (ByChanges taken.files) second between fault lines after ran.files → Executions (Err fault) lines after ran
     running_failed fault after more blamed fitting fails =
         found (Err fault) lines after ran
-        (run_by_changes_failed kinds registry_of may_leave options plan task was_read memory moment.outcomes before old out apart at.read at.records reported due_then taken gone
+        (run_by_changes_failed kinds registry_of may_leave options plan task was_read memory moment.outcomes before old out separate at.read at.records reported due_then taken gone
         fault lines between after after ran ran le more (refl_le after) changed blamed records_then refl since_then.since.one_writer fitting
         (fails_before _ (ByChanges taken.files) may_leave second between after fault lines ran.files tearing more
         (subst (λ (course : Course). Fails course (ByChanges taken.files) second between fault lines after ran.files) same_course fails)))
@@ -121,34 +121,34 @@ module _ (kinds : Kinds) (registry_of : Registering) (may_leave : Tearing) (opti
 
       abbrev entry : Entry
       entry =
-          entry_made_then kinds registry_of may_leave options plan task was_read memory moment.outcomes before old out apart at.read at.records reported due_then taken gone
+          entry_made_then kinds registry_of may_leave options plan task was_read memory moment.outcomes before old out separate at.read at.records reported due_then taken gone
           lines ran sorted well_so
 
       module _ (inputs : List Prints) (mid after : ℕ) (new : Contents)
           (are_inputs : inputs ≡ digests_in (trees_of task old.files)) (more : between ≤ mid) (late : mid ≤ after) (changes : ChangesOnly (is_of_execution task) old new) (same : kept new.files ≡ kept ran.files) where
         said : IsSaidOf (run_now task inputs ran.files) entry
         said =
-            said_then kinds registry_of may_leave options plan task was_read memory moment.outcomes before old out apart at.read at.records reported due_then taken gone
+            said_then kinds registry_of may_leave options plan task was_read memory moment.outcomes before old out separate at.read at.records reported due_then taken gone
             lines ran sorted well_so inputs are_inputs
 
         pub remembering : (result : Result (Unit {0}) Fault)
             → IfErr result (IsUnwritten task.path (Some (record_text task.path (run_now task inputs ran.files))) ran.files mid after) → OnErr result (is_empty task.outputs ≡ false)
-            → ((m : Memory) (e : Entry) → Standing ran.files m → IsSaidOf (run_now task inputs ran.files) e → IsRemembered task e m result new.files)
+            → ((m : Memory) (e : Entry) → HoldsRecords ran.files m → IsSaidOf (run_now task inputs ran.files) e → IsRemembered task e m result new.files)
             → Executions result lines after new
-        remembering (Ok done) cannot outputs stands =
+        remembering (Ok done) cannot outputs exists =
             found (Ok done) lines after new
-            (run_ended kinds registry_of may_leave options plan task was_read memory moment.outcomes before old out apart at.read at.records reported due_then taken gone
-            lines ran sorted well_so after new changes same (stands (forget memory task.path) entry records_then said))
-        remembering (Err fault) cannot outputs stands =
+            (run_ended kinds registry_of may_leave options plan task was_read memory moment.outcomes before old out separate at.read at.records reported due_then taken gone
+            lines ran sorted well_so after new changes same (exists (forget memory task.path) entry records_then said))
+        remembering (Err fault) cannot outputs exists =
             found (Err fault) lines after new
-            (unrecorded kinds registry_of may_leave options plan task was_read memory moment.outcomes before old out apart at.read at.records reported due_then taken gone
+            (unrecorded kinds registry_of may_leave options plan task was_read memory moment.outcomes before old out separate at.read at.records reported due_then taken gone
             lines ran sorted well_so after new changes same inputs are_inputs mid after (le_chain before between mid le more) late (refl_le after) changed outputs fault cannot
-            (stands (forget memory task.path) entry records_then said))
+            (exists (forget memory task.path) entry records_then said))
 
   -- what the run is based on
   module _ (names : HasNamesInOrder task) (is_path : is_task_path task.path ≡ true) (distinct : some_overlap (output_places task) ≡ false) (taken : Contents)
       (gone : ChangesOnly (is_at (record_place task.path)) old taken) (trees : Trees) (outputs : List OutputFiles) (are_trees : trees ≡ trees_of task old.files)
-      (are_outputs : outputs ≡ map (seen_of old.files) task.outputs) where
+      (are_outputs : outputs ≡ map (observed_of old.files) task.outputs) where
     pub goes_on : GoesOn kinds task since_then.since.entry.inputs trees reported outputs taken.files
     goes_on =
         goes_on_since kinds options task memory old taken out distinct names is_path at.records gone since_then.since since_then.is_made trees reported outputs

@@ -17,7 +17,7 @@ use Rattle.gb_plan.specs.declared.task.Output.{Output}
 use Rattle.gb_plan.specs.declared.task.TaskDeclaration.{TaskDeclaration as Task}
 use Rattle.gb_report.specs.declared.fault.Fault.{Fault}
 use Rattle.gb_report.specs.declared.report.Options.{Options}
-use Rattle.gb_tree.specs.Tree.{Entries, entries_from, odd_roots, too_large, too_many}
+use Rattle.gb_tree.specs.Tree.{Entries, entries_from, special_roots, too_large, too_many}
 use Rattle.gb_tree.specs.declared.fault.TreeFault.{TreeFault}
 use Rattle.gb_label.specs.Reading.{digests_in, print_faults, recorded_of}
 use Rattle.gb_task.specs.Case.{DecidedOutside, OutsideIsEnough}
@@ -42,21 +42,21 @@ module _ (folder : Contents) where
       kept : Files
       kept = files_where is_kept folder.files
 
-      seen : Files → Entries
-      seen fs = entries_from output.place (places_under fs output.place)
+      observed : Files → Entries
+      observed fs = entries_from output.place (places_under fs output.place)
 
       faults_by : Files → Bool → List Fault
-      faults_by fs own = map reported_of_tree ((if own then [] else odd_roots folder (output.place ∷ []) ++ too_many output.name (seen fs)) ++ too_large fs (if own then [] else seen fs))
+      faults_by fs own = map reported_of_tree ((if own then [] else special_roots folder (output.place ∷ []) ++ too_many output.name (observed fs)) ++ too_large fs (if own then [] else observed fs))
 
-      same : seen (files_where is_kept folder.files) ≡ seen folder.files
+      same : observed (files_where is_kept folder.files) ≡ observed folder.files
       same = ap (λ (fs : Files). entries_from output.place (map (λ (file : Place × Bytes). file.0) fs)) (under_same is_kept folder.files output.place (kept_under output.place out))
 
       by : (own : Bool) → faults_by (files_where is_kept folder.files) own ≡ faults_by folder.files own
       by true = refl
       by false =
-          ap₂ (λ (es : Entries) (large : List TreeFault). map reported_of_tree ((odd_roots folder (output.place ∷ []) ++ too_many output.name es) ++ large)) same
+          ap₂ (λ (es : Entries) (large : List TreeFault). map reported_of_tree ((special_roots folder (output.place ∷ []) ++ too_many output.name es) ++ large)) same
           (ap (too_large (files_where is_kept folder.files)) same
-          ∙ large_same is_kept folder.files (seen folder.files) (all_from is_kept folder.files output.place (kept_under output.place out)))
+          ∙ large_same is_kept folder.files (observed folder.files) (all_from is_kept folder.files output.place (kept_under output.place out)))
 
   printed_outside : (outputs : List Output) → list_any (λ (o : Output). is_own o.place) outputs ≡ false
       → flat_map (print_faults (outside folder)) outputs ≡ flat_map (print_faults folder) outputs
@@ -82,5 +82,5 @@ pub outside_is_enough : OutsideIsEnough
 outside_is_enough options task folder read prepared.Skips out case = early_outside task folder ∙ case
 outside_is_enough options task folder read prepared.HasNoActions out case = early_outside task folder ∙ case
 outside_is_enough options task folder read prepared.HasNoSource out case = early_outside task folder ∙ case
-outside_is_enough options task folder read (prepared.Decided decision basis seen) out case =
+outside_is_enough options task folder read (prepared.Decided decision basis observed) out case =
     (early_outside task folder ∙ case.0, case.1, basis_outside options task folder out basis case.2)

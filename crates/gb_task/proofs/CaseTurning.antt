@@ -95,10 +95,10 @@ idle_executions_are_executions kinds options plan task moment prepared.Skips out
 idle_executions_are_executions kinds options plan task moment prepared.HasNoActions outcome case answer =
     subst (IsIdleExecution kinds options plan task moment) (sym answer) (without_actions kinds options plan task moment case)
 idle_executions_are_executions kinds options plan task moment prepared.HasNoSource outcome case answer = absurd answer
-idle_executions_are_executions kinds options plan task moment (prepared.Decided decisions.UpToDate basis seen) outcome case answer =
+idle_executions_are_executions kinds options plan task moment (prepared.Decided decisions.UpToDate basis observed) outcome case answer =
     subst (IsIdleExecution kinds options plan task moment) (sym answer) (current kinds options plan task moment case.0 case.1)
-idle_executions_are_executions kinds options plan task moment (prepared.Decided (decisions.Incremental changes) basis seen) outcome case answer = absurd answer
-idle_executions_are_executions kinds options plan task moment (prepared.Decided decisions.Full basis seen) outcome case answer = absurd answer
+idle_executions_are_executions kinds options plan task moment (prepared.Decided (decisions.Incremental changes) basis observed) outcome case answer = absurd answer
+idle_executions_are_executions kinds options plan task moment (prepared.Decided decisions.Full basis observed) outcome case answer = absurd answer
 
 -- ---- runs
 

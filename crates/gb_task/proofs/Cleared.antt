@@ -10,8 +10,8 @@ use Rattle.gb_plan.proofs.Tests.{or_right}
 use Rattle.gb_plan.specs.Task.{is_output_of}
 use Rattle.gb_plan.specs.declared.task.Output.{Output}
 use Rattle.gb_plan.specs.declared.task.TaskDeclaration.{TaskDeclaration as Task}
-use Rattle.gb_records.specs.Standing.{Standing}
-use Rattle.gb_records.proofs.Reported.{stands_elsewhere}
+use Rattle.gb_records.specs.Holding.{HoldsRecords}
+use Rattle.gb_records.proofs.Reported.{holds_elsewhere}
 use Rattle.gb_report.specs.declared.fault.Fault.{Fault}
 use Rattle.gb_run.specs.Emptying.{CannotEmpty}
 use Rattle.gb_store.specs.Changes.{ChangesOnly, is_at, without_all}
@@ -31,15 +31,15 @@ outputs_in_execution task old new changes = widened (is_output_of task) (is_of_e
 
 -- changes at the outputs leave the records
 pub records_stay : (task : Task) → list_any (λ (o : Output). is_own o.place) task.outputs ≡ false → (old new : Contents) (memory : Memory)
-    → ChangesOnly (is_output_of task) old new → Standing old.files memory → Standing new.files memory
-records_stay task out old new memory changes stands =
-    stands_elsewhere old.files new.files memory
-    (widened (is_output_of task) (λ q. not (is_own q)) (λ q at. kept_at task.outputs out q at) old new changes).elsewhere stands
+    → ChangesOnly (is_output_of task) old new → HoldsRecords old.files memory → HoldsRecords new.files memory
+records_stay task out old new memory changes exists =
+    holds_elsewhere old.files new.files memory
+    (widened (is_output_of task) (λ q. not (is_own q)) (λ q at. kept_at task.outputs out q at) old new changes).elsewhere exists
 
 -- emptying that failed since a later count of failures failed so since an earlier one
 pub empty_before : (task : Task) (first second : Tearing) (before between after : ℕ) (old new : Contents) (fault : Fault) → SameTearing first second → before ≤ between → between ≤ after
     → CannotEmpty task second between old fault after new → CannotEmpty task first before old fault after new
-empty_before task first second before between after old new fault same le more (inl odd) = inl odd
+empty_before task first second before between after old new fault same le more (inl special) = inl special
 empty_before task first second before between after old new fault same le more (inr machine) =
     inr (
       machine_before before between after fault le more machine.0,
@@ -58,7 +58,7 @@ empty_before task first second before between after old new fault same le more (
 pub cleared_by : (task : Task) (was_read : Bool) (memory : Memory) (first second : Tearing) (before between after : ℕ) (old taken new : Contents) (result : Result (Unit {0}) Fault)
     → SameTearing first second → before ≤ between → between ≤ after → IsFolder taken.files → ChangesOnly (is_at (record_place task.path)) old taken
     → OnOk result (new.files ≡ rest_of task taken.files) → IfErr result (λ fault. CannotEmpty task second between taken fault after new)
-    → Standing new.files (forget memory task.path) → HasCleared task was_read memory first before old result after new
+    → HoldsRecords new.files (forget memory task.path) → HasCleared task was_read memory first before old result after new
 cleared_by task was_read memory first second before between after old taken new (Ok done) same le more sound out emptied cannot records =
     record { taken = taken; is_folder = sound; out = out; emptied = emptied; records = records }
 cleared_by task was_read memory first second before between after old taken new (Err fault) same le more sound out emptied cannot records =

@@ -17,8 +17,8 @@ use Rattle.gb_run.proofs.Moments.{fails_between}
 
 pub cut_at_end : (course : Course) (way : Way) (may_leave : Tearing) (before after : ℕ) (lines : List Text) (new : Files) → EndsWell course lines new
     → ended_files course way course.task.actions ≡ put_over course.rest (whole_run course).held → Fails course way may_leave before faults.OutOfMemory lines after new
-cut_at_end course way may_leave before after lines new well stands =
-    fails_between course way course.task.actions [] (sym (with_none course.task.actions)) well.no_fault may_leave before after faults.OutOfMemory lines new refl well.printed (well.files ∙ sym stands)
+cut_at_end course way may_leave before after lines new well exists =
+    fails_between course way course.task.actions [] (sym (with_none course.task.actions)) well.no_fault may_leave before after faults.OutOfMemory lines new refl well.printed (well.files ∙ sym exists)
 
 -- one action writes, and the files that it found have given way
 pub cut_by_changes : (kinds : Kinds) (course : Course) (old : Files) (may_leave : Tearing) (before after : ℕ) (lines : List Text) (new : Files) → kinds ≡ course.kinds

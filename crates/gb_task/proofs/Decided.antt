@@ -109,5 +109,5 @@ pub prepared_is_case : PreparedIsCase
 prepared_is_case kinds options task world read prepared.Skips known case = case
 prepared_is_case kinds options task world read prepared.HasNoActions known case = case
 prepared_is_case kinds options task world read prepared.HasNoSource known case = case
-prepared_is_case kinds options task world read (prepared.Decided decision basis seen) known case =
+prepared_is_case kinds options task world read (prepared.Decided decision basis observed) known case =
     (case.0, basis_case kinds options task world decision case.0 read basis known case.1 case.2)

@@ -7,21 +7,21 @@ use Rattle.gb_core.specs.Place.{is_place, is_under}
 use Rattle.gb_folder.specs.Files.{Place, Contents, Files, HasRisen, Tearing, file_at, files_where, is_empty, is_own}
 use Rattle.gb_folder.proofs.Changes.{HasRisen-before}
 use Rattle.gb_history.specs.Places.{record_place}
-use Rattle.gb_meaning.specs.Events.{Setting, is_touched_by, may_come, own_files, rules_in}
+use Rattle.gb_meaning.specs.Events.{Setting, is_touched_by, may_occur, own_files, rules_in}
 use Rattle.gb_meaning.specs.Kinds.{Kinds}
 use Rattle.gb_meaning.specs.Label.{Early, HasNoSource, IsLabelAt, Moment, early_case}
 use Rattle.gb_meaning.specs.Made.{rest_of}
 use Rattle.gb_meaning.specs.Memory.{Memory, World, forget}
 use Rattle.gb_meaning.specs.Tree.{has_no_source, input_faults, listing_faults, reported_of_tree}
 use Rattle.gb_meaning.specs.TrueRecord.{outside}
-use Rattle.gb_meaning.specs.Execution.{FailureLeaves, FailurePrints, InventsNothing, IsGivenUp, IsWritten, Standing as Stands, StartedExecution, TouchesRecordIn}
+use Rattle.gb_meaning.specs.Execution.{FailureLeaves, FailurePrints, InventsNothing, IsGivenUp, IsWritten, WorldState as Exists, StartedExecution, TouchesRecordIn}
 use Rattle.gb_plan.specs.Graph.{Plan}
 use Rattle.gb_plan.specs.Task.{is_output_of, output_places, roots_of}
 use Rattle.gb_plan.specs.declared.task.Output.{Output}
 use Rattle.gb_plan.specs.declared.task.TaskDeclaration.{TaskDeclaration as Task}
 use Rattle.gb_plan.proofs.Tests.{not_false, not_true, or_right}
 use Rattle.gb_meaning.proofs.Common.{none_some}
-use Rattle.gb_records.specs.Standing.{CannotStand}
+use Rattle.gb_records.specs.Holding.{CannotBeStored}
 use Rattle.gb_report.specs.declared.fault.Fault.{Fault}
 use Rattle.gb_report.specs.declared.fault.Fault.TheVariants as faults
 use Rattle.gb_report.specs.declared.report.Options.{Options}
@@ -32,14 +32,14 @@ use Rattle.gb_run.proofs.Placed.{none_after}
 use Rattle.gb_run.proofs.CutEmptying.{cut_emptyings_invent_nothing, torn_places_are_of_the_emptying}
 use Rattle.gb_store.specs.Changes.{ChangesOnly}
 use Rattle.gb_store.specs.Faults.{IsOfMachine}
-use Rattle.gb_tree.specs.Tree.{odd_roots}
+use Rattle.gb_tree.specs.Tree.{special_roots}
 use Rattle.gb_task.specs.Clearing.{HasCleared, IsCleared, IsHalfCleared, IsKept}
 use Rattle.gb_task.specs.Keeping.{IsForgotten, IsUnwritten}
 use Rattle.gb_task.specs.Executing.{BeginsAt, HasExecuted, Registering, cleared_outcome, is_of_execution, setting_with}
 use Rattle.gb_task.proofs.Outside.{kept}
 use Rattle.gb_task.proofs.Own.{is_kept, swapped}
 use Rattle.gb_task.proofs.Parts.{blocked_by_own, differs_outside, outside_same}
-use Rattle.gb_task.proofs.Taken.{found_at, taken_kept, taken_left, taken_stood}
+use Rattle.gb_task.proofs.Taken.{found_at, taken_kept, taken_left, taken_existed}
 use Rattle.gb_task.proofs.Turning.{same_fault}
 use Rattle.gb_task.proofs.Whole.{as_found}
 use Rattle.gb_label.proofs.Cases.{cased}
@@ -87,7 +87,7 @@ reported_of task result = record { path = task.path; outcome = cleared_outcome r
 -- ---- how it ended
 
 module _ (setting : Setting) (own : Files) (options : Options) (plan : Plan) (task : Task) (moment : Moment) (case : early_case task moment.world.folder ≡ Some HasNoSource) where
-  still : (fault : Fault) (new : Stands) → may_come setting own options task moment new fault → new.world ≡ moment.world
+  still : (fault : Fault) (new : Exists) → may_occur setting own options task moment new fault → new.world ≡ moment.world
       → StartedExecution (rules_in setting own options plan) moment task (reported_of task (Err fault)) new
   still fault new may same = record {
     label = inr (fault, may, refl);
@@ -97,7 +97,7 @@ module _ (setting : Setting) (own : Files) (options : Options) (plan : Plan) (ta
     begun = λ other is printed. not_false printed;
   }
 
-  begun_so : (fault : Fault) (new : Stands) → may_come setting own options task moment new fault → IsGivenUp setting.kinds task fault moment.world new.world
+  begun_so : (fault : Fault) (new : Exists) → may_occur setting own options task moment new fault → IsGivenUp setting.kinds task fault moment.world new.world
       → ((place : Place) → fault ≡ faults.Device place → is_output_of task place ≡ true)
       → StartedExecution (rules_in setting own options plan) moment task (reported_of task (Err fault)) new
   begun_so fault new may up at = record {
@@ -108,7 +108,7 @@ module _ (setting : Setting) (own : Files) (options : Options) (plan : Plan) (ta
     begun = λ other is printed. not_false printed;
   }
 
-  emptied : (new : Stands) → new.world ≡ (let w : World = record { folder = record moment.world.folder { files = rest_of task moment.world.folder.files }; memory = forget moment.world.memory task.path } in w)
+  emptied : (new : Exists) → new.world ≡ (let w : World = record { folder = record moment.world.folder { files = rest_of task moment.world.folder.files }; memory = forget moment.world.memory task.path } in w)
       → StartedExecution (rules_in setting own options plan) moment task (reported_of task (Ok tt)) new
   emptied new leaves = record {
     label = inl (subst (λ (early : Option Early). IsLabelAt setting.kinds options plan task moment early outcomes.NoSource) (sym case) refl);
@@ -130,8 +130,8 @@ module _ (kinds : Kinds) (registry_of : Registering) (may_leave : Tearing) (opti
   abbrev moment_then : Moment
   moment_then = record { world = record { folder = outside old; memory = moment.world.memory }; outcomes = moment.outcomes; failures = before }
 
-  abbrev standing : ℕ → Contents → Memory → Stands
-  standing after new now = record { world = record { folder = outside new; memory = now }; failures = after }
+  abbrev existing : ℕ → Contents → Memory → Exists
+  existing after new now = record { world = record { folder = outside new; memory = now }; failures = after }
 
   case_then : early_case task (outside old) ≡ Some HasNoSource
   case_then = ap (early_case task) (sym at.folder) ∙ case
@@ -160,25 +160,25 @@ module _ (kinds : Kinds) (registry_of : Registering) (may_leave : Tearing) (opti
         same_world : (now : Memory) → (let w : World = record { folder = outside new; memory = now } in w) ≡ record { folder = outside old; memory = now }
         same_world now = ap (λ (folder : Contents). let w : World = record { folder = folder; memory = now } in w) same
 
-        may_fail : (CannotStand old.files task.path None ⊎ HasRisen early after) → (now : Memory)
-            → may_come setting (own_files old) options task moment_then (standing after new now) faults.HistoryNotWritten
-        may_fail (inl (inl stand)) now = (touches held.read, inr (inl (ap (λ b. not (is_place (record_place task.path)) || b) (sym (blocked_by_own task.path old.files)) ∙ stand)))
+        may_fail : (CannotBeStored old.files task.path None ⊎ HasRisen early after) → (now : Memory)
+            → may_occur setting (own_files old) options task moment_then (existing after new now) faults.HistoryNotWritten
+        may_fail (inl (inl exist)) now = (touches held.read, inr (inl (ap (λ b. not (is_place (record_place task.path)) || b) (sym (blocked_by_own task.path old.files)) ∙ exist)))
         may_fail (inl (inr long)) now = not_false (sym long)
         may_fail (inr risen) now = (touches held.read, inl (HasRisen-before before early after le more risen))
 
-        unwritten : (CannotStand old.files task.path None ⊎ HasRisen early after) → IsForgotten task.path memory (Err faults.HistoryNotWritten) new.files → Then (Err faults.HistoryNotWritten) after new
-        unwritten why (inl stands) = record {
+        unwritten : (CannotBeStored old.files task.path None ⊎ HasRisen early after) → IsForgotten task.path memory (Err faults.HistoryNotWritten) new.files → Then (Err faults.HistoryNotWritten) after new
+        unwritten why (inl exists) = record {
           memory = memory;
-          execution = still setting (own_files old) options plan task moment_then case_then faults.HistoryNotWritten (standing after new memory) (may_fail why memory) (same_world memory);
-          records = stands;
+          execution = still setting (own_files old) options plan task moment_then case_then faults.HistoryNotWritten (existing after new memory) (may_fail why memory) (same_world memory);
+          records = exists;
         }
         unwritten why (inr gone) = record {
           memory = forget memory task.path;
-          execution = begun_so setting (own_files old) options plan task moment_then case_then faults.HistoryNotWritten (standing after new (forget memory task.path)) (may_fail why (forget memory task.path))
+          execution = begun_so setting (own_files old) options plan task moment_then case_then faults.HistoryNotWritten (existing after new (forget memory task.path)) (may_fail why (forget memory task.path))
               (record {
                 files = ap (λ (c : Contents). files_where (λ q. not (is_output_of task q)) c.files) same;
                 invents_nothing = λ place bytes output e. inl (ap (λ (c : Contents). file_at c.files place) (sym same) ∙ e);
-                odd = ap (λ (c : Contents). c.odd) same;
+                special = ap (λ (c : Contents). c.special) same;
                 memory = refl;
               }) (λ place e. absurd (let d = e in (cc)));
           records = gone;
@@ -189,7 +189,7 @@ module _ (kinds : Kinds) (registry_of : Registering) (may_leave : Tearing) (opti
             subst (λ (f : Fault). Then (Err f) after new) (sym memory_out)
             (record {
               memory = memory;
-              execution = still setting (own_files old) options plan task moment_then case_then faults.OutOfMemory (standing after new memory) tt (same_world memory);
+              execution = still setting (own_files old) options plan task moment_then case_then faults.OutOfMemory (existing after new memory) tt (same_world memory);
               records = subst (λ (f : Fault). IsForgotten task.path memory (Err f) new.files) memory_out held.records;
             })
         by (inr unwritten_so) =
@@ -205,17 +205,17 @@ module _ (kinds : Kinds) (registry_of : Registering) (may_leave : Tearing) (opti
           where
             by_law : (file_at cut.taken.files place ≡ Some bytes) ⊎ (fault ≡ faults.Device place)
                 → (file_at (kept old.files) place ≡ Some bytes) ⊎ IsWritten kinds task (kept old.files) place bytes ⊎ (fault ≡ faults.Device place)
-            by_law (inl there) = inl (taken_stood setting task out old cut.taken cut.out place bytes output there)
+            by_law (inl there) = inl (taken_existed setting task out old cut.taken cut.out place bytes output there)
             by_law (inr device) = inr (inr device)
 
-        gives : may_come setting (own_files old) options task moment_then (standing after new (forget memory task.path)) fault → Then (Err fault) after new
+        gives : may_occur setting (own_files old) options task moment_then (existing after new (forget memory task.path)) fault → Then (Err fault) after new
         gives may = record {
           memory = forget memory task.path;
-          execution = begun_so setting (own_files old) options plan task moment_then case_then fault (standing after new (forget memory task.path)) may
+          execution = begun_so setting (own_files old) options plan task moment_then case_then fault (existing after new (forget memory task.path)) may
               (record {
                 files = differs_outside task old.files new.files changes.elsewhere;
                 invents_nothing = invents;
-                odd = changes.odd;
+                special = changes.special;
                 memory = refl;
               }) blamed;
           records = cut.records;
@@ -223,28 +223,28 @@ module _ (kinds : Kinds) (registry_of : Registering) (may_leave : Tearing) (opti
 
         of_machine : IsOfMachine early after fault → Then (Err fault) after new
         of_machine (inl memory_out) =
-            gives (subst (λ (f : Fault). may_come setting (own_files old) options task moment_then (standing after new (forget memory task.path)) f) (sym memory_out) tt)
+            gives (subst (λ (f : Fault). may_occur setting (own_files old) options task moment_then (existing after new (forget memory task.path)) f) (sym memory_out) tt)
         of_machine (inr device) =
-            gives (subst (λ (f : Fault). may_come setting (own_files old) options task moment_then (standing after new (forget memory task.path)) f) (sym device.1) (
+            gives (subst (λ (f : Fault). may_occur setting (own_files old) options task moment_then (existing after new (forget memory task.path)) f) (sym device.1) (
               HasRisen-before before early after le more device.2,
               touched_out device.0 (blamed device.0 device.1),
               taken_left setting task out old cut.taken cut.out new.files device.0 (blamed device.0 device.1)
                   (torn_places_are_of_the_emptying setting task early cut.taken device.0 after new (subst (λ (f : Fault). CannotEmpty task may_leave early cut.taken f after new) device.1 cut.why)),
             ))
 
-        none_odd : listing_faults task cut.taken ≡ []
-        none_odd =
-            ap (λ (odd : List (List ℕ)). map reported_of_tree (odd_roots (record { files = cut.taken.files; odd = odd }) (output_places task))) cut.out.odd ∙ is_dry_task.listed
+        none_special : listing_faults task cut.taken ≡ []
+        none_special =
+            ap (λ (special : List (List ℕ)). map reported_of_tree (special_roots (record { files = cut.taken.files; special = special }) (output_places task))) cut.out.special ∙ is_dry_task.listed
 
         by : CannotEmpty task may_leave early cut.taken fault after new → Then (Err fault) after new
-        by (inl odd) = none_some (ap first_of (sym none_odd) ∙ odd.0)
+        by (inl special) = none_some (ap first_of (sym none_special) ∙ special.0)
         by (inr machine) = of_machine machine.0
 
     all_gone : IsCleared task memory old new → Then (Ok tt) after new
     all_gone cleared = record {
       memory = forget memory task.path;
-      execution = emptied setting (own_files old) options plan task moment_then case_then (standing after new (forget memory task.path))
-          (ap₂ (λ (fs : Files) (odd : List (List ℕ)). let w : World = record { folder = record { files = fs; odd = odd }; memory = forget memory task.path } in w) rest_left changes.odd);
+      execution = emptied setting (own_files old) options plan task moment_then case_then (existing after new (forget memory task.path))
+          (ap₂ (λ (fs : Files) (special : List (List ℕ)). let w : World = record { folder = record { files = fs; special = special }; memory = forget memory task.path } in w) rest_left changes.special);
       records = cleared.records;
     }
       where

@@ -15,8 +15,8 @@ use Rattle.gb_meaning.specs.Tree.{trees_of}
 use Rattle.gb_meaning.specs.TrueRecord.{IsMade, output_record_of}
 use Rattle.gb_meaning.proofs.Lemmas.Files.{at-put_over, at-where, or_else, same_files, sorted-put_over, sorted-where}
 use Rattle.gb_meaning.proofs.Lemmas.Making.{IsRight, made_of_is_right}
-use Rattle.gb_meaning.proofs.Lemmas.Reading.{AllUnseen, trees_same}
-use Rattle.gb_meaning.proofs.Lemmas.Sound.{unseen_of}
+use Rattle.gb_meaning.proofs.Lemmas.Reading.{AllUnobserved, trees_same}
+use Rattle.gb_meaning.proofs.Lemmas.Sound.{unobserved_of}
 use Rattle.gb_meaning.proofs.Lemmas.Truth.{entry_made}
 use Rattle.gb_plan.proofs.Places.{out_of}
 use Rattle.gb_plan.proofs.Tests.{not_false}
@@ -33,10 +33,10 @@ use Rattle.gb_task.proofs.Own.{is_kept, kept_at, swapped}
 use Rattle.gb_task.proofs.Present.{part_same}
 
 -- a task that reads none of its own outputs sees nothing at them
-pub sees_none : (task : Task) → reads_output_of task task ≡ false → AllUnseen (λ q. not (is_output_of task q)) task
-sees_none task apart =
-    unseen_of task (λ q. not (is_output_of task q)) (output_places task)
-    (λ q none. ap not (out_of task q ∙ none)) apart
+pub sees_none : (task : Task) → reads_output_of task task ≡ false → AllUnobserved (λ q. not (is_output_of task q)) task
+sees_none task separate =
+    unobserved_of task (λ q. not (is_output_of task q)) (output_places task)
+    (λ q none. ap not (out_of task q ∙ none)) separate
 
 -- ---- files put over a part
 
@@ -63,7 +63,7 @@ kept_over task out held files sorted right =
 
 -- ---- a run that ended well
 
-module _ (kinds : Kinds) (task : Task) (out : list_any (λ (o : Output). is_own o.place) task.outputs ≡ false) (apart : reads_output_of task task ≡ false)
+module _ (kinds : Kinds) (task : Task) (out : list_any (λ (o : Output). is_own o.place) task.outputs ≡ false) (separate : reads_output_of task task ≡ false)
     (old taken : Files) (sorted : is_sorted byte_order taken ≡ true) (same : kept taken ≡ kept old)
     (files : Files) (makes : made_of kinds task.actions task.values (trees_of task taken) task.outputs ≡ Ok files)
     (ran : Files) (leaves : ran ≡ with_outputs task taken files) where
@@ -88,7 +88,7 @@ module _ (kinds : Kinds) (task : Task) (out : list_any (λ (o : Output). is_own 
   sorted_outside = ap (is_sorted byte_order) (sym same) ∙ sorted-where is_kept taken sorted
 
   pub made_entry : IsMade kinds (entry_of task (with_outputs task (kept old) files))
-  made_entry = entry_made kinds task (kept old) files sorted_outside right makes_outside (sees_none task apart)
+  made_entry = entry_made kinds task (kept old) files sorted_outside right makes_outside (sees_none task separate)
 
   -- the files at the outputs are those of the entry
   pub files_entry : (entry_of task (with_outputs task (kept old) files)).files ≡ output_files task ran
@@ -99,9 +99,9 @@ module _ (kinds : Kinds) (task : Task) (out : list_any (λ (o : Output). is_own 
   -- the trees of the entry are those that were read
   trees_after : trees_of task (with_outputs task (kept old) files) ≡ trees_of task (kept old)
   trees_after =
-      sym (trees_same (λ q. not (is_output_of task q)) task (with_outputs task (kept old) files) (sees_none task apart))
+      sym (trees_same (λ q. not (is_output_of task q)) task (with_outputs task (kept old) files) (sees_none task separate))
       ∙ ap (trees_of task) same_rest
-      ∙ trees_same (λ q. not (is_output_of task q)) task (kept old) (sees_none task apart)
+      ∙ trees_same (λ q. not (is_output_of task q)) task (kept old) (sees_none task separate)
     where
       sorted_rest : is_sorted byte_order (rest_of task (kept old)) ≡ true
       sorted_rest = sorted-where (λ q. not (is_output_of task q)) (kept old) sorted_outside

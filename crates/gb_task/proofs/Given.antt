@@ -5,11 +5,11 @@ use Rattle.gb_action.specs.Files.{Trees}
 use Rattle.gb_action.specs.declared.output.Form.{Form}
 use Rattle.gb_action.specs.declared.output.OutputFiles.{OutputFiles}
 use Rattle.gb_history.specs.Record.{Prints}
-use Rattle.gb_plan.specs.Task.{seen_outputs}
+use Rattle.gb_plan.specs.Task.{given_outputs}
 use Rattle.gb_plan.specs.declared.task.FileProperty.{FileProperty}
 use Rattle.gb_plan.specs.declared.task.Output.{Output}
 use Rattle.gb_plan.proofs.Tests.{not_false}
-use Rattle.gb_label.specs.Reading.{digests_in, prints_seen}
+use Rattle.gb_label.specs.Reading.{digests_in, prints_observed}
 
 -- where no record was read nothing is remembered
 pub none_read : {X : Type 0} (o : Option X) (read : Bool) → is_some o ≡ read → read ≡ false → o ≡ None
@@ -40,23 +40,23 @@ as_many properties trees inputs are named =
     as_many_named (λ (property : FileProperty). property.name) (λ (found : Prints). found.0) properties inputs (sym (named_digests inputs trees _ are named))
 
 -- the digests of outputs bear the outputs' names
-pub named_outputs : (outputs : List Output) (seen : List OutputFiles) (prints : List Prints) → prints ≡ prints_seen seen
-    → map (λ output. (output.name, output.form)) seen ≡ seen_outputs outputs → map (λ (found : Prints). found.0) prints ≡ map (λ (output : Output). output.name) outputs
-named_outputs outputs seen prints are formed = ap (map (λ (found : Prints). found.0)) are ∙ by outputs seen formed
+pub named_outputs : (outputs : List Output) (observed : List OutputFiles) (prints : List Prints) → prints ≡ prints_observed observed
+    → map (λ output. (output.name, output.form)) observed ≡ given_outputs outputs → map (λ (found : Prints). found.0) prints ≡ map (λ (output : Output). output.name) outputs
+named_outputs outputs observed prints are formed = ap (map (λ (found : Prints). found.0)) are ∙ by outputs observed formed
   where
-    by : (outputs : List Output) (seen : List OutputFiles) → map (λ (output : OutputFiles). (output.name, output.form)) seen ≡ seen_outputs outputs
-        → map (λ (found : Prints). found.0) (prints_seen seen) ≡ map (λ (output : Output). output.name) outputs
+    by : (outputs : List Output) (observed : List OutputFiles) → map (λ (output : OutputFiles). (output.name, output.form)) observed ≡ given_outputs outputs
+        → map (λ (found : Prints). found.0) (prints_observed observed) ≡ map (λ (output : Output). output.name) outputs
     by [] [] same = refl
-    by [] (found ∷ seen) same = absurd (cc)
+    by [] (found ∷ observed) same = absurd (cc)
     by (output ∷ outputs) [] same = absurd (cc)
-    by (output ∷ outputs) (found ∷ seen) same = ap₂ (λ (name : List ℕ) (names : List (List ℕ)). name ∷ names) (first same) (by outputs seen (rest same))
+    by (output ∷ outputs) (found ∷ observed) same = ap₂ (λ (name : List ℕ) (names : List (List ℕ)). name ∷ names) (first same) (by outputs observed (rest same))
       where
         heads : {X : Type 0} {x y : X} {xs ys : List X} → x ∷ xs ≡ y ∷ ys → x ≡ y
         heads e = cc
 
-        first : (found.name, found.form) ∷ map (λ (f : OutputFiles). (f.name, f.form)) seen ≡ (output.name, output.form) ∷ seen_outputs outputs → found.name ≡ output.name
+        first : (found.name, found.form) ∷ map (λ (f : OutputFiles). (f.name, f.form)) observed ≡ (output.name, output.form) ∷ given_outputs outputs → found.name ≡ output.name
         first e = ap (λ (p : List ℕ × Form). p.0) (heads e)
 
-        rest : (found.name, found.form) ∷ map (λ (f : OutputFiles). (f.name, f.form)) seen ≡ (output.name, output.form) ∷ seen_outputs outputs
-            → map (λ (f : OutputFiles). (f.name, f.form)) seen ≡ seen_outputs outputs
+        rest : (found.name, found.form) ∷ map (λ (f : OutputFiles). (f.name, f.form)) observed ≡ (output.name, output.form) ∷ given_outputs outputs
+            → map (λ (f : OutputFiles). (f.name, f.form)) observed ≡ given_outputs outputs
         rest e = cc

@@ -9,7 +9,7 @@ use Rattle.gb_core.specs.Place.{is_place, is_under}
 use Rattle.gb_action.specs.Files.{Trees}
 use Rattle.gb_action.specs.Meanings.{Values}
 use Rattle.gb_action.specs.declared.reply.Written.{Written}
-use Rattle.gb_folder.specs.Files.{Place, Bytes, Contents, Files, file_at, files_under, files_where, is_blocked, is_empty, is_odd_under, is_own, places_under, with_file}
+use Rattle.gb_folder.specs.Files.{Place, Bytes, Contents, Files, file_at, files_under, files_where, is_blocked, is_empty, is_special_under, is_own, places_under, with_file}
 use Rattle.gb_folder.specs.Limits.{max_file, max_files}
 use Rattle.gb_meaning.specs.Kinds.{Kinds, kind_of}
 use Rattle.gb_meaning.specs.Made.{act, fault_if, file_faults, full_outputs, made_of, placed, put_over, put_result, step_faults}
@@ -23,11 +23,11 @@ use Rattle.gb_plan.specs.declared.task.Action.{Action}
 use Rattle.gb_plan.specs.declared.task.Output.{Output}
 use Rattle.gb_report.specs.declared.fault.Fault.{Fault}
 use Rattle.gb_report.specs.declared.fault.Fault.TheVariants as faults
-use Rattle.gb_tree.specs.Tree.{entries_from, is_large, odd_roots, path_from, too_large, too_many}
+use Rattle.gb_tree.specs.Tree.{entries_from, is_large, special_roots, path_from, too_large, too_many}
 use Rattle.gb_tree.specs.declared.fault.TreeFault.{TreeFault}
 use Rattle.gb_tree.specs.declared.fault.TreeFault.TheVariants as trees
 use Rattle.gb_label.specs.Reading.{print_faults}
-use Rattle.gb_label.proofs.Growth.{odd_parts}
+use Rattle.gb_label.proofs.Growth.{special_parts}
 use Rattle.gb_task.specs.Case.{MadeIsNotGrown}
 use Rattle.gb_task.proofs.Part.{Within, all_under, bytes_same, first_within, rest_within, under_same}
 
@@ -158,19 +158,19 @@ module _ (test : Place → Bool) (folder : Contents) (small : IsSmall (files_whe
           ∙ length-map (files_under folder.files root) (λ (file : Place × Bytes). file.0)
           ∙ ap length (sym (under_same test folder.files root within))
 
-  one_readable : (output : Output) → is_odd_under folder output.place ≡ false → Within test output.place
+  one_readable : (output : Output) → is_special_under folder output.place ≡ false → Within test output.place
       → nat_lt max_files (length (files_under (files_where test folder.files) output.place)) ≡ false → print_faults folder output ≡ []
   one_readable output none within few = by (is_own output.place)
     where
-      odd : odd_roots folder (output.place ∷ []) ≡ []
-      odd = ap (λ b. map trees.BadFileName (cond b (output.place ∷ []) [])) none
+      special : special_roots folder (output.place ∷ []) ≡ []
+      special = ap (λ b. map trees.BadFileName (cond b (output.place ∷ []) [])) none
 
-      by : (own : Bool) → map reported_of_tree ((if own then [] else odd_roots folder (output.place ∷ []) ++ too_many output.name (entries_from output.place (places_under folder.files output.place)))
+      by : (own : Bool) → map reported_of_tree ((if own then [] else special_roots folder (output.place ∷ []) ++ too_many output.name (entries_from output.place (places_under folder.files output.place)))
           ++ too_large folder.files (if own then [] else entries_from output.place (places_under folder.files output.place))) ≡ []
       by true = refl
       by false = ap (map reported_of_tree)
           (ap₂ (λ (x y : List TreeFault). x ++ y)
-          (ap₂ (λ (x y : List TreeFault). x ++ y) odd (not_many output.name output.place within few))
+          (ap₂ (λ (x y : List TreeFault). x ++ y) special (not_many output.name output.place within few))
           (none_large output.place (places_under folder.files output.place) (all_under test folder.files output.place within)))
 
   -- the first output has not too many files, nor have the others
@@ -184,25 +184,25 @@ module _ (test : Place → Bool) (folder : Contents) (small : IsSmall (files_whe
       by true is e = not_true e
       by false is e = (is, e)
 
-  all_readable : (outputs : List Output) → AllByRecursion (λ (o : Output). is_odd_under folder o.place ≡ false) outputs
+  all_readable : (outputs : List Output) → AllByRecursion (λ (o : Output). is_special_under folder o.place ≡ false) outputs
       → ((q : Place) → list_any (λ (o : Output). is_under q o.place) outputs ≡ true → test q ≡ true)
       → is_empty (full_outputs outputs (files_where test folder.files)) ≡ true → flat_map (print_faults folder) outputs ≡ []
-  all_readable [] odd within few = refl
-  all_readable (output ∷ outputs) odd within few =
+  all_readable [] special within few = refl
+  all_readable (output ∷ outputs) special within few =
       let parts = few_each output outputs few in
-      ap₂ (λ (x y : List Fault). x ++ y) (one_readable output odd.0 (first_within test output outputs within) parts.0)
-      (all_readable outputs odd.1 (rest_within test output outputs within) parts.1)
+      ap₂ (λ (x y : List Fault). x ++ y) (one_readable output special.0 (first_within test output outputs within) parts.0)
+      (all_readable outputs special.1 (rest_within test output outputs within) parts.1)
 
-none_odd : (folder : Contents) (outputs : List Output) → map reported_of_tree (odd_roots folder (map (λ (o : Output). o.place) outputs)) ≡ []
-    → AllByRecursion (λ (o : Output). is_odd_under folder o.place ≡ false) outputs
-none_odd folder [] none = tt
-none_odd folder (output ∷ outputs) none =
-    let parts = odd_parts folder output outputs none in
-    (parts.0, none_odd folder outputs parts.1)
+none_special : (folder : Contents) (outputs : List Output) → map reported_of_tree (special_roots folder (map (λ (o : Output). o.place) outputs)) ≡ []
+    → AllByRecursion (λ (o : Output). is_special_under folder o.place ≡ false) outputs
+none_special folder [] none = tt
+none_special folder (output ∷ outputs) none =
+    let parts = special_parts folder output outputs none in
+    (parts.0, none_special folder outputs parts.1)
 
 pub made_is_not_grown : MadeIsNotGrown
 made_is_not_grown kinds task folder entry made outputs files listed =
     let fit : IsFit task.outputs (output_files task folder.files) =
     subst (IsFit task.outputs) files
     (subst (λ outs. IsFit outs entry.files) outputs (made_fit kinds entry.outputs entry.values entry.inputs entry.actions entry.files made)) in
-    all_readable (is_output_of task) folder fit.small task.outputs (none_odd folder task.outputs listed) (λ q any. any) fit.few
+    all_readable (is_output_of task) folder fit.small task.outputs (none_special folder task.outputs listed) (λ q any. any) fit.few

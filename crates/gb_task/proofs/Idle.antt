@@ -9,13 +9,13 @@ use Rattle.gb_folder.specs.Files.{Place, Bytes, Contents, Files, HasRisen, file_
 use Rattle.gb_history.specs.Record.{Record}
 use Rattle.gb_history.specs.declared.decide.Decision.TheVariants as decisions
 use Rattle.gb_label.specs.Looking.{IsHindered}
-use Rattle.gb_label.specs.Preparing.{IsPrepared, IsRead, IsSeen, MayPrepare}
+use Rattle.gb_label.specs.Preparing.{IsPrepared, IsRead, IsObserved, MayPrepare}
 use Rattle.gb_label.specs.declared.prepare.Prepared.{Prepared}
 use Rattle.gb_label.specs.declared.prepare.Prepared.TheVariants as prepared
-use Rattle.gb_meaning.specs.Events.{Setting, StandsInRun, is_touched_by, may_come, own_files, rules_in}
+use Rattle.gb_meaning.specs.Events.{Setting, ExistsInRun, is_touched_by, may_occur, own_files, rules_in}
 use Rattle.gb_meaning.specs.Label.{CannotRead, Early, HasNoActions, HasNoSource, IsLabelAt, Moment, Skips, early_case, some_outcome}
 use Rattle.gb_meaning.specs.TrueRecord.{outside}
-use Rattle.gb_meaning.specs.Execution.{ByMachine, Cause, FailedRunLeaves, FailedRunPrints, FailureLeaves, FailurePrints, Standing as Stands, StartedExecution, cause_of}
+use Rattle.gb_meaning.specs.Execution.{ByMachine, Cause, FailedRunLeaves, FailedRunPrints, FailureLeaves, FailurePrints, WorldState as Exists, StartedExecution, cause_of}
 use Rattle.gb_plan.specs.Graph.{Plan, needs_in}
 use Rattle.gb_plan.specs.Task.{Path, is_output_of}
 use Rattle.gb_plan.specs.declared.task.Output.{Output}
@@ -41,7 +41,7 @@ not_failed fault outcome none is = not_true (sym none ∙ ap is_failed is)
 
 module _ (setting : Setting) (own : Files) (options : Options) (plan : Plan) (task : Task) (path : Path) (moment : Moment) (after : ℕ) where
   -- the state, unchanged
-  abbrev unchanged : Stands
+  abbrev unchanged : Exists
   unchanged = record { world = moment.world; failures = after }
 
   idle_started : (outcome : Outcome) → IsIdleExecution setting.kinds options plan task moment outcome
@@ -54,7 +54,7 @@ module _ (setting : Setting) (own : Files) (options : Options) (plan : Plan) (ta
     begun = λ fault is printed. not_false printed;
   }
 
-  fails_by_machine : (fault : Fault) → cause_of fault ≡ ByMachine → may_come setting own options task moment unchanged fault
+  fails_by_machine : (fault : Fault) → cause_of fault ≡ ByMachine → may_occur setting own options task moment unchanged fault
       → StartedExecution (rules_in setting own options plan) moment task (silent_report task path (outcomes.Failed fault)) unchanged
   fails_by_machine fault machine may = record {
     label = inr (fault, may, refl);
@@ -100,46 +100,46 @@ module _ (setting : Setting) (options : Options) (plan : Plan) (task : Task) (pa
   touched : (place : Place) → task.runs ≡ true → is_empty task.actions ≡ false → (is_input_of task place || is_output_of task place) ≡ true → is_touched_by task place ≡ true
   touched place runs acts e = λ i. (runs i && not (acts i)) && e i
 
-  stands_still : (files : Files) (place : Place) (left : Option Bytes) → left ≡ file_at files place → StandsInRun setting.kinds task files place left
-  stands_still files place None is = tt
-  stands_still files place (Some bytes) is = inl (sym is)
+  exists_still : (files : Files) (place : Place) (left : Option Bytes) → left ≡ file_at files place → ExistsInRun setting.kinds task files place left
+  exists_still files place None is = tt
+  exists_still files place (Some bytes) is = inl (sym is)
 
   hindered : (fault : Fault) → IsHindered task old before after fault → (task.runs ≡ true) × (is_empty task.actions ≡ false)
       → ((place : Place) → fault ≡ faults.Device place → (is_input_of task place || is_output_of task place) ≡ true)
       → StartedExecution (rules_in setting (own_files old) options plan) moment task (silent_report task path (outcomes.Failed fault)) (record { world = moment.world; failures = after })
   hindered fault (inl (inl memory)) goes blamed =
       fails_by_machine setting (own_files old) options plan task path moment after fault (ap cause_of memory)
-      (subst (λ (f : Fault). may_come setting (own_files old) options task moment (record { world = moment.world; failures = after }) f) (sym memory) tt)
+      (subst (λ (f : Fault). may_occur setting (own_files old) options task moment (record { world = moment.world; failures = after }) f) (sym memory) tt)
   hindered fault (inl (inr device)) goes blamed =
       fails_by_machine setting (own_files old) options plan task path moment after fault (ap cause_of device.1)
-      (subst (λ (f : Fault). may_come setting (own_files old) options task moment (record { world = moment.world; failures = after }) f) (sym device.1)
-      (subst (λ n. HasRisen n after) (sym count) device.2, touched device.0 goes.0 goes.1 (blamed device.0 device.1), inl (stands_still moment.world.folder.files device.0 (file_at moment.world.folder.files device.0) refl)))
+      (subst (λ (f : Fault). may_occur setting (own_files old) options task moment (record { world = moment.world; failures = after }) f) (sym device.1)
+      (subst (λ n. HasRisen n after) (sym count) device.2, touched device.0 goes.0 goes.1 (blamed device.0 device.1), inl (exists_still moment.world.folder.files device.0 (file_at moment.world.folder.files device.0) refl)))
   hindered fault (inr cannot) goes blamed =
       fails_unread setting (own_files old) options plan task path moment after fault cannot.0
       (ap (early_case task) folder ∙ early_outside task old ∙ cannot.1) cannot.2
 
-  pub settles : (result : Result Prepared Fault) → IfOk result (IsPrepared options task old read) → IfOk result (IsSeen task old.files) → IfErr result (IsHindered task old before after)
+  pub settles : (result : Result Prepared Fault) → IfOk result (IsPrepared options task old read) → IfOk result (IsObserved task old.files) → IfErr result (IsHindered task old before after)
       → OnErr result ((task.runs ≡ true) × (is_empty task.actions ≡ false))
       → ((place : Place) → result ≡ Err (faults.Device place) → (is_input_of task place || is_output_of task place) ≡ true)
       → SettlesExecution setting options plan task moment old after (settled_as task path result need)
-  settles (Err fault) prepared_so stands_so cannot goes blamed = hindered fault cannot goes (λ place e. blamed place (ap Err e))
-  settles (Ok prepared.Skips) prepared_so stands_so cannot goes blamed =
+  settles (Err fault) prepared_so exists_so cannot goes blamed = hindered fault cannot goes (λ place e. blamed place (ap Err e))
+  settles (Ok prepared.Skips) prepared_so exists_so cannot goes blamed =
       idle_started setting (own_files old) options plan task path moment after outcomes.Skipped
       (are_executions setting.kinds options plan task moment prepared.Skips outcomes.Skipped (case_of prepared.Skips prepared_so) refl)
-  settles (Ok prepared.HasNoActions) prepared_so stands_so cannot goes blamed =
+  settles (Ok prepared.HasNoActions) prepared_so exists_so cannot goes blamed =
       idle_started setting (own_files old) options plan task path moment after (idle_outcome need)
       (are_executions setting.kinds options plan task moment prepared.HasNoActions (idle_outcome need) (case_of prepared.HasNoActions prepared_so)
       (same_outcome need ∙ ap (λ (b : Bool). if b then outcomes.Executed else outcomes.UpToDate) (sym needed)))
-  settles (Ok prepared.HasNoSource) prepared_so stands_so cannot goes blamed = case_of prepared.HasNoSource prepared_so
-  settles (Ok (prepared.Decided decisions.UpToDate basis seen)) prepared_so stands_so cannot goes blamed =
+  settles (Ok prepared.HasNoSource) prepared_so exists_so cannot goes blamed = case_of prepared.HasNoSource prepared_so
+  settles (Ok (prepared.Decided decisions.UpToDate basis observed)) prepared_so exists_so cannot goes blamed =
       idle_started setting (own_files old) options plan task path moment after outcomes.UpToDate
-      (are_executions setting.kinds options plan task moment (prepared.Decided decisions.UpToDate basis seen) outcomes.UpToDate (case_of (prepared.Decided decisions.UpToDate basis seen) prepared_so) refl)
-  settles (Ok (prepared.Decided (decisions.Incremental changes) basis seen)) prepared_so stands_so cannot goes blamed =
-      let case = case_of (prepared.Decided (decisions.Incremental changes) basis seen) prepared_so in
-      (case.0, case.1, are_runs setting.kinds options task moment.world (decisions.Incremental changes) (λ e. absurd (let d = e in (cc))) case.1, stands_so)
-  settles (Ok (prepared.Decided decisions.Full basis seen)) prepared_so stands_so cannot goes blamed =
-      let case = case_of (prepared.Decided decisions.Full basis seen) prepared_so in
-      (case.0, case.1, are_runs setting.kinds options task moment.world decisions.Full (λ e. absurd (let d = e in (cc))) case.1, stands_so)
+      (are_executions setting.kinds options plan task moment (prepared.Decided decisions.UpToDate basis observed) outcomes.UpToDate (case_of (prepared.Decided decisions.UpToDate basis observed) prepared_so) refl)
+  settles (Ok (prepared.Decided (decisions.Incremental changes) basis observed)) prepared_so exists_so cannot goes blamed =
+      let case = case_of (prepared.Decided (decisions.Incremental changes) basis observed) prepared_so in
+      (case.0, case.1, are_runs setting.kinds options task moment.world (decisions.Incremental changes) (λ e. absurd (let d = e in (cc))) case.1, exists_so)
+  settles (Ok (prepared.Decided decisions.Full basis observed)) prepared_so exists_so cannot goes blamed =
+      let case = case_of (prepared.Decided decisions.Full basis observed) prepared_so in
+      (case.0, case.1, are_runs setting.kinds options task moment.world decisions.Full (λ e. absurd (let d = e in (cc))) case.1, exists_so)
 
 -- ---- over any folder
 
@@ -169,9 +169,9 @@ module _ (task : Task) (path : Path) (is_path : path ≡ task.path) (before afte
   of_task (Ok prepared.Skips) may read_so rises blamed = (is_path, refl, refl, silent outcomes.Skipped refl, refl, (λ e. absurd (let d = e in (cc))), λ e. cc)
   of_task (Ok prepared.HasNoActions) may read_so rises blamed = (is_path, refl, refl, silent (idle_outcome need) (failed_idly need), started_idly need, (λ e. may.1), has_source need)
   of_task (Ok prepared.HasNoSource) may read_so rises blamed = (is_path, may.2)
-  of_task (Ok (prepared.Decided decisions.UpToDate basis seen)) may read_so rises blamed = (is_path, refl, refl, silent outcomes.UpToDate refl, refl, (λ e. absurd (let d = e in (cc))), λ e. cc)
-  of_task (Ok (prepared.Decided (decisions.Incremental changes) basis seen)) may read_so rises blamed = (is_path, (λ e. absurd (let d = e in (cc))), read_so)
-  of_task (Ok (prepared.Decided decisions.Full basis seen)) may read_so rises blamed = (is_path, (λ e. absurd (let d = e in (cc))), read_so)
+  of_task (Ok (prepared.Decided decisions.UpToDate basis observed)) may read_so rises blamed = (is_path, refl, refl, silent outcomes.UpToDate refl, refl, (λ e. absurd (let d = e in (cc))), λ e. cc)
+  of_task (Ok (prepared.Decided (decisions.Incremental changes) basis observed)) may read_so rises blamed = (is_path, (λ e. absurd (let d = e in (cc))), read_so)
+  of_task (Ok (prepared.Decided decisions.Full basis observed)) may read_so rises blamed = (is_path, (λ e. absurd (let d = e in (cc))), read_so)
 
   pub alone : (result : Result Prepared Fault) → IfOk result (MayPrepare task) → OnErr result ((task.runs ≡ true) × (is_empty task.actions ≡ false))
       → AnswersAlone task.runs (is_empty task.actions) need (settled_as task path result need)
@@ -187,9 +187,9 @@ module _ (task : Task) (path : Path) (is_path : path ≡ task.path) (before afte
           acts_none (Ok prepared.Skips) may goes = not_true (sym may ∙ r)
           acts_none (Ok prepared.HasNoActions) may goes = refl
           acts_none (Ok prepared.HasNoSource) may goes = not_true (sym may.1 ∙ a)
-          acts_none (Ok (prepared.Decided decisions.UpToDate basis seen)) may goes = not_true (sym may.1 ∙ a)
-          acts_none (Ok (prepared.Decided (decisions.Incremental changes) basis seen)) may goes = not_true (sym may.1 ∙ a)
-          acts_none (Ok (prepared.Decided decisions.Full basis seen)) may goes = not_true (sym may.1 ∙ a)
+          acts_none (Ok (prepared.Decided decisions.UpToDate basis observed)) may goes = not_true (sym may.1 ∙ a)
+          acts_none (Ok (prepared.Decided (decisions.Incremental changes) basis observed)) may goes = not_true (sym may.1 ∙ a)
+          acts_none (Ok (prepared.Decided decisions.Full basis observed)) may goes = not_true (sym may.1 ∙ a)
       by false idle r a = skips result may goes
         where
           skips : (p : Result Prepared Fault) → IfOk p (MayPrepare task) → OnErr p ((task.runs ≡ true) × (is_empty task.actions ≡ false))
@@ -198,6 +198,6 @@ module _ (task : Task) (path : Path) (is_path : path ≡ task.path) (before afte
           skips (Ok prepared.Skips) may goes = refl
           skips (Ok prepared.HasNoActions) may goes = not_true (sym r ∙ may.0)
           skips (Ok prepared.HasNoSource) may goes = not_true (sym r ∙ may.0)
-          skips (Ok (prepared.Decided decisions.UpToDate basis seen)) may goes = not_true (sym r ∙ may.0)
-          skips (Ok (prepared.Decided (decisions.Incremental changes) basis seen)) may goes = not_true (sym r ∙ may.0)
-          skips (Ok (prepared.Decided decisions.Full basis seen)) may goes = not_true (sym r ∙ may.0)
+          skips (Ok (prepared.Decided decisions.UpToDate basis observed)) may goes = not_true (sym r ∙ may.0)
+          skips (Ok (prepared.Decided (decisions.Incremental changes) basis observed)) may goes = not_true (sym r ∙ may.0)
+          skips (Ok (prepared.Decided decisions.Full basis observed)) may goes = not_true (sym r ∙ may.0)

@@ -10,10 +10,10 @@ use Rattle.gb_history.specs.Places.{record_place}
 use Rattle.gb_history.specs.Record.{Record}
 use Rattle.gb_meaning.specs.Kinds.{Kinds}
 use Rattle.gb_meaning.specs.Memory.{Entry, Memory, World, entry_of, folder_contents, recalled}
-use Rattle.gb_meaning.specs.TrueRecord.{AreApart, IsMade, SaysNoRecord, Stores, contents_of, record_of}
+use Rattle.gb_meaning.specs.TrueRecord.{AreCollisionFree, IsMade, SaysNoRecord, Stores, contents_of, record_of}
 use Rattle.gb_meaning.proofs.Common.{none_some, some_same}
-use Rattle.gb_meaning.proofs.Lemmas.Clear.{Among, apart_of_fewer, in_left, in_one, in_right}
-use Rattle.gb_meaning.proofs.Lemmas.Seen.{entry_seen}
+use Rattle.gb_meaning.proofs.Lemmas.Clear.{Among, separate_of_fewer, in_left, in_one, in_right}
+use Rattle.gb_meaning.proofs.Lemmas.Observed.{entry_observed}
 use Rattle.gb_plan.specs.Task.{Path, has_path}
 use Rattle.gb_plan.specs.declared.task.TaskDeclaration.{TaskDeclaration as Task}
 use Rattle.gb_records.specs.Digests.{IsClearTo}
@@ -51,18 +51,18 @@ module _ (kinds : Kinds) (task : Task) (files : Files) (memory : Memory) (world 
   now : Entry
   now = entry_of task world.folder.files
 
-  apart : (entry : Entry) → recalled memory task.path ≡ Some entry → AreApart sha256 (contents_of entry ++ contents_of (entry_of task world.folder.files))
-  apart entry e = by worth.clear
+  separate : (entry : Entry) → recalled memory task.path ≡ Some entry → AreCollisionFree sha256 (contents_of entry ++ contents_of (entry_of task world.folder.files))
+  separate entry e = by worth.clear
     where
       among : Among (contents_of entry ++ contents_of (entry_of task world.folder.files)) (reported_by memory ++ folder_contents world)
       among c h = elim (in_one c (contents_of entry) (contents_of (entry_of task world.folder.files)) h) [
         | inl old ↦ in_left c (reported_by memory) (folder_contents world) (recalled_reported task.path memory entry e c old)
-        | inr new ↦ in_right c (reported_by memory) (folder_contents world) (entry_seen task world.folder.files c new)
+        | inr new ↦ in_right c (reported_by memory) (folder_contents world) (entry_observed task world.folder.files c new)
       ]
 
-      by : (is_empty memory ≡ true) ⊎ AreApart sha256 (reported_by memory ++ folder_contents world) → AreApart sha256 (contents_of entry ++ contents_of (entry_of task world.folder.files))
+      by : (is_empty memory ≡ true) ⊎ AreCollisionFree sha256 (reported_by memory ++ folder_contents world) → AreCollisionFree sha256 (contents_of entry ++ contents_of (entry_of task world.folder.files))
       by (inl empty) = absurd (none_in_empty task.path memory entry e empty)
-      by (inr all) = apart_of_fewer sha256 (reported_by memory ++ folder_contents world) (contents_of entry ++ contents_of (entry_of task world.folder.files)) among all
+      by (inr all) = separate_of_fewer sha256 (reported_by memory ++ folder_contents world) (contents_of entry ++ contents_of (entry_of task world.folder.files)) among all
 
   clear : (entry : Entry) → recalled memory task.path ≡ Some entry → IsClearTo kinds task world.folder.files entry
   clear entry e = record {
@@ -70,7 +70,7 @@ module _ (kinds : Kinds) (task : Task) (files : Files) (memory : Memory) (world 
     is_folder = worth.is_folder;
     placed = worth.placed;
     not_own = worth.not_own;
-    apart = apart entry e;
+    separate = separate entry e;
   }
 
   known : (left : Option Bytes) (entry : Option Entry) (read : Option Record) → recalled memory task.path ≡ entry → Stores sha256 IsText task.path left entry → IsReadAs task.path left read
@@ -90,4 +90,4 @@ module _ (kinds : Kinds) (task : Task) (files : Files) (memory : Memory) (world 
 pub what_is_read_is_known : WhatIsReadIsKnown
 what_is_read_is_known kinds task files memory world read worth is =
     known kinds task files memory world worth (file_at files (record_place task.path)) (recalled memory task.path) read refl
-    (worth.stood.records task.path worth.is_task) is
+    (worth.existed.records task.path worth.is_task) is

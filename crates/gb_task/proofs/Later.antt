@@ -12,25 +12,25 @@ use Rattle.gb_task.specs.Executions.{IsRunFor, goes_by_changes}
 use Rattle.gb_history.specs.Record.{Record}
 use Rattle.gb_history.specs.declared.decide.Decision.{Decision}
 use Rattle.gb_history.specs.declared.decide.Decision.TheVariants as decisions
-use Rattle.gb_label.specs.Preparing.{IsReadFor, IsSeenFor}
-use Rattle.gb_label.specs.declared.prepare.Seen.{Seen}
-use Rattle.gb_meaning.specs.Events.{IsTornInRun, StandsInRun, is_record_shut_out, is_record_too_long, may_come, own_files, rules_in}
+use Rattle.gb_label.specs.Preparing.{IsReadFor, IsObservedFor}
+use Rattle.gb_label.specs.declared.prepare.Observed.{Observed}
+use Rattle.gb_meaning.specs.Events.{IsTornInRun, ExistsInRun, is_record_shut_out, is_record_too_long, may_occur, own_files, rules_in}
 use Rattle.gb_meaning.specs.Kinds.{Kinds}
 use Rattle.gb_meaning.specs.Label.{IsLabel, Moment, changes_from, early_case}
 use Rattle.gb_meaning.specs.Memory.{Entry, World, recalled}
 use Rattle.gb_meaning.specs.TrueRecord.{IsMade, outside}
-use Rattle.gb_meaning.specs.Execution.{IsOfMachine, Standing as Stands, StartedExecution}
+use Rattle.gb_meaning.specs.Execution.{IsOfMachine, HoldsRecords as Exists, StartedExecution}
 use Rattle.gb_meaning.proofs.Common.{none_some}
 use Rattle.gb_plan.specs.Graph.{Plan}
 use Rattle.gb_plan.specs.declared.task.TaskDeclaration.{TaskDeclaration as Task}
-use Rattle.gb_records.specs.Standing.{Standing}
+use Rattle.gb_records.specs.Holding.{HoldsRecords}
 use Rattle.gb_report.specs.Outcome.{is_started}
 use Rattle.gb_report.specs.declared.fault.Fault.{Fault}
 use Rattle.gb_report.specs.declared.fault.Fault.TheVariants as faults
 use Rattle.gb_report.specs.declared.report.Options.{Options}
 use Rattle.gb_report.specs.declared.report.Outcome.{Outcome}
 use Rattle.gb_report.specs.declared.report.TaskReport.{TaskReport}
-use Rattle.gb_label.specs.Reading.{AreInputs, AreInputsSeen, AreOutputs, AreOutputsSeen}
+use Rattle.gb_label.specs.Reading.{AreInputs, AreInputsObserved, AreOutputs, AreOutputsObserved}
 use Rattle.gb_task.specs.Settled.{AnswersAlone, IsAnsweredAlone}
 use Rattle.gb_task.specs.Executing.{BeginsAt, HasExecuted, IsDue, IsDueByChanges, IsToGoOn, IsReportedOf, Registering, cleared_outcome, outcome_of, setting_with}
 use Rattle.gb_task.specs.declared.settle.Settled.TheVariants as settled
@@ -81,27 +81,27 @@ due_since kinds options task world last goes = record {
 
 -- ---- what was read
 
-pub inputs_read : (task : Task) (seen : Seen) (decision : Decision) → decision ≢ decisions.UpToDate → IsReadFor task seen decision → AreInputs task seen.inputs.items
-inputs_read task seen decisions.UpToDate due read = absurd (due refl)
-inputs_read task seen (decisions.Incremental changes) due read = read.0
-inputs_read task seen decisions.Full due read = read
+pub inputs_read : (task : Task) (observed : Observed) (decision : Decision) → decision ≢ decisions.UpToDate → IsReadFor task observed decision → AreInputs task observed.inputs.items
+inputs_read task observed decisions.UpToDate due read = absurd (due refl)
+inputs_read task observed (decisions.Incremental changes) due read = read.0
+inputs_read task observed decisions.Full due read = read
 
-pub inputs_stand : (task : Task) (files : Files) (seen : Seen) (decision : Decision) → decision ≢ decisions.UpToDate → IsSeenFor task files seen decision → AreInputsSeen task files seen.inputs.items
-inputs_stand task files seen decisions.UpToDate due stands = absurd (due refl)
-inputs_stand task files seen (decisions.Incremental changes) due stands = stands.0
-inputs_stand task files seen decisions.Full due stands = stands
+pub inputs_exist : (task : Task) (files : Files) (observed : Observed) (decision : Decision) → decision ≢ decisions.UpToDate → IsObservedFor task files observed decision → AreInputsObserved task files observed.inputs.items
+inputs_exist task files observed decisions.UpToDate due exists = absurd (due refl)
+inputs_exist task files observed (decisions.Incremental changes) due exists = exists.0
+inputs_exist task files observed decisions.Full due exists = exists
 
-pub outputs_read : (task : Task) (seen : Seen) (decision : Decision) (changes : List Changes) → decision ≡ decisions.Incremental changes → IsReadFor task seen decision → AreOutputs task seen.outputs.items
-outputs_read task seen decision changes is read = by (subst (IsReadFor task seen) is read)
+pub outputs_read : (task : Task) (observed : Observed) (decision : Decision) (changes : List Changes) → decision ≡ decisions.Incremental changes → IsReadFor task observed decision → AreOutputs task observed.outputs.items
+outputs_read task observed decision changes is read = by (subst (IsReadFor task observed) is read)
   where
-    by : IsReadFor task seen (decisions.Incremental changes) → AreOutputs task seen.outputs.items
+    by : IsReadFor task observed (decisions.Incremental changes) → AreOutputs task observed.outputs.items
     by so = so.1
 
-pub outputs_stand : (task : Task) (files : Files) (seen : Seen) (decision : Decision) (changes : List Changes) → decision ≡ decisions.Incremental changes → IsSeenFor task files seen decision
-    → AreOutputsSeen task files seen.outputs.items
-outputs_stand task files seen decision changes is stands = by (subst (IsSeenFor task files seen) is stands)
+pub outputs_exist : (task : Task) (files : Files) (observed : Observed) (decision : Decision) (changes : List Changes) → decision ≡ decisions.Incremental changes → IsObservedFor task files observed decision
+    → AreOutputsObserved task files observed.outputs.items
+outputs_exist task files observed decision changes is exists = by (subst (IsObservedFor task files observed) is exists)
   where
-    by : IsSeenFor task files seen (decisions.Incremental changes) → AreOutputsSeen task files seen.outputs.items
+    by : IsObservedFor task files observed (decisions.Incremental changes) → AreOutputsObserved task files observed.outputs.items
     by so = so.1
 
 -- ---- over any folder
@@ -116,11 +116,11 @@ sourceless_alone false idle need path outcome so = absurd so
 sourceless_alone true true need path outcome so = absurd so
 sourceless_alone true false need path outcome so = tt
 
-pub due_alone : (runs idle need : Bool) (path : List ℕ) (decision : Decision) (seen : Seen) (outcome : Outcome) → AnswersAlone runs idle need (settled.Due path decision seen)
+pub due_alone : (runs idle need : Bool) (path : List ℕ) (decision : Decision) (observed : Observed) (outcome : Outcome) → AnswersAlone runs idle need (settled.Due path decision observed)
     → IsAnsweredAlone runs idle need outcome
-due_alone false idle need path decision seen outcome so = absurd so
-due_alone true true need path decision seen outcome so = absurd so
-due_alone true false need path decision seen outcome so = tt
+due_alone false idle need path decision observed outcome so = absurd so
+due_alone true true need path decision observed outcome so = absurd so
+due_alone true false need path decision observed outcome so = tt
 
 -- what ended was started
 pub run_started : (outcome : Outcome) → IsReportedOf outcome_of outcome → is_started outcome ≡ true
@@ -148,7 +148,7 @@ reported_turned kinds registry_of may_leave options plan task was_read moment re
   execution =
       subst (λ (world : World). StartedExecution (rules_in (setting_with kinds registry_of may_leave) (own_files old) options plan) moment task report (record { world = world; failures = after }))
       (ap (λ (folder : Contents). let world : World = record { folder = folder; memory = moment.world.memory } in world) (at.folder ∙ ap outside (sym same))) execution;
-  records = subst (λ (folder : Contents). Standing folder.files moment.world.memory) (sym same) at.records;
+  records = subst (λ (folder : Contents). HoldsRecords folder.files moment.world.memory) (sym same) at.records;
 }
 
 -- ---- from a later moment
@@ -158,7 +158,7 @@ pub comes_later : (task : Task) (was_read : Bool) (old : Contents) (before : ℕ
 comes_later task was_read old before moment later mid same at = record {
   folder = at.folder ∙ ap outside (sym same);
   failures = refl;
-  records = subst (λ (folder : Contents). Standing folder.files moment.world.memory) (sym same) at.records;
+  records = subst (λ (folder : Contents). HoldsRecords folder.files moment.world.memory) (sym same) at.records;
   read = at.read;
 }
 
@@ -168,9 +168,9 @@ module _ (kinds : Kinds) (registry_of : Registering) (first second : Tearing) (s
   later_moment = record { world = moment.world; outcomes = moment.outcomes; failures = mid }
 
   left_so : (place : Place) (left : Option Bytes)
-      → StandsInRun kinds task moment.world.folder.files place left ⊎ IsTornInRun (setting_with kinds registry_of second) task moment.world.folder.files place left
-      → StandsInRun kinds task moment.world.folder.files place left ⊎ IsTornInRun (setting_with kinds registry_of first) task moment.world.folder.files place left
-  left_so place left (inl stands) = inl stands
+      → ExistsInRun kinds task moment.world.folder.files place left ⊎ IsTornInRun (setting_with kinds registry_of second) task moment.world.folder.files place left
+      → ExistsInRun kinds task moment.world.folder.files place left ⊎ IsTornInRun (setting_with kinds registry_of first) task moment.world.folder.files place left
+  left_so place left (inl exists) = inl exists
   left_so place left (inr torn) = inr (torn.0, torn.1, torn.2, torn.3, (same place torn.0 torn.1 left).0 torn.4)
 
   written_so : (own : Files) (after : ℕ) → mid ≤ after
@@ -179,9 +179,9 @@ module _ (kinds : Kinds) (registry_of : Registering) (first second : Tearing) (s
   written_so own after rise (inl risen) = inl (HasRisen-before moment.failures mid after le rise risen)
   written_so own after rise (inr other) = inr other
 
-  may_so : (own : Files) (new : Stands) (fault : Fault) → mid ≤ new.failures
-      → may_come (setting_with kinds registry_of second) own options task (record { world = moment.world; outcomes = moment.outcomes; failures = mid }) new fault
-      → may_come (setting_with kinds registry_of first) own options task moment new fault
+  may_so : (own : Files) (new : Exists) (fault : Fault) → mid ≤ new.failures
+      → may_occur (setting_with kinds registry_of second) own options task (record { world = moment.world; outcomes = moment.outcomes; failures = mid }) new fault
+      → may_occur (setting_with kinds registry_of first) own options task moment new fault
   may_so own new faults.OutOfMemory rise may = tt
   may_so own new (faults.Device place) rise may = (HasRisen-before moment.failures mid new.failures le rise may.0, may.1, left_so place _ may.2)
   may_so own new faults.HistoryNotWritten rise may = (may.0, written_so own new.failures rise may.1)

@@ -14,8 +14,8 @@ use Rattle.gb_plan.proofs.Tests.{left_of}
 use Rattle.gb_plan.specs.declared.task.FileProperty.{FileProperty}
 use Rattle.gb_plan.specs.declared.task.TaskDeclaration.{TaskDeclaration as Task}
 use Rattle.gb_report.specs.declared.fault.Fault.{Fault}
-use Rattle.gb_tree.specs.Property.{distinct, doubled, entries_in, entries_of, found, in_order, is_in, lets_in, path_of, paths_of, seen_from, places_of, starts_in}
-use Rattle.gb_tree.specs.Tree.{Entries, contents_at, odd_roots, too_large, too_many}
+use Rattle.gb_tree.specs.Property.{distinct, doubled, entries_in, entries_of, found, in_order, is_in, lets_in, path_of, paths_of, relative_to, places_of, starts_in}
+use Rattle.gb_tree.specs.Tree.{Entries, contents_at, special_roots, too_large, too_many}
 use Rattle.gb_tree.specs.declared.fault.TreeFault.{TreeFault}
 use Rattle.gb_tree.specs.declared.fault.TreeFault.TheVariants as trees
 use Rattle.gb_task.proofs.Own.{is_kept}
@@ -45,7 +45,7 @@ module _ (include exclude : List (List ℕ)) (root : Place) where
       elim (is_own f.0) as (λ own. is_own f.0 ≡ own → filter belongs (file_places (files_where within (cond (not own) (f ∷ files_where is_kept files) (files_where is_kept files))))
       ≡ filter belongs (file_places (cond (within f.0) (f ∷ files_where within files) (files_where within files)))) [
         | true ↦ λ own. rest ∙ elim (within f.0) as (λ b. there ≡ filter belongs (file_places (cond b (f ∷ files_where within files) (files_where within files)))) [
-          | true ↦ sym (ap (λ o. cond (not o && lets_in include exclude (seen_from root f.0)) (f.0 ∷ there) there) own)
+          | true ↦ sym (ap (λ o. cond (not o && lets_in include exclude (relative_to root f.0)) (f.0 ∷ there) there) own)
           | false ↦ refl
         ]
         | false ↦ λ _. elim (within f.0) as (λ b. filter belongs (file_places (cond b (f ∷ files_where within (files_where is_kept files)) (files_where within (files_where is_kept files))))
@@ -59,7 +59,7 @@ module _ (include exclude : List (List ℕ)) (root : Place) where
   all_in [] = tt
   all_in (place ∷ places) =
       elim (belongs place) as (λ b. belongs place ≡ b → AllByRecursion (λ q. is_kept q ≡ true) (cond b (place ∷ filter belongs places) (filter belongs places))) [
-        | true ↦ λ e. (left_of (is_kept place) (lets_in include exclude (seen_from root place)) e, all_in places)
+        | true ↦ λ e. (left_of (is_kept place) (lets_in include exclude (relative_to root place)) e, all_in places)
         | false ↦ λ _. all_in places
       ] refl
 
@@ -97,9 +97,9 @@ module _ (property : FileProperty) (files : Files) where
   tree_outside : tree_of property (files_where is_kept files) ≡ tree_of property files
   tree_outside = ap (contents_at (files_where is_kept files)) entries_are ∙ entries_same is_kept files (entries files) all_kept
 
-  faults_outside : (odd : List (List ℕ)) → tree_faults property (record { files = files_where is_kept files; odd = odd }) ≡ tree_faults property (record { files = files; odd = odd })
-  faults_outside odd =
-      ap₂ (λ (es : Entries) (large : List TreeFault). map reported_of_tree ((odd_roots (record { files = files; odd = odd }) (places_of (starts_in property.include (distinct property.roots))) ++ too_many property.name es
+  faults_outside : (special : List (List ℕ)) → tree_faults property (record { files = files_where is_kept files; special = special }) ≡ tree_faults property (record { files = files; special = special })
+  faults_outside special =
+      ap₂ (λ (es : Entries) (large : List TreeFault). map reported_of_tree ((special_roots (record { files = files; special = special }) (places_of (starts_in property.include (distinct property.roots))) ++ too_many property.name es
       ++ map (trees.DuplicateInput property.name) (doubled (paths_of es))) ++ large)) entries_are
       (ap (too_large (files_where is_kept files)) entries_are ∙ large_same is_kept files (entries files) all_kept)
 
@@ -137,7 +137,7 @@ source_outside task files =
 faults_of : (folder : Contents) (properties : List FileProperty)
     → flat_map (λ property. tree_faults property (outside folder)) properties ≡ flat_map (λ property. tree_faults property folder) properties
 faults_of folder [] = refl
-faults_of folder (property ∷ properties) = ap₂ (λ (x y : List Fault). x ++ y) (faults_outside property folder.files folder.odd) (faults_of folder properties)
+faults_of folder (property ∷ properties) = ap₂ (λ (x y : List Fault). x ++ y) (faults_outside property folder.files folder.special) (faults_of folder properties)
 
 inputs_outside : (task : Task) (folder : Contents) → input_faults task (outside folder) ≡ input_faults task folder
 inputs_outside task folder = faults_of folder task.files

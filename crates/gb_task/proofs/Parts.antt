@@ -37,7 +37,7 @@ pub widened : (few more : Place → Bool) → ((q : Place) → few q ≡ true �
 widened few more within old new changes = record {
   elsewhere =
       sym (narrow new.files) ∙ ap (files_where (λ q. not (more q))) changes.elsewhere ∙ narrow old.files;
-  odd = changes.odd;
+  special = changes.special;
 }
   where
     passes : (q : Place) → not (more q) ≡ true → not (few q) ≡ true
@@ -71,7 +71,7 @@ same_kept path old new differs =
 -- where a record changed, the folder without the tool's own files is the same
 pub outside_same : (path : Path) (old new : Contents) → ChangesOnly (is_at (record_place path)) old new → outside new ≡ outside old
 outside_same path old new changes =
-    ap₂ (λ (files : Files) (odd : List (List ℕ)). let folder : Contents = record { files = files; odd = odd } in folder) (same_kept path old.files new.files changes.elsewhere) changes.odd
+    ap₂ (λ (files : Files) (special : List (List ℕ)). let folder : Contents = record { files = files; special = special } in folder) (same_kept path old.files new.files changes.elsewhere) changes.special
 
 -- what is in the way of a record is the tool's own
 pub blocked_by_own : (path : Path) (files : Files) → is_blocked files (record_place path) ≡ is_blocked (files_where is_own files) (record_place path)

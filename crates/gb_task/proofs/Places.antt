@@ -11,13 +11,13 @@ use Rattle.gb_action.specs.Files.{Trees}
 use Rattle.gb_action.specs.Meanings.{Meanings}
 use Rattle.gb_action.specs.declared.output.OutputFiles.{OutputFiles}
 use Rattle.gb_core.specs.Place.{is_under}
-use Rattle.gb_folder.specs.Calls.{Asks, Call, IsPermitted, Lists, Reads, ReadsPart, Removes, Writes, changes_at, taken_at, takes_at}
-use Rattle.gb_folder.proofs.Asked.{asks_taken, take_at, takes_where}
+use Rattle.gb_folder.specs.Calls.{Requests, Call, IsPermitted, Lists, Reads, ReadsPart, Removes, Writes, changes_at, taken_at, takes_at}
+use Rattle.gb_folder.proofs.Asked.{requests_taken, take_at, takes_where}
 use Rattle.gb_folder.specs.Device.{Device, Leads, device_of}
 use Rattle.gb_folder.specs.Each.{Each, Ended, OrStops}
 use Rattle.gb_folder.specs.Files.{Place, Tearing, is_empty}
 use Rattle.gb_folder.specs.declared.folder.FolderFault.{FolderFault}
-use Rattle.gb_folder.proofs.Leading.{asks_of}
+use Rattle.gb_folder.proofs.Leading.{requests_of}
 use Rattle.gb_history.specs.Places.{record_place}
 use Rattle.gb_history.specs.Record.{Record}
 use Rattle.gb_history.specs.Text.{record_text}
@@ -47,25 +47,25 @@ at_record task = or_right (is_output_of task (record_place task.path)) (is_at (r
 at_output : (task : Task) (place : Place) → is_output_of task place ≡ true → is_of_execution task place ≡ true
 at_output task place is = ap (λ b. b || is_at (record_place task.path) place) is
 
-module _ {F : Type 0} {failures : F → ℕ} {may_leave : F → Tearing} {asked : F → Call → F → Type 0} {old new : F} where
+module _ {F : Type 0} {failures : F → ℕ} {may_leave : F → Tearing} {allowed : F → Call → F → Type 0} {old new : F} where
   -- the record is deleted
-  pub record_taken : (task : Task) → Asks failures may_leave asked (taken_at (record_place task.path)) old new → Asks failures may_leave asked (takes_at (is_of_execution task)) old new
-  record_taken task takes = asks_taken (record_place task.path) (take_at (is_of_execution task) (record_place task.path) (at_record task)) takes
+  pub record_taken : (task : Task) → Requests failures may_leave allowed (taken_at (record_place task.path)) old new → Requests failures may_leave allowed (takes_at (is_of_execution task)) old new
+  record_taken task takes = requests_taken (record_place task.path) (take_at (is_of_execution task) (record_place task.path) (at_record task)) takes
 
   -- the outputs are emptied
-  pub outputs_taken : (task : Task) → Asks failures may_leave asked (takes_at (is_output_of task)) old new → Asks failures may_leave asked (takes_at (is_of_execution task)) old new
+  pub outputs_taken : (task : Task) → Requests failures may_leave allowed (takes_at (is_output_of task)) old new → Requests failures may_leave allowed (takes_at (is_of_execution task)) old new
   outputs_taken task takes = takes_where (is_output_of task) (is_of_execution task) (at_output task) takes
 
 -- ---- calls one after another
 
-all_append : {X : Type 0} (P : X → Type 0) (front behind : List X) → AllByRecursion P front → AllByRecursion P behind → AllByRecursion P (front ++ behind)
-all_append P [] behind one two = two
-all_append P (x ∷ front) behind one two = (one.0, all_append P front behind one.1 two)
+all_append : {X : Type 0} (P : X → Type 0) (prefix following : List X) → AllByRecursion P prefix → AllByRecursion P following → AllByRecursion P (prefix ++ following)
+all_append P [] following one two = two
+all_append P (x ∷ prefix) following one two = (one.0, all_append P prefix following one.1 two)
 
-leads_split : {F : Type 0} (device : Device F) (front behind : List Call) (old new : F) → Leads device old (front ++ behind) new → (mid : F) × Leads device old front mid × Leads device mid behind new
-leads_split device [] behind old new led = (old, refl, led)
-leads_split device (call ∷ front) behind old new led =
-    let rest = leads_split device front behind led.0 new led.2 in
+leads_split : {F : Type 0} (device : Device F) (prefix following : List Call) (old new : F) → Leads device old (prefix ++ following) new → (mid : F) × Leads device old prefix mid × Leads device mid following new
+leads_split device [] following old new led = (old, refl, led)
+leads_split device (call ∷ prefix) following old new led =
+    let rest = leads_split device prefix following led.0 new led.2 in
     (rest.0, (led.0, led.1, rest.1), rest.2)
 
 list_all_wider : (some wide : Place → Bool) → ((place : Place) → some place ≡ true → wide place ≡ true) → (places : List Place) → list_all some places ≡ true → list_all wide places ≡ true
@@ -148,13 +148,13 @@ found_under {F = F} device (output ∷ outputs) calls places old new led lists =
 
 -- ---- the stages
 
-module _ {F : Type 0} (failures : F → ℕ) (may_leave : F → Tearing) (asked : F → Call → F → Type 0) (task : Task) where
+module _ {F : Type 0} (failures : F → ℕ) (may_leave : F → Tearing) (allowed : F → Call → F → Type 0) (task : Task) where
   abbrev At : List Call → Type 0
   At calls = AllByRecursion (May (is_of_execution task)) calls
 
   -- in whatever folder it is done, the stage changes files there alone
   abbrev pub StageAt : Stage → Type 0
-  StageAt stage = (calls : List Call) (lines : List Text) (result : Ending) (old new : F) → AreAnswered failures may_leave asked old calls new → stage calls lines result → At calls
+  StageAt stage = (calls : List Call) (lines : List Text) (result : Ending) (old new : F) → AreAnswered failures may_leave allowed old calls new → stage calls lines result → At calls
 
   none_at : (calls : List Call) → calls ≡ [] → At calls
   none_at calls is = subst At (sym is) tt
@@ -166,8 +166,8 @@ module _ {F : Type 0} (failures : F → ℕ) (may_leave : F → Tearing) (asked 
   then_at first second one two calls lines result old new led does =
       subst At (sym does.5) (all_append (May (is_of_execution task)) does.0 does.1 (one does.0 does.2 does.4 old parts.0 parts.1 does.7) (rest does.4 does.8))
     where
-      parts : (mid : F) × AreAnswered failures may_leave asked old does.0 mid × AreAnswered failures may_leave asked mid does.1 new
-      parts = leads_split (device_of failures may_leave asked false (λ folder. record { files = []; odd = [] })) does.0 does.1 old new (subst (λ (cs : List Call). AreAnswered failures may_leave asked old cs new) does.5 led)
+      parts : (mid : F) × AreAnswered failures may_leave allowed old does.0 mid × AreAnswered failures may_leave allowed mid does.1 new
+      parts = leads_split (device_of failures may_leave allowed false (λ folder. record { files = []; special = [] })) does.0 does.1 old new (subst (λ (cs : List Call). AreAnswered failures may_leave allowed old cs new) does.5 led)
 
       rest : (mid : Ending) → OrStops mid (second does.1 does.3 result) does.1 does.3 result → At does.1
       rest (Ok done) h = two does.1 does.3 result parts.0 new parts.2 h
@@ -202,8 +202,8 @@ module _ {F : Type 0} (failures : F → ℕ) (may_leave : F → Tearing) (asked 
       empties : Emptying task.outputs calls result
       empties = does.1
 
-      parts : (mid : F) × AreAnswered failures may_leave asked old empties.0 mid × AreAnswered failures may_leave asked mid empties.1 new
-      parts = leads_split (device_of failures may_leave asked false (λ folder. record { files = []; odd = [] })) empties.0 empties.1 old new (subst (λ (cs : List Call). AreAnswered failures may_leave asked old cs new) empties.4 led)
+      parts : (mid : F) × AreAnswered failures may_leave allowed old empties.0 mid × AreAnswered failures may_leave allowed mid empties.1 new
+      parts = leads_split (device_of failures may_leave allowed false (λ folder. record { files = []; special = [] })) empties.0 empties.1 old new (subst (λ (cs : List Call). AreAnswered failures may_leave allowed old cs new) empties.4 led)
 
       rest : (mid : Ended Fault) → Each Listing task.outputs empties.0 empties.2 mid → OrEnds mid (Removals empties.2 empties.1 result) empties.1 result → At empties.1
       rest (Ok done) lists h =
@@ -235,14 +235,14 @@ module _ {F : Type 0} (failures : F → ℕ) (may_leave : F → Tearing) (asked 
         (then_at (WritesAll meanings rows task trees) (Stores task (IsOfFullRun meanings rows task trees)) (λ calls lines result old new led does. outputs_at calls does.0) (stores_at (IsOfFullRun meanings rows task trees)))
         calls lines result old new led does
 
-    pub at_changes : (changes : List Changes) (seen : List OutputFiles) → StageAt (RunByChanges meanings rows task trees changes seen)
-    at_changes changes seen =
-        then_at (Silently (DeletesRecord task.path true)) (Then (WritesChanges meanings rows task trees changes seen) (Stores task (IsOfRunByChanges meanings rows task trees changes seen))) (deletes_at true)
-        (then_at (WritesChanges meanings rows task trees changes seen) (Stores task (IsOfRunByChanges meanings rows task trees changes seen)) (λ calls lines result old new led does. outputs_at calls does.0)
-        (stores_at (IsOfRunByChanges meanings rows task trees changes seen)))
+    pub at_changes : (changes : List Changes) (observed : List OutputFiles) → StageAt (RunByChanges meanings rows task trees changes observed)
+    at_changes changes observed =
+        then_at (Silently (DeletesRecord task.path true)) (Then (WritesChanges meanings rows task trees changes observed) (Stores task (IsOfRunByChanges meanings rows task trees changes observed))) (deletes_at true)
+        (then_at (WritesChanges meanings rows task trees changes observed) (Stores task (IsOfRunByChanges meanings rows task trees changes observed)) (λ calls lines result old new led does. outputs_at calls does.0)
+        (stores_at (IsOfRunByChanges meanings rows task trees changes observed)))
 
   -- a stage that was done requests changes there alone
-  pub done_places : (stage : Stage) → StageAt stage → (lines : List Text) (result : Ending) (old new : F) → WasDone failures may_leave asked stage lines result old new
-      → Asks failures may_leave asked (changes_at (is_of_execution task)) old new
+  pub done_places : (stage : Stage) → StageAt stage → (lines : List Text) (result : Ending) (old new : F) → WasDone failures may_leave allowed stage lines result old new
+      → Requests failures may_leave allowed (changes_at (is_of_execution task)) old new
   done_places stage at lines result old new was =
-      asks_of (device_of failures may_leave asked false (λ folder. record { files = []; odd = [] })) (changes_at (is_of_execution task)) old new was.0 (at was.0 lines result old new was.1 was.2) was.1
+      requests_of (device_of failures may_leave allowed false (λ folder. record { files = []; special = [] })) (changes_at (is_of_execution task)) old new was.0 (at was.0 lines result old new was.1 was.2) was.1

@@ -5,16 +5,16 @@ use Rattle.gb_folder.specs.Device.{Device, IsCalled, Leads, device_of}
 use Rattle.gb_folder.specs.Files.{Contents, Tearing}
 use Rattle.gb_task.specs.Ran.{AreAnswered}
 
-module _ {F : Type 0} (failures : F → ℕ) (may_leave : F → Tearing) (asked : F → Call → F → Type 0) where
-  module _ (tells : Bool) (contents : F → Contents) (device : Device F)
-      (said : (old : F) (call : Call) (new : F) → IsCalled device old call new → IsCalled (device_of failures may_leave asked tells contents) old call new) where
+module _ {F : Type 0} (failures : F → ℕ) (may_leave : F → Tearing) (allowed : F → Call → F → Type 0) where
+  module _ (faithful : Bool) (contents : F → Contents) (device : Device F)
+      (said : (old : F) (call : Call) (new : F) → IsCalled device old call new → IsCalled (device_of failures may_leave allowed faithful contents) old call new) where
     -- an answer of the device is an answer by the folders' own relations, whatever contents they have
     one_answered : (old : F) (call : Call) (new : F) → IsCalled device old call new
-        → IsCalled (device_of failures may_leave asked false (λ folder. record { files = []; odd = [] })) old call new
+        → IsCalled (device_of failures may_leave allowed false (λ folder. record { files = []; special = [] })) old call new
     one_answered old call new called =
         let is = said old call new called in
         record {
-          asked = is.asked;
+          allowed = is.allowed;
           well = is.well;
           count = is.count;
           tearing = is.tearing;
@@ -22,6 +22,6 @@ module _ {F : Type 0} (failures : F → ℕ) (may_leave : F → Tearing) (asked 
           exact = λ e. absurd (let d = e in (cc));
         }
 
-    pub all_answered : (calls : List Call) (old new : F) → Leads device old calls new → AreAnswered failures may_leave asked old calls new
+    pub all_answered : (calls : List Call) (old new : F) → Leads device old calls new → AreAnswered failures may_leave allowed old calls new
     all_answered [] old new led = led
     all_answered (call ∷ calls) old new led = (led.0, one_answered old call led.0 led.1, all_answered calls led.0 new led.2)

@@ -16,18 +16,18 @@ use Rattle.gb_label.specs.Deciding.{IsBasisIn, IsPresentOf}
 use Rattle.gb_label.specs.declared.deciding.Basis.TheVariants.{Compared}
 use Rattle.gb_label.specs.Preparing.{IsPrepared}
 use Rattle.gb_label.specs.declared.prepare.Prepared.TheVariants as prepared
-use Rattle.gb_label.specs.declared.prepare.Seen.{Seen}
+use Rattle.gb_label.specs.declared.prepare.Observed.{Observed}
 use Rattle.gb_label.proofs.Recorded.{prints_with}
 use Rattle.gb_meaning.specs.Kinds.{Kinds}
 use Rattle.gb_meaning.specs.Label.{early_case}
 use Rattle.gb_meaning.specs.Memory.{World}
 use Rattle.gb_meaning.specs.Tree.{trees_of}
 use Rattle.gb_meaning.specs.TrueRecord.{outside}
-use Rattle.gb_plan.specs.Task.{seen_files, seen_outputs}
+use Rattle.gb_plan.specs.Task.{given_files, given_outputs}
 use Rattle.gb_plan.specs.declared.task.Output.{Output}
 use Rattle.gb_plan.specs.declared.task.TaskDeclaration.{TaskDeclaration as Task}
 use Rattle.gb_report.specs.declared.report.Options.{Options}
-use Rattle.gb_label.specs.Reading.{digests_in, prints_seen, recorded_of, records_with, seen_of}
+use Rattle.gb_label.specs.Reading.{digests_in, prints_observed, recorded_of, records_with, observed_of}
 use Rattle.gb_label.specs.declared.inputs.Inputs.{Inputs}
 use Rattle.gb_label.specs.declared.outputs.Outputs.{Outputs}
 use Rattle.gb_task.specs.Recheck.{AreDecided, AreWhole, AreWholeOutputs, IsRecheck, IsAsBefore, recheck_by}
@@ -37,14 +37,14 @@ use Rattle.gb_task.proofs.Outside.{early_outside}
 use Rattle.gb_task.proofs.Later.{known_made}
 
 -- the digests of what exists make the records of it
-records_seen : (files : Files) (outputs : List Output) → records_with outputs (prints_seen (map (seen_of files) outputs)) ≡ map (recorded_of files) outputs
-records_seen files [] = refl
-records_seen files (output ∷ outputs) = ap (λ (l : List OutputRecord). recorded_of files output ∷ l) (records_seen files outputs)
+records_observed : (files : Files) (outputs : List Output) → records_with outputs (prints_observed (map (observed_of files) outputs)) ≡ map (recorded_of files) outputs
+records_observed files [] = refl
+records_observed files (output ∷ outputs) = ap (λ (l : List OutputRecord). recorded_of files output ∷ l) (records_observed files outputs)
 
-module _ (options : Options) (task : Task) (last : Record) (present : Present) (decision : Decision) (inputs : Inputs) (outputs : Outputs) (read stood : List Prints)
-    (named : map (λ tree. tree.0) inputs.trees ≡ seen_files task.files) (digests : read ≡ digests_in inputs.trees)
-    (formed : map (λ output. (output.name, output.form)) outputs.seen ≡ seen_outputs task.outputs) (are : stood ≡ prints_seen outputs.seen)
-    (is : IsPresentOf options task read (records_with task.outputs stood) present) (decides : DecidesFrom last present decision)
+module _ (options : Options) (task : Task) (last : Record) (present : Present) (decision : Decision) (inputs : Inputs) (outputs : Outputs) (read existed : List Prints)
+    (named : map (λ tree. tree.0) inputs.trees ≡ given_files task.files) (digests : read ≡ digests_in inputs.trees)
+    (formed : map (λ output. (output.name, output.form)) outputs.observed ≡ given_outputs task.outputs) (are : existed ≡ prints_observed outputs.observed)
+    (is : IsPresentOf options task read (records_with task.outputs existed) present) (decides : DecidesFrom last present decision)
     (left : inputs.prints.items ≡ present.now.inputs) (kept : outputs.prints.items ≡ prints_in present.now.outputs) where
   whole : AreWhole task inputs
   whole = record { named = named; digests = left ∙ ap (λ (now : Record). now.inputs) is.now ∙ digests }
@@ -52,14 +52,14 @@ module _ (options : Options) (task : Task) (last : Record) (present : Present) (
   whole_outputs : AreWholeOutputs task outputs
   whole_outputs = record {
     formed = formed;
-    digests = kept ∙ ap (λ (now : Record). prints_in now.outputs) is.now ∙ prints_with task.outputs stood (named_outputs task.outputs outputs.seen stood are formed) ∙ are;
+    digests = kept ∙ ap (λ (now : Record). prints_in now.outputs) is.now ∙ prints_with task.outputs existed (named_outputs task.outputs outputs.observed existed are formed) ∙ are;
   }
 
-  decided : (changes : List Changes) → decision ≡ decisions.Incremental changes → AreDecided options task last inputs.trees outputs.seen changes
+  decided : (changes : List Changes) → decision ≡ decisions.Incremental changes → AreDecided options task last inputs.trees outputs.observed changes
   decided changes same = record {
     present = present;
     is =
-        subst (λ (ins : List Prints). IsPresentOf options task ins (records_with task.outputs (prints_seen outputs.seen)) present) digests
+        subst (λ (ins : List Prints). IsPresentOf options task ins (records_with task.outputs (prints_observed outputs.observed)) present) digests
         (subst (λ (outs : List Prints). IsPresentOf options task read (records_with task.outputs outs) present) are is);
     decides = subst (DecidesFrom last present) same decides;
   }
@@ -73,14 +73,14 @@ module _ (options : Options) (task : Task) (last : Record) (present : Present) (
       by decisions.Full same = whole
 
   -- where the folder is as it was read, the result is the earlier decision
-  module _ (kinds : Kinds) (world : World) (folder : Contents) (some : Seen) (out : list_any (λ (o : Output). is_own o.place) task.outputs ≡ false)
+  module _ (kinds : Kinds) (world : World) (folder : Contents) (some : Observed) (out : list_any (λ (o : Output). is_own o.place) task.outputs ≡ false)
       (is_enough : OutsideIsEnough) (is_case : PreparedIsCase) (at : world.folder ≡ outside folder) (goes : IsToGoOn kinds options task world last)
-      (trees : inputs.trees ≡ trees_of task folder.files) (seen : outputs.seen ≡ map (seen_of folder.files) task.outputs) where
+      (trees : inputs.trees ≡ trees_of task folder.files) (observed : outputs.observed ≡ map (observed_of folder.files) task.outputs) where
     present_there : IsBasisIn options task folder (Compared present)
     present_there =
         subst (λ (os : List OutputRecord). IsPresentOf options task (digests_in (trees_of task folder.files)) os present)
-        (ap (λ (s : List OutputFiles). records_with task.outputs (prints_seen s)) seen ∙ records_seen folder.files task.outputs)
-        (subst (λ (ins : List Prints). IsPresentOf options task ins (records_with task.outputs (prints_seen outputs.seen)) present) (digests ∙ ap digests_in trees)
+        (ap (λ (s : List OutputFiles). records_with task.outputs (prints_observed s)) observed ∙ records_observed folder.files task.outputs)
+        (subst (λ (ins : List Prints). IsPresentOf options task ins (records_with task.outputs (prints_observed outputs.observed)) present) (digests ∙ ap digests_in trees)
         (subst (λ (outs : List Prints). IsPresentOf options task read (records_with task.outputs outs) present) are is))
 
     case_there : IsCaseOf kinds options task world (prepared.Decided decision (Compared present) some)
@@ -98,7 +98,7 @@ module _ (options : Options) (task : Task) (last : Record) (present : Present) (
         by (decisions.Incremental changes) so =
             let since = so.1 goes.since.one_writer in (
               trees,
-              seen,
+              observed,
               record {
                 case = goes.case;
                 not_current = goes.not_current;

@@ -7,7 +7,7 @@ use Rattle.std.proofs.Common.{refl, sym, ap, ap₂, subst, ◌∙◌}
 use Rattle.sha2.specs.Sha256.{sha256}
 use Rattle.gb_action.specs.Changes.{Changes, changes_between}
 use Rattle.gb_action.specs.Files.{Tree, Trees, tree_at}
-use Rattle.gb_action.specs.Replies.{TellsChangesFrom}
+use Rattle.gb_action.specs.Replies.{DescribesChangesFrom}
 use Rattle.gb_action.specs.declared.change.Change.{Change}
 use Rattle.gb_action.specs.declared.output.OutputFiles.{OutputFiles}
 use Rattle.gb_core.specs.Lists.{byte_order}
@@ -34,9 +34,9 @@ use Rattle.gb_plan.specs.declared.task.Output.{Output}
 use Rattle.gb_plan.specs.declared.task.TaskDeclaration.{TaskDeclaration as Task}
 use Rattle.gb_plan.proofs.Tests.{not_false, or_right}
 use Rattle.gb_records.specs.Said.{IsText}
-use Rattle.gb_records.specs.Standing.{Standing}
+use Rattle.gb_records.specs.Holding.{HoldsRecords}
 use Rattle.gb_report.specs.declared.report.Options.{Options}
-use Rattle.gb_run.specs.AskingChanges.{GoesOn, request_of, seen_of}
+use Rattle.gb_run.specs.AskingChanges.{GoesOn, request_of, observed_of}
 use Rattle.gb_run.proofs.Looks.{find_kept}
 use Rattle.gb_run.proofs.Owned.{narrowed}
 use Rattle.gb_store.specs.Changes.{ChangesOnly, is_at}
@@ -237,10 +237,10 @@ all_sorted digest (tree ∷ trees) all =
     ∙ ascends-is_sorted (map (λ (file : Place × Bytes). let print : Place × List ℕ = (file.0, digest file.1) in print) tree.1) ∙ all.0.2)
     (all_sorted digest trees all.1)
 
-pub ordered_inputs : (files : Files) (memory : Memory) (path : List ℕ) (entry : Entry) → Standing files memory → is_task_path path ≡ true → recalled memory path ≡ Some entry
+pub ordered_inputs : (files : Files) (memory : Memory) (path : List ℕ) (entry : Entry) → HoldsRecords files memory → is_task_path path ≡ true → recalled memory path ≡ Some entry
     → list_all (λ (tree : List ℕ × Tree). is_sorted byte_order tree.1) entry.inputs ≡ true
-ordered_inputs files memory path entry standing is_path known =
-    by (subst (λ (o : Option Entry). Stores sha256 IsText path (file_at files (record_place path)) o) known (standing.records path is_path))
+ordered_inputs files memory path entry existing is_path known =
+    by (subst (λ (o : Option Entry). Stores sha256 IsText path (file_at files (record_place path)) o) known (existing.records path is_path))
   where
     by : Stores sha256 IsText path (file_at files (record_place path)) (Some entry) → list_all (λ (tree : List ℕ × Tree). is_sorted byte_order tree.1) entry.inputs ≡ true
     by stored =
@@ -255,17 +255,17 @@ names_of_trees : (files : Files) (properties : List FileProperty)
 names_of_trees files [] = refl
 names_of_trees files (property ∷ properties) = ap (λ (names : List (List ℕ)). property.name ∷ names) (names_of_trees files properties)
 
-seen_kept : (files : Files) (outputs : List Output) → ((q : Place) → list_any (λ (o : Output). is_under q o.place) outputs ≡ true → is_kept q ≡ true)
-    → map (seen_of (kept files)) outputs ≡ map (seen_of files) outputs
-seen_kept files [] within = refl
-seen_kept files (output ∷ outputs) within =
-    ap₂ (λ (tree : Tree) (l : List OutputFiles). let seen : OutputFiles = record { name = output.name; form = output.form; files = tree } in seen ∷ l)
+observed_kept : (files : Files) (outputs : List Output) → ((q : Place) → list_any (λ (o : Output). is_under q o.place) outputs ≡ true → is_kept q ≡ true)
+    → map (observed_of (kept files)) outputs ≡ map (observed_of files) outputs
+observed_kept files [] within = refl
+observed_kept files (output ∷ outputs) within =
+    ap₂ (λ (tree : Tree) (l : List OutputFiles). let observed : OutputFiles = record { name = output.name; form = output.form; files = tree } in observed ∷ l)
     (from_same is_kept files output.place (λ q under. within q (ap (λ b. b || list_any (λ (o : Output). is_under q o.place) outputs) under)))
-    (seen_kept files outputs (λ q any. within q (or_right (is_under q output.place) (list_any (λ (o : Output). is_under q o.place) outputs) any)))
+    (observed_kept files outputs (λ q any. within q (or_right (is_under q output.place) (list_any (λ (o : Output). is_under q o.place) outputs) any)))
 
 module _ (kinds : Kinds) (options : Options) (task : Task) (memory : Memory) (old taken : Contents)
-    (out : list_any (λ (o : Output). is_own o.place) task.outputs ≡ false) (apart : some_overlap (output_places task) ≡ false) (names : HasNamesInOrder task)
-    (is_path : is_task_path task.path ≡ true) (standing : Standing old.files memory) (changed : ChangesOnly (is_at (record_place task.path)) old taken)
+    (out : list_any (λ (o : Output). is_own o.place) task.outputs ≡ false) (separate : some_overlap (output_places task) ≡ false) (names : HasNamesInOrder task)
+    (is_path : is_task_path task.path ≡ true) (existing : HoldsRecords old.files memory) (changed : ChangesOnly (is_at (record_place task.path)) old taken)
     (since : IsIncremental kinds options task (record { folder = outside old; memory = memory })) (is_made : IsMade kinds since.entry) where
   abbrev entry : Entry
   entry = since.entry
@@ -282,9 +282,9 @@ module _ (kinds : Kinds) (options : Options) (task : Task) (memory : Memory) (ol
   same_names : map (λ (tree : List ℕ × Tree). tree.0) since.entry.inputs ≡ map (λ (property : FileProperty). property.name) task.files
   same_names = since.same_properties
 
-  tells : TellsChangesFrom since.entry.inputs (request_of task (trees_of task (kept old.files)) (changes_from task since.entry.inputs (kept old.files)) (map (seen_of taken.files) task.outputs) [])
-  tells = record {
-    ordered = ordered_inputs old.files memory task.path since.entry standing is_path since.remembered;
+  faithful : DescribesChangesFrom since.entry.inputs (request_of task (trees_of task (kept old.files)) (changes_from task since.entry.inputs (kept old.files)) (map (observed_of taken.files) task.outputs) [])
+  faithful = record {
+    ordered = ordered_inputs old.files memory task.path since.entry existing is_path since.remembered;
     same_names = since.same_properties ∙ sym (names_of_trees (kept old.files) task.files);
     same_others = λ name none. others_so since.entry.inputs (λ (property : FileProperty). tree_of property (kept old.files)) task.files names.files since.same_properties since.same_others name none;
     reported = λ name list is. reported_so since.entry.inputs (λ (property : FileProperty). tree_of property (kept old.files)) task.files names.files since.same_properties since.same_others name list is;
@@ -297,7 +297,7 @@ module _ (kinds : Kinds) (options : Options) (task : Task) (memory : Memory) (ol
       ∙ ap Ok (since.same_files ∙ ap (output_files task) (sym files_kept) ∙ narrowed (is_output_of task) is_kept (λ q at. kept_at task.outputs out q at) taken.files)
 
   pub goes_on_since : (read : Trees) (changes : List Changes) (outputs : List OutputFiles) → read ≡ trees_of task (kept old.files) → changes ≡ changes_from task since.entry.inputs (kept old.files)
-      → outputs ≡ map (seen_of old.files) task.outputs → GoesOn kinds task since.entry.inputs read changes outputs taken.files
+      → outputs ≡ map (observed_of old.files) task.outputs → GoesOn kinds task since.entry.inputs read changes outputs taken.files
   goes_on_since read changes outputs are_read are_changes are_outputs =
       subst (λ (ts : Trees). GoesOn kinds task since.entry.inputs ts changes outputs taken.files) (sym are_read)
       (subst (λ (cs : List Changes). GoesOn kinds task since.entry.inputs (trees_of task (kept old.files)) cs outputs taken.files) (sym are_changes)
@@ -305,17 +305,17 @@ module _ (kinds : Kinds) (options : Options) (task : Task) (memory : Memory) (ol
       (record {
         one_writer = since.one_writer;
         was_made = was_made;
-        tells = tells;
-        stands = refl;
-        apart = apart;
+        faithful = faithful;
+        exists = refl;
+        separate = separate;
         not_own = out;
       })))
     where
       within : (q : Place) → list_any (λ (o : Output). is_under q o.place) task.outputs ≡ true → is_kept q ≡ true
       within q at = kept_at task.outputs out q at
 
-      outputs_then : outputs ≡ map (seen_of taken.files) task.outputs
+      outputs_then : outputs ≡ map (observed_of taken.files) task.outputs
       outputs_then =
-          are_outputs ∙ sym (seen_kept old.files task.outputs within)
-          ∙ ap (λ (fs : Files). map (seen_of fs) task.outputs) (sym files_kept)
-          ∙ seen_kept taken.files task.outputs within
+          are_outputs ∙ sym (observed_kept old.files task.outputs within)
+          ∙ ap (λ (fs : Files). map (observed_of fs) task.outputs) (sym files_kept)
+          ∙ observed_kept taken.files task.outputs within

@@ -123,15 +123,15 @@ module _ {F : Type 0} (device : Device F) where
 
     -- ---- a run by changes
 
-    module _ (changes : List Changes) (seen : List OutputFiles) where
-      abbrev behind : Stage
-      behind = Then (WritesChanges meanings rows task trees changes seen) (Stores task (IsOfRunByChanges meanings rows task trees changes seen))
+    module _ (changes : List Changes) (observed : List OutputFiles) where
+      abbrev following : Stage
+      following = Then (WritesChanges meanings rows task trees changes observed) (Stores task (IsOfRunByChanges meanings rows task trees changes observed))
 
-      pub changes_kept : (old new : F) (lines : List Text) (fault : Fault) → lines ≡ [] → QuietLed (DeletesRecord task.path true) old (Err fault) new → StageLed (RunByChanges meanings rows task trees changes seen) old lines (Err fault) new
+      pub changes_kept : (old new : F) (lines : List Text) (fault : Fault) → lines ≡ [] → QuietLed (DeletesRecord task.path true) old (Err fault) new → StageLed (RunByChanges meanings rows task trees changes observed) old lines (Err fault) new
       changes_kept old new lines fault none deletes =
-          led_stops (Silently (DeletesRecord task.path true)) behind old lines fault new
+          led_stops (Silently (DeletesRecord task.path true)) following old lines fault new
           (subst (λ (ls : List Text). StageLed (Silently (DeletesRecord task.path true)) old ls (Err fault) new) (sym none) (silently (DeletesRecord task.path true) old (Err fault) new deletes))
 
-      pub changes_on : (old mid new : F) (lines : List Text) (result : Ending) → QuietLed (DeletesRecord task.path true) old (Ok tt) mid → StageLed behind mid lines result new → StageLed (RunByChanges meanings rows task trees changes seen) old lines result new
+      pub changes_on : (old mid new : F) (lines : List Text) (result : Ending) → QuietLed (DeletesRecord task.path true) old (Ok tt) mid → StageLed following mid lines result new → StageLed (RunByChanges meanings rows task trees changes observed) old lines result new
       changes_on old mid new lines result deletes runs =
-          led_on (Silently (DeletesRecord task.path true)) behind old mid new [] lines lines result refl (silently (DeletesRecord task.path true) old (Ok tt) mid deletes) runs
+          led_on (Silently (DeletesRecord task.path true)) following old mid new [] lines lines result refl (silently (DeletesRecord task.path true) old (Ok tt) mid deletes) runs

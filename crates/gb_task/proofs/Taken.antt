@@ -5,13 +5,13 @@ use Rattle.std.proofs.Common.{sym, ap, subst, ◌∙◌, inl, inr}
 use Rattle.gb_folder.specs.Files.{Place, Bytes, Contents, Files, file_at, is_own}
 use Rattle.gb_folder.proofs.Changes.{file_at-files_where}
 use Rattle.gb_history.specs.Places.{record_place}
-use Rattle.gb_meaning.specs.Events.{IsTornInRun, Setting, StandsInRun}
+use Rattle.gb_meaning.specs.Events.{IsTornInRun, Setting, ExistsInRun}
 use Rattle.gb_meaning.specs.Execution.{IsWritten}
 use Rattle.gb_plan.specs.Task.{is_output_of}
 use Rattle.gb_plan.specs.declared.task.Output.{Output}
 use Rattle.gb_plan.specs.declared.task.TaskDeclaration.{TaskDeclaration as Task}
 use Rattle.gb_store.specs.Changes.{ChangesOnly, is_at}
-use Rattle.gb_task.proofs.Beside.{stands_outside, torn_outside, written_outside}
+use Rattle.gb_task.proofs.Beside.{exists_outside, torn_outside, written_outside}
 use Rattle.gb_task.proofs.Outside.{kept}
 use Rattle.gb_task.proofs.Own.{is_kept, kept_at}
 use Rattle.gb_task.proofs.Parts.{outside_same}
@@ -29,18 +29,18 @@ module _ (setting : Setting) (task : Task) (out : list_any (λ (o : Output). is_
   files_kept = taken_kept task old taken changed
 
   -- what was at an output
-  pub taken_stood : (place : Place) (bytes : Bytes) → is_output_of task place ≡ true → file_at taken.files place ≡ Some bytes → file_at (kept old.files) place ≡ Some bytes
-  taken_stood place bytes at e = ap (λ (fs : Files). file_at fs place) (sym files_kept) ∙ found_at task out taken.files place at ∙ e
+  pub taken_existed : (place : Place) (bytes : Bytes) → is_output_of task place ≡ true → file_at taken.files place ≡ Some bytes → file_at (kept old.files) place ≡ Some bytes
+  taken_existed place bytes at e = ap (λ (fs : Files). file_at fs place) (sym files_kept) ∙ found_at task out taken.files place at ∙ e
 
   pub taken_written : (place : Place) (bytes : Bytes) → IsWritten setting.kinds task taken.files place bytes → IsWritten setting.kinds task (kept old.files) place bytes
   taken_written place bytes w = subst (λ (fs : Files). IsWritten setting.kinds task fs place bytes) files_kept (written_outside setting.kinds task out taken.files place bytes w)
 
   pub taken_left : (new : Files) (place : Place) → is_output_of task place ≡ true
-      → StandsInRun setting.kinds task taken.files place (file_at new place) ⊎ IsTornInRun setting task taken.files place (file_at new place)
-      → StandsInRun setting.kinds task (kept old.files) place (file_at (kept new) place) ⊎ IsTornInRun setting task (kept old.files) place (file_at (kept new) place)
-  taken_left new place at (inl stands) = inl
-      (subst (λ (o : Option Bytes). StandsInRun setting.kinds task (kept old.files) place o) (sym (found_at task out new place at))
-      (subst (λ (fs : Files). StandsInRun setting.kinds task fs place (file_at new place)) files_kept (stands_outside setting task out taken.files place at (file_at new place) stands)))
+      → ExistsInRun setting.kinds task taken.files place (file_at new place) ⊎ IsTornInRun setting task taken.files place (file_at new place)
+      → ExistsInRun setting.kinds task (kept old.files) place (file_at (kept new) place) ⊎ IsTornInRun setting task (kept old.files) place (file_at (kept new) place)
+  taken_left new place at (inl exists) = inl
+      (subst (λ (o : Option Bytes). ExistsInRun setting.kinds task (kept old.files) place o) (sym (found_at task out new place at))
+      (subst (λ (fs : Files). ExistsInRun setting.kinds task fs place (file_at new place)) files_kept (exists_outside setting task out taken.files place at (file_at new place) exists)))
   taken_left new place at (inr torn) = inr
       (subst (λ (o : Option Bytes). IsTornInRun setting task (kept old.files) place o) (sym (found_at task out new place at))
       (subst (λ (fs : Files). IsTornInRun setting task fs place (file_at new place)) files_kept (torn_outside setting task out taken.files place at (file_at new place) torn)))

@@ -10,7 +10,7 @@ use Rattle.sha2.specs.Sha256.{sha256}
 use Rattle.gb_action.specs.Changes.{Changes, changes_between}
 use Rattle.gb_action.specs.Files.{Tree, Trees, tree_at}
 use Rattle.gb_action.specs.Meanings.{Meanings}
-use Rattle.gb_action.specs.Replies.{TellsChangesFrom}
+use Rattle.gb_action.specs.Replies.{DescribesChangesFrom}
 use Rattle.gb_action.specs.declared.change.Change.{Change}
 use Rattle.gb_action.specs.declared.output.Form.{Form}
 use Rattle.gb_action.specs.declared.output.OutputFiles.{OutputFiles}
@@ -30,10 +30,10 @@ use Rattle.gb_meaning.specs.Memory.{Entry, output_files}
 use Rattle.gb_meaning.specs.TrueRecord.{contents_in, contents_of, prints_of}
 use Rattle.gb_meaning.proofs.Lemmas.Files.{at-where, same_files, same_place, sorted-where}
 use Rattle.gb_meaning.proofs.Lemmas.Making.{IsRight, made_of_is_right}
-use Rattle.gb_plan.specs.Task.{is_output_of, seen_files, seen_outputs}
+use Rattle.gb_plan.specs.Task.{is_output_of, given_files, given_outputs}
 use Rattle.gb_plan.specs.declared.task.Output.{Output}
 use Rattle.gb_plan.specs.declared.task.TaskDeclaration.{TaskDeclaration as Task}
-use Rattle.gb_records.proofs.Apart.{trees_back, output_seen}
+use Rattle.gb_records.proofs.Separate.{trees_back, output_observed}
 use Rattle.gb_records.proofs.Digests.{tree_in, trees_in}
 use Rattle.gb_records.proofs.Outputs.{output_in, output_trees, outputs_reported, prints_reported}
 use Rattle.gb_records.proofs.Placed.{made_placed}
@@ -41,9 +41,9 @@ use Rattle.gb_records.proofs.Since.{SameUnless, alike_trees}
 use Rattle.gb_tree.specs.Prints.{digests_of}
 use Rattle.gb_tree.proofs.Digests.{same_changes}
 use Rattle.gb_label.specs.ReadingAnswered.{AreInputsRead}
-use Rattle.gb_label.specs.Reading.{digests_in, prints_seen, records_with, seen_of}
+use Rattle.gb_label.specs.Reading.{digests_in, prints_observed, records_with, observed_of}
 use Rattle.gb_task.specs.Keeping.{IsRecordOf}
-use Rattle.gb_task.specs.Truth.{AreMadeOf, FullRunsAreTrue, IsTextOfTrue, IsTrueBeside, LieApart, RunsByChangesStayTrue, UpToDateIsMade, contents_read}
+use Rattle.gb_task.specs.Truth.{AreMadeOf, FullRunsAreTrue, IsTextOfTrue, IsTrueBeside, AreSeparate, RunsByChangesStayTrue, UpToDateIsMade, contents_read}
 use Rattle.gb_task.proofs.Made.{made_folder}
 use Rattle.gb_task.proofs.Since.{all_sorted}
 
@@ -52,10 +52,10 @@ use Rattle.gb_task.proofs.Since.{all_sorted}
 abbrev entry_by : Task → Trees → Files → Entry
 entry_by task trees files = record { actions = task.actions; values = task.values; inputs = trees; outputs = task.outputs; files = files }
 
-text_of_record : {F : Type 0} (failures : F → ℕ) (may_leave : F → Tearing) (asked : F → Call → F → Type 0) (old read : F) (kinds : Kinds) (task : Task) (trees : Trees) (run : Record) (bytes : Bytes)
-    → AreInputsRead failures may_leave asked old read task trees → map (λ (tree : List ℕ × Tree). tree.0) trees ≡ seen_files task.files → IsRecordOf kinds task trees run
-    → bytes ≡ record_text task.path run → IsTextOfTrue failures may_leave asked old kinds task bytes
-text_of_record failures may_leave asked old read kinds task trees run bytes inputs named of text = record {
+text_of_record : {F : Type 0} (failures : F → ℕ) (may_leave : F → Tearing) (allowed : F → Call → F → Type 0) (old read : F) (kinds : Kinds) (task : Task) (trees : Trees) (run : Record) (bytes : Bytes)
+    → AreInputsRead failures may_leave allowed old read task trees → map (λ (tree : List ℕ × Tree). tree.0) trees ≡ given_files task.files → IsRecordOf kinds task trees run
+    → bytes ≡ record_text task.path run → IsTextOfTrue failures may_leave allowed old kinds task bytes
+text_of_record failures may_leave allowed old read kinds task trees run bytes inputs named of text = record {
   run = run;
   text = text;
   entry = entry_by task trees of.0;
@@ -69,9 +69,9 @@ text_of_record failures may_leave asked old read kinds task trees run bytes inpu
   said = of.2;
 }
 
-pub full_runs_are_true : {F S : Type 0} (failures : F → ℕ) (may_leave : F → Tearing) (asked : F → Call → F → Type 0) (meanings : Meanings S) → FullRunsAreTrue failures may_leave asked meanings
-full_runs_are_true failures may_leave asked meanings first read rows kinds task trees run agrees have full =
-    text_of_record failures may_leave asked first read kinds task trees run (record_text task.path run) have.inputs have.named (full kinds agrees) refl
+pub full_runs_are_true : {F S : Type 0} (failures : F → ℕ) (may_leave : F → Tearing) (allowed : F → Call → F → Type 0) (meanings : Meanings S) → FullRunsAreTrue failures may_leave allowed meanings
+full_runs_are_true failures may_leave allowed meanings first read rows kinds task trees run agrees have full =
+    text_of_record failures may_leave allowed first read kinds task trees run (record_text task.path run) have.inputs have.named (full kinds agrees) refl
 
 -- ---- what the lists of changes say of trees
 
@@ -133,13 +133,13 @@ others_same names (a ∷ old) (b ∷ new) same name none =
         ∙ sym (ap (λ t. cond t (Some b.1) (find byte_order name new)) is)
 
 -- a list has the changes of its tree
-lists_tell : (names : List (List ℕ)) (old new : Trees) → Same names old new → (name : List ℕ) (list : List Change) → find byte_order name (lists_of names old new) ≡ Some list
+lists_determine : (names : List (List ℕ)) (old new : Trees) → Same names old new → (name : List ℕ) (list : List Change) → find byte_order name (lists_of names old new) ≡ Some list
     → list ≡ changes_between (tree_at old name) (tree_at new name)
-lists_tell names [] [] same name list some = absurd (let e = some in (cc))
-lists_tell names [] (b ∷ new) same name list some = absurd same
-lists_tell names (a ∷ old) [] same name list some = absurd same
-lists_tell names (a ∷ old) (b ∷ new) same name list some =
-    by (lists_tell names old new same.1 name list) (eq_by_cmp byte_order name a.0) refl (is_incremental names a.0) refl some
+lists_determine names [] [] same name list some = absurd (let e = some in (cc))
+lists_determine names [] (b ∷ new) same name list some = absurd same
+lists_determine names (a ∷ old) [] same name list some = absurd same
+lists_determine names (a ∷ old) (b ∷ new) same name list some =
+    by (lists_determine names old new same.1 name list) (eq_by_cmp byte_order name a.0) refl (is_incremental names a.0) refl some
     ∙ ap (λ (n : List ℕ). changes_between (tree_at (a ∷ old) name) (unwrap_or (cond (eq_by_cmp byte_order name n) (Some b.1) (find byte_order name new)) [])) same.0.0
   where
     same_some : (x y : List Change) → Some x ≡ Some y → x ≡ y
@@ -168,7 +168,7 @@ abbrev pair_of : OutputFiles → List ℕ × Tree
 pair_of output = (output.name, output.files)
 
 abbrev AreFormed : List OutputFiles → List Output → Type 0
-AreFormed seen outputs = map (λ (output : OutputFiles). let form : List ℕ × Form = (output.name, output.form) in form) seen ≡ seen_outputs outputs
+AreFormed observed outputs = map (λ (output : OutputFiles). let form : List ℕ × Form = (output.name, output.form) in form) observed ≡ given_outputs outputs
 
 first_formed : (a b : List ℕ × Form) (l m : List (List ℕ × Form)) → a ∷ l ≡ b ∷ m → a ≡ b
 first_formed a b l m e = cc
@@ -176,29 +176,29 @@ first_formed a b l m e = cc
 others_formed : (a b : List ℕ × Form) (l m : List (List ℕ × Form)) → a ∷ l ≡ b ∷ m → l ≡ m
 others_formed a b l m e = cc
 
-said_with : (outputs : List Output) (seen : List OutputFiles) → AreFormed seen outputs → map output_in (records_with outputs (prints_seen seen)) ≡ outputs
-said_with [] seen formed = refl
+said_with : (outputs : List Output) (observed : List OutputFiles) → AreFormed observed outputs → map output_in (records_with outputs (prints_observed observed)) ≡ outputs
+said_with [] observed formed = refl
 said_with (output ∷ outputs) [] formed = absurd (let e = formed in (cc))
-said_with (output ∷ outputs) (one ∷ seen) formed =
+said_with (output ∷ outputs) (one ∷ observed) formed =
     ap₂ (λ (name : List ℕ) (l : List Output). let said : Output = record { name = name; form = output.form; place = output.place } in said ∷ l)
-    (ap (λ (form : List ℕ × Form). form.0) (first_formed _ _ _ _ formed)) (said_with outputs seen (others_formed _ _ _ _ formed))
+    (ap (λ (form : List ℕ × Form). form.0) (first_formed _ _ _ _ formed)) (said_with outputs observed (others_formed _ _ _ _ formed))
 
-prints_with : (outputs : List Output) (seen : List OutputFiles) → AreFormed seen outputs → prints_in (records_with outputs (prints_seen seen)) ≡ prints_of sha256 (map pair_of seen)
+prints_with : (outputs : List Output) (observed : List OutputFiles) → AreFormed observed outputs → prints_in (records_with outputs (prints_observed observed)) ≡ prints_of sha256 (map pair_of observed)
 prints_with [] [] formed = refl
-prints_with [] (one ∷ seen) formed = absurd (let e = formed in (cc))
+prints_with [] (one ∷ observed) formed = absurd (let e = formed in (cc))
 prints_with (output ∷ outputs) [] formed = absurd (let e = formed in (cc))
-prints_with (output ∷ outputs) (one ∷ seen) formed =
-    ap (λ (l : List Prints). (one.name, digests_of one.files) ∷ l) (prints_with outputs seen (others_formed _ _ _ _ formed))
+prints_with (output ∷ outputs) (one ∷ observed) formed =
+    ap (λ (l : List Prints). (one.name, digests_of one.files) ∷ l) (prints_with outputs observed (others_formed _ _ _ _ formed))
 
-seen_back : (files : Files) (outputs : List Output) (seen : List OutputFiles) → AreFormed seen outputs → output_trees files outputs ≡ map pair_of seen → seen ≡ map (seen_of files) outputs
-seen_back files [] [] formed same = refl
-seen_back files [] (one ∷ seen) formed same = absurd (let e = formed in (cc))
-seen_back files (output ∷ outputs) [] formed same = absurd (let e = formed in (cc))
-seen_back files (output ∷ outputs) (one ∷ seen) formed same =
+observed_back : (files : Files) (outputs : List Output) (observed : List OutputFiles) → AreFormed observed outputs → output_trees files outputs ≡ map pair_of observed → observed ≡ map (observed_of files) outputs
+observed_back files [] [] formed same = refl
+observed_back files [] (one ∷ observed) formed same = absurd (let e = formed in (cc))
+observed_back files (output ∷ outputs) [] formed same = absurd (let e = formed in (cc))
+observed_back files (output ∷ outputs) (one ∷ observed) formed same =
     ap₂ (λ (o : OutputFiles) (l : List OutputFiles). o ∷ l)
     (ap₂ (λ (form : List ℕ × Form) (tree : List ℕ × Tree). let o : OutputFiles = record { name = form.0; form = form.1; files = tree.1 } in o)
     (first_formed _ _ _ _ formed) (sym (head _ _ _ _ same)))
-    (seen_back files outputs seen (others_formed _ _ _ _ formed) (tail _ _ _ _ same))
+    (observed_back files outputs observed (others_formed _ _ _ _ formed) (tail _ _ _ _ same))
   where
     head : (a b : List ℕ × Tree) (l m : Trees) → a ∷ l ≡ b ∷ m → a ≡ b
     head a b l m e = cc
@@ -209,11 +209,11 @@ seen_back files (output ∷ outputs) (one ∷ seen) formed same =
 made_in : (all : List Bytes) (files : Files) → AllByRecursion (λ (file : Place × Bytes). Contains all file.1) files → (outputs : List Output)
     → AllByRecursion (λ (tree : List ℕ × Tree). AllByRecursion (λ (file : Place × Bytes). Contains all file.1) tree.1) (output_trees files outputs)
 made_in all files held [] = tt
-made_in all files held (output ∷ outputs) = (output_seen (Contains all) files held output.place, made_in all files held outputs)
+made_in all files held (output ∷ outputs) = (output_observed (Contains all) files held output.place, made_in all files held outputs)
 
-seen_at : (all : List Bytes) (tree : Tree) → AllByRecursion (λ (file : Place × Bytes). Contains all file.1) tree → (path bytes : List ℕ) → find byte_order path tree ≡ Some bytes → Contains all bytes
-seen_at all [] h path bytes e = absurd (cc)
-seen_at all (file ∷ tree) h path bytes e = by (seen_at all tree h.1 path bytes) (eq_by_cmp byte_order path file.0) e
+observed_at : (all : List Bytes) (tree : Tree) → AllByRecursion (λ (file : Place × Bytes). Contains all file.1) tree → (path bytes : List ℕ) → find byte_order path tree ≡ Some bytes → Contains all bytes
+observed_at all [] h path bytes e = absurd (cc)
+observed_at all (file ∷ tree) h path bytes e = by (observed_at all tree h.1 path bytes) (eq_by_cmp byte_order path file.0) e
   where
     by : (find byte_order path tree ≡ Some bytes → Contains all bytes) → (t : Bool) → cond t (Some file.1) (find byte_order path tree) ≡ Some bytes → Contains all bytes
     by later true is = let same : file.1 ≡ bytes = cc in subst (Contains all) same h.0
@@ -224,24 +224,24 @@ same_lists : (all : List Bytes) → ((a b : Bytes) → Contains all a → Contai
     → AllByRecursion (λ (tree : List ℕ × Tree). AllByRecursion (λ (file : Place × Bytes). Contains all file.1) tree.1) old
     → AllByRecursion (λ (tree : List ℕ × Tree). AllByRecursion (λ (file : Place × Bytes). Contains all file.1) tree.1) new
     → flat_map (changes_of names) (zip (prints_of sha256 old) (prints_of sha256 new)) ≡ lists_of names old new
-same_lists all apart names [] new p q = refl
-same_lists all apart names (a ∷ old) [] p q = refl
-same_lists all apart names (a ∷ old) (b ∷ new) p q =
+same_lists all separate names [] new p q = refl
+same_lists all separate names (a ∷ old) [] p q = refl
+same_lists all separate names (a ∷ old) (b ∷ new) p q =
     ap₂ (λ (list : List Change) (l : List Changes). cond (is_incremental names a.0) ((a.0, list) ∷ []) [] ++ l)
-    (same_changes a.1 b.1 (λ path x y at to same. apart x y (seen_at all a.1 p.0 path x at) (seen_at all b.1 q.0 path y to) same))
-    (same_lists all apart names old new p.1 q.1)
+    (same_changes a.1 b.1 (λ path x y at to same. separate x y (observed_at all a.1 p.0 path x at) (observed_at all b.1 q.0 path y to) same))
+    (same_lists all separate names old new p.1 q.1)
 
 -- ---- what is known of a task whose record has the outputs that were read
 
-module _ (kinds : Kinds) (task : Task) (last : Record) (trees : Trees) (seen : List OutputFiles) (lie : LieApart task)
-    (formed : AreFormed seen task.outputs) (so : IsTrueBeside kinds last (contents_read trees seen))
+module _ (kinds : Kinds) (task : Task) (last : Record) (trees : Trees) (observed : List OutputFiles) (lie : AreSeparate task)
+    (formed : AreFormed observed task.outputs) (so : IsTrueBeside kinds last (contents_read trees observed))
     (actions_are : last.actions ≡ task.actions) (values_are : last.values ≡ task.values)
-    (outputs_are : last.outputs ≡ records_with task.outputs (prints_seen seen)) where
+    (outputs_are : last.outputs ≡ records_with task.outputs (prints_observed observed)) where
   abbrev before : Entry
   before = so.entry
 
   abbrev all : List Bytes
-  all = contents_of so.entry ++ contents_read trees seen
+  all = contents_of so.entry ++ contents_read trees observed
 
   actions : so.entry.actions ≡ task.actions
   actions = sym (ap (λ (r : Record). r.actions) so.said) ∙ actions_are
@@ -253,38 +253,38 @@ module _ (kinds : Kinds) (task : Task) (last : Record) (trees : Trees) (seen : L
   outputs =
       sym (outputs_reported so.entry.files so.entry.outputs)
       ∙ ap (map output_in) (sym (ap (λ (r : Record). r.outputs) so.said) ∙ outputs_are)
-      ∙ said_with task.outputs seen formed
+      ∙ said_with task.outputs observed formed
 
   inputs_said : last.inputs ≡ prints_of sha256 so.entry.inputs
   inputs_said = ap (λ (r : Record). r.inputs) so.said
 
-  reported : prints_of sha256 (output_trees so.entry.files so.entry.outputs) ≡ prints_of sha256 (map pair_of seen)
+  reported : prints_of sha256 (output_trees so.entry.files so.entry.outputs) ≡ prints_of sha256 (map pair_of observed)
   reported =
       sym (prints_reported so.entry.files so.entry.outputs)
       ∙ ap prints_in (sym (ap (λ (r : Record). r.outputs) so.said) ∙ outputs_are)
-      ∙ prints_with task.outputs seen formed
+      ∙ prints_with task.outputs observed formed
 
   old_in : AllByRecursion (λ (tree : List ℕ × Tree). AllByRecursion (λ (file : Place × Bytes). Contains all file.1) tree.1) so.entry.inputs
-  old_in = trees_in all so.entry.inputs (λ x c. Contains-append_left (contents_of so.entry) (contents_read trees seen) x
+  old_in = trees_in all so.entry.inputs (λ x c. Contains-append_left (contents_of so.entry) (contents_read trees observed) x
       (Contains-append_left (contents_in so.entry.inputs) (map (λ file. file.1) so.entry.files) x c))
 
   files_in : AllByRecursion (λ (file : Place × Bytes). Contains all file.1) so.entry.files
-  files_in = tree_in all so.entry.files (λ x c. Contains-append_left (contents_of so.entry) (contents_read trees seen) x
+  files_in = tree_in all so.entry.files (λ x c. Contains-append_left (contents_of so.entry) (contents_read trees observed) x
       (Contains-append_right (contents_in so.entry.inputs) (map (λ file. file.1) so.entry.files) x c))
 
   new_in : AllByRecursion (λ (tree : List ℕ × Tree). AllByRecursion (λ (file : Place × Bytes). Contains all file.1) tree.1) trees
-  new_in = trees_in all trees (λ x c. Contains-append_right (contents_of so.entry) (contents_read trees seen) x
-      (Contains-append_left (contents_in trees) (contents_in (map pair_of seen)) x c))
+  new_in = trees_in all trees (λ x c. Contains-append_right (contents_of so.entry) (contents_read trees observed) x
+      (Contains-append_left (contents_in trees) (contents_in (map pair_of observed)) x c))
 
-  seen_in : AllByRecursion (λ (tree : List ℕ × Tree). AllByRecursion (λ (file : Place × Bytes). Contains all file.1) tree.1) (map pair_of seen)
-  seen_in = trees_in all (map pair_of seen) (λ x c. Contains-append_right (contents_of so.entry) (contents_read trees seen) x
-      (Contains-append_right (contents_in trees) (contents_in (map pair_of seen)) x c))
+  observed_in : AllByRecursion (λ (tree : List ℕ × Tree). AllByRecursion (λ (file : Place × Bytes). Contains all file.1) tree.1) (map pair_of observed)
+  observed_in = trees_in all (map pair_of observed) (λ x c. Contains-append_right (contents_of so.entry) (contents_read trees observed) x
+      (Contains-append_right (contents_in trees) (contents_in (map pair_of observed)) x c))
 
-  same_trees : output_trees so.entry.files so.entry.outputs ≡ map pair_of seen
-  same_trees = trees_back sha256 (Contains all) so.apart (output_trees so.entry.files so.entry.outputs) (map pair_of seen) (made_in all so.entry.files files_in so.entry.outputs) seen_in reported
+  same_trees : output_trees so.entry.files so.entry.outputs ≡ map pair_of observed
+  same_trees = trees_back sha256 (Contains all) so.separate (output_trees so.entry.files so.entry.outputs) (map pair_of observed) (made_in all so.entry.files files_in so.entry.outputs) observed_in reported
 
-  pub stand : seen ≡ map (seen_of so.entry.files) task.outputs
-  stand = seen_back so.entry.files task.outputs seen formed (ap (output_trees so.entry.files) (sym outputs) ∙ same_trees)
+  pub exist : observed ≡ map (observed_of so.entry.files) task.outputs
+  exist = observed_back so.entry.files task.outputs observed formed (ap (output_trees so.entry.files) (sym outputs) ∙ same_trees)
 
   made_then : made_of kinds task.actions task.values so.entry.inputs task.outputs ≡ Ok so.entry.files
   made_then = (λ i. made_of kinds (sym actions i) (sym values i) so.entry.inputs (sym outputs i)) ∙ so.is_made
@@ -302,49 +302,49 @@ module _ (kinds : Kinds) (task : Task) (last : Record) (trees : Trees) (seen : L
       by q false is = right.beside q is ∙ ap (λ b. cond b (file_at so.entry.files q) None) (sym is)
 
   -- with the inputs that were read, what was read at the outputs is what was made
-  pub made_now : last.inputs ≡ digests_in trees → AreMadeOf kinds task trees seen
+  pub made_now : last.inputs ≡ digests_in trees → AreMadeOf kinds task trees observed
   made_now same = record {
     files = so.entry.files;
     made = ap (λ (ts : Trees). made_of kinds task.actions task.values ts task.outputs)
-        (sym (trees_back sha256 (Contains all) so.apart so.entry.inputs trees old_in new_in (sym inputs_said ∙ same))) ∙ made_then;
-    stand = stand;
+        (sym (trees_back sha256 (Contains all) so.separate so.entry.inputs trees old_in new_in (sym inputs_said ∙ same))) ∙ made_then;
+    exist = exist;
   }
 
   module _ (names : List (List ℕ)) (held : AllByRecursion ArePrints last.inputs) (alike : AllZip (IsAlike names) last.inputs (digests_in trees)) where
     same : Same names so.entry.inputs trees
-    same = alike_trees all so.apart names so.entry.inputs trees old_in new_in (subst (λ prints. AllZip (IsAlike names) prints (digests_in trees)) inputs_said alike)
+    same = alike_trees all so.separate names so.entry.inputs trees old_in new_in (subst (λ prints. AllZip (IsAlike names) prints (digests_in trees)) inputs_said alike)
 
     lists_are : flat_map (changes_of names) (zip last.inputs (digests_in trees)) ≡ lists_of names so.entry.inputs trees
-    lists_are = ap (λ prints. flat_map (changes_of names) (zip prints (digests_in trees))) inputs_said ∙ same_lists all so.apart names so.entry.inputs trees old_in new_in
+    lists_are = ap (λ prints. flat_map (changes_of names) (zip prints (digests_in trees))) inputs_said ∙ same_lists all so.separate names so.entry.inputs trees old_in new_in
 
-    tells : TellsChangesFrom so.entry.inputs (request_of task trees (lists_of names so.entry.inputs trees) seen [])
-    tells = record {
+    faithful : DescribesChangesFrom so.entry.inputs (request_of task trees (lists_of names so.entry.inputs trees) observed [])
+    faithful = record {
       ordered = all_sorted sha256 so.entry.inputs (subst (AllByRecursion ArePrints) inputs_said held);
       same_names = same_names names so.entry.inputs trees same;
       same_others = others_same names so.entry.inputs trees same;
-      reported = lists_tell names so.entry.inputs trees same;
+      reported = lists_determine names so.entry.inputs trees same;
     }
 
-    pub goes_on : (one : has_one_writer kinds task.actions ≡ true) → GoesOn kinds task so.entry.inputs trees (flat_map (changes_of names) (zip last.inputs (digests_in trees))) seen so.entry.files
-    goes_on one = subst (λ (lists : List Changes). GoesOn kinds task so.entry.inputs trees lists seen so.entry.files) (sym lists_are) (record {
+    pub goes_on : (one : has_one_writer kinds task.actions ≡ true) → GoesOn kinds task so.entry.inputs trees (flat_map (changes_of names) (zip last.inputs (digests_in trees))) observed so.entry.files
+    goes_on one = subst (λ (lists : List Changes). GoesOn kinds task so.entry.inputs trees lists observed so.entry.files) (sym lists_are) (record {
       one_writer = one;
       was_made = made_then ∙ ap Ok own_files;
-      tells = tells;
-      stands = stand;
-      apart = lie.apart;
+      faithful = faithful;
+      exists = exist;
+      separate = lie.separate;
       not_own = lie.not_own;
     })
 
 -- ---- the laws
 
-pub runs_by_changes_stay_true : {F S : Type 0} (failures : F → ℕ) (may_leave : F → Tearing) (asked : F → Call → F → Type 0) (meanings : Meanings S) → RunsByChangesStayTrue failures may_leave asked meanings
-runs_by_changes_stay_true failures may_leave asked meanings first read rows kinds options task last trees changes seen run agrees lie one held have on by so =
-    text_of_record failures may_leave asked first read kinds task trees run (record_text task.path run) have.inputs have.named
+pub runs_by_changes_stay_true : {F S : Type 0} (failures : F → ℕ) (may_leave : F → Tearing) (allowed : F → Call → F → Type 0) (meanings : Meanings S) → RunsByChangesStayTrue failures may_leave allowed meanings
+runs_by_changes_stay_true failures may_leave allowed meanings first read rows kinds options task last trees changes observed run agrees lie one held have on by so =
+    text_of_record failures may_leave allowed first read kinds task trees run (record_text task.path run) have.inputs have.named
     (by kinds agrees so.entry.inputs so.entry.files
     (made_folder kinds task.outputs task.values so.entry.inputs task.actions so.entry.files made)
     (made_placed kinds task.outputs task.values so.entry.inputs task.actions so.entry.files made)
-    (subst (λ (lists : List Changes). GoesOn kinds task so.entry.inputs trees lists seen so.entry.files) (sym lists)
-    (goes_on kinds task last trees seen lie on.formed so actions values outputs names held.inputs alike one)))
+    (subst (λ (lists : List Changes). GoesOn kinds task so.entry.inputs trees lists observed so.entry.files) (sym lists)
+    (goes_on kinds task last trees observed lie on.formed so actions values outputs names held.inputs alike one)))
     refl
   where
     present : Present
@@ -359,7 +359,7 @@ runs_by_changes_stay_true failures may_leave asked meanings first read rows kind
     values : last.values ≡ task.values
     values = on.decided.decides.1.same_values ∙ ap (λ (run : Record). run.values) on.decided.is.now
 
-    outputs : last.outputs ≡ records_with task.outputs (prints_seen seen)
+    outputs : last.outputs ≡ records_with task.outputs (prints_observed observed)
     outputs = on.decided.decides.1.same_outputs ∙ ap (λ (run : Record). run.outputs) on.decided.is.now
 
     inputs : on.decided.present.now.inputs ≡ digests_in trees
@@ -372,13 +372,13 @@ runs_by_changes_stay_true failures may_leave asked meanings first read rows kind
     lists = on.decided.decides.2 ∙ ap (λ prints. flat_map (changes_of names) (zip last.inputs prints)) inputs
 
     made : made_of kinds task.actions task.values so.entry.inputs task.outputs ≡ Ok so.entry.files
-    made = made_then kinds task last trees seen lie on.formed so actions values outputs
+    made = made_then kinds task last trees observed lie on.formed so actions values outputs
 
-pub up_to_date_is_made : {F : Type 0} (failures : F → ℕ) (may_leave : F → Tearing) (asked : F → Call → F → Type 0) → UpToDateIsMade failures may_leave asked
-up_to_date_is_made failures may_leave asked kinds options task last old new lie on so =
-    made_now kinds task on.run on.trees on.seen lie on.formed so
+pub up_to_date_is_made : {F : Type 0} (failures : F → ℕ) (may_leave : F → Tearing) (allowed : F → Call → F → Type 0) → UpToDateIsMade failures may_leave allowed
+up_to_date_is_made failures may_leave allowed kinds options task last old new lie on so =
+    made_now kinds task on.run on.trees on.observed lie on.formed so
     (ap (λ (run : Record). run.actions) same) (ap (λ (run : Record). run.values) same)
     (ap (λ (run : Record). run.outputs) same) (ap (λ (run : Record). run.inputs) same)
   where
-    same : on.run ≡ record { actions = task.actions; values = task.values; inputs = digests_in on.trees; outputs = records_with task.outputs (prints_seen on.seen) }
+    same : on.run ≡ record { actions = task.actions; values = task.values; inputs = digests_in on.trees; outputs = records_with task.outputs (prints_observed on.observed) }
     same = on.decides.same ∙ on.has.now

@@ -3,12 +3,12 @@ use Rattle.std.specs.Prelude.{ℕ, ◌≡◌, ◌⊎◌, ◌++◌, Bool, true, f
 use Rattle.std.proofs.Common.{refl, sym, ap, subst, ◌∙◌, inl, inr}
 use Rattle.gb_action.specs.Changes.{Changes}
 use Rattle.gb_folder.specs.Files.{Contents, Files, Place, is_empty}
-use Rattle.gb_meaning.specs.Events.{Setting, may_come, rules_in}
+use Rattle.gb_meaning.specs.Events.{Setting, may_occur, rules_in}
 use Rattle.gb_meaning.specs.Kinds.{Kinds}
 use Rattle.gb_meaning.specs.Label.{AreChanges, Early, EndsWith, IsCurrent, IsLabel, IsLabelAt, Moment, early_case, run_of}
 use Rattle.gb_meaning.specs.Memory.{World}
 use Rattle.gb_meaning.specs.Tree.{has_no_source, input_faults, listing_faults, trees_of}
-use Rattle.gb_meaning.specs.Execution.{ByItself, ByMachine, Cause, FailedRunLeaves, FailedRunPrints, FailureLeaves, FailurePrints, HadBegun, HasEnded, IsGivenUp, IsOfMachine, KeepsRightFiles, Standing, StartedExecution, cause_of, lines_of}
+use Rattle.gb_meaning.specs.Execution.{ByItself, ByMachine, Cause, FailedRunLeaves, FailedRunPrints, FailureLeaves, FailurePrints, HadBegun, HasEnded, IsGivenUp, IsOfMachine, KeepsRightFiles, WorldState, StartedExecution, cause_of, lines_of}
 use Rattle.gb_plan.specs.Graph.{Plan}
 use Rattle.gb_plan.specs.Task.{Text, is_output_of}
 use Rattle.gb_plan.specs.declared.task.Action.{Action}
@@ -87,20 +87,20 @@ pub record IsRun (kinds : Kinds) (options : Options) (task : Task) (world : Worl
   pub are_reported : AreChanges kinds options task world reported
 
 -- Why the run failed, and what it had printed: by itself, or by the machine, after some first actions.
-pub data EndsFor (setting : Setting) (own : Files) (options : Options) (task : Task) (reported : List Changes) (moment : Moment) (fault : Fault) (lines : List Text) (new : Standing) : Type 0 where
+pub data EndsFor (setting : Setting) (own : Files) (options : Options) (task : Task) (reported : List Changes) (moment : Moment) (fault : Fault) (lines : List Text) (new : WorldState) : Type 0 where
   by_itself : (run_of setting.kinds task moment.world.folder.files).fault ≡ Some fault
       → lines ≡ lines_in setting.kinds task reported moment.world.folder.files (run_of setting.kinds task moment.world.folder.files).done
       → EndsFor setting own options task reported moment fault lines new
-  by_machine : cause_of fault ≡ ByMachine → may_come setting own options task moment new fault → (count : ℕ)
+  by_machine : cause_of fault ≡ ByMachine → may_occur setting own options task moment new fault → (count : ℕ)
       → lines ≡ lines_in setting.kinds task reported moment.world.folder.files (take count (run_of setting.kinds task moment.world.folder.files).done)
       → EndsFor setting own options task reported moment fault lines new
 
 module _ (setting : Setting) (own : Files) (options : Options) (plan : Plan) (task : Task) (reported : List Changes) (moment : Moment)
     (due : IsRun setting.kinds options task moment.world reported) where
-  abbrev Execution : Result (Unit {0}) Fault → List Text → Standing → Type 0
+  abbrev Execution : Result (Unit {0}) Fault → List Text → WorldState → Type 0
   Execution result lines new = StartedExecution (rules_in setting own options plan) moment task (report_of task result lines) new
 
-  pub unbegun : (fault : Fault) (new : Standing) → cause_of fault ≡ ByMachine → may_come setting own options task moment new fault → new.world ≡ moment.world
+  pub unbegun : (fault : Fault) (new : WorldState) → cause_of fault ≡ ByMachine → may_occur setting own options task moment new fault → new.world ≡ moment.world
       → StartedExecution (rules_in setting own options plan) moment task (report_of task (Err fault) []) new
   unbegun fault new machine may same = record {
     label = inr (fault, may, refl);
@@ -114,7 +114,7 @@ module _ (setting : Setting) (own : Files) (options : Options) (plan : Plan) (ta
     begun = λ other is printed. not_false printed;
   }
 
-  pub given_up : (fault : Fault) (lines : List Text) (new : Standing) → IsGivenUp setting.kinds task fault moment.world new.world
+  pub given_up : (fault : Fault) (lines : List Text) (new : WorldState) → IsGivenUp setting.kinds task fault moment.world new.world
       → KeepsRightFiles setting.kinds options task moment.world new.world → EndsFor setting own options task reported moment fault lines new → ((place : Place) → fault ≡ faults.Device place → is_output_of task place ≡ true)
       → StartedExecution (rules_in setting own options plan) moment task (report_of task (Err fault) lines) new
   given_up fault lines new up keeps ends at = record {
@@ -152,7 +152,7 @@ module _ (setting : Setting) (own : Files) (options : Options) (plan : Plan) (ta
       prints_for (by_machine machine may count printed) =
           subst (λ (cause : Cause). FailedRunPrints setting.kinds options task moment.world lines cause) (sym machine) (inr (due.not_current, reported, count, due.are_reported, printed))
 
-  pub ended : (lines : List Text) (new : Standing) → HasEnded setting.kinds task moment.world new.world → (run_of setting.kinds task moment.world.folder.files).fault ≡ None
+  pub ended : (lines : List Text) (new : WorldState) → HasEnded setting.kinds task moment.world new.world → (run_of setting.kinds task moment.world.folder.files).fault ≡ None
       → lines ≡ lines_in setting.kinds task reported moment.world.folder.files task.actions
       → StartedExecution (rules_in setting own options plan) moment task (report_of task (Ok tt) lines) new
   ended lines new has none printed = record {
@@ -164,8 +164,8 @@ module _ (setting : Setting) (own : Files) (options : Options) (plan : Plan) (ta
     begun = λ fault is printed. absurd (let e = is in (cc));
   }
 
-  pub torn : (lines : List Text) (new : Standing) (count : ℕ) → HasEnded setting.kinds task moment.world new.world
-      → may_come setting own options task moment new faults.HistoryNotWritten
+  pub torn : (lines : List Text) (new : WorldState) (count : ℕ) → HasEnded setting.kinds task moment.world new.world
+      → may_occur setting own options task moment new faults.HistoryNotWritten
       → lines ≡ lines_in setting.kinds task reported moment.world.folder.files (take count (run_of setting.kinds task moment.world.folder.files).done)
       → StartedExecution (rules_in setting own options plan) moment task (report_of task (Err faults.HistoryNotWritten) lines) new
   torn lines new count has may printed = record {

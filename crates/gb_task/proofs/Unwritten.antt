@@ -8,7 +8,7 @@ use Rattle.gb_meaning.specs.Memory.{Entry, Memory}
 use Rattle.gb_plan.specs.Task.{Path}
 use Rattle.gb_plan.specs.declared.task.TaskDeclaration.{TaskDeclaration as Task}
 use Rattle.gb_records.specs.Faults.{reported_of}
-use Rattle.gb_records.specs.Standing.{ComesToNothing, StandsWith, StandsWithout}
+use Rattle.gb_records.specs.Holding.{ComesToNothing, HoldsWith, HoldsWithout}
 use Rattle.gb_records.specs.declared.fault.Unwritten.{Unwritten}
 use Rattle.gb_records.specs.declared.fault.Unwritten.TheVariants as unwritten
 use Rattle.gb_report.specs.declared.fault.Fault.TheVariants as faults
@@ -36,11 +36,11 @@ changes_unwritten may_leave path next before after old new unwritten.NotWritten 
 changes_unwritten may_leave path next before after old new unwritten.NotWritten (inr torn) =
     changes_left (is_at (record_place path)) old new (record_place path) torn.2.0 torn.2.2 (at_itself (record_place path))
 
-pub forgotten_reported : (path : Path) (memory : Memory) (fault : Unwritten) (files : Files) → StandsWithout path memory (Err fault) files → IsForgotten path memory (Err (reported_of fault)) files
-forgotten_reported path memory unwritten.OutOfMemory files stands = stands
-forgotten_reported path memory unwritten.NotWritten files stands = stands
+pub forgotten_reported : (path : Path) (memory : Memory) (fault : Unwritten) (files : Files) → HoldsWithout path memory (Err fault) files → IsForgotten path memory (Err (reported_of fault)) files
+forgotten_reported path memory unwritten.OutOfMemory files exists = exists
+forgotten_reported path memory unwritten.NotWritten files exists = exists
 
-pub remembered_reported : (task : Task) (entry : Entry) (memory : Memory) (fault : Unwritten) (files : Files) → StandsWith task.path entry memory (Err fault) files
+pub remembered_reported : (task : Task) (entry : Entry) (memory : Memory) (fault : Unwritten) (files : Files) → HoldsWith task.path entry memory (Err fault) files
     → IsRemembered task entry memory (Err (reported_of fault)) files
-remembered_reported task entry memory unwritten.OutOfMemory files stands = stands
-remembered_reported task entry memory unwritten.NotWritten files stands = stands
+remembered_reported task entry memory unwritten.OutOfMemory files exists = exists
+remembered_reported task entry memory unwritten.NotWritten files exists = exists

@@ -19,7 +19,7 @@ use Rattle.gb_plan.specs.Task.{Text, is_output_of}
 use Rattle.gb_plan.specs.declared.task.Output.{Output}
 use Rattle.gb_plan.specs.declared.task.TaskDeclaration.{TaskDeclaration as Task}
 use Rattle.gb_records.specs.Said.{IsSaidOf}
-use Rattle.gb_records.specs.Standing.{Standing}
+use Rattle.gb_records.specs.Holding.{HoldsRecords}
 use Rattle.gb_report.specs.declared.fault.Fault.{Fault}
 use Rattle.gb_report.specs.declared.fault.Fault.TheVariants as faults
 use Rattle.gb_report.specs.declared.report.Options.{Options}
@@ -56,14 +56,14 @@ pub fails_before : (course : Course) (way : Way) (first second : Tearing) (befor
     → Fails course way second before fault lines after new → Fails course way first before fault lines after new
 fails_before course way first second before after fault lines new same le fails = record { moment = fails.moment; printed = fails.printed; why = by fails.why }
   where
-    by : FailsByItself course way fails.moment fault new ⊎ FailsByMachine second before (files_then course way fails.moment) fails.moment.behind fault after new
-        → FailsByItself course way fails.moment fault new ⊎ FailsByMachine first before (files_then course way fails.moment) fails.moment.behind fault after new
+    by : FailsByItself course way fails.moment fault new ⊎ FailsByMachine second before (files_then course way fails.moment) fails.moment.following fault after new
+        → FailsByItself course way fails.moment fault new ⊎ FailsByMachine first before (files_then course way fails.moment) fails.moment.following fault after new
     by (inl itself) = inl itself
-    by (inr machine) = inr (machine_before first second before before after (files_then course way fails.moment) new fails.moment.behind fault same (refl_le before) le machine)
+    by (inr machine) = inr (machine_before first second before before after (files_then course way fails.moment) new fails.moment.following fault same (refl_le before) le machine)
 
 module _ (kinds : Kinds) (registry_of : Registering) (may_leave : Tearing) (options : Options) (plan : Plan) (task : Task) (was_read : Bool)
     (moment : Moment) (old : Contents) (before : ℕ)
-    (out : list_any (λ (o : Output). is_own o.place) task.outputs ≡ false) (apart : reads_output_of task task ≡ false)
+    (out : list_any (λ (o : Output). is_own o.place) task.outputs ≡ false) (separate : reads_output_of task task ≡ false)
     (at : BeginsAt task was_read old before moment) (due : IsDue kinds options task moment.world) where
   abbrev memory : Memory
   memory = moment.world.memory
@@ -96,19 +96,19 @@ module _ (kinds : Kinds) (registry_of : Registering) (may_leave : Tearing) (opti
       → ((place : Place) → fault ≡ faults.Device place → (is_input_of task place || is_output_of task place) ≡ true) → Executions (Err fault) lines after new
   reading_failed fault lines after new none same why blamed =
       silent (Err fault) lines after new none
-      (unread kinds registry_of may_leave options plan task was_read memory moment.outcomes before old out apart at.read at.records reported_then due_then fault after new same why blamed)
+      (unread kinds registry_of may_leave options plan task was_read memory moment.outcomes before old out separate at.read at.records reported_then due_then fault after new same why blamed)
 
-  pub clearing_failed : (second : Tearing) (fault : Fault) (lines : List Text) (between after : ℕ) (stood new : Contents) → lines ≡ [] → stood ≡ old → SameTearing may_leave second
-      → before ≤ between → between ≤ after → HasCleared task was_read memory second between stood (Err fault) after new → ChangesOnly (is_of_execution task) old new
+  pub clearing_failed : (second : Tearing) (fault : Fault) (lines : List Text) (between after : ℕ) (existed new : Contents) → lines ≡ [] → existed ≡ old → SameTearing may_leave second
+      → before ≤ between → between ≤ after → HasCleared task was_read memory second between existed (Err fault) after new → ChangesOnly (is_of_execution task) old new
       → ((place : Place) → fault ≡ faults.Device place → is_output_of task place ≡ true) → Executions (Err fault) lines after new
-  clearing_failed second fault lines between after stood new none same tearing le more cleared changes blamed =
+  clearing_failed second fault lines between after existed new none same tearing le more cleared changes blamed =
       silent (Err fault) lines after new none (by (subst (λ (c : Contents). HasCleared task was_read memory second between c (Err fault) after new) same cleared))
     where
       by : HasCleared task was_read memory second between old (Err fault) after new → Then (Err fault) [] after new
       by (inl held) =
-          kept_record kinds registry_of may_leave options plan task was_read memory moment.outcomes before old out apart at.read at.records reported_then due_then fault between after new le more held
+          kept_record kinds registry_of may_leave options plan task was_read memory moment.outcomes before old out separate at.read at.records reported_then due_then fault between after new le more held
       by (inr half) =
-          half_cleared kinds registry_of may_leave options plan task was_read memory moment.outcomes before old out apart at.read at.records reported_then due_then half.taken half.out
+          half_cleared kinds registry_of may_leave options plan task was_read memory moment.outcomes before old out separate at.read at.records reported_then due_then half.taken half.out
           fault between after after new le more (refl_le after) changes blamed half.records
           (λ since. absurd (full_then.not_incremental since))
           (empty_before task may_leave second between between after half.taken new fault tearing (refl_le between) more half.why)
@@ -118,17 +118,17 @@ module _ (kinds : Kinds) (registry_of : Registering) (may_leave : Tearing) (opti
       (ran_at : ChangesOnly (is_output_of task) cleared ran) (changed : ChangesOnly (is_of_execution task) old ran) where
     same_course : course_of kinds task trees reported cleared.files ≡ course_in kinds task (changes_from task [] (kept old.files)) is_cleared.taken.files
     same_course =
-        on_course kinds registry_of may_leave options plan task was_read memory moment.outcomes before old out apart at.read at.records reported_then due_then is_cleared.taken is_cleared.out
+        on_course kinds registry_of may_leave options plan task was_read memory moment.outcomes before old out separate at.read at.records reported_then due_then is_cleared.taken is_cleared.out
         cleared.files trees reported is_cleared.emptied are_trees (are_reported ∙ sym (changes_outside task old.files))
 
-    records_then : Standing ran.files (forget memory task.path)
+    records_then : HoldsRecords ran.files (forget memory task.path)
     records_then = records_stay task out cleared ran (forget memory task.path) ran_at is_cleared.records
 
     pub running_failed : (fault : Fault) (after : ℕ) → between ≤ after → ((place : Place) → fault ≡ faults.Device place → is_output_of task place ≡ true)
         → Fails (course_of kinds task trees reported cleared.files) InFull second between fault lines after ran.files → Executions (Err fault) lines after ran
     running_failed fault after more blamed fails =
         found (Err fault) lines after ran
-        (run_failed kinds registry_of may_leave options plan task was_read memory moment.outcomes before old out apart at.read at.records reported_then due_then is_cleared.taken is_cleared.out
+        (run_failed kinds registry_of may_leave options plan task was_read memory moment.outcomes before old out separate at.read at.records reported_then due_then is_cleared.taken is_cleared.out
         fault lines between after after ran ran le more (refl_le after) changed blamed records_then refl
         (fails_before _ InFull may_leave second between after fault lines ran.files tearing more
         (subst (λ (course : Course). Fails course InFull second between fault lines after ran.files) same_course fails))
@@ -143,26 +143,26 @@ module _ (kinds : Kinds) (registry_of : Registering) (may_leave : Tearing) (opti
 
       abbrev entry : Entry
       entry =
-          entry_made_then kinds registry_of may_leave options plan task was_read memory moment.outcomes before old out apart at.read at.records reported_then due_then is_cleared.taken is_cleared.out
+          entry_made_then kinds registry_of may_leave options plan task was_read memory moment.outcomes before old out separate at.read at.records reported_then due_then is_cleared.taken is_cleared.out
           lines ran sorted well_so
 
       module _ (inputs : List Prints) (mid after : ℕ) (new : Contents)
           (are_inputs : inputs ≡ digests_in (trees_of task old.files)) (more : between ≤ mid) (late : mid ≤ after) (changes : ChangesOnly (is_of_execution task) old new) (same : kept new.files ≡ kept ran.files) where
         said : IsSaidOf (run_now task inputs ran.files) entry
         said =
-            said_then kinds registry_of may_leave options plan task was_read memory moment.outcomes before old out apart at.read at.records reported_then due_then is_cleared.taken is_cleared.out
+            said_then kinds registry_of may_leave options plan task was_read memory moment.outcomes before old out separate at.read at.records reported_then due_then is_cleared.taken is_cleared.out
             lines ran sorted well_so inputs are_inputs
 
         pub remembering : (result : Result (Unit {0}) Fault)
             → IfErr result (IsUnwritten task.path (Some (record_text task.path (run_now task inputs ran.files))) ran.files mid after) → OnErr result (is_empty task.outputs ≡ false)
-            → ((m : Memory) (e : Entry) → Standing ran.files m → IsSaidOf (run_now task inputs ran.files) e → IsRemembered task e m result new.files)
+            → ((m : Memory) (e : Entry) → HoldsRecords ran.files m → IsSaidOf (run_now task inputs ran.files) e → IsRemembered task e m result new.files)
             → Executions result lines after new
-        remembering (Ok done) cannot outputs stands =
+        remembering (Ok done) cannot outputs exists =
             found (Ok done) lines after new
-            (run_ended kinds registry_of may_leave options plan task was_read memory moment.outcomes before old out apart at.read at.records reported_then due_then is_cleared.taken is_cleared.out
-            lines ran sorted well_so after new changes same (stands (forget memory task.path) entry records_then said))
-        remembering (Err fault) cannot outputs stands =
+            (run_ended kinds registry_of may_leave options plan task was_read memory moment.outcomes before old out separate at.read at.records reported_then due_then is_cleared.taken is_cleared.out
+            lines ran sorted well_so after new changes same (exists (forget memory task.path) entry records_then said))
+        remembering (Err fault) cannot outputs exists =
             found (Err fault) lines after new
-            (unrecorded kinds registry_of may_leave options plan task was_read memory moment.outcomes before old out apart at.read at.records reported_then due_then is_cleared.taken is_cleared.out
+            (unrecorded kinds registry_of may_leave options plan task was_read memory moment.outcomes before old out separate at.read at.records reported_then due_then is_cleared.taken is_cleared.out
             lines ran sorted well_so after new changes same inputs are_inputs mid after (le_chain before between mid le more) late (refl_le after) changed outputs fault cannot
-            (stands (forget memory task.path) entry records_then said))
+            (exists (forget memory task.path) entry records_then said))

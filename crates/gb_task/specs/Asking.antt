@@ -2,31 +2,31 @@
 use Rattle.std.specs.Prelude.{ℕ, ◌≡◌, ◌⊎◌, List, map, Option}
 use Rattle.gb_action.specs.Files.{Trees}
 use Rattle.gb_action.specs.Meanings.{Meanings}
-use Rattle.gb_folder.specs.Calls.{Asks, Call, no_change}
+use Rattle.gb_folder.specs.Calls.{Requests, Call, no_change}
 use Rattle.gb_folder.specs.Files.{Tearing}
 use Rattle.gb_history.specs.Record.{Record}
 use Rattle.gb_label.specs.Answered.{WasSourceless}
 use Rattle.gb_label.specs.ReadingAnswered.{AreInputsRead}
 use Rattle.gb_plan.specs.Ready.{Rows}
-use Rattle.gb_plan.specs.Task.{Text, seen_files}
+use Rattle.gb_plan.specs.Task.{Text, given_files}
 use Rattle.gb_plan.specs.declared.task.TaskDeclaration.{TaskDeclaration as Task}
 use Rattle.gb_report.specs.declared.report.Options.{Options}
 use Rattle.gb_report.specs.declared.report.Outcome.{Outcome}
-use Rattle.gb_task.specs.ByOutcome.{ExecutionAsks}
+use Rattle.gb_task.specs.ByOutcome.{ExecutionRequests}
 
 -- Calls returned what the execution is based on, on the way from a state of the folder, without a change: the
 -- whole trees of its inputs; or that it has no source.
 abbrev pub HasRead : {F : Type 0} → (F → ℕ) → (F → Tearing) → (F → Call → F → Type 0) → F → Task → Type 0
-HasRead {F = F} failures may_leave asked old task =
-    ((trees : Trees) × (read : F) × AreInputsRead failures may_leave asked old read task trees
-    × (map (λ tree. tree.0) trees ≡ seen_files task.files))
-    ⊎ ((read : F) × WasSourceless failures may_leave asked old read task)
+HasRead {F = F} failures may_leave allowed old task =
+    ((trees : Trees) × (read : F) × AreInputsRead failures may_leave allowed old read task trees
+    × (map (λ tree. tree.0) trees ≡ given_files task.files))
+    ⊎ ((read : F) × WasSourceless failures may_leave allowed old read task)
 
 -- an execution for which calls did not return what it is based on requests no change
 abbrev pub UnreadExecutionsKeep : {F S : Type 0} → (F → ℕ) → (F → Tearing) → (F → Call → F → Type 0)
     → Meanings S → Type 0
-UnreadExecutionsKeep {F = F} {S = S} failures may_leave asked meanings =
+UnreadExecutionsKeep {F = F} {S = S} failures may_leave allowed meanings =
     (rows : Rows S) (options : Options) (task : Task) (last : Option Record) (outcome : Outcome)
-    (lines : List Text) (old new : F) → ¬ HasRead failures may_leave asked old task
-    → ExecutionAsks failures may_leave asked meanings rows options task last outcome lines old new
-    → Asks failures may_leave asked no_change old new
+    (lines : List Text) (old new : F) → ¬ HasRead failures may_leave allowed old task
+    → ExecutionRequests failures may_leave allowed meanings rows options task last outcome lines old new
+    → Requests failures may_leave allowed no_change old new

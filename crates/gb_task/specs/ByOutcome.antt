@@ -1,7 +1,7 @@
 -- The calls that the execution of a task makes, over any folder, by its outcome.
 use Rattle.std.specs.Prelude.{ℕ, ◌≡◌, ◌⊎◌, true, List, Option, Ok, Err, is_some}
 use Rattle.gb_action.specs.Meanings.{Meanings}
-use Rattle.gb_folder.specs.Calls.{Asks, Call, no_change}
+use Rattle.gb_folder.specs.Calls.{Requests, Call, no_change}
 use Rattle.gb_folder.specs.Files.{Tearing, is_empty}
 use Rattle.gb_history.specs.Record.{Record}
 use Rattle.gb_plan.specs.Ready.{Rows}
@@ -13,25 +13,25 @@ use Rattle.gb_report.specs.declared.report.Outcome.TheVariants as outcomes
 use Rattle.gb_task.specs.Current.{IsReportedCurrent}
 use Rattle.gb_task.specs.Ran.{OnlyRead, WasCleared, WasRun}
 
-module _ {F S : Type 0} (failures : F → ℕ) (may_leave : F → Tearing) (asked : F → Call → F → Type 0)
+module _ {F S : Type 0} (failures : F → ℕ) (may_leave : F → Tearing) (allowed : F → Call → F → Type 0)
     (meanings : Meanings S) (rows : Rows S) (options : Options) where
   -- The execution of a task, from the state of the folder in which it begins to that in which it ends, by its
   -- outcome, its lines and the record that was read of it. A task that was not run makes no call. A task that
   -- was skipped or is up to date requests no change, and a task that is up to date was found so on what calls
   -- returned since the execution began. A task without source was cleared. A task that was executed was run,
   -- if it has actions. A task that failed only read, or was cleared or run up to the call that failed.
-  abbrev pub ExecutionAsks : Task → Option Record → Outcome → List Text → F → F → Type 0
-  ExecutionAsks task last outcomes.NotRun lines old new = new ≡ old
-  ExecutionAsks task last outcomes.Skipped lines old new = Asks failures may_leave asked no_change old new
-  ExecutionAsks task last outcomes.UpToDate lines old new =
-      Asks failures may_leave asked no_change old new
-      × IsReportedCurrent failures may_leave asked options task last old new outcomes.UpToDate
-  ExecutionAsks task last outcomes.NoSource lines old new =
-      WasCleared failures may_leave asked task (is_some last) lines (Ok tt) old new
-  ExecutionAsks task last outcomes.Executed lines old new =
-      ((is_empty task.actions ≡ true) × Asks failures may_leave asked no_change old new)
-      ⊎ WasRun failures may_leave asked meanings rows task options last lines (Ok tt) old new
-  ExecutionAsks task last (outcomes.Failed fault) lines old new =
-      OnlyRead failures may_leave asked lines (Err fault) old new
-      ⊎ WasCleared failures may_leave asked task (is_some last) lines (Err fault) old new
-      ⊎ WasRun failures may_leave asked meanings rows task options last lines (Err fault) old new
+  abbrev pub ExecutionRequests : Task → Option Record → Outcome → List Text → F → F → Type 0
+  ExecutionRequests task last outcomes.NotRun lines old new = new ≡ old
+  ExecutionRequests task last outcomes.Skipped lines old new = Requests failures may_leave allowed no_change old new
+  ExecutionRequests task last outcomes.UpToDate lines old new =
+      Requests failures may_leave allowed no_change old new
+      × IsReportedCurrent failures may_leave allowed options task last old new outcomes.UpToDate
+  ExecutionRequests task last outcomes.NoSource lines old new =
+      WasCleared failures may_leave allowed task (is_some last) lines (Ok tt) old new
+  ExecutionRequests task last outcomes.Executed lines old new =
+      ((is_empty task.actions ≡ true) × Requests failures may_leave allowed no_change old new)
+      ⊎ WasRun failures may_leave allowed meanings rows task options last lines (Ok tt) old new
+  ExecutionRequests task last (outcomes.Failed fault) lines old new =
+      OnlyRead failures may_leave allowed lines (Err fault) old new
+      ⊎ WasCleared failures may_leave allowed task (is_some last) lines (Err fault) old new
+      ⊎ WasRun failures may_leave allowed meanings rows task options last lines (Err fault) old new

@@ -47,7 +47,7 @@ abbrev pub IsCaseOf : Kinds → Options → Task → World → Prepared → Type
 IsCaseOf kinds options task world prepared.Skips = early_case task world.folder ≡ Some Skips
 IsCaseOf kinds options task world prepared.HasNoActions = early_case task world.folder ≡ Some HasNoActions
 IsCaseOf kinds options task world prepared.HasNoSource = early_case task world.folder ≡ Some HasNoSource
-IsCaseOf kinds options task world (prepared.Decided decision basis seen) =
+IsCaseOf kinds options task world (prepared.Decided decision basis observed) =
     (early_case task world.folder ≡ None) × IsCaseFor kinds options task world decision
 
 -- ---- Laws

@@ -5,7 +5,7 @@ use Rattle.gb_history.specs.Places.{record_place}
 use Rattle.gb_meaning.specs.Made.{rest_of}
 use Rattle.gb_meaning.specs.Memory.{Memory, forget}
 use Rattle.gb_plan.specs.declared.task.TaskDeclaration.{TaskDeclaration as Task}
-use Rattle.gb_records.specs.Standing.{Standing}
+use Rattle.gb_records.specs.Holding.{HoldsRecords}
 use Rattle.gb_report.specs.declared.fault.Fault.{Fault}
 use Rattle.gb_run.specs.Emptying.{CannotEmpty}
 use Rattle.gb_store.specs.Changes.{ChangesOnly, is_at}
@@ -17,7 +17,7 @@ pub record IsCleared (task : Task) (memory : Memory) (old new : Contents) : Type
   pub is_folder : IsFolder taken.files
   pub out : ChangesOnly (is_at (record_place task.path)) old taken
   pub emptied : new.files ≡ rest_of task taken.files
-  pub records : Standing new.files (forget memory task.path)
+  pub records : HoldsRecords new.files (forget memory task.path)
 
 -- The record was not deleted, though it was read.
 pub record IsKept (task : Task) (was_read : Bool) (memory : Memory) (before : ℕ) (old : Contents)
@@ -33,7 +33,7 @@ pub record IsHalfCleared (task : Task) (memory : Memory) (may_leave : Tearing) (
   pub taken : Contents
   pub out : ChangesOnly (is_at (record_place task.path)) old taken
   pub why : CannotEmpty task may_leave before taken fault after new
-  pub records : Standing new.files (forget memory task.path)
+  pub records : HoldsRecords new.files (forget memory task.path)
 
 abbrev pub HasCleared : Task → Bool → Memory → Tearing → ℕ → Contents → Result (Unit {0}) Fault → ℕ → Contents
     → Type 0

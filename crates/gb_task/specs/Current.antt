@@ -11,8 +11,8 @@ use Rattle.gb_history.specs.declared.decide.Present.{Present}
 use Rattle.gb_label.specs.Answered.{WasDecided, WasSourceless}
 use Rattle.gb_label.specs.Deciding.{IsPresentOf}
 use Rattle.gb_label.specs.ReadingAnswered.{AreInputsAnswered, AreInputsRead, AreOutputsRead}
-use Rattle.gb_label.specs.Reading.{digests_in, prints_seen, records_with}
-use Rattle.gb_plan.specs.Task.{seen_files, seen_outputs}
+use Rattle.gb_label.specs.Reading.{digests_in, prints_observed, records_with}
+use Rattle.gb_plan.specs.Task.{given_files, given_outputs}
 use Rattle.gb_plan.specs.declared.task.TaskDeclaration.{TaskDeclaration as Task}
 use Rattle.gb_report.specs.declared.report.Options.{Options}
 use Rattle.gb_report.specs.declared.report.Outcome.{Outcome}
@@ -24,45 +24,45 @@ use Rattle.gb_task.specs.declared.settle.Settled.TheVariants as settled
 
 -- The record that was read of the task finds it up to date, on trees and files that calls returned.
 pub record IsCurrentOn {F : Type 0} (failures : F → ℕ) (may_leave : F → Tearing)
-    (asked : F → Call → F → Type 0) (options : Options) (task : Task) (last : Option Record)
+    (allowed : F → Call → F → Type 0) (options : Options) (task : Task) (last : Option Record)
     (old new : F) : Type 0 where
   pub run : Record
   pub remembered : last ≡ Some run
   pub trees : Trees
-  pub inputs_read : AreInputsRead failures may_leave asked old new task trees
-  pub named : map (λ tree. tree.0) trees ≡ seen_files task.files
-  pub seen : List OutputFiles
-  pub outputs_read : AreOutputsRead failures may_leave asked old new task seen
-  pub formed : map (λ output. (output.name, output.form)) seen ≡ seen_outputs task.outputs
+  pub inputs_read : AreInputsRead failures may_leave allowed old new task trees
+  pub named : map (λ tree. tree.0) trees ≡ given_files task.files
+  pub observed : List OutputFiles
+  pub outputs_read : AreOutputsRead failures may_leave allowed old new task observed
+  pub formed : map (λ output. (output.name, output.form)) observed ≡ given_outputs task.outputs
   pub present : Present
-  pub has : IsPresentOf options task (digests_in trees) (records_with task.outputs (prints_seen seen)) present
+  pub has : IsPresentOf options task (digests_in trees) (records_with task.outputs (prints_observed observed)) present
   pub decides : DecidesFrom run present decisions.UpToDate
 
 -- where a task that has actions is reported as up to date it was found so
 abbrev pub IsReportedCurrent : {F : Type 0} → (F → ℕ) → (F → Tearing) → (F → Call → F → Type 0) → Options
     → Task
     → Option Record → F → F → Outcome → Type 0
-IsReportedCurrent failures may_leave asked options task last old new outcome =
+IsReportedCurrent failures may_leave allowed options task last old new outcome =
     outcome ≡ outcomes.UpToDate → is_empty task.actions ≡ false
-    → IsCurrentOn failures may_leave asked options task last old new
+    → IsCurrentOn failures may_leave allowed options task last old new
 
 -- what is decided is based on what calls returned
 abbrev pub WasSettled : {F : Type 0} → (F → ℕ) → (F → Tearing) → (F → Call → F → Type 0) → F → F → Options
     → Task → Option Record → Settled → Type 0
-WasSettled failures may_leave asked old new options task last (settled.Reported report) =
-    IsReportedCurrent failures may_leave asked options task last old new report.outcome
-WasSettled failures may_leave asked old new options task last (settled.Sourceless path) =
-    WasSourceless failures may_leave asked old new task
-WasSettled failures may_leave asked old new options task last (settled.Due path decision seen) =
-    AreInputsAnswered failures may_leave asked old new task seen.inputs.items
-    × WasDecided failures may_leave asked old new options task last seen.inputs.items decision
-    seen.outputs.items
+WasSettled failures may_leave allowed old new options task last (settled.Reported report) =
+    IsReportedCurrent failures may_leave allowed options task last old new report.outcome
+WasSettled failures may_leave allowed old new options task last (settled.Sourceless path) =
+    WasSourceless failures may_leave allowed old new task
+WasSettled failures may_leave allowed old new options task last (settled.Due path decision observed) =
+    AreInputsAnswered failures may_leave allowed old new task observed.inputs.items
+    × WasDecided failures may_leave allowed old new options task last observed.inputs.items decision
+    observed.outputs.items
 
 -- and so is the result of the recheck
 abbrev pub WasReadRecheck : {F : Type 0} → (F → ℕ) → (F → Tearing) → (F → Call → F → Type 0) → F → F → Task
     → Recheck → Type 0
-WasReadRecheck failures may_leave asked old new task (recheck.ByChanges inputs outputs changes) =
-    AreInputsRead failures may_leave asked old new task inputs.trees
-    × AreOutputsRead failures may_leave asked old new task outputs.seen
-WasReadRecheck failures may_leave asked old new task (recheck.InFull inputs) =
-    AreInputsRead failures may_leave asked old new task inputs.trees
+WasReadRecheck failures may_leave allowed old new task (recheck.ByChanges inputs outputs changes) =
+    AreInputsRead failures may_leave allowed old new task inputs.trees
+    × AreOutputsRead failures may_leave allowed old new task outputs.observed
+WasReadRecheck failures may_leave allowed old new task (recheck.InFull inputs) =
+    AreInputsRead failures may_leave allowed old new task inputs.trees

@@ -14,7 +14,7 @@ use Rattle.gb_plan.specs.Graph.{Plan, Registry}
 use Rattle.gb_plan.specs.Task.{Text, is_output_of}
 use Rattle.gb_plan.specs.declared.task.TaskDeclaration.{TaskDeclaration as Task}
 use Rattle.gb_records.specs.Setting.{setting_by}
-use Rattle.gb_records.specs.Standing.{Standing}
+use Rattle.gb_records.specs.Holding.{HoldsRecords}
 use Rattle.gb_report.specs.declared.fault.Fault.{Fault}
 use Rattle.gb_report.specs.declared.report.Options.{Options}
 use Rattle.gb_report.specs.declared.report.Outcome.{Outcome}
@@ -44,7 +44,7 @@ pub record BeginsAt (task : Task) (was_read : Bool) (old : Contents) (before : �
     (moment : Moment) : Type 0 where
   pub folder : moment.world.folder ≡ outside old
   pub failures : moment.failures ≡ before
-  pub records : Standing old.files moment.world.memory
+  pub records : HoldsRecords old.files moment.world.memory
   pub read : is_some (recalled moment.world.memory task.path) ≡ was_read
 
 -- a full run is due: no early case applies, and the task is neither current nor incremental
@@ -103,4 +103,4 @@ pub record HasExecuted (setting : Setting) (options : Options) (plan : Plan) (ta
   pub memory : Memory
   pub execution : StartedExecution (rules_in setting (own_files old) options plan) moment task report
       (record { world = record { folder = outside new; memory = memory }; failures = after })
-  pub records : Standing new.files memory
+  pub records : HoldsRecords new.files memory

@@ -27,7 +27,7 @@ AnswersIdly plan moment task prepared.Skips outcome = outcome ≡ outcomes.Skipp
 AnswersIdly plan moment task prepared.HasNoActions outcome =
     outcome ≡
     (if some_outcome is_executed moment (needs_in plan task) then outcomes.Executed else outcomes.UpToDate)
-AnswersIdly plan moment task (prepared.Decided decisions.UpToDate basis seen) outcome =
+AnswersIdly plan moment task (prepared.Decided decisions.UpToDate basis observed) outcome =
     outcome ≡ outcomes.UpToDate
 AnswersIdly plan moment task other outcome = ⊥
 

@@ -9,7 +9,7 @@ use Rattle.gb_meaning.specs.Made.{made_of}
 use Rattle.gb_meaning.specs.Memory.{Entry, Memory, forget, remember}
 use Rattle.gb_plan.specs.Task.{Path}
 use Rattle.gb_plan.specs.declared.task.TaskDeclaration.{TaskDeclaration as Task}
-use Rattle.gb_records.specs.Standing.{CannotStand, Standing}
+use Rattle.gb_records.specs.Holding.{CannotBeStored, HoldsRecords}
 use Rattle.gb_report.specs.declared.fault.Fault.{Fault}
 use Rattle.gb_report.specs.declared.fault.Fault.TheVariants as faults
 
@@ -26,7 +26,7 @@ run_now task inputs files = record {
 abbrev pub IsUnwritten : Path → Option Bytes → Files → ℕ → ℕ → Fault → Type 0
 IsUnwritten path next files before after fault =
     (fault ≡ faults.OutOfMemory)
-    ⊎ ((fault ≡ faults.HistoryNotWritten) × (CannotStand files path next ⊎ HasRisen before after))
+    ⊎ ((fault ≡ faults.HistoryNotWritten) × (CannotBeStored files path next ⊎ HasRisen before after))
 
 -- The record is that of a run of the task on these trees, whose outputs are what its actions make of them.
 abbrev pub IsRecordOf : Kinds → Task → Trees → Record → Type 0
@@ -36,16 +36,16 @@ IsRecordOf kinds task trees run =
 
 -- which records exist after the deletion of a task's record, or after its failure
 abbrev pub IsForgotten : Path → Memory → Result (Unit {0}) Fault → Files → Type 0
-IsForgotten path memory (Ok done) files = Standing files (forget memory path)
+IsForgotten path memory (Ok done) files = HoldsRecords files (forget memory path)
 IsForgotten path memory (Err faults.HistoryNotWritten) files =
-    Standing files memory ⊎ Standing files (forget memory path)
-IsForgotten path memory (Err fault) files = Standing files memory
+    HoldsRecords files memory ⊎ HoldsRecords files (forget memory path)
+IsForgotten path memory (Err fault) files = HoldsRecords files memory
 
 -- which records exist after a task's record was stored, where it has outputs, or after that failed
 abbrev pub IsRemembered : Task → Entry → Memory → Result (Unit {0}) Fault → Files → Type 0
 IsRemembered task entry memory (Ok done) files =
-    Standing files (if is_empty task.outputs then memory else remember memory task.path entry)
+    HoldsRecords files (if is_empty task.outputs then memory else remember memory task.path entry)
 IsRemembered task entry memory (Err faults.HistoryNotWritten) files =
-    Standing files memory ⊎ Standing files (remember memory task.path entry)
-    ⊎ Standing files (forget memory task.path)
-IsRemembered task entry memory (Err fault) files = Standing files memory
+    HoldsRecords files memory ⊎ HoldsRecords files (remember memory task.path entry)
+    ⊎ HoldsRecords files (forget memory task.path)
+IsRemembered task entry memory (Err fault) files = HoldsRecords files memory

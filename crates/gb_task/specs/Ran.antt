@@ -5,7 +5,7 @@ use Rattle.gb_action.specs.Changes.{Changes}
 use Rattle.gb_action.specs.Files.{Trees}
 use Rattle.gb_action.specs.Meanings.{Meanings}
 use Rattle.gb_action.specs.declared.output.OutputFiles.{OutputFiles}
-use Rattle.gb_folder.specs.Calls.{Asks, Call, no_change}
+use Rattle.gb_folder.specs.Calls.{Requests, Call, no_change}
 use Rattle.gb_folder.specs.Device.{Leads, device_of}
 use Rattle.gb_folder.specs.Files.{Tearing}
 use Rattle.gb_history.specs.Record.{Record}
@@ -15,7 +15,7 @@ use Rattle.gb_meaning.specs.Headline.{Agrees}
 use Rattle.gb_meaning.specs.Kinds.{Kinds}
 use Rattle.gb_meaning.specs.Label.{has_one_writer}
 use Rattle.gb_plan.specs.Ready.{Rows}
-use Rattle.gb_plan.specs.Task.{Text, seen_files, seen_outputs}
+use Rattle.gb_plan.specs.Task.{Text, given_files, given_outputs}
 use Rattle.gb_plan.specs.declared.task.TaskDeclaration.{TaskDeclaration as Task}
 use Rattle.gb_report.specs.declared.fault.Fault.{Fault}
 use Rattle.gb_report.specs.declared.report.Options.{Options}
@@ -28,59 +28,59 @@ use Rattle.gb_task.specs.Stages.{Clears, FullRun, RunByChanges, Stage}
 -- These calls, one after another, were answered so, and led from the one state of the folder to the other.
 abbrev pub AreAnswered : {F : Type 0} → (F → ℕ) → (F → Tearing) → (F → Call → F → Type 0) → F → List Call → F
     → Type 0
-AreAnswered failures may_leave asked old calls new =
-    Leads (device_of failures may_leave asked false (λ folder. record { files = []; odd = [] })) old calls new
+AreAnswered failures may_leave allowed old calls new =
+    Leads (device_of failures may_leave allowed false (λ folder. record { files = []; special = [] })) old calls new
 
 -- Calls returned these trees of the inputs whole since this state of the folder, and nothing was changed.
 pub record HaveRead {F : Type 0} (failures : F → ℕ) (may_leave : F → Tearing)
-    (asked : F → Call → F → Type 0) (task : Task) (trees : Trees) (first read : F) : Type 0 where
-  pub asks : Asks failures may_leave asked no_change first read
-  pub inputs : AreInputsRead failures may_leave asked first read task trees
-  pub named : map (λ tree. tree.0) trees ≡ seen_files task.files
+    (allowed : F → Call → F → Type 0) (task : Task) (trees : Trees) (first read : F) : Type 0 where
+  pub requests : Requests failures may_leave allowed no_change first read
+  pub inputs : AreInputsRead failures may_leave allowed first read task trees
+  pub named : map (λ tree. tree.0) trees ≡ given_files task.files
 
 -- So they did with these files of its outputs, and by the record and the digests of just these and of these
 -- trees the run is one by these changes.
 pub record GoesFrom {F : Type 0} (failures : F → ℕ) (may_leave : F → Tearing)
-    (asked : F → Call → F → Type 0) (options : Options) (task : Task) (last : Record) (trees : Trees)
-    (changes : List Changes) (seen : List OutputFiles) (first read : F) : Type 0 where
-  pub outputs : AreOutputsRead failures may_leave asked first read task seen
-  pub formed : map (λ output. (output.name, output.form)) seen ≡ seen_outputs task.outputs
-  pub decided : AreDecided options task last trees seen changes
+    (allowed : F → Call → F → Type 0) (options : Options) (task : Task) (last : Record) (trees : Trees)
+    (changes : List Changes) (observed : List OutputFiles) (first read : F) : Type 0 where
+  pub outputs : AreOutputsRead failures may_leave allowed first read task observed
+  pub formed : map (λ output. (output.name, output.form)) observed ≡ given_outputs task.outputs
+  pub decided : AreDecided options task last trees observed changes
 
 module _ {F : Type 0} (failures : F → ℕ) (may_leave : F → Tearing)
-    (asked : F → Call → F → Type 0) where
+    (allowed : F → Call → F → Type 0) where
   -- the stage was done, from the one state of the folder to the other
   abbrev pub WasDone : Stage → List Text → Ending → F → F → Type 0
   WasDone stage lines result old new =
-      (calls : List Call) × AreAnswered failures may_leave asked old calls new × stage calls lines result
+      (calls : List Call) × AreAnswered failures may_leave allowed old calls new × stage calls lines result
 
   -- no change was requested and no line printed, and it ended with a fault
   abbrev pub OnlyRead : List Text → Ending → F → F → Type 0
   OnlyRead lines result first new =
-      Asks failures may_leave asked no_change first new × (lines ≡ []) × (fault : Fault)
+      Requests failures may_leave allowed no_change first new × (lines ≡ []) × (fault : Fault)
       × (result ≡ Err fault)
 
   -- the task was found without source, and then what is left of its last execution was removed
   abbrev pub WasCleared : Task → Bool → List Text → Ending → F → F → Type 0
   WasCleared task was_read lines result first new =
-      (read : F) × Asks failures may_leave asked no_change first read
-      × WasSourceless failures may_leave asked first read task
+      (read : F) × Requests failures may_leave allowed no_change first read
+      × WasSourceless failures may_leave allowed first read task
       × WasDone (Clears task was_read) lines result read new
 
   module _ {S : Type 0} (meanings : Meanings S) (rows : Rows S) (task : Task) where
     -- the inputs were read, and then the task ran in full on them
     abbrev pub RanInFull : Bool → List Text → Ending → F → F → Type 0
     RanInFull was_read lines result first new =
-        (trees : Trees) × (read : F) × HaveRead failures may_leave asked task trees first read
+        (trees : Trees) × (read : F) × HaveRead failures may_leave allowed task trees first read
         × WasDone (FullRun meanings rows task trees was_read) lines result read new
 
     -- the inputs and the outputs were read, and then the task ran by the changes since this record
     abbrev pub RanByChanges : Options → Record → List Text → Ending → F → F → Type 0
     RanByChanges options last lines result first new =
-        (trees : Trees) × (changes : List Changes) × (seen : List OutputFiles) × (read : F)
-        × HaveRead failures may_leave asked task trees first read
-        × GoesFrom failures may_leave asked options task last trees changes seen first read
-        × WasDone (RunByChanges meanings rows task trees changes seen) lines result read new
+        (trees : Trees) × (changes : List Changes) × (observed : List OutputFiles) × (read : F)
+        × HaveRead failures may_leave allowed task trees first read
+        × GoesFrom failures may_leave allowed options task last trees changes observed first read
+        × WasDone (RunByChanges meanings rows task trees changes observed) lines result read new
 
     -- the task ran, in full or by the changes since this record
     abbrev pub RanFrom : Options → Record → List Text → Ending → F → F → Type 0

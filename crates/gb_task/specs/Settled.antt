@@ -4,7 +4,7 @@ use Rattle.std.specs.Prelude.{IsTrue, ⊤}
 use Rattle.std.specs.List.{list_any}
 use Rattle.gb_folder.specs.Files.{Contents, HasRisen, Place, is_empty}
 use Rattle.gb_history.specs.declared.decide.Decision.TheVariants as decisions
-use Rattle.gb_label.specs.Preparing.{IsReadFor, IsSeenFor}
+use Rattle.gb_label.specs.Preparing.{IsReadFor, IsObservedFor}
 use Rattle.gb_label.specs.declared.prepare.Prepared.{Prepared}
 use Rattle.gb_label.specs.declared.prepare.Prepared.TheVariants as prepared
 use Rattle.gb_label.specs.Reading.{is_input_of}
@@ -44,9 +44,9 @@ settled_as task path (Ok prepared.Skips) need = settled.Reported (silent_report 
 settled_as task path (Ok prepared.HasNoActions) need =
     settled.Reported (silent_report task path (idle_outcome need))
 settled_as task path (Ok prepared.HasNoSource) need = settled.Sourceless path
-settled_as task path (Ok (prepared.Decided decisions.UpToDate basis seen)) need =
+settled_as task path (Ok (prepared.Decided decisions.UpToDate basis observed)) need =
     settled.Reported (silent_report task path outcomes.UpToDate)
-settled_as task path (Ok (prepared.Decided decision basis seen)) need = settled.Due path decision seen
+settled_as task path (Ok (prepared.Decided decision basis observed)) need = settled.Due path decision observed
 
 -- A report is of the task, has no line, and says that the task was started. It attributes a fault to the
 -- device only if the device failed meanwhile. A task that is reported as executed here has no actions, and
@@ -62,8 +62,8 @@ IsOfTask task before after (settled.Reported report) =
     × (report.outcome ≢ outcomes.NoSource)
 IsOfTask task before after (settled.Sourceless path) =
     (path ≡ task.path) × (list_any (λ property. property.skip_when_empty) task.files ≡ true)
-IsOfTask task before after (settled.Due path decision seen) =
-    (path ≡ task.path) × (decision ≢ decisions.UpToDate) × IsReadFor task seen decision
+IsOfTask task before after (settled.Due path decision observed) =
+    (path ≡ task.path) × (decision ≢ decisions.UpToDate) × IsReadFor task observed decision
 
 -- the whole execution is reported, with this outcome
 abbrev pub IsReportedAs : Outcome → Settled → Type 0
@@ -83,10 +83,10 @@ IsAnsweredAlone true true need outcome = outcome ≡ idle_outcome need
 IsAnsweredAlone true false need outcome = ⊤
 
 -- a report of a task that runs and has actions has an outcome that is possible for it
-abbrev pub TellsAnswer : Options → Task → Settled → Type 0
-TellsAnswer options task (settled.Reported report) =
+abbrev pub ReportsAnswer : Options → Task → Settled → Type 0
+ReportsAnswer options task (settled.Reported report) =
     task.runs ≡ true → is_empty task.actions ≡ false → MayAnswer options task report.outcome
-TellsAnswer options task other = ⊤
+ReportsAnswer options task other = ⊤
 
 -- the same for a whole execution, which prints nothing where its outcome leaves no choice
 pub record IsAnswer (options : Options) (task : Task) (report : TaskReport) : Type 0 where
@@ -101,6 +101,6 @@ SettlesExecution setting options plan task moment old after (settled.Reported re
     (record { world = moment.world; failures = after })
 SettlesExecution setting options plan task moment old after (settled.Sourceless path) =
     early_case task moment.world.folder ≡ Some HasNoSource
-SettlesExecution setting options plan task moment old after (settled.Due path decision seen) =
+SettlesExecution setting options plan task moment old after (settled.Due path decision observed) =
     (early_case task moment.world.folder ≡ None) × IsCaseFor setting.kinds options task moment.world decision
-    × IsRunFor setting.kinds options task moment.world decision × IsSeenFor task old.files seen decision
+    × IsRunFor setting.kinds options task moment.world decision × IsObservedFor task old.files observed decision

@@ -105,13 +105,13 @@ module _ {S : Type 0} (meanings : Meanings S) (rows : Rows S) (task : Task) (tre
   abbrev pub FullRun : Bool → Stage
   FullRun was_read = OrNone (Then (Clears task was_read) (Then WritesAll (Stores task IsOfFullRun)))
 
-  module _ (changes : List Changes) (seen : List OutputFiles) where
+  module _ (changes : List Changes) (observed : List OutputFiles) where
     -- The record of a run by these changes from outputs with these files: the same record, if the outputs
     -- were made of old trees from which the changes lead to the new ones.
     abbrev pub IsOfRunByChanges : Record → Type 0
     IsOfRunByChanges run =
-        (kinds : Kinds) → Agrees meanings rows kinds → (before : Trees) (standing : Files) → IsFolder standing
-        → IsTrue (are_placed standing) → GoesOn kinds task before trees changes seen standing
+        (kinds : Kinds) → Agrees meanings rows kinds → (before : Trees) (existing : Files) → IsFolder existing
+        → IsTrue (are_placed existing) → GoesOn kinds task before trees changes observed existing
         → IsRecordOf kinds task trees run
 
     -- just what the actions answer to the changes is written and removed
@@ -119,7 +119,7 @@ module _ {S : Type 0} (meanings : Meanings S) (rows : Rows S) (task : Task) (tre
     WritesChanges calls lines result =
         AreAtOutputs task calls
         × ((kinds : Kinds) → Agrees meanings rows kinds
-        → RunsByChanges (increment_of kinds task trees changes seen) calls lines result)
+        → RunsByChanges (increment_of kinds task trees changes observed) calls lines result)
 
     -- A run by these changes: the record is deleted, just what the actions answer to the changes is written
     -- and removed, and the record of just this is stored.

@@ -2,10 +2,10 @@
 //! execution.
 ghost use Rattle.std.specs.Prelude.{◌≡◌, ◌≤◌, ◌⊎◌, ◌||◌, [], ℕ, List, false, true, not, IsTrue};
 ghost use Rattle.std.specs.List.{AllByRecursion};
-ghost use Rattle.gb_folder.specs.Calls.{Asks, no_change};
+ghost use Rattle.gb_folder.specs.Calls.{Requests, no_change};
 ghost use Rattle.gb_folder.specs.Files.{HasRisen, is_empty};
 ghost use Rattle.gb_label.specs.ReadingAnswered.{AreInputsAnswered, AreOutputsAnswered};
-ghost use Rattle.gb_label.specs.Reading.{AreInputs, AreInputsSeen, AreOutputs, AreOutputsSeen, is_input_of};
+ghost use Rattle.gb_label.specs.Reading.{AreInputs, AreInputsObserved, AreOutputs, AreOutputsObserved, is_input_of};
 ghost use Rattle.gb_meaning.specs.Kinds.{Kinds};
 ghost use Rattle.gb_meaning.specs.Label.{Moment};
 ghost use Rattle.gb_plan.specs.Graph.{Plan, reads_output_of, some_overlap};
@@ -29,7 +29,7 @@ use gb_core::path::TaskPath;
 use gb_core::text::Texts;
 use gb_folder::folder::Folder;
 use gb_history::record::Record;
-use gb_label::prepare::Seen;
+use gb_label::prepare::Observed;
 use gb_plan::task::TaskDeclaration;
 use gb_report::fault::Fault;
 use gb_report::report::{Options, TaskReport};
@@ -46,46 +46,46 @@ pub fn execute_by_changes<A: Actions, F: Folder>(
     table: &ActionTable<A::Stored>,
     options: Options,
     last: &Record,
-    seen: Seen,
+    observed: Observed,
 ) -> TaskReport
     requires buildable { IsBuildable A.meanings table.now task.now }
     requires able { AllByRecursion (CanGoOn A.meanings table.now) task.now.actions }
-    requires apart { reads_output_of task.now task.now ≡ false }
-    requires outputs_apart { some_overlap (output_places task.now) ≡ false }
+    requires separate { reads_output_of task.now task.now ≡ false }
+    requires outputs_separate { some_overlap (output_places task.now) ≡ false }
     requires path { path ≡ task.now.path }
-    requires inputs { AreInputs task.now seen.inputs.items }
-    requires outputs { AreOutputs task.now seen.outputs.items }
+    requires inputs { AreInputs task.now observed.inputs.items }
+    requires outputs { AreOutputs task.now observed.outputs.items }
     ensures path { result.path ≡ task.now.path }
     ensures has_actions { result.has_actions ≡ not (is_empty task.now.actions) }
     ensures outcome { IsReportedOf outcome_of result.outcome }
     // Over any folder: where calls returned its inputs and outputs since a state of the folder, without
     // a change, it only read and failed, or it ran on just these, in full or by the changes.
-    ensures ran { (first : _) → Asks F.failures F.may_leave F.asked no_change first folder.old
-        → AreInputsAnswered F.failures F.may_leave F.asked first folder.old task.now seen.inputs.items
-        → AreOutputsAnswered F.failures F.may_leave F.asked first folder.old task.now seen.outputs.items
-        → EndsAs (λ ended. OnlyRead F.failures F.may_leave F.asked result.lines ended first folder.new
-        ⊎ RanFrom F.failures F.may_leave F.asked A.meanings table.now task.now options last.now result.lines
+    ensures ran { (first : _) → Requests F.failures F.may_leave F.allowed no_change first folder.old
+        → AreInputsAnswered F.failures F.may_leave F.allowed first folder.old task.now observed.inputs.items
+        → AreOutputsAnswered F.failures F.may_leave F.allowed first folder.old task.now observed.outputs.items
+        → EndsAs (λ ended. OnlyRead F.failures F.may_leave F.allowed result.lines ended first folder.new
+        ⊎ RanFrom F.failures F.may_leave F.allowed A.meanings table.now task.now options last.now result.lines
         ended first folder.new) result.outcome }
     ensures count { F.failures folder.old ≤ F.failures folder.new }
     ensures blame { (place : List ℕ) → result.outcome ≡ Failed (Fault.Device place)
         → HasRisen (F.failures folder.old) (F.failures folder.new) }
     ensures blamed { (place : List ℕ) → result.outcome ≡ Failed (Fault.Device place)
         → IsTrue (is_input_of task.now place || is_output_of task.now place) }
-    ensures changes { IsTrue F.tells
+    ensures changes { IsTrue F.faithful
         → ChangesOnly (is_of_execution task.now) (F.contents folder.old) (F.contents folder.new) }
     // Where the task runs incrementally, based on its record, this is its execution.
-    ensures execution { IsTrue F.tells → (kinds : Kinds) (registry_of : Registering)
+    ensures execution { IsTrue F.faithful → (kinds : Kinds) (registry_of : Registering)
         (plan : Plan) (moment : Moment) → IsAssumed A.meanings table.now kinds (F.may_leave folder.old)
         → BeginsAt task.now true (F.contents folder.old) (F.failures folder.old) moment
-        → AreInputsSeen task.now (F.contents folder.old).files seen.inputs.items
-        → AreOutputsSeen task.now (F.contents folder.old).files seen.outputs.items
+        → AreInputsObserved task.now (F.contents folder.old).files observed.inputs.items
+        → AreOutputsObserved task.now (F.contents folder.old).files observed.outputs.items
         → IsToGoOn kinds options task.now moment.world last.now
         → HasExecuted (setting_with kinds registry_of (F.may_leave folder.old)) options plan task.now moment
         result (F.contents folder.old) (F.failures folder.new) (F.contents folder.new) }
 {
     let has_actions = !task.actions.is_empty();
     let mut lines = Texts::new(alloc);
-    let ended = go_on::<A, F>(alloc, folder, task, table, options, last, seen, &mut lines);
+    let ended = go_on::<A, F>(alloc, folder, task, table, options, last, observed, &mut lines);
     TaskReport {
         path,
         outcome: outcome_of(ended),
@@ -102,40 +102,40 @@ fn go_on<A: Actions, F: Folder>(
     table: &ActionTable<A::Stored>,
     options: Options,
     last: &Record,
-    seen: Seen,
+    observed: Observed,
     lines: &mut Texts,
 ) -> Result<(), Fault>
     requires buildable { IsBuildable A.meanings table.now task.now }
     requires able { AllByRecursion (CanGoOn A.meanings table.now) task.now.actions }
-    requires apart { reads_output_of task.now task.now ≡ false }
-    requires outputs_apart { some_overlap (output_places task.now) ≡ false }
-    requires inputs { AreInputs task.now seen.inputs.items }
-    requires outputs { AreOutputs task.now seen.outputs.items }
+    requires separate { reads_output_of task.now task.now ≡ false }
+    requires outputs_separate { some_overlap (output_places task.now) ≡ false }
+    requires inputs { AreInputs task.now observed.inputs.items }
+    requires outputs { AreOutputs task.now observed.outputs.items }
     requires no_lines { lines.old ≡ [] }
     // Over any folder: where calls returned its inputs and outputs since a state of the folder, without
     // a change, it only read and failed, or it ran on just these, in full or by the changes.
-    ensures ran { (first : _) → Asks F.failures F.may_leave F.asked no_change first folder.old
-        → AreInputsAnswered F.failures F.may_leave F.asked first folder.old task.now seen.inputs.items
-        → AreOutputsAnswered F.failures F.may_leave F.asked first folder.old task.now seen.outputs.items
-        → OnlyRead F.failures F.may_leave F.asked lines.new result first folder.new
-        ⊎ RanFrom F.failures F.may_leave F.asked A.meanings table.now task.now options last.now lines.new
+    ensures ran { (first : _) → Requests F.failures F.may_leave F.allowed no_change first folder.old
+        → AreInputsAnswered F.failures F.may_leave F.allowed first folder.old task.now observed.inputs.items
+        → AreOutputsAnswered F.failures F.may_leave F.allowed first folder.old task.now observed.outputs.items
+        → OnlyRead F.failures F.may_leave F.allowed lines.new result first folder.new
+        ⊎ RanFrom F.failures F.may_leave F.allowed A.meanings table.now task.now options last.now lines.new
         result first folder.new }
     ensures count { F.failures folder.old ≤ F.failures folder.new }
     ensures blame { Blames result (F.failures folder.old) (F.failures folder.new) }
     ensures blamed { BlamesOnly (λ place. is_input_of task.now place || is_output_of task.now place) result }
-    ensures changes { IsTrue F.tells
+    ensures changes { IsTrue F.faithful
         → ChangesOnly (is_of_execution task.now) (F.contents folder.old) (F.contents folder.new) }
-    ensures execution { IsTrue F.tells → (kinds : Kinds) (registry_of : Registering)
+    ensures execution { IsTrue F.faithful → (kinds : Kinds) (registry_of : Registering)
         (plan : Plan) (moment : Moment) → IsAssumed A.meanings table.now kinds (F.may_leave folder.old)
         → BeginsAt task.now true (F.contents folder.old) (F.failures folder.old) moment
-        → AreInputsSeen task.now (F.contents folder.old).files seen.inputs.items
-        → AreOutputsSeen task.now (F.contents folder.old).files seen.outputs.items
+        → AreInputsObserved task.now (F.contents folder.old).files observed.inputs.items
+        → AreOutputsObserved task.now (F.contents folder.old).files observed.outputs.items
         → IsToGoOn kinds options task.now moment.world last.now
         → HasExecuted (setting_with kinds registry_of (F.may_leave folder.old)) options plan task.now moment
         (report_of task.now result lines.new)
         (F.contents folder.old) (F.failures folder.new) (F.contents folder.new) }
 {
-    match recheck_task(alloc, folder, task, options, last, seen)? {
+    match recheck_task(alloc, folder, task, options, last, observed)? {
         Recheck::ByChanges(inputs, outputs, changes) => {
             go_by::<A, F>(alloc, folder, task, table, inputs, outputs, changes, lines)
         }

@@ -1,15 +1,15 @@
 //! Deletes the record and the outputs of a task's previous execution.
 ghost use Rattle.std.specs.Prelude.{◌≡◌, [], List, None, false, IsTrue};
 ghost use Rattle.std.specs.List.{list_any};
-ghost use Rattle.gb_folder.specs.Calls.{Asks, Call, takes_at};
+ghost use Rattle.gb_folder.specs.Calls.{Requests, Call, takes_at};
 ghost use Rattle.gb_folder.specs.Device.{Leads};
 ghost use Rattle.gb_folder.specs.Files.{is_own};
 ghost use Rattle.gb_history.specs.Places.{record_place};
-ghost use Rattle.gb_meaning.specs.Headline.{TearsAreSeen};
+ghost use Rattle.gb_meaning.specs.Headline.{TornWritesAreDetected};
 ghost use Rattle.gb_meaning.specs.Memory.{Memory, recalled};
 ghost use Rattle.gb_plan.specs.Task.{is_output_of};
 ghost use Rattle.gb_records.specs.Said.{IsText};
-ghost use Rattle.gb_records.specs.Standing.{Standing};
+ghost use Rattle.gb_records.specs.Holding.{HoldsRecords};
 ghost use Rattle.gb_store.specs.Changes.{ChangesOnly};
 ghost use Rattle.gb_store.specs.Faults.{Blames, BlamesOnly};
 ghost use Rattle.gb_task.specs.Clearing.{HasCleared};
@@ -34,14 +34,14 @@ pub fn clear<F: Folder>(
     // Over any folder: by these calls.
     ensures calls { (calls : List Call) × Leads F.device folder.old calls folder.new
         × Clears task.now was_read calls [] result }
-    ensures asks { Asks F.failures F.may_leave F.asked (takes_at (is_of_execution task.now)) folder.old
+    ensures requests { Requests F.failures F.may_leave F.allowed (takes_at (is_of_execution task.now)) folder.old
         folder.new }
     ensures blame { Blames result (F.failures folder.old) (F.failures folder.new) }
     ensures blamed { BlamesOnly (is_output_of task.now) result }
-    ensures changes { IsTrue F.tells
+    ensures changes { IsTrue F.faithful
         → ChangesOnly (is_of_execution task.now) (F.contents folder.old) (F.contents folder.new) }
-    ensures cleared { IsTrue F.tells → TearsAreSeen IsText record_place (F.may_leave folder.old)
-        → (memory : Memory) → Standing (F.contents folder.old).files memory
+    ensures cleared { IsTrue F.faithful → TornWritesAreDetected IsText record_place (F.may_leave folder.old)
+        → (memory : Memory) → HoldsRecords (F.contents folder.old).files memory
         → (was_read ≡ false → recalled memory task.now.path ≡ None)
         → HasCleared task.now was_read memory (F.may_leave folder.old) (F.failures folder.old)
         (F.contents folder.old) result (F.failures folder.new) (F.contents folder.new) }

@@ -3,10 +3,10 @@ ghost use Rattle.std.specs.Prelude.{◌≡◌, ◌≤◌, ◌≢◌, ◌⊎◌, 
 ghost use Rattle.std.specs.Prelude.{option_copied};
 ghost use Rattle.std.specs.List.{AllByRecursion};
 ghost use Rattle.gb_action.specs.Changes.{Changes};
-ghost use Rattle.gb_folder.specs.Calls.{Asks, no_change};
+ghost use Rattle.gb_folder.specs.Calls.{Requests, no_change};
 ghost use Rattle.gb_folder.specs.Files.{HasRisen, is_empty};
 ghost use Rattle.gb_label.specs.Answered.{WasDecided};
-ghost use Rattle.gb_label.specs.Preparing.{IsReadFor, IsSeenFor};
+ghost use Rattle.gb_label.specs.Preparing.{IsReadFor, IsObservedFor};
 ghost use Rattle.gb_label.specs.ReadingAnswered.{AreInputsAnswered};
 ghost use Rattle.gb_label.specs.Reading.{is_input_of};
 ghost use Rattle.gb_meaning.specs.Headline.{Agrees};
@@ -24,7 +24,7 @@ ghost use Rattle.gb_store.specs.Changes.{ChangesOnly};
 ghost use Rattle.gb_task.specs.Buildable.{IsBuildable};
 ghost use Rattle.gb_task.specs.Case.{IsCaseFor, IsKnown};
 ghost use Rattle.gb_task.specs.Executions.{IsRunFor, goes_by_changes};
-ghost use Rattle.gb_task.specs.ByOutcome.{ExecutionAsks};
+ghost use Rattle.gb_task.specs.ByOutcome.{ExecutionRequests};
 ghost use Rattle.gb_task.specs.Ran.{EndsAs, OnlyRead, WasRun};
 ghost use Rattle.gb_task.specs.Settled.{IsAnswer, IsAnsweredAlone};
 ghost use Rattle.gb_task.specs.Executing.{BeginsAt, HasExecuted, IsReportedOf, Registering};
@@ -40,7 +40,7 @@ use gb_core::path::TaskPath;
 use gb_folder::folder::Folder;
 use gb_history::decide::Decision;
 use gb_history::record::Record;
-use gb_label::prepare::Seen;
+use gb_label::prepare::Observed;
 use gb_plan::task::TaskDeclaration;
 use gb_report::fault::Fault;
 use gb_report::report::{Options, TaskReport};
@@ -61,15 +61,15 @@ pub fn execute_task<A: Actions, F: Folder>(
     has_executed_need: bool,
 ) -> TaskReport
     requires buildable { IsBuildable A.meanings table.now task.now }
-    requires apart { reads_output_of task.now task.now ≡ false }
-    requires outputs_apart { some_overlap (output_places task.now) ≡ false }
+    requires separate { reads_output_of task.now task.now ≡ false }
+    requires outputs_separate { some_overlap (output_places task.now) ≡ false }
     requires path { path ≡ task.now.path }
     ensures path { result.path ≡ task.now.path }
     ensures has_actions { result.has_actions ≡ not (is_empty task.now.actions) }
     // Over any folder: which calls were made, stage by stage, up to the first that failed; with which
     // bytes; and what they were based on. A task that is skipped or up to date requests no change, and
     // it is up to date only if it was found so on what the calls of this execution returned.
-    ensures asks { ExecutionAsks F.failures F.may_leave F.asked A.meanings table.now options task.now
+    ensures requests { ExecutionRequests F.failures F.may_leave F.allowed A.meanings table.now options task.now
         (option_copied last.entry) result.outcome result.lines folder.old folder.new }
     ensures blame { (place : List ℕ) → result.outcome ≡ Failed (Fault.Device place)
         → HasRisen (F.failures folder.old) (F.failures folder.new) }
@@ -82,10 +82,10 @@ pub fn execute_task<A: Actions, F: Folder>(
     ensures alone { IsAnsweredAlone task.now.runs (is_empty task.now.actions) has_executed_need
         result.outcome }
     ensures answer { IsAnswer options task.now result }
-    ensures changes { IsTrue F.tells
+    ensures changes { IsTrue F.faithful
         → ChangesOnly (is_of_execution task.now) (F.contents folder.old) (F.contents folder.new) }
     // Where the record that was read of the task is known of it, this is its execution.
-    ensures execution { IsTrue F.tells → (kinds : Kinds) (registry_of : Registering) (plan : Plan)
+    ensures execution { IsTrue F.faithful → (kinds : Kinds) (registry_of : Registering) (plan : Plan)
         (moment : Moment) → IsAssumed A.meanings table.now kinds (F.may_leave folder.old)
         → BeginsAt task.now (is_some (option_copied last.entry)) (F.contents folder.old)
         (F.failures folder.old) moment
@@ -99,8 +99,8 @@ pub fn execute_task<A: Actions, F: Folder>(
         Settled::Sourceless(path) => {
             execute_without_source(alloc, folder, task, path, last.is_some())
         }
-        Settled::Due(path, decision, seen) => run::<A, F>(
-            alloc, folder, task, path, table, options, last, decision, seen,
+        Settled::Due(path, decision, observed) => run::<A, F>(
+            alloc, folder, task, path, table, options, last, decision, observed,
         ),
     }
 }
@@ -115,41 +115,41 @@ fn run<A: Actions, F: Folder>(
     options: Options,
     last: Option<&Record>,
     decision: Decision,
-    seen: Seen,
+    observed: Observed,
 ) -> TaskReport
     requires buildable { IsBuildable A.meanings table.now task.now }
-    requires apart { reads_output_of task.now task.now ≡ false }
-    requires outputs_apart { some_overlap (output_places task.now) ≡ false }
+    requires separate { reads_output_of task.now task.now ≡ false }
+    requires outputs_separate { some_overlap (output_places task.now) ≡ false }
     requires path { path ≡ task.now.path }
     requires due { decision ≢ Decision.UpToDate }
-    requires read { IsReadFor task.now seen decision }
+    requires read { IsReadFor task.now observed decision }
     ensures path { result.path ≡ task.now.path }
     ensures has_actions { result.has_actions ≡ not (is_empty task.now.actions) }
     ensures outcome { IsReportedOf outcome_of result.outcome }
     // Over any folder: where calls returned what it was decided on since a state of the folder, without
     // a change, it only read and failed, or it ran on just that.
-    ensures ran { (first : _) → Asks F.failures F.may_leave F.asked no_change first folder.old
-        → AreInputsAnswered F.failures F.may_leave F.asked first folder.old task.now seen.inputs.items
-        → WasDecided F.failures F.may_leave F.asked first folder.old options task.now
-        (option_copied last.entry) seen.inputs.items decision seen.outputs.items
-        → EndsAs (λ ended. OnlyRead F.failures F.may_leave F.asked result.lines ended first folder.new
-        ⊎ WasRun F.failures F.may_leave F.asked A.meanings table.now task.now options
+    ensures ran { (first : _) → Requests F.failures F.may_leave F.allowed no_change first folder.old
+        → AreInputsAnswered F.failures F.may_leave F.allowed first folder.old task.now observed.inputs.items
+        → WasDecided F.failures F.may_leave F.allowed first folder.old options task.now
+        (option_copied last.entry) observed.inputs.items decision observed.outputs.items
+        → EndsAs (λ ended. OnlyRead F.failures F.may_leave F.allowed result.lines ended first folder.new
+        ⊎ WasRun F.failures F.may_leave F.allowed A.meanings table.now task.now options
         (option_copied last.entry) result.lines ended first folder.new) result.outcome }
     ensures count { F.failures folder.old ≤ F.failures folder.new }
     ensures blame { (place : List ℕ) → result.outcome ≡ Failed (Fault.Device place)
         → HasRisen (F.failures folder.old) (F.failures folder.new) }
     ensures blamed { (place : List ℕ) → result.outcome ≡ Failed (Fault.Device place)
         → IsTrue (is_input_of task.now place || is_output_of task.now place) }
-    ensures changes { IsTrue F.tells
+    ensures changes { IsTrue F.faithful
         → ChangesOnly (is_of_execution task.now) (F.contents folder.old) (F.contents folder.new) }
-    ensures execution { IsTrue F.tells → (kinds : Kinds) (registry_of : Registering)
+    ensures execution { IsTrue F.faithful → (kinds : Kinds) (registry_of : Registering)
         (plan : Plan) (moment : Moment) → IsAssumed A.meanings table.now kinds (F.may_leave folder.old)
         → BeginsAt task.now (is_some (option_copied last.entry)) (F.contents folder.old)
         (F.failures folder.old) moment
         → early_case task.now moment.world.folder ≡ None
         → IsCaseFor kinds options task.now moment.world decision
         → IsRunFor kinds options task.now moment.world decision
-        → IsSeenFor task.now (F.contents folder.old).files seen decision
+        → IsObservedFor task.now (F.contents folder.old).files observed decision
         → IsKnown kinds task.now moment.world (option_copied last.entry)
         → HasExecuted (setting_with kinds registry_of (F.may_leave folder.old)) options plan task.now moment
         result (F.contents folder.old) (F.failures folder.new) (F.contents folder.new) }
@@ -157,7 +157,7 @@ fn run<A: Actions, F: Folder>(
     if let Some(record) = last {
         if goes_by_changes::<A>(table, task, &decision) {
             return execute_by_changes::<A, F>(
-                alloc, folder, task, path, table, options, record, seen,
+                alloc, folder, task, path, table, options, record, observed,
             );
         }
     }
@@ -167,7 +167,7 @@ fn run<A: Actions, F: Folder>(
         task,
         path,
         table,
-        seen.inputs,
+        observed.inputs,
         last.is_some(),
     )
 }

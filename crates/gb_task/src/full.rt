@@ -1,19 +1,19 @@
 //! A full run of a task.
 ghost use Rattle.std.specs.Prelude.{◌≡◌, ◌≤◌, ◌⊎◌, ◌||◌, [], ℕ, List, false, not, map};
 ghost use Rattle.std.specs.Prelude.{IsTrue, IfOk, IfErr, OnOk};
-ghost use Rattle.gb_folder.specs.Calls.{Asks, Call, changes_at, no_change};
+ghost use Rattle.gb_folder.specs.Calls.{Requests, Call, changes_at, no_change};
 ghost use Rattle.gb_folder.specs.Device.{Leads};
 ghost use Rattle.gb_folder.specs.Files.{HasRisen, is_empty};
 ghost use Rattle.gb_label.specs.Deciding.{HasNamesInOrder};
 ghost use Rattle.gb_label.specs.ReadingAnswered.{AreInputsAnswered};
-ghost use Rattle.gb_label.specs.Reading.{AreInputs, AreInputsSeen, digests_in, is_input_of};
+ghost use Rattle.gb_label.specs.Reading.{AreInputs, AreInputsObserved, digests_in, is_input_of};
 ghost use Rattle.gb_meaning.specs.Headline.{Agrees};
 ghost use Rattle.gb_meaning.specs.Kinds.{Kinds};
 ghost use Rattle.gb_meaning.specs.Label.{Moment};
 ghost use Rattle.gb_meaning.specs.Tree.{trees_of};
 ghost use Rattle.gb_plan.specs.Graph.{Plan, reads_output_of};
 ghost use Rattle.gb_plan.specs.Ready.{IsReady};
-ghost use Rattle.gb_plan.specs.Task.{is_output_of, seen_files};
+ghost use Rattle.gb_plan.specs.Task.{is_output_of, given_files};
 ghost use Rattle.gb_records.specs.Assumed.{IsAssumed};
 ghost use Rattle.gb_report.specs.declared.report.Options.{Options};
 ghost use Rattle.gb_report.specs.declared.report.Outcome.TheVariants.{Failed};
@@ -63,7 +63,7 @@ pub fn execute_in_full<A: Actions, F: Folder>(
     was_read: bool,
 ) -> TaskReport
     requires buildable { IsBuildable A.meanings table.now task.now }
-    requires apart { reads_output_of task.now task.now ≡ false }
+    requires separate { reads_output_of task.now task.now ≡ false }
     requires path { path ≡ task.now.path }
     requires inputs { AreInputs task.now inputs.items }
     ensures path { result.path ≡ task.now.path }
@@ -71,23 +71,23 @@ pub fn execute_in_full<A: Actions, F: Folder>(
     ensures outcome { IsReportedOf outcome_of result.outcome }
     // Over any folder: where calls returned its inputs since a state of the folder, without a change,
     // it only read and failed, or it ran on just these, in full.
-    ensures ran { (first : _) → Asks F.failures F.may_leave F.asked no_change first folder.old
-        → AreInputsAnswered F.failures F.may_leave F.asked first folder.old task.now inputs.items
-        → EndsAs (λ ended. OnlyRead F.failures F.may_leave F.asked result.lines ended first folder.new
-        ⊎ RanInFull F.failures F.may_leave F.asked A.meanings table.now task.now was_read result.lines ended
+    ensures ran { (first : _) → Requests F.failures F.may_leave F.allowed no_change first folder.old
+        → AreInputsAnswered F.failures F.may_leave F.allowed first folder.old task.now inputs.items
+        → EndsAs (λ ended. OnlyRead F.failures F.may_leave F.allowed result.lines ended first folder.new
+        ⊎ RanInFull F.failures F.may_leave F.allowed A.meanings table.now task.now was_read result.lines ended
         first folder.new) result.outcome }
     ensures count { F.failures folder.old ≤ F.failures folder.new }
     ensures blame { (place : List ℕ) → result.outcome ≡ Failed (Fault.Device place)
         → HasRisen (F.failures folder.old) (F.failures folder.new) }
     ensures blamed { (place : List ℕ) → result.outcome ≡ Failed (Fault.Device place)
         → IsTrue (is_input_of task.now place || is_output_of task.now place) }
-    ensures changes { IsTrue F.tells
+    ensures changes { IsTrue F.faithful
         → ChangesOnly (is_of_execution task.now) (F.contents folder.old) (F.contents folder.new) }
     // Where the full run is due, this is the task's execution.
-    ensures execution { IsTrue F.tells → (kinds : Kinds) (registry_of : Registering) (options : Options)
+    ensures execution { IsTrue F.faithful → (kinds : Kinds) (registry_of : Registering) (options : Options)
         (plan : Plan) (moment : Moment) → IsAssumed A.meanings table.now kinds (F.may_leave folder.old)
         → BeginsAt task.now was_read (F.contents folder.old) (F.failures folder.old) moment
-        → AreInputsSeen task.now (F.contents folder.old).files inputs.items
+        → AreInputsObserved task.now (F.contents folder.old).files inputs.items
         → IsDue kinds options task.now moment.world
         → HasExecuted (setting_with kinds registry_of (F.may_leave folder.old)) options plan task.now moment
         result (F.contents folder.old) (F.failures folder.new) (F.contents folder.new) }
@@ -124,25 +124,25 @@ fn run_with_record<A: Actions, F: Folder>(
     lines: &mut Texts,
 ) -> Result<(), Fault>
     requires buildable { IsBuildable A.meanings table.now task.now }
-    requires apart { reads_output_of task.now task.now ≡ false }
+    requires separate { reads_output_of task.now task.now ≡ false }
     requires inputs { AreInputs task.now inputs.items }
     requires no_lines { lines.old ≡ [] }
     // Over any folder: where calls returned its inputs since a state of the folder, without a change,
     // it only read and failed, or it ran on just these, in full.
-    ensures ran { (first : _) → Asks F.failures F.may_leave F.asked no_change first folder.old
-        → AreInputsAnswered F.failures F.may_leave F.asked first folder.old task.now inputs.items
-        → OnlyRead F.failures F.may_leave F.asked lines.new result first folder.new
-        ⊎ RanInFull F.failures F.may_leave F.asked A.meanings table.now task.now was_read lines.new result
+    ensures ran { (first : _) → Requests F.failures F.may_leave F.allowed no_change first folder.old
+        → AreInputsAnswered F.failures F.may_leave F.allowed first folder.old task.now inputs.items
+        → OnlyRead F.failures F.may_leave F.allowed lines.new result first folder.new
+        ⊎ RanInFull F.failures F.may_leave F.allowed A.meanings table.now task.now was_read lines.new result
         first folder.new }
     ensures count { F.failures folder.old ≤ F.failures folder.new }
     ensures blame { Blames result (F.failures folder.old) (F.failures folder.new) }
     ensures blamed { BlamesOnly (λ place. is_input_of task.now place || is_output_of task.now place) result }
-    ensures changes { IsTrue F.tells
+    ensures changes { IsTrue F.faithful
         → ChangesOnly (is_of_execution task.now) (F.contents folder.old) (F.contents folder.new) }
-    ensures execution { IsTrue F.tells → (kinds : Kinds) (registry_of : Registering) (options : Options)
+    ensures execution { IsTrue F.faithful → (kinds : Kinds) (registry_of : Registering) (options : Options)
         (plan : Plan) (moment : Moment) → IsAssumed A.meanings table.now kinds (F.may_leave folder.old)
         → BeginsAt task.now was_read (F.contents folder.old) (F.failures folder.old) moment
-        → AreInputsSeen task.now (F.contents folder.old).files inputs.items
+        → AreInputsObserved task.now (F.contents folder.old).files inputs.items
         → IsDue kinds options task.now moment.world
         → HasExecuted (setting_with kinds registry_of (F.may_leave folder.old)) options plan task.now moment
         (report_of task.now result lines.new)
@@ -164,8 +164,8 @@ pub(crate) fn run_on<A: Actions, F: Folder>(
     lines: &mut Texts,
 ) -> Result<(), Fault>
     requires buildable { IsBuildable A.meanings table.now task.now }
-    requires apart { reads_output_of task.now task.now ≡ false }
-    requires named { map (λ tree. tree.0) inputs.trees ≡ seen_files task.now.files }
+    requires separate { reads_output_of task.now task.now ≡ false }
+    requires named { map (λ tree. tree.0) inputs.trees ≡ given_files task.now.files }
     requires digests { inputs.prints.items ≡ digests_in inputs.trees }
     requires no_lines { lines.old ≡ [] }
     // Over any folder: it is a full run on these inputs, by these calls.
@@ -174,9 +174,9 @@ pub(crate) fn run_on<A: Actions, F: Folder>(
     ensures count { F.failures folder.old ≤ F.failures folder.new }
     ensures blame { Blames result (F.failures folder.old) (F.failures folder.new) }
     ensures blamed { BlamesOnly (is_output_of task.now) result }
-    ensures changes { IsTrue F.tells
+    ensures changes { IsTrue F.faithful
         → ChangesOnly (is_of_execution task.now) (F.contents folder.old) (F.contents folder.new) }
-    ensures execution { IsTrue F.tells → (kinds : Kinds) (registry_of : Registering) (options : Options)
+    ensures execution { IsTrue F.faithful → (kinds : Kinds) (registry_of : Registering) (options : Options)
         (plan : Plan) (moment : Moment) → IsAssumed A.meanings table.now kinds (F.may_leave folder.old)
         → BeginsAt task.now was_read (F.contents folder.old) (F.failures folder.old) moment
         → inputs.trees ≡ trees_of task.now (F.contents folder.old).files
@@ -206,10 +206,10 @@ fn make_in_full<A: Actions, F: Folder>(
 ) -> Result<Record, Fault>
     requires ready { IsReady A.meanings table.now task.now }
     requires in_order { HasNamesInOrder task.now }
-    requires named { map (λ tree. tree.0) trees ≡ seen_files task.now.files }
+    requires named { map (λ tree. tree.0) trees ≡ given_files task.now.files }
     requires digests { prints.items ≡ digests_in trees }
     requires no_lines { lines.old ≡ [] }
-    ensures asks { Asks F.failures F.may_leave F.asked (changes_at (is_output_of task.now)) folder.old
+    ensures requests { Requests F.failures F.may_leave F.allowed (changes_at (is_output_of task.now)) folder.old
         folder.new }
     ensures blame { Blames result (F.failures folder.old) (F.failures folder.new) }
     ensures blamed { BlamesOnly (is_output_of task.now) result }
@@ -219,12 +219,12 @@ fn make_in_full<A: Actions, F: Folder>(
         × HasMade ran (ending result) }
     // Over any folder, whoever else writes in it: the record is true.
     ensures made { IfOk result (IsOfFullRun A.meanings table.now task.now trees) }
-    ensures changes { IsTrue F.tells
+    ensures changes { IsTrue F.faithful
         → ChangesOnly (is_output_of task.now) (F.contents folder.old) (F.contents folder.new) }
-    ensures ok { IsTrue F.tells → OnOk result ((kinds : Kinds) → Agrees A.meanings table.now kinds
+    ensures ok { IsTrue F.faithful → OnOk result ((kinds : Kinds) → Agrees A.meanings table.now kinds
         → EndsWell (course_of kinds task.now trees changes (F.contents folder.old).files)
         lines.new (F.contents folder.new).files) }
-    ensures err { IsTrue F.tells → IfErr result (λ fault. (kinds : Kinds) → Agrees A.meanings table.now kinds
+    ensures err { IsTrue F.faithful → IfErr result (λ fault. (kinds : Kinds) → Agrees A.meanings table.now kinds
         → Fails (course_of kinds task.now trees changes (F.contents folder.old).files) InFull
         (F.may_leave folder.old) (F.failures folder.old) fault
         lines.new (F.failures folder.new) (F.contents folder.new).files) }

@@ -1,15 +1,15 @@
 //! The record of a task: deleted as its run begins, and stored as it ends.
 ghost use Rattle.std.specs.Prelude.{◌≡◌, ◌≢◌, ℕ, List, None, Some, Err, false, true, IsTrue, IfErr, OnErr};
 ghost use Rattle.std.specs.Prelude.{OnOk};
-ghost use Rattle.gb_folder.specs.Calls.{Asks, Call, put_at, taken_at};
+ghost use Rattle.gb_folder.specs.Calls.{Requests, Call, put_at, taken_at};
 ghost use Rattle.gb_folder.specs.Device.{Leads};
 ghost use Rattle.gb_folder.specs.Files.{is_empty};
 ghost use Rattle.gb_history.specs.Places.{record_place};
 ghost use Rattle.gb_history.specs.Text.{record_text};
-ghost use Rattle.gb_meaning.specs.Headline.{TearsAreSeen};
+ghost use Rattle.gb_meaning.specs.Headline.{TornWritesAreDetected};
 ghost use Rattle.gb_meaning.specs.Memory.{Entry, Memory, recalled};
 ghost use Rattle.gb_records.specs.Said.{IsSaidOf, IsText};
-ghost use Rattle.gb_records.specs.Standing.{Standing};
+ghost use Rattle.gb_records.specs.Holding.{HoldsRecords};
 ghost use Rattle.gb_store.specs.Changes.{ChangesOnly, is_at};
 ghost use Rattle.gb_task.specs.Keeping.{IsForgotten, IsRemembered, IsUnwritten};
 ghost use Rattle.gb_task.specs.Stages.{DeletesRecord, StoresRecord};
@@ -32,17 +32,17 @@ pub fn forget<F: Folder>(
     // Over any folder: by these calls.
     ensures calls { (calls : List Call) × Leads F.device folder.old calls folder.new
         × DeletesRecord path.now was_read calls result }
-    ensures asks { Asks F.failures F.may_leave F.asked (taken_at (record_place path.now)) folder.old
+    ensures requests { Requests F.failures F.may_leave F.allowed (taken_at (record_place path.now)) folder.old
         folder.new }
     ensures blame { (place : List ℕ) → result ≢ Err (Fault.Device place) }
-    ensures changes { IsTrue F.tells
+    ensures changes { IsTrue F.faithful
         → ChangesOnly (is_at (record_place path.now)) (F.contents folder.old) (F.contents folder.new) }
-    ensures err { IsTrue F.tells → IfErr result
+    ensures err { IsTrue F.faithful → IfErr result
         (IsUnwritten path.now None (F.contents folder.old).files (F.failures folder.old)
         (F.failures folder.new)) }
     ensures read { OnErr result (was_read ≡ true) }
-    ensures stands { IsTrue F.tells → TearsAreSeen IsText record_place (F.may_leave folder.old)
-        → (memory : Memory) → Standing (F.contents folder.old).files memory
+    ensures exists { IsTrue F.faithful → TornWritesAreDetected IsText record_place (F.may_leave folder.old)
+        → (memory : Memory) → HoldsRecords (F.contents folder.old).files memory
         → (was_read ≡ false → recalled memory path.now ≡ None)
         → IsForgotten path.now memory result (F.contents folder.new).files }
 {
@@ -64,20 +64,20 @@ pub fn remember<F: Folder>(
     task: &TaskDeclaration,
     run: &Record,
 ) -> Result<(), Fault>
-    ensures asks { Asks F.failures F.may_leave F.asked (put_at (record_place task.now.path)
+    ensures requests { Requests F.failures F.may_leave F.allowed (put_at (record_place task.now.path)
         (record_text task.now.path run.now)) folder.old folder.new }
     // Over any folder: by these calls.
     ensures calls { (calls : List Call) × Leads F.device folder.old calls folder.new
         × StoresRecord task.now run.now calls result }
     ensures blame { (place : List ℕ) → result ≢ Err (Fault.Device place) }
-    ensures changes { IsTrue F.tells
+    ensures changes { IsTrue F.faithful
         → ChangesOnly (is_at (record_place task.now.path)) (F.contents folder.old) (F.contents folder.new) }
-    ensures err { IsTrue F.tells → IfErr result
+    ensures err { IsTrue F.faithful → IfErr result
         (IsUnwritten task.now.path (Some (record_text task.now.path run.now)) (F.contents folder.old).files
         (F.failures folder.old) (F.failures folder.new)) }
     ensures outputs { OnErr result (is_empty task.now.outputs ≡ false) }
-    ensures stands { IsTrue F.tells → TearsAreSeen IsText record_place (F.may_leave folder.old)
-        → (memory : Memory) (entry : Entry) → Standing (F.contents folder.old).files memory
+    ensures exists { IsTrue F.faithful → TornWritesAreDetected IsText record_place (F.may_leave folder.old)
+        → (memory : Memory) (entry : Entry) → HoldsRecords (F.contents folder.old).files memory
         → IsSaidOf run.now entry → IsRemembered task.now entry memory result (F.contents folder.new).files }
 {
     if task.outputs.as_slice().is_empty() {

@@ -6,11 +6,11 @@
 //! the run is a full one.
 ghost use Rattle.std.specs.Prelude.{◌≡◌, ◌||◌, false, map, IsTrue, IfOk, IfErr, OnOk};
 ghost use Rattle.std.specs.List.{list_any};
-ghost use Rattle.gb_folder.specs.Calls.{Asks, no_change};
+ghost use Rattle.gb_folder.specs.Calls.{Requests, no_change};
 ghost use Rattle.gb_folder.specs.Files.{is_own};
 ghost use Rattle.gb_label.specs.Deciding.{HasNamesInOrder};
 ghost use Rattle.gb_label.specs.ReadingAnswered.{AreInputsAnswered, AreOutputsAnswered};
-ghost use Rattle.gb_label.specs.Reading.{AreInputs, AreInputsSeen, AreOutputs, AreOutputsSeen, is_input_of};
+ghost use Rattle.gb_label.specs.Reading.{AreInputs, AreInputsObserved, AreOutputs, AreOutputsObserved, is_input_of};
 ghost use Rattle.gb_meaning.specs.Kinds.{Kinds};
 ghost use Rattle.gb_meaning.specs.Memory.{World};
 ghost use Rattle.gb_meaning.specs.TrueRecord.{outside};
@@ -28,7 +28,7 @@ use gb_history::record::Record;
 use gb_label::deciding::{DecidedOn, decide_on};
 use gb_label::inputs::{Inputs, complete_inputs};
 use gb_label::outputs::{Outputs, complete_outputs};
-use gb_label::prepare::Seen;
+use gb_label::prepare::Observed;
 use gb_plan::task::TaskDeclaration;
 use gb_report::fault::Fault;
 use gb_report::report::Options;
@@ -52,49 +52,49 @@ pub(crate) fn recheck_task<F: Folder>(
     task: &TaskDeclaration,
     options: Options,
     last: &Record,
-    seen: Seen,
+    observed: Observed,
 ) -> Result<Recheck, Fault>
     requires in_order { HasNamesInOrder task.now }
     requires not_own { list_any (λ output. is_own output.place) task.now.outputs ≡ false }
-    requires inputs { AreInputs task.now seen.inputs.items }
-    requires outputs { AreOutputs task.now seen.outputs.items }
-    ensures asks { Asks F.failures F.may_leave F.asked no_change folder.old folder.new }
+    requires inputs { AreInputs task.now observed.inputs.items }
+    requires outputs { AreOutputs task.now observed.outputs.items }
+    ensures requests { Requests F.failures F.may_leave F.allowed no_change folder.old folder.new }
     ensures blame { Blames result (F.failures folder.old) (F.failures folder.new) }
     ensures blamed { BlamesOnly (λ place. is_input_of task.now place || is_output_of task.now place) result }
     // Over any folder: the digests are those of what the run works on, and the changes are decided
     // on them.
     ensures recheck { IfOk result (IsRecheck options task.now last.now) }
     // And they are what calls returned, before and now.
-    ensures answered { (first : _) → Asks F.failures F.may_leave F.asked no_change first folder.old
-        → AreInputsAnswered F.failures F.may_leave F.asked first folder.old task.now seen.inputs.items
-        → AreOutputsAnswered F.failures F.may_leave F.asked first folder.old task.now seen.outputs.items
-        → IfOk result (WasReadRecheck F.failures F.may_leave F.asked first folder.new task.now) }
-    ensures same { IsTrue F.tells → F.contents folder.new ≡ F.contents folder.old }
+    ensures answered { (first : _) → Requests F.failures F.may_leave F.allowed no_change first folder.old
+        → AreInputsAnswered F.failures F.may_leave F.allowed first folder.old task.now observed.inputs.items
+        → AreOutputsAnswered F.failures F.may_leave F.allowed first folder.old task.now observed.outputs.items
+        → IfOk result (WasReadRecheck F.failures F.may_leave F.allowed first folder.new task.now) }
+    ensures same { IsTrue F.faithful → F.contents folder.new ≡ F.contents folder.old }
     // Where nobody else writes, the result is the earlier decision.
-    ensures as_before { IsTrue F.tells → (kinds : Kinds) (world : World)
+    ensures as_before { IsTrue F.faithful → (kinds : Kinds) (world : World)
         → world.folder ≡ outside (F.contents folder.old)
-        → AreInputsSeen task.now (F.contents folder.old).files seen.inputs.items
-        → AreOutputsSeen task.now (F.contents folder.old).files seen.outputs.items
+        → AreInputsObserved task.now (F.contents folder.old).files observed.inputs.items
+        → AreOutputsObserved task.now (F.contents folder.old).files observed.outputs.items
         → IsToGoOn kinds options task.now world last.now
         → IfOk result (IsAsBefore kinds options task.now (F.contents folder.old).files world) }
-    ensures err { IsTrue F.tells → AreInputsSeen task.now (F.contents folder.old).files seen.inputs.items
-        → AreOutputsSeen task.now (F.contents folder.old).files seen.outputs.items
+    ensures err { IsTrue F.faithful → AreInputsObserved task.now (F.contents folder.old).files observed.inputs.items
+        → AreOutputsObserved task.now (F.contents folder.old).files observed.outputs.items
         → IfErr result (IsOfMachine (F.failures folder.old) (F.failures folder.new)) }
 {
     outside_is_enough();
     prepared_is_case();
-    let Seen { inputs, outputs } = seen;
+    let Observed { inputs, outputs } = observed;
     let Inputs { trees, prints } = complete_inputs(alloc, folder, task, inputs)?;
     let Outputs {
-        seen,
-        prints: stood,
+        observed,
+        prints: existed,
     } = complete_outputs(alloc, folder, task, outputs)?;
-    let DecidedOn { decision, present } = decide_on(alloc, task, options, last, prints, stood)?;
-    let (prints, stood) = present.now.into_prints(alloc)?;
+    let DecidedOn { decision, present } = decide_on(alloc, task, options, last, prints, existed)?;
+    let (prints, existed) = present.now.into_prints(alloc)?;
     let inputs = Inputs { trees, prints };
     let outputs = Outputs {
-        seen,
-        prints: stood,
+        observed,
+        prints: existed,
     };
     Ok(recheck_by(decision, inputs, outputs))
 }

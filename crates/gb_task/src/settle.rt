@@ -1,7 +1,7 @@
 //! The part of a task's execution that is decided before anything is changed.
 ghost use Rattle.std.specs.Prelude.{◌≡◌, ◌||◌, false, IsTrue, option_copied};
 ghost use Rattle.std.specs.List.{list_any};
-ghost use Rattle.gb_folder.specs.Calls.{Asks, no_change};
+ghost use Rattle.gb_folder.specs.Calls.{Requests, no_change};
 ghost use Rattle.gb_folder.specs.Files.{is_empty, is_own};
 ghost use Rattle.gb_label.specs.Deciding.{HasNamesInOrder};
 ghost use Rattle.gb_meaning.specs.Kinds.{Kinds};
@@ -11,7 +11,7 @@ ghost use Rattle.gb_plan.specs.Graph.{Plan, needs_in};
 ghost use Rattle.gb_report.specs.Outcome.{is_executed};
 ghost use Rattle.gb_task.specs.Case.{IsKnown};
 ghost use Rattle.gb_task.specs.Current.{WasSettled};
-ghost use Rattle.gb_task.specs.Settled.{AnswersAlone, IsOfTask, SettlesExecution, TellsAnswer, idle_outcome};
+ghost use Rattle.gb_task.specs.Settled.{AnswersAlone, IsOfTask, SettlesExecution, ReportsAnswer, idle_outcome};
 ghost use Rattle.gb_task.specs.Settled.{settled_as, silent_report};
 ghost use Rattle.gb_task.specs.Executing.{Registering, setting_with};
 
@@ -23,7 +23,7 @@ use gb_core::text::Texts;
 use gb_folder::folder::Folder;
 use gb_history::decide::Decision;
 use gb_history::record::Record;
-use gb_label::prepare::{Prepared, Seen, prepare};
+use gb_label::prepare::{Prepared, Observed, prepare};
 use gb_plan::task::TaskDeclaration;
 use gb_report::fault::Fault;
 use gb_report::report::{Options, Outcome, TaskReport};
@@ -37,7 +37,7 @@ pub enum Settled {
     /// The task has no source.
     Sourceless(TaskPath),
     /// The task is to run, as was decided on what was read of it: incrementally or in full.
-    Due(TaskPath, Decision, Seen),
+    Due(TaskPath, Decision, Observed),
 }
 
 /// Decides how a started task is executed, and reports its outcome where nothing is to be done.
@@ -56,19 +56,19 @@ pub fn settle<F: Folder>(
     requires in_order { HasNamesInOrder task.now }
     requires not_own { list_any (λ output. is_own output.place) task.now.outputs ≡ false }
     requires path { path ≡ task.now.path }
-    ensures asks { Asks F.failures F.may_leave F.asked no_change folder.old folder.new }
+    ensures requests { Requests F.failures F.may_leave F.allowed no_change folder.old folder.new }
     // Over any folder: a report is of the task. A task that is skipped or has no actions is
     // reported as such. A task that has actions and runs is reported with no other outcome than
     // those possible for it.
     ensures of_task { IsOfTask task.now (F.failures folder.old) (F.failures folder.new) result }
     ensures alone { AnswersAlone task.now.runs (is_empty task.now.actions) has_executed_need result }
-    ensures answer { TellsAnswer options task.now result }
+    ensures answer { ReportsAnswer options task.now result }
     // And the decision is based on what calls returned.
-    ensures answered { WasSettled F.failures F.may_leave F.asked folder.old folder.new options task.now
+    ensures answered { WasSettled F.failures F.may_leave F.allowed folder.old folder.new options task.now
         (option_copied last.entry) result }
-    ensures same { IsTrue F.tells → F.contents folder.new ≡ F.contents folder.old }
+    ensures same { IsTrue F.faithful → F.contents folder.new ≡ F.contents folder.old }
     // A report is the result of the task's execution; a result without a report is the task's case.
-    ensures settled { IsTrue F.tells → (kinds : Kinds) (registry_of : Registering) (plan : Plan)
+    ensures settled { IsTrue F.faithful → (kinds : Kinds) (registry_of : Registering) (plan : Plan)
         (moment : Moment) → moment.world.folder ≡ outside (F.contents folder.old)
         → moment.failures ≡ F.failures folder.old
         → some_outcome is_executed moment (needs_in plan task.now) ≡ has_executed_need
@@ -105,7 +105,7 @@ fn settled_by(
             path,
             Outcome::UpToDate,
         ),
-        Ok(Prepared::Decided(decision, _, seen)) => Settled::Due(path, decision, seen),
+        Ok(Prepared::Decided(decision, _, observed)) => Settled::Due(path, decision, observed),
         Err(fault) => reported(alloc, task, path, Outcome::Failed(fault)),
     }
 }

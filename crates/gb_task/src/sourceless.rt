@@ -1,11 +1,11 @@
 //! The execution of a task without source.
 ghost use Rattle.std.specs.Prelude.{◌≡◌, [], ℕ, List, Some, false, not, IsTrue};
 ghost use Rattle.std.specs.List.{list_any};
-ghost use Rattle.gb_folder.specs.Calls.{Asks, Call, takes_at};
+ghost use Rattle.gb_folder.specs.Calls.{Requests, Call, takes_at};
 ghost use Rattle.gb_folder.specs.Device.{Leads};
 ghost use Rattle.gb_folder.specs.Files.{HasRisen, is_empty, is_own};
 ghost use Rattle.gb_history.specs.Places.{record_place};
-ghost use Rattle.gb_meaning.specs.Headline.{TearsAreSeen};
+ghost use Rattle.gb_meaning.specs.Headline.{TornWritesAreDetected};
 ghost use Rattle.gb_meaning.specs.Kinds.{Kinds};
 ghost use Rattle.gb_meaning.specs.Label.{HasNoSource, Moment, early_case};
 ghost use Rattle.gb_plan.specs.Graph.{Plan};
@@ -46,17 +46,17 @@ pub fn execute_without_source<F: Folder>(
     // Over any folder: it was cleared by these calls.
     ensures calls { (calls : List Call) × (ended : Ending) × Leads F.device folder.old calls folder.new
         × Clears task.now was_read calls [] ended × (result.outcome ≡ cleared_outcome ended) }
-    ensures asks { Asks F.failures F.may_leave F.asked (takes_at (is_of_execution task.now)) folder.old
+    ensures requests { Requests F.failures F.may_leave F.allowed (takes_at (is_of_execution task.now)) folder.old
         folder.new }
     ensures blame { (place : List ℕ) → result.outcome ≡ Failed (Fault.Device place)
         → HasRisen (F.failures folder.old) (F.failures folder.new) }
     ensures blamed { (place : List ℕ) → result.outcome ≡ Failed (Fault.Device place)
         → IsTrue (is_output_of task.now place) }
-    ensures changes { IsTrue F.tells
+    ensures changes { IsTrue F.faithful
         → ChangesOnly (is_of_execution task.now) (F.contents folder.old) (F.contents folder.new) }
     // Where the task has no source, this is its execution.
-    ensures execution { IsTrue F.tells → (kinds : Kinds) (registry_of : Registering) (options : Options)
-        (plan : Plan) (moment : Moment) → TearsAreSeen IsText record_place (F.may_leave folder.old)
+    ensures execution { IsTrue F.faithful → (kinds : Kinds) (registry_of : Registering) (options : Options)
+        (plan : Plan) (moment : Moment) → TornWritesAreDetected IsText record_place (F.may_leave folder.old)
         → BeginsAt task.now was_read (F.contents folder.old) (F.failures folder.old) moment
         → early_case task.now moment.world.folder ≡ Some HasNoSource
         → HasExecuted (setting_with kinds registry_of (F.may_leave folder.old)) options plan task.now moment

@@ -14,9 +14,9 @@ use Rattle.std.specs.List.{join_with_byte, list_all, list_any, onto_first}
 use Rattle.std.specs.Prelude.{bytes_eq, codes}
 use Rattle.gb_core.proofs.BySegments.{beneath-to_segments, segments-joined}
 use Rattle.gb_core.specs.Place.{is_beneath, is_under, segments}
-use Rattle.gb_tree.proofs.Fronts.{behind_first, is_plain, no_double, same_segment, segments_plain}
+use Rattle.gb_tree.proofs.Prefixes.{after_first, is_plain, no_double, same_segment, segments_plain}
 use Rattle.gb_tree.proofs.GoesOn.{unrolled}
-use Rattle.gb_tree.specs.Pattern.{ends_of, is_double_star, is_star, is_wild, matches_by, path_matches, segment_matches, stands_for, wild_matches}
+use Rattle.gb_tree.specs.Pattern.{ends_of, is_double_star, is_star, is_wild, matches_by, path_matches, segment_matches, represents, wild_matches}
 
 -- two tests that imply each other are one
 pub same_test : (a b : Bool) → (a ≡ true → b ≡ true) → (b ≡ true → a ≡ true) → a ≡ b
@@ -50,14 +50,14 @@ plain_row (segment ∷ plain) (text ∷ row) all matched =
     ap (λ t. t ∷ plain) (same_segment segment text parts.0 both.0) ∙ ap (λ r. text ∷ r) (plain_row plain row parts.1 both.1)
 
 -- plain items and more match what begins with them, if the rest matches
-plain_front : (plain rest row : List (List ℕ)) → list_all is_plain plain ≡ true → matches_by is_double_star segment_matches rest row ≡ true
+plain_prefix : (plain rest row : List (List ℕ)) → list_all is_plain plain ≡ true → matches_by is_double_star segment_matches rest row ≡ true
     → matches_by is_double_star segment_matches (plain ++ rest) (plain ++ row) ≡ true
-plain_front [] rest row all matched = matched
-plain_front (segment ∷ plain) rest row all matched =
+plain_prefix [] rest row all matched = matched
+plain_prefix (segment ∷ plain) rest row all matched =
     let parts = and_parts (is_plain segment) (list_all is_plain plain) all in
     one_plain segment (plain ++ rest) segment (plain ++ row) parts.0
     ∙ ap (λ b. b && matches_by is_double_star segment_matches (plain ++ rest) (plain ++ row)) (itself segment parts.0)
-    ∙ plain_front plain rest row parts.1 matched
+    ∙ plain_prefix plain rest row parts.1 matched
 
 with_none : {X : Type 0} (xs : List X) → xs ++ [] ≡ xs
 with_none [] = refl
@@ -71,7 +71,7 @@ plain_matches pattern path none =
     (λ same. let is = (bytes_decides pattern path).0 same in
     ap (path_matches pattern) (sym is)
     ∙ ap (λ parts. matches_by is_double_star segment_matches parts parts) (sym (with_none (segments pattern)))
-    ∙ plain_front (segments pattern) [] [] all refl)
+    ∙ plain_prefix (segments pattern) [] [] all refl)
     (λ matched. (bytes_decides pattern path).1
     (sym (join_with_byte-slice_split 47 pattern) ∙ ap (join_with_byte 47) (plain_row (segments pattern) (segments path) all matched) ∙ join_with_byte-slice_split 47 path))
 
@@ -90,12 +90,12 @@ all_under pattern folder path is none =
     λ more same.
     ap (λ parts. matches_by is_double_star segment_matches parts (segments path)) items
     ∙ ap (matches_by is_double_star segment_matches (segments folder ++ codes "**" ∷ [])) same
-    ∙ plain_front (segments folder) (codes "**" ∷ []) more (segments_plain folder none) (all_match more) in
+    ∙ plain_prefix (segments folder) (codes "**" ∷ []) more (segments_plain folder none) (all_match more) in
     same_test (is_under path folder) (path_matches pattern path)
     (λ under. by (bytes_eq path folder) (is_beneath path folder) under
     (λ same. matching [] (ap segments ((bytes_decides path folder).0 same) ∙ sym (with_none (segments folder))))
     (λ under. let parts = beneath-to_segments path folder under in matching (parts.0 ∷ parts.1) parts.2))
-    (λ matched. behind_first folder (codes "**") path none (ap (λ text. path_matches text path) (sym is) ∙ matched))
+    (λ matched. after_first folder (codes "**") path none (ap (λ text. path_matches text path) (sym is) ∙ matched))
   where
     by : {C : Type 0} (a b : Bool) → (a || b) ≡ true → (a ≡ true → C) → (b ≡ true → C) → C
     by true b h left right = left refl
@@ -103,8 +103,8 @@ all_under pattern folder path is none =
 
 -- ---- `**/` and one more item
 
-only_last : {P X : Type 0} (any : P → Bool) (fits : P → X → Bool) (p q : P) (front : List X) (x : X) → any p ≡ true → any q ≡ false
-    → matches_by any fits (p ∷ q ∷ []) (front ++ x ∷ []) ≡ fits q x
+only_last : {P X : Type 0} (any : P → Bool) (fits : P → X → Bool) (p q : P) (prefix : List X) (x : X) → any p ≡ true → any q ≡ false
+    → matches_by any fits (p ∷ q ∷ []) (prefix ++ x ∷ []) ≡ fits q x
 only_last any fits p q [] x is not_any =
     unrolled any fits p (q ∷ []) x [] is
     ∙ ap (λ b. cond b (list_any (matches_by any fits []) (ends_of (x ∷ []))) (fits q x && true) || (any p && (b && true))) not_any
@@ -114,10 +114,10 @@ only_last any fits p q [] x is not_any =
     end true b = refl
     end false true = refl
     end false false = refl
-only_last any fits p q (y ∷ front) x is not_any =
-    unrolled any fits p (q ∷ []) y (front ++ x ∷ []) is
-    ∙ ap (λ b. b || matches_by any fits (p ∷ q ∷ []) (front ++ x ∷ [])) (longer front)
-    ∙ only_last any fits p q front x is not_any
+only_last any fits p q (y ∷ prefix) x is not_any =
+    unrolled any fits p (q ∷ []) y (prefix ++ x ∷ []) is
+    ∙ ap (λ b. b || matches_by any fits (p ∷ q ∷ []) (prefix ++ x ∷ [])) (longer prefix)
+    ∙ only_last any fits p q prefix x is not_any
   where
     and_false : (a : Bool) → (a && false) ≡ false
     and_false true = refl
@@ -127,12 +127,12 @@ only_last any fits p q (y ∷ front) x is not_any =
     longer [] = ap (λ (b : Bool). cond b (list_any (matches_by any fits []) (ends_of (y ∷ x ∷ []))) (fits q y && false)) not_any ∙ and_false (fits q y)
     longer (z ∷ rest) = ap (λ (b : Bool). cond b (list_any (matches_by any fits []) (ends_of (y ∷ z ∷ rest ++ x ∷ []))) (fits q y && false)) not_any ∙ and_false (fits q y)
 
-pub last_matches : (pattern path item last : List ℕ) (front : List (List ℕ)) → segments pattern ≡ codes "**" ∷ item ∷ [] → is_double_star item ≡ false → segments path ≡ front ++ last ∷ []
+pub last_matches : (pattern path item last : List ℕ) (prefix : List (List ℕ)) → segments pattern ≡ codes "**" ∷ item ∷ [] → is_double_star item ≡ false → segments path ≡ prefix ++ last ∷ []
     → segment_matches item last ≡ path_matches pattern path
-last_matches pattern path item last front items single ends =
+last_matches pattern path item last prefix items single ends =
     sym (ap (λ parts. matches_by is_double_star segment_matches parts (segments path)) items
     ∙ ap (matches_by is_double_star segment_matches (codes "**" ∷ item ∷ [])) ends
-    ∙ only_last is_double_star segment_matches (codes "**") item front last refl single)
+    ∙ only_last is_double_star segment_matches (codes "**") item prefix last refl single)
 
 -- a text without slashes is its own segment
 one_segment : (text : List ℕ) → list_any (λ b. eqb b 47) text ≡ false → segments text ≡ text ∷ []
@@ -146,27 +146,27 @@ no_slash text none =
     slice_split_none (λ b. eqb b 47) text (λ k d below. ne_eqb (get_or text k d) 47 (λ is. NoCharPasses-char 47 text k none (omega arith) below (get_or_default text k 0 d below ∙ is)))
 
 -- the text around a slash
-around : (text front back : List ℕ) (i j : ℕ) → HasCharAt 47 text i j → front ≡ take i text → back ≡ drop j text → text ≡ front ++ 47 ∷ back
-around text front back i j at is_front is_back =
+around : (text prefix back : List ℕ) (i j : ℕ) → HasCharAt 47 text i j → prefix ≡ take i text → back ≡ drop j text → text ≡ prefix ++ 47 ∷ back
+around text prefix back i j at is_prefix is_back =
     sym (take-append-drop i text)
     ∙ ap (λ more. take i text ++ more) (drop_at_char 47 text i j at (omega arith))
-    ∙ ap (λ xs. xs ++ 47 ∷ drop j text) (sym is_front)
-    ∙ ap (λ xs. front ++ 47 ∷ xs) (sym is_back)
+    ∙ ap (λ xs. xs ++ 47 ∷ drop j text) (sym is_prefix)
+    ∙ ap (λ xs. prefix ++ 47 ∷ xs) (sym is_back)
 
-pub after_last_slash : (path front back : List ℕ) → SplitsAroundMatch (RFindsChar 47) path front back → (first : List (List ℕ)) × (segments path ≡ first ++ back ∷ [])
-after_last_slash path front back (i, j, finds, at_front, at_back, order, long_front, long_back) =
+pub after_last_slash : (path prefix back : List ℕ) → SplitsAroundMatch (RFindsChar 47) path prefix back → (first : List (List ℕ)) × (segments path ≡ first ++ back ∷ [])
+after_last_slash path prefix back (i, j, finds, at_prefix, at_back, order, long_prefix, long_back) =
     let none : NoCharPasses (λ d. eqb d 47) back = subst (NoCharPasses (λ d. eqb d 47)) (sym at_back) finds.0 in (
-      segments front,
-      ap segments (around path front back i j finds.1 at_front at_back)
-          ∙ segments-joined front back
-          ∙ ap (λ parts. segments front ++ parts) (no_slash back none),
+      segments prefix,
+      ap segments (around path prefix back i j finds.1 at_prefix at_back)
+          ∙ segments-joined prefix back
+          ∙ ap (λ parts. segments prefix ++ parts) (no_slash back none),
     )
 
 pub two_items : (pattern first item : List ℕ) → is_double_star first ≡ true → (not (list_any (λ b. eqb b 47) item) && not (is_double_star item)) ≡ true → SplitsAroundMatch (FindsChar 47) pattern first item
     → segments pattern ≡ codes "**" ∷ item ∷ []
-two_items pattern first item is single (i, j, finds, at_front, at_back, order, long_front, long_back) =
+two_items pattern first item is single (i, j, finds, at_prefix, at_back, order, long_prefix, long_back) =
     let parts = and_parts (not (list_any (λ b. eqb b 47) item)) (not (is_double_star item)) single in
-    ap segments (around pattern first item i j finds.1 at_front at_back)
+    ap segments (around pattern first item i j finds.1 at_prefix at_back)
     ∙ segments-joined first item
     ∙ ap (λ xs. segments xs ++ segments item) ((bytes_decides first (codes "**")).0 is)
     ∙ ap (λ rest. codes "**" ∷ rest) (one_segment item (not-true (list_any (λ b. eqb b 47) item) parts.0))
@@ -183,9 +183,9 @@ tame_character c rest none = by (eqb c 42) (eqb c 63) refl refl
     by false true _ is = absurd (false≢true (sym none ∙ ap (λ d. list_any is_wild (encode d ++ rest)) (eqb-true c 63 is)))
     by false false _ _ = refl
 
-tame_after : (front rest : List ℕ) → list_any is_wild (front ++ rest) ≡ false → list_any is_wild rest ≡ false
+tame_after : (prefix rest : List ℕ) → list_any is_wild (prefix ++ rest) ≡ false → list_any is_wild rest ≡ false
 tame_after [] rest none = none
-tame_after (b ∷ front) rest none = tame_after front rest (or_parts (is_wild b) (list_any is_wild (front ++ rest)) none).1
+tame_after (b ∷ prefix) rest none = tame_after prefix rest (or_parts (is_wild b) (list_any is_wild (prefix ++ rest)) none).1
 
 tame : (cs : List ℕ) → list_any is_wild (encodes cs) ≡ false → list_any is_wild cs ≡ false
 tame [] none = refl
@@ -193,46 +193,46 @@ tame (c ∷ cs) none =
     ap (λ b. b || list_any is_wild cs) (tame_character c (encodes cs) none) ∙ tame cs (tame_after (encode c) (encodes cs) none)
 
 -- characters without wildcards match those that are equal to them
-fixed : (ps cs : List ℕ) → list_any is_wild ps ≡ false → matches_by is_star stands_for ps cs ≡ true → ps ≡ cs
+fixed : (ps cs : List ℕ) → list_any is_wild ps ≡ false → matches_by is_star represents ps cs ≡ true → ps ≡ cs
 fixed [] [] none matched = refl
 fixed [] (c ∷ cs) none matched = absurd (false≢true matched)
 fixed (p ∷ ps) [] none matched =
     let parts = or_parts (is_wild p) (list_any is_wild ps) none in
-    absurd (false≢true (sym (ap (λ b. b && matches_by is_star stands_for ps []) (or_parts (eqb p 42) (eqb p 63) parts.0).0) ∙ matched))
+    absurd (false≢true (sym (ap (λ b. b && matches_by is_star represents ps []) (or_parts (eqb p 42) (eqb p 63) parts.0).0) ∙ matched))
 fixed (p ∷ ps) (c ∷ cs) none matched =
     let parts = or_parts (is_wild p) (list_any is_wild ps) none in
     let signs = or_parts (eqb p 42) (eqb p 63) parts.0 in
-    let both = and_parts (eqb p 63 || eqb p c) _ (sym (ap (λ (b : Bool). cond b (list_any (matches_by is_star stands_for ps) (ends_of (c ∷ cs))) ((eqb p 63 || eqb p c) && matches_by is_star stands_for ps cs)) signs.0) ∙ matched) in
+    let both = and_parts (eqb p 63 || eqb p c) _ (sym (ap (λ (b : Bool). cond b (list_any (matches_by is_star represents ps) (ends_of (c ∷ cs))) ((eqb p 63 || eqb p c) && matches_by is_star represents ps cs)) signs.0) ∙ matched) in
     ap (λ d. d ∷ ps) (eqb-true p c (sym (ap (λ b. b || eqb p c) signs.1) ∙ both.0)) ∙ ap (λ rest. c ∷ rest) (fixed ps cs parts.1 both.1)
 
-fits_itself : (ps : List ℕ) → list_any is_wild ps ≡ false → matches_by is_star stands_for ps ps ≡ true
+fits_itself : (ps : List ℕ) → list_any is_wild ps ≡ false → matches_by is_star represents ps ps ≡ true
 fits_itself [] none = refl
 fits_itself (p ∷ ps) none =
     let parts = or_parts (is_wild p) (list_any is_wild ps) none in
     let signs = or_parts (eqb p 42) (eqb p 63) parts.0 in
-    ap (λ (b : Bool). cond b (list_any (matches_by is_star stands_for ps) (ends_of (p ∷ ps))) ((eqb p 63 || eqb p p) && matches_by is_star stands_for ps ps)) signs.0
-    ∙ ap (λ b. (eqb p 63 || b) && matches_by is_star stands_for ps ps) (eq-eqb p p refl)
-    ∙ ap (λ b. (b || true) && matches_by is_star stands_for ps ps) signs.1
+    ap (λ (b : Bool). cond b (list_any (matches_by is_star represents ps) (ends_of (p ∷ ps))) ((eqb p 63 || eqb p p) && matches_by is_star represents ps ps)) signs.0
+    ∙ ap (λ b. (eqb p 63 || b) && matches_by is_star represents ps ps) (eq-eqb p p refl)
+    ∙ ap (λ b. (b || true) && matches_by is_star represents ps ps) signs.1
     ∙ fits_itself ps parts.1
 
 -- a star and more match what ends with characters that the rest matches
 abbrev Ends : List ℕ → List ℕ → Type 0
-Ends ps cs = (front : List ℕ) × (back : List ℕ) × (cs ≡ front ++ back) × (matches_by is_star stands_for ps back ≡ true)
+Ends ps cs = (prefix : List ℕ) × (back : List ℕ) × (cs ≡ prefix ++ back) × (matches_by is_star represents ps back ≡ true)
 
-star_next : (ps : List ℕ) (c : ℕ) (cs : List ℕ) (b : Bool) → matches_by is_star stands_for ps (c ∷ cs) ≡ b → (b || matches_by is_star stands_for (42 ∷ ps) cs) ≡ true
-    → (matches_by is_star stands_for (42 ∷ ps) cs ≡ true → Ends ps cs) → Ends ps (c ∷ cs)
+star_next : (ps : List ℕ) (c : ℕ) (cs : List ℕ) (b : Bool) → matches_by is_star represents ps (c ∷ cs) ≡ b → (b || matches_by is_star represents (42 ∷ ps) cs) ≡ true
+    → (matches_by is_star represents (42 ∷ ps) cs ≡ true → Ends ps cs) → Ends ps (c ∷ cs)
 star_next ps c cs true is _ _ = ([], c ∷ cs, refl, is)
 star_next ps c cs false is later more = let found = more later in (c ∷ found.0, found.1, ap (λ xs. c ∷ xs) found.2, found.3)
 
-star_to : (ps cs : List ℕ) → matches_by is_star stands_for (42 ∷ ps) cs ≡ true → Ends ps cs
+star_to : (ps cs : List ℕ) → matches_by is_star represents (42 ∷ ps) cs ≡ true → Ends ps cs
 star_to ps [] matched = ([], [], refl, matched)
-star_to ps (c ∷ cs) matched = star_next ps c cs (matches_by is_star stands_for ps (c ∷ cs)) refl (sym (unrolled is_star stands_for 42 ps c cs refl) ∙ matched) (star_to ps cs)
+star_to ps (c ∷ cs) matched = star_next ps c cs (matches_by is_star represents ps (c ∷ cs)) refl (sym (unrolled is_star represents 42 ps c cs refl) ∙ matched) (star_to ps cs)
 
-star_from : (ps front back : List ℕ) → matches_by is_star stands_for ps back ≡ true → matches_by is_star stands_for (42 ∷ ps) (front ++ back) ≡ true
+star_from : (ps prefix back : List ℕ) → matches_by is_star represents ps back ≡ true → matches_by is_star represents (42 ∷ ps) (prefix ++ back) ≡ true
 star_from ps [] [] matched = matched
-star_from ps [] (c ∷ back) matched = unrolled is_star stands_for 42 ps c back refl ∙ ap (λ b. b || matches_by is_star stands_for (42 ∷ ps) back) matched
-star_from ps (c ∷ front) back matched =
-    unrolled is_star stands_for 42 ps c (front ++ back) refl ∙ ap (λ b. matches_by is_star stands_for ps (c ∷ front ++ back) || b) (star_from ps front back matched) ∙ or_true _
+star_from ps [] (c ∷ back) matched = unrolled is_star represents 42 ps c back refl ∙ ap (λ b. b || matches_by is_star represents (42 ∷ ps) back) matched
+star_from ps (c ∷ prefix) back matched =
+    unrolled is_star represents 42 ps c (prefix ++ back) refl ∙ ap (λ b. matches_by is_star represents ps (c ∷ prefix ++ back) || b) (star_from ps prefix back matched) ∙ or_true _
   where
     or_true : (a : Bool) → (a || true) ≡ true
     or_true true = refl
@@ -253,22 +253,22 @@ ends_match result pattern end text good_pattern good_text wild is none finds =
     let no_sign : list_any is_wild (chars end) ≡ false = tame (chars end) (ap (list_any is_wild) (encodes-chars end good_end) ∙ none) in
     let pattern_is : chars pattern ≡ 42 ∷ chars end = ap chars is ∙ star_utf8 end good_end in
     by good_end result finds no_sign
-    ∙ sym (ap (λ ps. matches_by is_star stands_for ps (chars text)) pattern_is)
+    ∙ sym (ap (λ ps. matches_by is_star represents ps (chars text)) pattern_is)
     ∙ sym (ap (λ b. cond b (wild_matches pattern text) (bytes_eq pattern text)) wild)
   where
-    by : IsUtf8 end → (b : Bool) → MatchBool b (HasSuffixMatch (FindsTextSuffix end) text) (FindsTextSuffix end text None) → list_any is_wild (chars end) ≡ false → b ≡ matches_by is_star stands_for (42 ∷ chars end) (chars text)
+    by : IsUtf8 end → (b : Bool) → MatchBool b (HasSuffixMatch (FindsTextSuffix end) text) (FindsTextSuffix end text None) → list_any is_wild (chars end) ≡ false → b ≡ matches_by is_star represents (42 ∷ chars end) (chars text)
     by good_end true (n, (count, whole, boundary), within, cut) no_sign =
-        let front = take (length text - n) text in
-        let good_front : IsUtf8 front = IsUtf8-take text (length text - n) good_text cut in
-        sym (ap (matches_by is_star stands_for (42 ∷ chars end)) (ap chars whole ∙ chars-append front end good_front)
-        ∙ star_from (chars end) (chars front) (chars end) (fits_itself (chars end) no_sign))
-    by good_end false lacks no_sign = no (matches_by is_star stands_for (42 ∷ chars end) (chars text)) (ends_so lacks no_sign)
+        let prefix = take (length text - n) text in
+        let good_prefix : IsUtf8 prefix = IsUtf8-take text (length text - n) good_text cut in
+        sym (ap (matches_by is_star represents (42 ∷ chars end)) (ap chars whole ∙ chars-append prefix end good_prefix)
+        ∙ star_from (chars end) (chars prefix) (chars end) (fits_itself (chars end) no_sign))
+    by good_end false lacks no_sign = no (matches_by is_star represents (42 ∷ chars end) (chars text)) (ends_so lacks no_sign)
       where
         no : (b : Bool) → (b ≡ true → ⊥) → false ≡ b
         no true h = absurd (h refl)
         no false h = refl
 
-        ends_so : ((front : List ℕ) → text ≢ front ++ end) → list_any is_wild (chars end) ≡ false → matches_by is_star stands_for (42 ∷ chars end) (chars text) ≡ true → ⊥
+        ends_so : ((prefix : List ℕ) → text ≢ prefix ++ end) → list_any is_wild (chars end) ≡ false → matches_by is_star represents (42 ∷ chars end) (chars text) ≡ true → ⊥
         ends_so lacks no_sign matched =
             let found = star_to (chars end) (chars text) matched in
             let back : chars end ≡ found.1 = fixed (chars end) found.1 no_sign found.3 in

@@ -13,7 +13,7 @@ use Rattle.gb_core.specs.Lists.{byte_order}
 use Rattle.gb_action.specs.Files.{Tree, file_at}
 use Rattle.gb_action.specs.declared.change.Change.{Change}
 use Rattle.gb_action.specs.declared.change.Change.TheVariants.{Modified}
-use Rattle.gb_tree.specs.Prints.{AreApart, digests_of}
+use Rattle.gb_tree.specs.Prints.{AreCollisionFree, digests_of}
 use Rattle.sha2.specs.Sha256.{sha256}
 
 put_digest : (k v : List ℕ) (es : Tree) → digests_of (put byte_order k v es) ≡ put byte_order k (sha256 v) (digests_of es)
@@ -56,14 +56,14 @@ flat_digests f g [] same = refl
 flat_digests f g (e ∷ es) same = ap (λ c. c ++ flat_map (λ d. f d.0) (digests_of es)) (same e.0) ∙ ap (λ cs. g e.0 ++ cs) (flat_digests f g es same)
 
 -- digests show the changes of the contents, where contents that differ have digests that differ
-pub same_changes : (old new : Tree) → AreApart old new → changes_between (digests_of old) (digests_of new) ≡ changes_between old new
-same_changes old new apart =
+pub same_changes : (old new : Tree) → AreCollisionFree old new → changes_between (digests_of old) (digests_of new) ≡ changes_between old new
+same_changes old new separate =
     ap (flat_map (λ e. change_at e.0 (file_at (digests_of old) e.0) (file_at (digests_of new) e.0))) (ap in_order (sym (digests_append old new)) ∙ sym (in_order_digests (old ++ new)))
     ∙ flat_digests (λ path. change_at path (file_at (digests_of old) path) (file_at (digests_of new) path)) (λ path. change_at path (file_at old path) (file_at new path)) (in_order (old ++ new))
     (λ path.
     ap (λ o. change_at path o (file_at (digests_of new) path)) (file_at_digests old path)
     ∙ ap (λ o. change_at path (option_map sha256 (file_at old path)) o) (file_at_digests new path)
-    ∙ same_change path (file_at old path) (file_at new path) (apart path))
+    ∙ same_change path (file_at old path) (file_at new path) (separate path))
 
 below_digests : (k : List ℕ) (es : Tree) → below_all byte_order k (digests_of es) ≡ below_all byte_order k es
 below_digests k [] = refl

@@ -195,8 +195,8 @@ pub not_again : (path : List ℕ) (entries : Entries) → IsRising entries → I
     → filter (λ other. is_under other path) (paths_of entries) ≡ filter (λ other. is_beneath other path) (paths_of entries)
 not_again path [] rising from other = refl
 not_again path (entry ∷ entries) rising from other =
-    let apart = other entry refl in
-    none_same path (entry ∷ entries) (apart, all_other path entry.0 entries (strictly path entry.0 from.0 apart) rising.0)
+    let separate = other entry refl in
+    none_same path (entry ∷ entries) (separate, all_other path entry.0 entries (strictly path entry.0 from.0 separate) rising.0)
 
 pub again : (path : List ℕ) (entries : Entries) (entry : Entry) → slice_get entries 0 ≡ Some entry → bytes_eq entry.0 path ≡ true → first_of (filter (λ other. is_under other path) (paths_of entries)) ≡ Some entry.0
 again path [] entry is same = absurd (cc)
@@ -232,13 +232,13 @@ none_under path (entry ∷ entries) none from = by (bytes_eq entry.0 path) (is_b
     by false true is more none = absurd (cc)
     by false false is more none = ap (λ o. is_lt o && below_all byte_order path entries) (strictly path entry.0 from.0 is) ∙ more none
 
-front_none : {X : Type 0} (xs ys : List X) → xs ++ ys ≡ [] → (xs ≡ []) × (ys ≡ [])
-front_none [] ys none = (refl, none)
-front_none (x ∷ xs) ys none = absurd (cc)
+prefix_none : {X : Type 0} (xs ys : List X) → xs ++ ys ≡ [] → (xs ≡ []) × (ys ≡ [])
+prefix_none [] ys none = (refl, none)
+prefix_none (x ∷ xs) ys none = absurd (cc)
 
 -- where no path occurs again and none lies under another, the paths are strictly ascending
 pub strictly_sorted : (entries : Entries) → IsRising entries → doubled (paths_of entries) ≡ [] → is_sorted byte_order entries ≡ true
 strictly_sorted [] rising none = refl
 strictly_sorted (entry ∷ entries) rising none =
-    let parts = front_none (filter (λ other. is_under other entry.0) (paths_of entries)) (doubled (paths_of entries)) none in
+    let parts = prefix_none (filter (λ other. is_under other entry.0) (paths_of entries)) (doubled (paths_of entries)) none in
     ap (λ b. b && is_sorted byte_order entries) (none_under entry.0 entries parts.0 rising.0) ∙ strictly_sorted entries rising.1 parts.1

@@ -15,34 +15,34 @@ use Rattle.gb_tree.specs.Tree.{Entries}
 use Rattle.gb_tree.specs.Property.{distinct, entries_in, entries_of, found, held, is_in, is_under_any, path_of, places_of}
 use Rattle.gb_tree.specs.declared.property.Naming.{Naming}
 use Rattle.gb_tree.proofs.Holding.{all_append, all_take, all_wider, at_places}
-use Rattle.gb_tree.proofs.InOrder.{all_filter, listed_stand}
+use Rattle.gb_tree.proofs.InOrder.{all_filter, listed_exist}
 use Rattle.gb_tree.proofs.Loops.{with_none}
 use Rattle.gb_tree.proofs.Outermost.{under_under}
 use Rattle.gb_tree.proofs.Sorting.{all_in_order}
-use Rattle.gb_tree.proofs.Reported.{Stand, with_paths}
+use Rattle.gb_tree.proofs.Reported.{Exist, with_paths}
 
 -- ---- Each place once
 
 abbrev others : Place → List Place → List Place
 others place places = filter (λ other. not (bytes_eq place other)) places
 
-abbrev stands_in : Place → List Place → Bool
-stands_in place places = list_any (λ other. bytes_eq other place) places
+abbrev exists_in : Place → List Place → Bool
+exists_in place places = list_any (λ other. bytes_eq other place) places
 
-still_in : (x y : Place) (places : List Place) → bytes_eq y x ≡ false → stands_in x (others y places) ≡ stands_in x places
-still_in x y [] apart = refl
-still_in x y (z ∷ places) apart = elim (bytes_eq y z) as (λ b. bytes_eq y z ≡ b → stands_in x (cond (not b) (z ∷ others y places) (others y places)) ≡ (bytes_eq z x || stands_in x places)) [
-  | true ↦ λ is. still_in x y places apart ∙ ap (λ b. b || stands_in x places) (sym (ap (λ w. bytes_eq w x) (sym ((bytes_decides y z).0 is)) ∙ apart))
-  | false ↦ λ is. ap (λ b. bytes_eq z x || b) (still_in x y places apart)
+still_in : (x y : Place) (places : List Place) → bytes_eq y x ≡ false → exists_in x (others y places) ≡ exists_in x places
+still_in x y [] separate = refl
+still_in x y (z ∷ places) separate = elim (bytes_eq y z) as (λ b. bytes_eq y z ≡ b → exists_in x (cond (not b) (z ∷ others y places) (others y places)) ≡ (bytes_eq z x || exists_in x places)) [
+  | true ↦ λ is. still_in x y places separate ∙ ap (λ b. b || exists_in x places) (sym (ap (λ w. bytes_eq w x) (sym ((bytes_decides y z).0 is)) ∙ separate))
+  | false ↦ λ is. ap (λ b. bytes_eq z x || b) (still_in x y places separate)
 ] refl
 
-pub distinct_more : (places : List Place) (x : Place) → distinct (places ++ x ∷ []) ≡ cond (stands_in x (distinct places)) (distinct places) (distinct places ++ x ∷ [])
+pub distinct_more : (places : List Place) (x : Place) → distinct (places ++ x ∷ []) ≡ cond (exists_in x (distinct places)) (distinct places) (distinct places ++ x ∷ [])
 distinct_more [] x = refl
 distinct_more (y ∷ places) x =
-    ap (λ ps. y ∷ others y ps) (distinct_more places x) ∙ by (bytes_eq y x) (stands_in x (distinct places)) refl refl
+    ap (λ ps. y ∷ others y ps) (distinct_more places x) ∙ by (bytes_eq y x) (exists_in x (distinct places)) refl refl
   where
-    by : (same within : Bool) → bytes_eq y x ≡ same → stands_in x (distinct places) ≡ within
-        → y ∷ others y (cond within (distinct places) (distinct places ++ x ∷ [])) ≡ cond (same || stands_in x (others y (distinct places))) (y ∷ others y (distinct places)) (y ∷ others y (distinct places) ++ x ∷ [])
+    by : (same within : Bool) → bytes_eq y x ≡ same → exists_in x (distinct places) ≡ within
+        → y ∷ others y (cond within (distinct places) (distinct places ++ x ∷ [])) ≡ cond (same || exists_in x (others y (distinct places))) (y ∷ others y (distinct places)) (y ∷ others y (distinct places) ++ x ∷ [])
     by true true is has = refl
     by true false is has =
         ap (λ ps. y ∷ ps) (filter-append (λ other. not (bytes_eq y other)) (distinct places) (x ∷ [])
@@ -54,10 +54,10 @@ distinct_more (y ∷ places) x =
         ∙ sym (ap (λ b. cond b (y ∷ others y (distinct places)) (y ∷ others y (distinct places) ++ x ∷ [])) (still_in x y (distinct places) is ∙ has))
 
 -- the first occurrence is kept
-pub distinct_next : (places : List Place) (x : Place) (added : Bool) → added ≡ not (stands_in x (distinct places)) → distinct (places ++ x ∷ []) ≡ cond added (distinct places ++ x ∷ []) (distinct places)
+pub distinct_next : (places : List Place) (x : Place) (added : Bool) → added ≡ not (exists_in x (distinct places)) → distinct (places ++ x ∷ []) ≡ cond added (distinct places ++ x ∷ []) (distinct places)
 distinct_next places x added is =
     distinct_more places x
-    ∙ turned (stands_in x (distinct places)) (distinct places) (distinct places ++ x ∷ [])
+    ∙ turned (exists_in x (distinct places)) (distinct places) (distinct places ++ x ∷ [])
     ∙ ap (λ b. cond b (distinct places ++ x ∷ []) (distinct places)) (sym is)
   where
     turned : (b : Bool) (kept more : List Place) → cond b kept more ≡ cond (not b) more kept
@@ -65,15 +65,15 @@ distinct_next places x added is =
     turned false kept more = refl
 
 -- a set that has what is kept adds the next
-pub met_next : (places : List Place) (x other : Place) (before after : Bool) → before ≡ stands_in other (distinct places) → after ≡ cond (eq_by_cmp byte_order x other) true before
-    → after ≡ stands_in other (distinct (places ++ x ∷ []))
+pub met_next : (places : List Place) (x other : Place) (before after : Bool) → before ≡ exists_in other (distinct places) → after ≡ cond (eq_by_cmp byte_order x other) true before
+    → after ≡ exists_in other (distinct (places ++ x ∷ []))
 met_next places x other before after had now =
     now
     ∙ ap (λ b. cond b true before) (is_eq-slice_cmp x other)
     ∙ either (bytes_eq x other) before
     ∙ ap (λ b. b || bytes_eq x other) had
-    ∙ by (stands_in x (distinct places)) refl
-    ∙ sym (ap (stands_in other) (distinct_more places x))
+    ∙ by (exists_in x (distinct places)) refl
+    ∙ sym (ap (exists_in other) (distinct_more places x))
   where
     either : (b before : Bool) → cond b true before ≡ (before || b)
     either true true = refl
@@ -85,16 +85,16 @@ met_next places x other before after had now =
     none_more true = refl
     none_more false = refl
 
-    still : (b : Bool) → bytes_eq x other ≡ b → stands_in x (distinct places) ≡ true → (stands_in other (distinct places) || b) ≡ stands_in other (distinct places)
+    still : (b : Bool) → bytes_eq x other ≡ b → exists_in x (distinct places) ≡ true → (exists_in other (distinct places) || b) ≡ exists_in other (distinct places)
     still true same has =
-        let here : stands_in other (distinct places) ≡ true = sym (ap (λ place. stands_in place (distinct places)) ((bytes_decides x other).0 same)) ∙ has in
+        let here : exists_in other (distinct places) ≡ true = sym (ap (λ place. exists_in place (distinct places)) ((bytes_decides x other).0 same)) ∙ has in
         ap (λ b. b || true) here ∙ sym here
-    still false apart has = none_more (stands_in other (distinct places))
+    still false separate has = none_more (exists_in other (distinct places))
 
-    by : (b : Bool) → stands_in x (distinct places) ≡ b → (stands_in other (distinct places) || bytes_eq x other) ≡ stands_in other (cond b (distinct places) (distinct places ++ x ∷ []))
+    by : (b : Bool) → exists_in x (distinct places) ≡ b → (exists_in other (distinct places) || bytes_eq x other) ≡ exists_in other (cond b (distinct places) (distinct places ++ x ∷ []))
     by true has = still (bytes_eq x other) refl has
     by false has =
-        ap (λ b. stands_in other (distinct places) || b) (sym (none_more (bytes_eq x other)))
+        ap (λ b. exists_in other (distinct places) || b) (sym (none_more (bytes_eq x other)))
         ∙ sym (list_any-append (λ place. bytes_eq place other) (distinct places) (x ∷ []))
 
 any_way : (a b : Bool) → IsTrue b → IsTrue (a || b)
@@ -129,15 +129,15 @@ distinct_under (place ∷ places) at h =
 
 -- ---- Each of the files exists
 
-found_each : (naming : Naming) (include exclude : List (List ℕ)) (files : Files) (roots : List Place) → Stand files (found naming include exclude files roots)
+found_each : (naming : Naming) (include exclude : List (List ℕ)) (files : Files) (roots : List Place) → Exist files (found naming include exclude files roots)
 found_each naming include exclude files [] = tt
 found_each naming include exclude files (root ∷ roots) =
     all_append (λ entry. IsSome (file_at files entry.1)) (entries_in naming include exclude root (places_under files root)) (found naming include exclude files roots)
-    (with_paths files (path_of naming root) (filter (is_in include exclude root) (places_under files root)) (all_filter (λ at. IsSome (file_at files at)) (is_in include exclude root) (places_under files root) (listed_stand files root)))
+    (with_paths files (path_of naming root) (filter (is_in include exclude root) (places_under files root)) (all_filter (λ at. IsSome (file_at files at)) (is_in include exclude root) (places_under files root) (listed_exist files root)))
     (found_each naming include exclude files roots)
 
-pub found_stand : (naming : Naming) (roots : List Place) (include exclude : List (List ℕ)) (files : Files) → Stand files (entries_of naming roots include exclude files)
-found_stand naming roots include exclude files =
+pub found_exist : (naming : Naming) (roots : List Place) (include exclude : List (List ℕ)) (files : Files) → Exist files (entries_of naming roots include exclude files)
+found_exist naming roots include exclude files =
     all_in_order (λ entry. IsSome (file_at files entry.1)) (found naming include exclude files (distinct roots)) (found_each naming include exclude files (distinct roots))
 
 -- what is taken in from one start lies under it

@@ -89,7 +89,7 @@ goes_on-start any fits [] (p ∷ ps) en t none fit = absurd (omega (arith, fit))
 goes_on-start any fits (s ∷ states) (p ∷ ps) en t none fit =
     let whole = matches_by any fits (p ∷ ps) t in
     let tail = matches_by any fits ps t in
-    subst (λ (stood : Bool). ((en || (any p && (stood || false))) && whole || goes_on any fits (pass any (λ q. false) (cond (any p) (en || (any p && (stood || false))) ((stood || false) && false)) (any p && (stood || false)) states ps).0 ps (pass any (λ q. false) (cond (any p) (en || (any p && (stood || false))) ((stood || false) && false)) (any p && (stood || false)) states ps).1 t) ≡ (en && whole)) (sym none.0)
+    subst (λ (existed : Bool). ((en || (any p && (existed || false))) && whole || goes_on any fits (pass any (λ q. false) (cond (any p) (en || (any p && (existed || false))) ((existed || false) && false)) (any p && (existed || false)) states ps).0 ps (pass any (λ q. false) (cond (any p) (en || (any p && (existed || false))) ((existed || false) && false)) (any p && (existed || false)) states ps).1 t) ≡ (en && whole)) (sym none.0)
     (elim (any p) as (λ b. any p ≡ b →
     ((en || (b && false)) && whole || goes_on any fits (pass any (λ q. false) (cond b (en || (b && false)) false) (b && false) states ps).0 ps (pass any (λ q. false) (cond b (en || (b && false)) false) (b && false) states ps).1 t) ≡ (en && whole)) [
       | true ↦ λ is.
@@ -128,8 +128,8 @@ goes_on-end any fits good (s ∷ states) (p ∷ ps) en op fit =
     let entered = cond (any p) (en || (any p && here)) (here && good p) in
     let after = pass any good entered (any p && here) states ps in
     ap (λ r. ((en || (any p && here)) && (any p && matches_by any fits ps [])) || r) (goes_on-end any fits good states ps entered (any p && here) (omega (arith, fit)))
-    ∙ implied _ after.1 (λ stands.
-    let parts = three (en || (any p && here)) (any p) (matches_by any fits ps []) stands in
+    ∙ implied _ after.1 (λ exists.
+    let parts = three (en || (any p && here)) (any p) (matches_by any fits ps []) exists in
     ended_too any fits good states ps entered (any p && here) (omega (arith, fit)) (ap (λ b. cond b (en || (any p && here)) (here && good p)) parts.1 ∙ parts.0) parts.2)
   where
     implied : (a b : Bool) → (a ≡ true → b ≡ true) → (a || b) ≡ b
@@ -147,7 +147,7 @@ not_ended : {P X : Type 0} (any : P → Bool) (fits : P → X → Bool) (states 
 not_ended any fits states [] true x t = refl
 not_ended any fits states [] false x t = refl
 not_ended any fits [] (p ∷ ps) ended x t = refl
-not_ended any fits (stands ∷ states) (p ∷ ps) ended x t = ap (λ b. (stands && matches_by any fits (p ∷ ps) (x ∷ t)) || b) (not_ended any fits states ps ended x t)
+not_ended any fits (exists ∷ states) (p ∷ ps) ended x t = ap (λ b. (exists && matches_by any fits (p ∷ ps) (x ∷ t)) || b) (not_ended any fits states ps ended x t)
 
 -- one step of a loop over what is read
 pub read_on : {P X : Type 0} (any : P → Bool) (fits : P → X → Bool) (states : List Bool) (ps : List P) (ended : Bool) (xs : List X) (i : ℕ) (x : X) → length ps ≤ length states → i < length xs → x ≡ get_or xs i x
@@ -157,12 +157,12 @@ read_on any fits states ps ended xs i x fit within is =
     ∙ sym (at_drop_more (goes_on any fits states ps ended) xs i x within ∙ ap (λ y. goes_on any fits states ps ended (y ∷ drop (i + 1) xs)) (sym is) ∙ not_ended any fits states ps ended x (drop (i + 1) xs))
 
 -- one step of a loop over a pattern
-pub pass_on : {P : Type 0} (any good : P → Bool) (en op : Bool) (states : List Bool) (ps : List P) (i : ℕ) (p : P) (f stands en_next op_next : Bool) → i < length states → i < length ps → p ≡ get_or ps i p
-    → ((get_or states i false || op) && f) ≡ ((get_or states i false || op) && good p) → stands ≡ (en || (any p && (get_or states i false || op)))
+pub pass_on : {P : Type 0} (any good : P → Bool) (en op : Bool) (states : List Bool) (ps : List P) (i : ℕ) (p : P) (f exists en_next op_next : Bool) → i < length states → i < length ps → p ≡ get_or ps i p
+    → ((get_or states i false || op) && f) ≡ ((get_or states i false || op) && good p) → exists ≡ (en || (any p && (get_or states i false || op)))
     → en_next ≡ cond (any p) (en || (any p && (get_or states i false || op))) ((get_or states i false || op) && f) → op_next ≡ (any p && (get_or states i false || op))
-    → (take (i + 1) (slice_set states i stands) ++ (pass any good en_next op_next (drop (i + 1) (slice_set states i stands)) (drop (i + 1) ps)).0 ≡ take i states ++ (pass any good en op (drop i states) (drop i ps)).0)
-    × ((pass any good en_next op_next (drop (i + 1) (slice_set states i stands)) (drop (i + 1) ps)).1 ≡ (pass any good en op (drop i states) (drop i ps)).1)
-pass_on any good en op states ps i p f stands en_next op_next within item is fitting standing entering waiting =
+    → (take (i + 1) (slice_set states i exists) ++ (pass any good en_next op_next (drop (i + 1) (slice_set states i exists)) (drop (i + 1) ps)).0 ≡ take i states ++ (pass any good en op (drop i states) (drop i ps)).0)
+    × ((pass any good en_next op_next (drop (i + 1) (slice_set states i exists)) (drop (i + 1) ps)).1 ≡ (pass any good en op (drop i states) (drop i ps)).1)
+pass_on any good en op states ps i p f exists en_next op_next within item is fitting existing entering waiting =
     let here = get_or states i false || op in
     let rest = drop (i + 1) ps in
     let next = pass any good (cond (any p) (en || (any p && here)) (here && good p)) (any p && here) (drop (i + 1) states) rest in
@@ -170,30 +170,30 @@ pass_on any good en op states ps i p f stands en_next op_next within item is fit
     at_drop_more (λ ss. pass any good en op ss (drop i ps)) states i false within
     ∙ at_drop_more (λ qs. pass any good en op (get_or states i false ∷ drop (i + 1) states) qs) ps i p item
     ∙ ap (λ q. pass any good en op (get_or states i false ∷ drop (i + 1) states) (q ∷ rest)) (sym is) in
-    let new : pass any good en_next op_next (drop (i + 1) (slice_set states i stands)) rest ≡ next =
-    ap (λ ss. pass any good en_next op_next ss rest) (drop-set-lt (i + 1) states i stands (omega arith))
+    let new : pass any good en_next op_next (drop (i + 1) (slice_set states i exists)) rest ≡ next =
+    ap (λ ss. pass any good en_next op_next ss rest) (drop-set-lt (i + 1) states i exists (omega arith))
     ∙ ap (λ e. pass any good e op_next (drop (i + 1) states) rest) (entering ∙ ap (λ b. cond (any p) (en || (any p && here)) b) fitting)
     ∙ ap (λ w. pass any good (cond (any p) (en || (any p && here)) (here && good p)) w (drop (i + 1) states) rest) waiting in (
-      ap (λ (r : List Bool × Bool). take (i + 1) (slice_set states i stands) ++ r.0) new
-          ∙ ap (λ ss. ss ++ next.0) (take_more_set states i stands within)
-          ∙ append_assoc (take i states) (stands ∷ []) next.0
-          ∙ ap (λ b. take i states ++ b ∷ next.0) standing
+      ap (λ (r : List Bool × Bool). take (i + 1) (slice_set states i exists) ++ r.0) new
+          ∙ ap (λ ss. ss ++ next.0) (take_more_set states i exists within)
+          ∙ append_assoc (take i states) (exists ∷ []) next.0
+          ∙ ap (λ b. take i states ++ b ∷ next.0) existing
           ∙ sym (ap (λ (r : List Bool × Bool). take i states ++ r.0) old),
       ap (λ (r : List Bool × Bool). r.1) new ∙ sym (ap (λ (r : List Bool × Bool). r.1) old),
     )
 
 -- the same where a test returned whether the item matches any number of elements, and its fit was evaluated
 -- only where a match is
-pub pass_on_reported : {P : Type 0} (any good : P → Bool) (en op : Bool) (states : List Bool) (ps : List P) (i : ℕ) (p : P) (a f stands en_next op_next : Bool) → i < length states → i < length ps → p ≡ get_or ps i p
-    → a ≡ any p → f ≡ ((get_or states i false || op) && good p) → stands ≡ (en || (a && (get_or states i false || op)))
+pub pass_on_reported : {P : Type 0} (any good : P → Bool) (en op : Bool) (states : List Bool) (ps : List P) (i : ℕ) (p : P) (a f exists en_next op_next : Bool) → i < length states → i < length ps → p ≡ get_or ps i p
+    → a ≡ any p → f ≡ ((get_or states i false || op) && good p) → exists ≡ (en || (a && (get_or states i false || op)))
     → en_next ≡ cond a (en || (a && (get_or states i false || op))) ((get_or states i false || op) && f) → op_next ≡ (a && (get_or states i false || op))
-    → (take (i + 1) (slice_set states i stands) ++ (pass any good en_next op_next (drop (i + 1) (slice_set states i stands)) (drop (i + 1) ps)).0 ≡ take i states ++ (pass any good en op (drop i states) (drop i ps)).0)
-    × ((pass any good en_next op_next (drop (i + 1) (slice_set states i stands)) (drop (i + 1) ps)).1 ≡ (pass any good en op (drop i states) (drop i ps)).1)
-pass_on_reported any good en op states ps i p a f stands en_next op_next within item is reported fitting standing entering waiting =
+    → (take (i + 1) (slice_set states i exists) ++ (pass any good en_next op_next (drop (i + 1) (slice_set states i exists)) (drop (i + 1) ps)).0 ≡ take i states ++ (pass any good en op (drop i states) (drop i ps)).0)
+    × ((pass any good en_next op_next (drop (i + 1) (slice_set states i exists)) (drop (i + 1) ps)).1 ≡ (pass any good en op (drop i states) (drop i ps)).1)
+pass_on_reported any good en op states ps i p a f exists en_next op_next within item is reported fitting existing entering waiting =
     let here = get_or states i false || op in
-    pass_on any good en op states ps i p f stands en_next op_next within item is
+    pass_on any good en op states ps i p f exists en_next op_next within item is
     (ap (λ b. here && b) fitting ∙ twice here (good p))
-    (standing ∙ ap (λ b. en || (b && here)) reported)
+    (existing ∙ ap (λ b. en || (b && here)) reported)
     (entering ∙ ap (λ b. cond b (en || (b && here)) (here && f)) reported)
     (waiting ∙ ap (λ b. b && here) reported)
   where
@@ -214,6 +214,6 @@ characters [] = omega arith
 characters (b ∷ bytes) = omega (arith, characters_after (continuation_len b) (lead_bits b) bytes)
 
 -- at first no match is anywhere
-pub none_stand : (n : ℕ) → AllByRecursion (λ s. s ≡ false) (replicate n false)
-none_stand zero = tt
-none_stand (suc n) = (refl, none_stand n)
+pub none_exist : (n : ℕ) → AllByRecursion (λ s. s ≡ false) (replicate n false)
+none_exist zero = tt
+none_exist (suc n) = (refl, none_exist n)

@@ -156,9 +156,9 @@ all_still : (e : Place × List ℕ) (es : Files) (fs : Files) → AllByRecursion
 all_still e es [] all = tt
 all_still e es (f ∷ fs) all = (still_there e es f.0 all.0, all_still e es fs all.1)
 
-each_stands : (es : Files) → AllByRecursion (λ f. IsSome (file_at es f.0)) es
-each_stands [] = tt
-each_stands (e ∷ es) = (ap (λ o. is_some_of (cond (is_eq o) (Some e.1) (file_at es e.0))) (tied_itself nat_list_cmp_total e.0), all_still e es es (each_stands es))
+each_exists : (es : Files) → AllByRecursion (λ f. IsSome (file_at es f.0)) es
+each_exists [] = tt
+each_exists (e ∷ es) = (ap (λ o. is_some_of (cond (is_eq o) (Some e.1) (file_at es e.0))) (tied_itself nat_list_cmp_total e.0), all_still e es es (each_exists es))
   where
     is_some_of : Option (List ℕ) → Bool
     is_some_of None = false
@@ -175,5 +175,5 @@ all_map : (files : Files) (fs : Files) → AllByRecursion (λ f. IsSome (file_at
 all_map files [] all = tt
 all_map files (f ∷ fs) all = (all.0, all_map files fs all.1)
 
-pub listed_stand : (files : Files) (root : Place) → AllByRecursion (λ at. IsSome (file_at files at)) (places_under files root)
-listed_stand files root = all_map files _ (all_filter (λ f. IsSome (file_at files f.0)) (λ f. is_under f.0 root) files (each_stands files))
+pub listed_exist : (files : Files) (root : Place) → AllByRecursion (λ at. IsSome (file_at files at)) (places_under files root)
+listed_exist files root = all_map files _ (all_filter (λ f. IsSome (file_at files f.0)) (λ f. is_under f.0 root) files (each_exists files))

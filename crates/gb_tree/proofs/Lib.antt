@@ -15,10 +15,10 @@ pub mod Blame
 pub mod Holding
 pub mod Listing
 pub mod Rest
-pub mod Seen
+pub mod Observed
 pub mod Answering
 pub mod Gathering
-pub mod Fronts
+pub mod Prefixes
 pub mod Outermost
 pub mod Starting
 pub mod Above

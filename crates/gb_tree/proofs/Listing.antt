@@ -6,11 +6,11 @@ use Rattle.gb_core.specs.Lists.{first_of}
 use Rattle.gb_folder.specs.Files.{Place, Contents}
 use Rattle.gb_folder.specs.Limits.{max_files}
 use Rattle.gb_tree.specs.Property.{distinct, doubled, entries_of, entry_faults, entry_order, found_from, in_order, inserted, paths_of, places_of, starts_in}
-use Rattle.gb_tree.specs.Tree.{Entries, IsRefused, odd_roots, too_many}
+use Rattle.gb_tree.specs.Tree.{Entries, IsRefused, special_roots, too_many}
 use Rattle.gb_tree.specs.declared.fault.TreeFault.{TreeFault}
 use Rattle.gb_tree.specs.declared.fault.TreeFault.TheVariants as faults
 use Rattle.gb_tree.specs.declared.property.Naming.{Naming}
-use Rattle.gb_tree.proofs.Refused.{front_first}
+use Rattle.gb_tree.proofs.Refused.{prefix_first}
 use Rattle.gb_tree.proofs.Starting.{found_in_order}
 
 length-inserted : (entry : List ℕ × Place) (entries : Entries) → length (inserted entry entries) ≡ suc (length entries)
@@ -53,22 +53,22 @@ module _ (name : List ℕ) (naming : Naming) (roots : List Place) (include exclu
   as_many : too_many name (all starts) ≡ too_many name final
   as_many = sym (too_many-in_order name (all starts)) ∙ ap (too_many name) in_their_order
 
-  as_odd : odd_roots contents (places_of starts) ≡ odd_roots contents (places_of (starts_in include (distinct roots)))
-  as_odd = ap (λ starts. odd_roots contents (places_of starts)) same
+  as_special : special_roots contents (places_of starts) ≡ special_roots contents (places_of (starts_in include (distinct roots)))
+  as_special = ap (λ starts. special_roots contents (places_of starts)) same
 
   -- a fault in finding the entries comes first
-  pub found_refused : (before after : ℕ) (fault : TreeFault) → IsRefused before after (odd_roots contents (places_of starts) ++ too_many name (all starts)) fault → IsRefused before after (entry_faults name naming roots include exclude contents) fault
+  pub found_refused : (before after : ℕ) (fault : TreeFault) → IsRefused before after (special_roots contents (places_of starts) ++ too_many name (all starts)) fault → IsRefused before after (entry_faults name naming roots include exclude contents) fault
   found_refused before after fault (inl machine) = inl machine
   found_refused before after fault (inr first) =
-      let odd = odd_roots contents (places_of (starts_in include (distinct roots))) in
-      let here : odd_roots contents (places_of starts) ++ too_many name (all starts) ≡ odd ++ too_many name final =
-      ap (λ faults. faults ++ too_many name (all starts)) as_odd ∙ ap (λ faults. odd ++ faults) as_many in
-      inr (front_first (odd ++ too_many name final) (reported final) fault (sym (ap first_of here) ∙ first))
+      let special = special_roots contents (places_of (starts_in include (distinct roots))) in
+      let here : special_roots contents (places_of starts) ++ too_many name (all starts) ≡ special ++ too_many name final =
+      ap (λ faults. faults ++ too_many name (all starts)) as_special ∙ ap (λ faults. special ++ faults) as_many in
+      inr (prefix_first (special ++ too_many name final) (reported final) fault (sym (ap first_of here) ∙ first))
 
   -- where there was no such fault, the fault left is that paths are doubled
-  pub only_doubled : (entries sorted : Entries) → odd_roots contents (places_of starts) ≡ [] → entries ≡ all starts → too_many name entries ≡ [] → sorted ≡ in_order entries → entry_faults name naming roots include exclude contents ≡ reported sorted
+  pub only_doubled : (entries sorted : Entries) → special_roots contents (places_of starts) ≡ [] → entries ≡ all starts → too_many name entries ≡ [] → sorted ≡ in_order entries → entry_faults name naming roots include exclude contents ≡ reported sorted
   only_doubled entries sorted none is few order =
-      ap (λ faults. faults ++ too_many name final ++ reported final) (sym as_odd ∙ none)
+      ap (λ faults. faults ++ too_many name final ++ reported final) (sym as_special ∙ none)
       ∙ ap (λ faults. faults ++ reported final) (sym as_many ∙ sym (ap (too_many name) is) ∙ few)
       ∙ ap reported (sym in_their_order ∙ sym (order ∙ ap in_order is))
 

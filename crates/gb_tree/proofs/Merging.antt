@@ -23,8 +23,8 @@ Before k es = AllByRecursion (λ e. byte_order k e.0 ≡ Less) es
 reversed : (x y : List ℕ) (o : Ordering) → byte_order x y ≡ o → byte_order y x ≡ ordering_reverse o
 reversed x y o p = nat_list_cmp_total.antisymm y x ∙ ap ordering_reverse p
 
-apart : (x y : List ℕ) → byte_order x y ≡ Less → y ≡ x → ⊥
-apart x y less same = let two : Less ≡ Equal = sym less ∙ same_tied x y (sym same) in cc
+separate : (x y : List ℕ) → byte_order x y ≡ Less → y ≡ x → ⊥
+separate x y less same = let two : Less ≡ Equal = sym less ∙ same_tied x y (sym same) in cc
 
 before_further : (x y : List ℕ) (es : Tree) → byte_order x y ≡ Less → Before y es → Before x es
 before_further x y [] less h = tt
@@ -62,13 +62,13 @@ in_order_middle k v (e ∷ old) new h g = ap (put byte_order e.0 e.1) (in_order_
 
 find_before : (k : List ℕ) (es : Tree) → Before k es → file_at es k ≡ None
 find_before k [] h = refl
-find_before k (e ∷ es) h = find-other k e es (apart k e.0 h.0) ∙ find_before k es h.1
+find_before k (e ∷ es) h = find-other k e es (separate k e.0 h.0) ∙ find_before k es h.1
 
 find_first : (k v : List ℕ) (es : Tree) → file_at ((k, v) ∷ es) k ≡ Some v
 find_first k v es = find-same k (k, v) es refl
 
 find_later : (k v q : List ℕ) (es : Tree) → byte_order k q ≡ Less → file_at ((k, v) ∷ es) q ≡ file_at es q
-find_later k v q es less = find-other q (k, v) es (λ same. apart k q less (sym same))
+find_later k v q es less = find-other q (k, v) es (λ same. separate k q less (sym same))
 
 flat_same : (f g : List ℕ × List ℕ → List Change) (k : List ℕ) (es : Tree) → ((e : List ℕ × List ℕ) → byte_order k e.0 ≡ Less → f e ≡ g e) → Before k es → flat_map f es ≡ flat_map g es
 flat_same f g k [] same h = refl
@@ -169,7 +169,7 @@ pub record Turned (before after : Tree) (i j : ℕ) (a b : List ℕ × List ℕ)
   pub to : j + n.1 ≤ length after
   pub before_sorted : IsTrue (is_sorted byte_order (drop (i + n.0) before))
   pub after_sorted : IsTrue (is_sorted byte_order (drop (j + n.1) after))
-  pub tells : reported (byte_order a.0 b.0) a b ++ changes_between (drop (i + n.0) before) (drop (j + n.1) after) ≡ changes_between (drop i before) (drop j after)
+  pub faithful : reported (byte_order a.0 b.0) a b ++ changes_between (drop (i + n.0) before) (drop (j + n.1) after) ≡ changes_between (drop i before) (drop j after)
 
 past_few : (o : Ordering) → ((past o).0 ≤ 1) × ((past o).1 ≤ 1)
 past_few Less = (omega arith, omega arith)
@@ -196,7 +196,7 @@ turned before after i j a b n within within_after is is_after counted sorted sor
       to = omega (arith, few.1, within_after);
       before_sorted = subst (λ (xs : Tree). IsTrue (is_sorted byte_order xs)) (sym further) both.0;
       after_sorted = subst (λ (xs : Tree). IsTrue (is_sorted byte_order xs)) (sym further_after) both.1;
-      tells =
+      faithful =
           ap (λ xs. reported (byte_order a.0 b.0) a b ++ changes_between xs (drop (j + m.1) after)) further
           ∙ ap (λ ys. reported (byte_order a.0 b.0) a b ++ changes_between (drop m.0 (a ∷ old)) ys) further_after
           ∙ reported_met a b old new sorted_here sorted_here_after

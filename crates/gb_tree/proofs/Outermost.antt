@@ -17,9 +17,9 @@ or_second : (a b : Bool) → b ≡ true → (a || b) ≡ true
 or_second true b h = refl
 or_second false b h = h
 
-begun : (front rest : List ℕ) → starts_with nat_eq (front ++ rest) front ≡ true
+begun : (prefix rest : List ℕ) → starts_with nat_eq (prefix ++ rest) prefix ≡ true
 begun [] rest = refl
-begun (c ∷ front) rest = ap (λ b. b && starts_with nat_eq (front ++ rest) front) (eq-eqb c c refl) ∙ begun front rest
+begun (c ∷ prefix) rest = ap (λ b. b && starts_with nat_eq (prefix ++ rest) prefix) (eq-eqb c c refl) ∙ begun prefix rest
 
 pub beneath_from : (place root rest : List ℕ) → place ≡ root ++ 47 ∷ rest → is_beneath place root ≡ true
 beneath_from place root rest is = ap (λ p. is_beneath p root) (is ∙ sym (append_assoc root (47 ∷ []) rest)) ∙ begun (root ++ 47 ∷ []) rest
@@ -96,8 +96,8 @@ total_filter f test (x ∷ xs) = elim (test x) as (λ b. total f (cond b (x ∷ 
 
 -- ---- Each place once
 
-abbrev stands_in : Place → List Place → Bool
-stands_in place places = list_any (λ other. bytes_eq other place) places
+abbrev exists_in : Place → List Place → Bool
+exists_in place places = list_any (λ other. bytes_eq other place) places
 
 abbrev others : Place → List Place → List Place
 others place places = filter (λ other. not (bytes_eq place other)) places
@@ -111,29 +111,29 @@ gone n place (other ∷ places) = by (bytes_eq place other) refl (gone n place p
   where
     by : (b : Bool) → bytes_eq place other ≡ b → total (if_same n place) (others place places) ≡ 0 → total (if_same n place) (cond (not b) (other ∷ others place places) (others place places)) ≡ 0
     by true is more = more
-    by false is more = omega (arith, more, ap (λ b. cond b n 0) (apart (bytes_eq other place) refl))
+    by false is more = omega (arith, more, ap (λ b. cond b n 0) (separate (bytes_eq other place) refl))
       where
-        apart : (b : Bool) → bytes_eq other place ≡ b → b ≡ false
-        apart false e = refl
-        apart true e = absurd (false≢true (sym is ∙ (bytes_decides place other).1 (sym ((bytes_decides other place).0 e))))
+        separate : (b : Bool) → bytes_eq other place ≡ b → b ≡ false
+        separate false e = refl
+        separate true e = absurd (false≢true (sym is ∙ (bytes_decides place other).1 (sym ((bytes_decides other place).0 e))))
 
 still : (n : ℕ) (place y : Place) (places : List Place) → bytes_eq y place ≡ false → total (if_same n place) (others y places) ≡ total (if_same n place) places
-still n place y [] apart = refl
-still n place y (other ∷ places) apart = by (bytes_eq y other) refl (still n place y places apart)
+still n place y [] separate = refl
+still n place y (other ∷ places) separate = by (bytes_eq y other) refl (still n place y places separate)
   where
     by : (b : Bool) → bytes_eq y other ≡ b → total (if_same n place) (others y places) ≡ total (if_same n place) places
         → total (if_same n place) (cond (not b) (other ∷ others y places) (others y places)) ≡ if_same n place other + total (if_same n place) places
     by true is more =
-        let other_apart : bytes_eq other place ≡ false = ap (λ p. bytes_eq p place) (sym ((bytes_decides y other).0 is)) ∙ apart in
-        omega (arith, more, ap (λ b. cond b n 0) other_apart)
+        let other_separate : bytes_eq other place ≡ false = ap (λ p. bytes_eq p place) (sym ((bytes_decides y other).0 is)) ∙ separate in
+        omega (arith, more, ap (λ b. cond b n 0) other_separate)
     by false is more = ap (λ m. if_same n place other + m) more
 
-total_distinct : (n : ℕ) (place : Place) (places : List Place) → total (if_same n place) (distinct places) ≡ cond (stands_in place places) n 0
+total_distinct : (n : ℕ) (place : Place) (places : List Place) → total (if_same n place) (distinct places) ≡ cond (exists_in place places) n 0
 total_distinct n place [] = refl
 total_distinct n place (y ∷ places) = by (bytes_eq y place) refl (total_distinct n place places)
   where
-    by : (b : Bool) → bytes_eq y place ≡ b → total (if_same n place) (distinct places) ≡ cond (stands_in place places) n 0
-        → cond b n 0 + total (if_same n place) (others y (distinct places)) ≡ cond (b || stands_in place places) n 0
+    by : (b : Bool) → bytes_eq y place ≡ b → total (if_same n place) (distinct places) ≡ cond (exists_in place places) n 0
+        → cond b n 0 + total (if_same n place) (others y (distinct places)) ≡ cond (b || exists_in place places) n 0
     by true is more =
         let none : total (if_same n place) (others y (distinct places)) ≡ 0 =
         ap (λ z. total (if_same n place) (others z (distinct places))) ((bytes_decides y place).0 is) ∙ gone n place (distinct places) in
@@ -146,30 +146,30 @@ all_distinct P (place ∷ places) all = (all.0, all_filter P (λ other. not (byt
 
 -- ---- One of several
 
-stands_itself : (all places : List Place) → ((place : Place) → stands_in place places ≡ true → stands_in place all ≡ true) → AllByRecursion (λ place. stands_in place all ≡ true) places
-stands_itself all [] within = tt
-stands_itself all (place ∷ places) within = (
-  within place (ap (λ b. b || stands_in place places) ((bytes_decides place place).1 refl)),
-  stands_itself all places (λ other h. within other (or_second (bytes_eq place other) (stands_in other places) h)),
+exists_itself : (all places : List Place) → ((place : Place) → exists_in place places ≡ true → exists_in place all ≡ true) → AllByRecursion (λ place. exists_in place all ≡ true) places
+exists_itself all [] within = tt
+exists_itself all (place ∷ places) within = (
+  within place (ap (λ b. b || exists_in place places) ((bytes_decides place place).1 refl)),
+  exists_itself all places (λ other h. within other (or_second (bytes_eq place other) (exists_in other places) h)),
 )
 
 -- one of them passes the test
 abbrev IsOne : (Place → Bool) → List Place → Type 0
-IsOne test places = (place : Place) × (stands_in place places ≡ true) × (test place ≡ true)
+IsOne test places = (place : Place) × (exists_in place places ≡ true) × (test place ≡ true)
 
 one_of : (test : Place → Bool) (places : List Place) → list_any test places ≡ true → IsOne test places
 one_of test [] h = absurd (false≢true h)
 one_of test (place ∷ places) h = by (test place) refl h (λ more. one_of test places more)
   where
     by : (b : Bool) → test place ≡ b → (b || list_any test places) ≡ true → (list_any test places ≡ true → IsOne test places) → IsOne test (place ∷ places)
-    by true is h more = (place, ap (λ b. b || stands_in place places) ((bytes_decides place place).1 refl), is)
-    by false is h more = let found = more h in (found.0, or_second (bytes_eq place found.0) (stands_in found.0 places) found.1, found.2)
+    by true is h more = (place, ap (λ b. b || exists_in place places) ((bytes_decides place place).1 refl), is)
+    by false is h more = let found = more h in (found.0, or_second (bytes_eq place found.0) (exists_in found.0 places) found.1, found.2)
 
-any_from : (test : Place → Bool) (place : Place) (places : List Place) → stands_in place places ≡ true → test place ≡ true → list_any test places ≡ true
-any_from test place [] stands passes = absurd (false≢true stands)
-any_from test place (other ∷ places) stands passes = by (bytes_eq other place) refl stands (λ more. any_from test place places more passes)
+any_from : (test : Place → Bool) (place : Place) (places : List Place) → exists_in place places ≡ true → test place ≡ true → list_any test places ≡ true
+any_from test place [] exists passes = absurd (false≢true exists)
+any_from test place (other ∷ places) exists passes = by (bytes_eq other place) refl exists (λ more. any_from test place places more passes)
   where
-    by : (b : Bool) → bytes_eq other place ≡ b → (b || stands_in place places) ≡ true → (stands_in place places ≡ true → list_any test places ≡ true) → (test other || list_any test places) ≡ true
+    by : (b : Bool) → bytes_eq other place ≡ b → (b || exists_in place places) ≡ true → (exists_in place places ≡ true → list_any test places ≡ true) → (test other || list_any test places) ≡ true
     by true is h more = ap (λ b. b || list_any test places) (ap test ((bytes_decides other place).0 is) ∙ passes)
     by false is h more = or_second (test other) (list_any test places) (more h)
 
@@ -178,27 +178,27 @@ any_from test place (other ∷ places) stands passes = by (bytes_eq other place)
 module _ (all : List Place) (at : Place) where
   -- of those above the place, one that lies under none of all
   record IsTop (top : Place) : Type 0 where
-    pub among : stands_in top all ≡ true
+    pub among : exists_in top all ≡ true
     pub above : is_under at top ≡ true
     pub free : list_any (is_beneath top) all ≡ false
 
   shorter : (a b : Place) → is_beneath a b ≡ true → length b < length a
   shorter a b h = let parts = in_from a b h in omega (arith, ap length parts.1, length-append b (47 ∷ parts.0))
 
-  climb : (place : Place) → ((next : Place) → length next < length place → stands_in next all ≡ true → is_under at next ≡ true → (top : Place) × IsTop top)
-      → stands_in place all ≡ true → is_under at place ≡ true → (top : Place) × IsTop top
-  climb place higher stands under = by (list_any (is_beneath place) all) refl
+  climb : (place : Place) → ((next : Place) → length next < length place → exists_in next all ≡ true → is_under at next ≡ true → (top : Place) × IsTop top)
+      → exists_in place all ≡ true → is_under at place ≡ true → (top : Place) × IsTop top
+  climb place higher exists under = by (list_any (is_beneath place) all) refl
     where
       by : (b : Bool) → list_any (is_beneath place) all ≡ b → (top : Place) × IsTop top
       by true is =
           let found = one_of (is_beneath place) all is in
           higher found.0 (shorter place found.0 found.2) found.1
           (under_under at place found.0 under (or_second (bytes_eq place found.0) (is_beneath place found.0) found.2))
-      by false is = (place, record { among = stands; above = under; free = is })
+      by false is = (place, record { among = exists; above = under; free = is })
 
-  top_of : (n : ℕ) (place : Place) → length place ≤ n → stands_in place all ≡ true → is_under at place ≡ true → (top : Place) × IsTop top
-  top_of zero place short stands under = climb place (λ next less more above. absurd (omega (arith, short, less))) stands under
-  top_of (suc n) place short stands under = climb place (λ next less more above. top_of n next (omega (arith, short, less)) more above) stands under
+  top_of : (n : ℕ) (place : Place) → length place ≤ n → exists_in place all ≡ true → is_under at place ≡ true → (top : Place) × IsTop top
+  top_of zero place short exists under = climb place (λ next less more above. absurd (omega (arith, short, less))) exists under
+  top_of (suc n) place short exists under = climb place (λ next less more above. top_of n next (omega (arith, short, less)) more above) exists under
 
   -- it is the only one
   only : (a b : Place) → IsTop a → IsTop b → a ≡ b
@@ -214,20 +214,20 @@ module _ (all : List Place) (at : Place) where
   abbrev if_under : ℕ → Place → ℕ
   if_under n place = cond (is_under at place) n 0
 
-  as_same : (n : ℕ) (top place : Place) → IsTop top → stands_in place all ≡ true → cond (is_out place) (if_under n place) 0 ≡ if_same n top place
-  as_same n top place is stands = by (bytes_eq place top) refl
+  as_same : (n : ℕ) (top place : Place) → IsTop top → exists_in place all ≡ true → cond (is_out place) (if_under n place) 0 ≡ if_same n top place
+  as_same n top place is exists = by (bytes_eq place top) refl
     where
       other : bytes_eq place top ≡ false → (out under : Bool) → list_any (is_beneath place) all ≡ out → is_under at place ≡ under → cond (not out) (cond under n 0) 0 ≡ 0
-      other apart true under o u = refl
-      other apart false false o u = refl
-      other apart false true o u =
-          absurd (false≢true (sym apart ∙ (bytes_decides place top).1 (only place top (record { among = stands; above = u; free = o }) is)))
+      other separate true under o u = refl
+      other separate false false o u = refl
+      other separate false true o u =
+          absurd (false≢true (sym separate ∙ (bytes_decides place top).1 (only place top (record { among = exists; above = u; free = o }) is)))
 
       by : (b : Bool) → bytes_eq place top ≡ b → cond (is_out place) (if_under n place) 0 ≡ cond b n 0
       by true same =
           let e = (bytes_decides place top).0 same in
           ap (λ (p : Place). cond (is_out p) (if_under n p) 0) e ∙ ap (λ b. cond (not b) (if_under n top) 0) is.free ∙ ap (λ b. cond b n 0) is.above
-      by false apart = other apart (list_any (is_beneath place) all) (is_under at place) refl refl
+      by false separate = other separate (list_any (is_beneath place) all) (is_under at place) refl refl
 
   -- a place under one of all lies under one of the outermost
   pub one_above : (n : ℕ) → list_any (is_under at) all ≡ true → total (if_under n) (outermost all) ≡ n
@@ -236,13 +236,13 @@ module _ (all : List Place) (at : Place) where
       let top = top_of (length found.0) found.0 (omega arith) found.1 found.2 in
       total_filter (if_under n) is_out (distinct all)
       ∙ total_alike (λ place. cond (is_out place) (if_under n place) 0) (if_same n top.0) (distinct all)
-      (all_distinct (λ place. cond (is_out place) (if_under n place) 0 ≡ if_same n top.0 place) all (each top.0 top.1 all (stands_itself all all (λ place h. h))))
+      (all_distinct (λ place. cond (is_out place) (if_under n place) 0 ≡ if_same n top.0 place) all (each top.0 top.1 all (exists_itself all all (λ place h. h))))
       ∙ total_distinct n top.0 all
       ∙ ap (λ b. cond b n 0) top.1.among
     where
-      each : (top : Place) → IsTop top → (places : List Place) → AllByRecursion (λ place. stands_in place all ≡ true) places → AllByRecursion (λ place. cond (is_out place) (if_under n place) 0 ≡ if_same n top place) places
-      each top is [] stands = tt
-      each top is (place ∷ places) stands = (as_same n top place is stands.0, each top is places stands.1)
+      each : (top : Place) → IsTop top → (places : List Place) → AllByRecursion (λ place. exists_in place all ≡ true) places → AllByRecursion (λ place. cond (is_out place) (if_under n place) 0 ≡ if_same n top place) places
+      each top is [] exists = tt
+      each top is (place ∷ places) exists = (as_same n top place is exists.0, each top is places exists.1)
 
   -- what holds of all holds of the outermost
   pub all_outermost : (P : Place → Type 0) → AllByRecursion P all → AllByRecursion P (outermost all)

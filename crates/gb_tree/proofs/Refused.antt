@@ -16,7 +16,7 @@ use Rattle.gb_tree.specs.Tree.{IsTreeFaultOfMachine, tree_fault_at, is_large}
 
 -- no file exists where another is in the way
 pub not_blocked : (files : Files) (place : Place) → IsFolder files → IsSome (file_at files place) → is_blocked files place ≡ true → ⊥
-not_blocked files place sound stands blocked = by (file_at files place) refl stands
+not_blocked files place sound exists blocked = by (file_at files place) refl exists
   where
     by : (o : Option (List ℕ)) → file_at files place ≡ o → IsSome o → ⊥
     by None is h = cc
@@ -32,13 +32,13 @@ large_from files place h = by (file_at files place) h
 pub read_refused : (before after : ℕ) (place : Place) (fault : FolderFault) (reported : TreeFault) (large : Bool) → (reported ≡ faults.OutOfMemory) ⊎ (reported ≡ tree_fault_at place fault)
     → (fault ≡ folders.Device → HasRisen before after) → (fault ≡ folders.Missing → ⊥) → (fault ≡ folders.Blocked → ⊥) → (fault ≡ folders.BadFileName → ⊥) → (fault ≡ folders.TooLarge → large ≡ true)
     → IsTreeFaultOfMachine before after reported ⊎ ((large ≡ true) × (reported ≡ faults.TooLarge place))
-read_refused before after place fault reported large (inl is) rose missing blocked odd over = inl (inl is)
-read_refused before after place folders.OutOfMemory reported large (inr is) rose missing blocked odd over = inl (inl is)
-read_refused before after place folders.Device reported large (inr is) rose missing blocked odd over = inl (inr (place, is, rose refl))
-read_refused before after place folders.Missing reported large (inr is) rose missing blocked odd over = absurd (missing refl)
-read_refused before after place folders.Blocked reported large (inr is) rose missing blocked odd over = absurd (blocked refl)
-read_refused before after place folders.TooLarge reported large (inr is) rose missing blocked odd over = inr (over refl, is)
-read_refused before after place folders.BadFileName reported large (inr is) rose missing blocked odd over = absurd (odd refl)
+read_refused before after place fault reported large (inl is) rose missing blocked special over = inl (inl is)
+read_refused before after place folders.OutOfMemory reported large (inr is) rose missing blocked special over = inl (inl is)
+read_refused before after place folders.Device reported large (inr is) rose missing blocked special over = inl (inr (place, is, rose refl))
+read_refused before after place folders.Missing reported large (inr is) rose missing blocked special over = absurd (missing refl)
+read_refused before after place folders.Blocked reported large (inr is) rose missing blocked special over = absurd (blocked refl)
+read_refused before after place folders.TooLarge reported large (inr is) rose missing blocked special over = inr (over refl, is)
+read_refused before after place folders.BadFileName reported large (inr is) rose missing blocked special over = absurd (special refl)
 
 -- it began to rise before the call
 pub machine_before : (first second third : ℕ) (fault : TreeFault) → first ≤ second → second ≤ third → IsTreeFaultOfMachine second third fault → IsTreeFaultOfMachine first third fault
@@ -55,9 +55,9 @@ none_first [] e = refl
 none_first (x ∷ xs) e = absurd (cc)
 
 -- the first of two lists, one after the other
-pub front_first : {X : Type 0} (xs ys : List X) (x : X) → first_of xs ≡ Some x → first_of (xs ++ ys) ≡ Some x
-front_first [] ys x e = absurd (cc)
-front_first (y ∷ xs) ys x e = e
+pub prefix_first : {X : Type 0} (xs ys : List X) (x : X) → first_of xs ≡ Some x → first_of (xs ++ ys) ≡ Some x
+prefix_first [] ys x e = absurd (cc)
+prefix_first (y ∷ xs) ys x e = e
 
 pub back_first : {X : Type 0} (xs ys : List X) → xs ≡ [] → first_of (xs ++ ys) ≡ first_of ys
 back_first xs ys none = ap (λ zs. first_of (zs ++ ys)) none

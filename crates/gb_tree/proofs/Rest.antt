@@ -18,14 +18,14 @@ use Rattle.gb_tree.proofs.Under.{IsUnder}
 shorter : (n m : ℕ) → nat_le n 1024 ≡ true → m ≤ n → nat_le m 1024 ≡ true
 shorter n m h le = grind (arith, nat_tests)
 
-pub rest_is_place : (front rest : List ℕ) → is_place (front ++ 47 ∷ rest) ≡ true → is_place rest ≡ true
-rest_is_place front rest good =
-    let parts = and_parts _ (list_all is_segment (segments (front ++ 47 ∷ rest))) good in
-    let bytes = and_parts (nat_le (length (front ++ 47 ∷ rest)) 1024) _ parts.0 in
-    let printable = and_parts (list_all is_printable front) _ (sym (list_all-append is_printable front (47 ∷ rest)) ∙ bytes.1) in
-    let named = and_parts (list_all is_segment (segments front)) _ (sym (list_all-append is_segment (segments front) (segments rest)) ∙ ap (list_all is_segment) (sym (segments-joined front rest)) ∙ parts.1) in
-    let count : length (front ++ 47 ∷ rest) ≡ length front + length (47 ∷ rest) = length-append front (47 ∷ rest) in
-    ap (λ b. (b && list_all is_printable rest) && list_all is_segment (segments rest)) (shorter (length (front ++ 47 ∷ rest)) (length rest) bytes.0 (omega (arith, count)))
+pub rest_is_place : (prefix rest : List ℕ) → is_place (prefix ++ 47 ∷ rest) ≡ true → is_place rest ≡ true
+rest_is_place prefix rest good =
+    let parts = and_parts _ (list_all is_segment (segments (prefix ++ 47 ∷ rest))) good in
+    let bytes = and_parts (nat_le (length (prefix ++ 47 ∷ rest)) 1024) _ parts.0 in
+    let printable = and_parts (list_all is_printable prefix) _ (sym (list_all-append is_printable prefix (47 ∷ rest)) ∙ bytes.1) in
+    let named = and_parts (list_all is_segment (segments prefix)) _ (sym (list_all-append is_segment (segments prefix) (segments rest)) ∙ ap (list_all is_segment) (sym (segments-joined prefix rest)) ∙ parts.1) in
+    let count : length (prefix ++ 47 ∷ rest) ≡ length prefix + length (47 ∷ rest) = length-append prefix (47 ∷ rest) in
+    ap (λ b. (b && list_all is_printable rest) && list_all is_segment (segments rest)) (shorter (length (prefix ++ 47 ∷ rest)) (length rest) bytes.0 (omega (arith, count)))
     ∙ ap (λ b. b && list_all is_segment (segments rest)) printable.1
     ∙ named.1
 
@@ -39,8 +39,8 @@ rest_is_path root place (inr more) good =
     ap (λ p. is_rel_path (path_from root p)) more.1 ∙ ap is_rel_path (past_root root more.0) ∙ place_is_path more.0 (rest_is_place root more.0 (sym (ap is_place more.1) ∙ good))
 
 -- after the last slash
-pub last_is_path : (place front back : List ℕ) → SplitsAroundMatch (RFindsChar 47) place front back → is_place place ≡ true → is_rel_path back ≡ true
-last_is_path place front back (i, j, finds, at_front, at_back, order, long_front, long_back) good =
+pub last_is_path : (place prefix back : List ℕ) → SplitsAroundMatch (RFindsChar 47) place prefix back → is_place place ≡ true → is_rel_path back ≡ true
+last_is_path place prefix back (i, j, finds, at_prefix, at_back, order, long_prefix, long_back) good =
     let ends : j ≡ i + 1 = finds.1.ends ∙ ap (λ n. i + n) (len_utf8_ascii 47 (omega arith)) in
     let whole : place ≡ take i place ++ 47 ∷ back =
     sym (take-append-drop i place)

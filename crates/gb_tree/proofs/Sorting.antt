@@ -101,17 +101,17 @@ count_first entry entries = count-cons entry entry entries ∙ ap (λ o. one_if 
 none_later : (entry other : Entry) (entries : Entries) → entry_order entry other ≡ Less → Follow other entries → count entry entries ≡ 0
 none_later entry other [] less all = refl
 none_later entry other (next ∷ entries) less all =
-    omega (arith, count-cons entry next entries, apart (entry_order entry next) refl, none_later entry other entries less all.1)
+    omega (arith, count-cons entry next entries, separate (entry_order entry next) refl, none_later entry other entries less all.1)
   where
-    apart : (o : Ordering) → entry_order entry next ≡ o → one_if o ≡ 0
-    apart Less is = refl
-    apart Equal is = absurd (let e : true ≡ false = sym (ap is_lt less) ∙ ap (λ (x : Entry). comes_before x other) (same_entry entry next is) ∙ all.0 in cc)
-    apart Greater is = refl
+    separate : (o : Ordering) → entry_order entry next ≡ o → one_if o ≡ 0
+    separate Less is = refl
+    separate Equal is = absurd (let e : true ≡ false = sym (ap is_lt less) ∙ ap (λ (x : Entry). comes_before x other) (same_entry entry next is) ∙ all.0 in cc)
+    separate Greater is = refl
 
 none_in : (entry other : Entry) (entries : Entries) → entry_order entry other ≡ Less → Follow other entries → count entry (other ∷ entries) ≡ 0
 none_in entry other entries less all =
-    let apart = ap (λ o. one_if o) less in
-    omega (arith, count-cons entry other entries, apart, none_later entry other entries less all)
+    let separate = ap (λ o. one_if o) less in
+    omega (arith, count-cons entry other entries, separate, none_later entry other entries less all)
 
 same_list : (xs ys : Entries) → AreOrdered xs → AreOrdered ys → ((entry : Entry) → count entry xs ≡ count entry ys) → xs ≡ ys
 same_list [] [] first second same = refl

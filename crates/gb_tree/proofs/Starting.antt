@@ -10,11 +10,11 @@ use Rattle.std.specs.List.{AllByRecursion, filter, flat_map, list_any, sum_by}
 use Rattle.std.specs.Prelude.{bytes_eq}
 use Rattle.gb_core.specs.Place.{is_place, is_under}
 use Rattle.gb_folder.specs.Files.{Bytes, Place, Files, is_own, places_under}
-use Rattle.gb_tree.specs.Pattern.{front_of, path_matches}
-use Rattle.gb_tree.specs.Property.{distinct, entries_in, entries_of, entry_order, found, found_from, in_order, is_in, is_under_any, last_segment, lets_in, matches_any, outermost, path_of, places_of, seen_from, start_of, starts_in, starts_of}
+use Rattle.gb_tree.specs.Pattern.{prefix_of, path_matches}
+use Rattle.gb_tree.specs.Property.{distinct, entries_in, entries_of, entry_order, found, found_from, in_order, is_in, is_under_any, last_segment, lets_in, matches_any, outermost, path_of, places_of, relative_to, start_of, starts_in, starts_of}
 use Rattle.gb_tree.specs.Tree.{Entries, path_from}
 use Rattle.gb_tree.specs.declared.property.Naming.{Naming}
-use Rattle.gb_tree.proofs.Fronts.{under_front}
+use Rattle.gb_tree.proofs.Prefixes.{under_prefix}
 use Rattle.gb_tree.proofs.Holding.{all_append}
 use Rattle.gb_tree.proofs.InOrder.{no_slash_last, past_root}
 use Rattle.gb_tree.proofs.Outermost.{all_outermost, one_above, total, under_from, under_under}
@@ -23,36 +23,36 @@ use Rattle.gb_tree.proofs.Under.{IsUnder, own_place, under_parts}
 
 -- ---- The start of a pattern
 
-longer : (root front rest : List ℕ) → IsUnder rest front → IsUnder (root ++ 47 ∷ rest) (root ++ 47 ∷ front)
-longer root front rest (inl same) = inl (ap (λ t. root ++ 47 ∷ t) same)
-longer root front rest (inr more) = inr (more.0, ap (λ t. root ++ 47 ∷ t) more.1 ∙ sym (append_assoc root (47 ∷ front) (47 ∷ more.0)))
+longer : (root prefix rest : List ℕ) → IsUnder rest prefix → IsUnder (root ++ 47 ∷ rest) (root ++ 47 ∷ prefix)
+longer root prefix rest (inl same) = inl (ap (λ t. root ++ 47 ∷ t) same)
+longer root prefix rest (inr more) = inr (more.0, ap (λ t. root ++ 47 ∷ t) more.1 ∙ sym (append_assoc root (47 ∷ prefix) (47 ∷ more.0)))
 
 -- the start lies at the root or under it
 pub start_under : (root pattern : List ℕ) → is_under (start_of root pattern) root ≡ true
 start_under root pattern =
-    elim (path_matches pattern (last_segment root) || not (is_place (root ++ 47 ∷ front_of pattern))) as (λ b. is_under (cond b root (root ++ 47 ∷ front_of pattern)) root ≡ true) [
+    elim (path_matches pattern (last_segment root) || not (is_place (root ++ 47 ∷ prefix_of pattern))) as (λ b. is_under (cond b root (root ++ 47 ∷ prefix_of pattern)) root ≡ true) [
       | true ↦ own_place root
-      | false ↦ under_from (root ++ 47 ∷ front_of pattern) root (inr (front_of pattern, refl))
+      | false ↦ under_from (root ++ 47 ∷ prefix_of pattern) root (inr (prefix_of pattern, refl))
     ]
 
-module _ (root pattern place : List ℕ) (under : is_under place root ≡ true) (matched : path_matches pattern (seen_from root place) ≡ true) where
+module _ (root pattern place : List ℕ) (under : is_under place root ≡ true) (matched : path_matches pattern (relative_to root place) ≡ true) where
   abbrev begin : List ℕ
-  begin = root ++ 47 ∷ front_of pattern
+  begin = root ++ 47 ∷ prefix_of pattern
 
-  beneath_front : (rest : List ℕ) → place ≡ root ++ 47 ∷ rest → path_matches pattern rest ≡ true → is_place begin ≡ true → is_under place begin ≡ true
-  beneath_front rest is fits good = elim (under_front pattern rest fits) [
+  beneath_prefix : (rest : List ℕ) → place ≡ root ++ 47 ∷ rest → path_matches pattern rest ≡ true → is_place begin ≡ true → is_under place begin ≡ true
+  beneath_prefix rest is fits good = elim (under_prefix pattern rest fits) [
     | inl none ↦ absurd (no_slash_last root (ap (λ t. is_place (root ++ 47 ∷ t)) (sym none) ∙ good))
-    | inr below ↦ under_from place begin (subst (λ (p : List ℕ). IsUnder p begin) (sym is) (longer root (front_of pattern) rest (under_parts rest (front_of pattern) below)))
+    | inr below ↦ under_from place begin (subst (λ (p : List ℕ). IsUnder p begin) (sym is) (longer root (prefix_of pattern) rest (under_parts rest (prefix_of pattern) below)))
   ]
 
   not_root : (b : Bool) → bytes_eq place root ≡ b → path_matches pattern (last_segment root) ≡ false → path_matches pattern (cond b (last_segment place) (path_from root place)) ≡ true → is_place begin ≡ true → is_under place begin ≡ true
   not_root true same not_named fits good =
       absurd (false≢true (sym not_named ∙ ap (λ p. path_matches pattern (last_segment p)) (sym ((bytes_decides place root).0 same)) ∙ fits))
-  not_root false apart not_named fits good = by (under_parts place root under)
+  not_root false separate not_named fits good = by (under_parts place root under)
     where
       by : IsUnder place root → is_under place begin ≡ true
-      by (inl same) = absurd (false≢true (sym apart ∙ (bytes_decides place root).1 same))
-      by (inr more) = beneath_front more.0 more.1 (ap (path_matches pattern) (sym (ap (path_from root) more.1 ∙ past_root root more.0)) ∙ fits) good
+      by (inl same) = absurd (false≢true (sym separate ∙ (bytes_decides place root).1 same))
+      by (inr more) = beneath_prefix more.0 more.1 (ap (path_matches pattern) (sym (ap (path_from root) more.1 ∙ past_root root more.0)) ∙ fits) good
 
   -- what a pattern lets in is at its start or under it
   under_start : is_under place (start_of root pattern) ≡ true
@@ -65,25 +65,25 @@ module _ (root pattern place : List ℕ) (under : is_under place root ≡ true) 
 
 -- ---- The starts of a root
 
-any_start : (root place : Place) (include : List (List ℕ)) → is_under place root ≡ true → matches_any include (seen_from root place) ≡ true → list_any (is_under place) (map (start_of root) include) ≡ true
+any_start : (root place : Place) (include : List (List ℕ)) → is_under place root ≡ true → matches_any include (relative_to root place) ≡ true → list_any (is_under place) (map (start_of root) include) ≡ true
 any_start root place [] under matched = absurd (false≢true matched)
-any_start root place (pattern ∷ include) under matched = by (path_matches pattern (seen_from root place)) refl matched (λ more. any_start root place include under more)
+any_start root place (pattern ∷ include) under matched = by (path_matches pattern (relative_to root place)) refl matched (λ more. any_start root place include under more)
   where
     or_second : (a b : Bool) → b ≡ true → (a || b) ≡ true
     or_second true b h = refl
     or_second false b h = h
 
-    by : (b : Bool) → path_matches pattern (seen_from root place) ≡ b → (b || matches_any include (seen_from root place)) ≡ true → (matches_any include (seen_from root place) ≡ true → list_any (is_under place) (map (start_of root) include) ≡ true)
+    by : (b : Bool) → path_matches pattern (relative_to root place) ≡ b → (b || matches_any include (relative_to root place)) ≡ true → (matches_any include (relative_to root place) ≡ true → list_any (is_under place) (map (start_of root) include) ≡ true)
         → (is_under place (start_of root pattern) || list_any (is_under place) (map (start_of root) include)) ≡ true
     by true fits h more = ap (λ b. b || list_any (is_under place) (map (start_of root) include)) (under_start root pattern place under fits)
     by false not_fits h more = or_second (is_under place (start_of root pattern)) _ (more h)
 
 not_under : (root place start : Place) → is_under start root ≡ true → is_under place root ≡ false → is_under place start ≡ false
-not_under root place start within apart = by (is_under place start) refl
+not_under root place start within separate = by (is_under place start) refl
   where
     by : (b : Bool) → is_under place start ≡ b → b ≡ false
     by false is = refl
-    by true is = absurd (false≢true (sym apart ∙ under_under place start root is within))
+    by true is = absurd (false≢true (sym separate ∙ under_under place start root is within))
 
 starts_under : (root : Place) (include : List (List ℕ)) → AllByRecursion (λ start. is_under start root ≡ true) (map (start_of root) include)
 starts_under root [] = tt
@@ -99,9 +99,9 @@ abbrev if_under : ℕ → Place → Place → ℕ
 if_under n place start = cond (is_under place start) n 0
 
 none_under : (n : ℕ) (root place : Place) (starts : List Place) → is_under place root ≡ false → AllByRecursion (λ start. is_under start root ≡ true) starts → total (if_under n place) starts ≡ 0
-none_under n root place [] apart within = refl
-none_under n root place (start ∷ starts) apart within =
-    omega (arith, ap (λ b. cond b n 0) (not_under root place start within.0 apart), none_under n root place starts apart within.1)
+none_under n root place [] separate within = refl
+none_under n root place (start ∷ starts) separate within =
+    omega (arith, ap (λ b. cond b n 0) (not_under root place start within.0 separate), none_under n root place starts separate within.1)
 
 -- a place that belongs to the property is listed at one of the starts if it is at the root
 counted_once : (n : ℕ) (include exclude : List (List ℕ)) (root place : Place) → is_in include exclude root place ≡ true → total (if_under n place) (starts_of include root) ≡ if_under n place root
@@ -110,10 +110,10 @@ counted_once n (pattern ∷ include) exclude root place belongs = by (is_under p
   where
     by : (b : Bool) → is_under place root ≡ b → total (if_under n place) (outermost (map (start_of root) (pattern ∷ include))) ≡ cond b n 0
     by true under =
-        let parts = and_parts (not (is_own place)) (lets_in (pattern ∷ include) exclude (seen_from root place)) belongs in
-        let let_in = and_parts (matches_any (pattern ∷ include) (seen_from root place)) _ parts.1 in
+        let parts = and_parts (not (is_own place)) (lets_in (pattern ∷ include) exclude (relative_to root place)) belongs in
+        let let_in = and_parts (matches_any (pattern ∷ include) (relative_to root place)) _ parts.1 in
         one_above (map (start_of root) (pattern ∷ include)) place n (any_start root place (pattern ∷ include) under let_in.0)
-    by false apart = none_under n root place (starts_of (pattern ∷ include) root) apart (each_under (pattern ∷ include) root)
+    by false separate = none_under n root place (starts_of (pattern ∷ include) root) separate (each_under (pattern ∷ include) root)
 
 -- ---- How often each entry is found
 

@@ -34,10 +34,10 @@ after_root place root (inl is) = inl (ap (drop (length root)) (is ∙ sym (with_
     with_none (x ∷ xs) = ap (λ ys. x ∷ ys) (with_none xs)
 after_root place root (inr found) = inr (found.0, ap (drop (length root)) found.1 ∙ drop_at root (47 ∷ found.0) (length root) refl)
 
-pub has_front : (place root : List ℕ) → IsUnder place root → (rest : List ℕ) × (place ≡ root ++ rest)
-has_front place root (inl is) = ([], is ∙ sym (with_none root))
+pub has_prefix : (place root : List ℕ) → IsUnder place root → (rest : List ℕ) × (place ≡ root ++ rest)
+has_prefix place root (inl is) = ([], is ∙ sym (with_none root))
   where
     with_none : (xs : List ℕ) → xs ++ [] ≡ xs
     with_none [] = refl
     with_none (x ∷ xs) = ap (λ ys. x ∷ ys) (with_none xs)
-has_front place root (inr found) = (47 ∷ found.0, found.1)
+has_prefix place root (inr found) = (47 ∷ found.0, found.1)

@@ -7,7 +7,7 @@ use Rattle.gb_folder.specs.Files.{Bytes, Files, Place, Tearing, is_own}
 use Rattle.gb_tree.specs.Property.{distinct, entries_in, in_order, starts_in}
 use Rattle.gb_tree.specs.Reading.{KeepsOnly}
 use Rattle.gb_tree.specs.Tree.{Entries, entries_from}
-use Rattle.gb_tree.specs.declared.kept.SeenFile.{SeenFile}
+use Rattle.gb_tree.specs.declared.kept.ScannedFile.{ScannedFile}
 use Rattle.gb_tree.specs.declared.property.Naming.{Naming}
 use Rattle.sha2.specs.Sha256.{sha256}
 
@@ -19,16 +19,16 @@ listed_in naming include exclude listings =
 -- a call returned these places as all at or under a start
 abbrev pub IsStartListed : {F : Type 0} → (F → ℕ) → (F → Tearing) → (F → Call → F → Type 0) → F → F
     → Place × Place → List Place → Type 0
-IsStartListed failures may_leave asked old new start places =
-    WereListed failures may_leave asked old new start.1 places
+IsStartListed failures may_leave allowed old new start places =
+    WereListed failures may_leave allowed old new start.1 places
 
 -- The entries of a property: what belongs to it, among the places that calls returned as all at or under
 -- each of its starts.
 pub record AreEntriesListed {F : Type 0} (failures : F → ℕ) (may_leave : F → Tearing)
-    (asked : F → Call → F → Type 0) (naming : Naming) (roots : List Place) (include exclude : List (List ℕ))
+    (allowed : F → Call → F → Type 0) (naming : Naming) (roots : List Place) (include exclude : List (List ℕ))
     (old new : F) (entries : Entries) : Type 0 where
   pub listings : List (List Place)
-  pub listed : AllZip (IsStartListed failures may_leave asked old new) (starts_in include (distinct roots))
+  pub listed : AllZip (IsStartListed failures may_leave allowed old new) (starts_in include (distinct roots))
       listings
   pub are : entries
       ≡ in_order (listed_in naming include exclude (zip (starts_in include (distinct roots)) listings))
@@ -37,32 +37,32 @@ pub record AreEntriesListed {F : Type 0} (failures : F → ℕ) (may_leave : F �
 -- none
 abbrev pub AreOutputEntriesListed : {F : Type 0} → (F → ℕ) → (F → Tearing) → (F → Call → F → Type 0) → F → F
     → Place → Entries → Type 0
-AreOutputEntriesListed failures may_leave asked old new root entries =
+AreOutputEntriesListed failures may_leave allowed old new root entries =
     ((is_own root ≡ true) × (entries ≡ []))
-    ⊎ ((places : List Place) × WereListed failures may_leave asked old new root places
+    ⊎ ((places : List Place) × WereListed failures may_leave allowed old new root places
     × (entries ≡ entries_from root places))
 
 -- a call returned the bytes of the file: the digest is theirs, and no others are kept
-abbrev pub WasSeen : {F : Type 0} → (F → ℕ) → (F → Tearing) → (F → Call → F → Type 0) → F → F → SeenFile
+abbrev pub WasObserved : {F : Type 0} → (F → ℕ) → (F → Tearing) → (F → Call → F → Type 0) → F → F → ScannedFile
     → Type 0
-WasSeen failures may_leave asked old new seen =
-    (bytes : Bytes) × WereRead failures may_leave asked old new seen.place bytes
-    × (seen.digest ≡ sha256 bytes) × KeepsOnly bytes seen.kept
+WasObserved failures may_leave allowed old new observed =
+    (bytes : Bytes) × WereRead failures may_leave allowed old new observed.place bytes
+    × (observed.digest ≡ sha256 bytes) × KeepsOnly bytes observed.kept
 
 -- the same holds for each file
-abbrev pub WereSeen : {F : Type 0} → (F → ℕ) → (F → Tearing) → (F → Call → F → Type 0) → F → F → List SeenFile
+abbrev pub WereObserved : {F : Type 0} → (F → ℕ) → (F → Tearing) → (F → Call → F → Type 0) → F → F → List ScannedFile
     → Type 0
-WereSeen failures may_leave asked old new files =
-    AllByRecursion (WasSeen failures may_leave asked old new) files
+WereObserved failures may_leave allowed old new files =
+    AllByRecursion (WasObserved failures may_leave allowed old new) files
 
 -- the file of an entry, with bytes that calls returned
 abbrev pub IsFileRead : {F : Type 0} → (F → ℕ) → (F → Tearing) → (F → Call → F → Type 0) → F → F
     → List ℕ × Place → List ℕ × Bytes → Type 0
-IsFileRead failures may_leave asked old new entry file =
-    (file.0 ≡ entry.0) × WereRead failures may_leave asked old new entry.1 file.1
+IsFileRead failures may_leave allowed old new entry file =
+    (file.0 ≡ entry.0) × WereRead failures may_leave allowed old new entry.1 file.1
 
 -- the tree of these entries, each with bytes that calls returned
 abbrev pub IsTreeRead : {F : Type 0} → (F → ℕ) → (F → Tearing) → (F → Call → F → Type 0) → F → F → Entries
     → Files → Type 0
-IsTreeRead failures may_leave asked old new entries files =
-    AllZip (IsFileRead failures may_leave asked old new) entries files
+IsTreeRead failures may_leave allowed old new entries files =
+    AllZip (IsFileRead failures may_leave allowed old new) entries files

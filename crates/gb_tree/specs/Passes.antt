@@ -7,18 +7,18 @@ use Rattle.gb_tree.specs.Pattern.{matches_by}
 abbrev pub pass : {P : Type 0} → (P → Bool) → (P → Bool) → Bool → Bool → List Bool → List P → List Bool × Bool
 pass any fits entered waiting states [] = (states, entered)
 pass any fits entered waiting [] (p ∷ ps) = ([], entered)
-pass any fits entered waiting (stood ∷ states) (p ∷ ps) =
-    let here = stood || waiting in
-    let stands = entered || (any p && here) in
-    let rest = pass any fits (if any p then stands else here && fits p) (any p && here) states ps in
-    (stands ∷ rest.0, rest.1)
+pass any fits entered waiting (existed ∷ states) (p ∷ ps) =
+    let here = existed || waiting in
+    let exists = entered || (any p && here) in
+    let rest = pass any fits (if any p then exists else here && fits p) (any p && here) states ps in
+    (exists ∷ rest.0, rest.1)
 
 -- one of the matches along the pattern, or at its end, continues to the text's end
 abbrev pub goes_on : {P X : Type 0} → (P → Bool) → (P → X → Bool) → List Bool → List P → Bool → List X → Bool
 goes_on any fits states [] ended xs = ended && matches_by any fits [] xs
 goes_on any fits [] (p ∷ ps) ended xs = false
-goes_on any fits (stands ∷ states) (p ∷ ps) ended xs =
-    (stands && matches_by any fits (p ∷ ps) xs) || goes_on any fits states ps ended xs
+goes_on any fits (exists ∷ states) (p ∷ ps) ended xs =
+    (exists && matches_by any fits (p ∷ ps) xs) || goes_on any fits states ps ended xs
 
 -- whether what was read fits an item; where nothing was read it fits none
 abbrev pub fits_read : {P X : Type 0} → (P → X → Bool) → Option X → P → Bool

@@ -24,11 +24,11 @@ matches_by any fits (p ∷ ps) (x ∷ xs) =
 abbrev pub is_star : ℕ → Bool
 is_star p = p == 42
 
-abbrev pub stands_for : ℕ → ℕ → Bool
-stands_for p c = (p == 63) || (p == c)
+abbrev pub represents : ℕ → ℕ → Bool
+represents p c = (p == 63) || (p == c)
 
 abbrev pub wild_matches : List ℕ → List ℕ → Bool
-wild_matches pattern text = matches_by is_star stands_for (chars pattern) (chars text)
+wild_matches pattern text = matches_by is_star represents (chars pattern) (chars text)
 
 -- a wildcard byte
 abbrev pub is_wild : ℕ → Bool
@@ -60,10 +60,10 @@ is_pattern text = is_place (spelled_out text) && not (list_any is_backslash text
 -- ---- Where its matches are
 
 -- the text before the first `*` and before the first `?`
-abbrev pub plain_front : List ℕ → List ℕ
-plain_front pattern = before_first (λ b. b == 63) (before_first (λ b. b == 42) pattern)
+abbrev pub plain_prefix : List ℕ → List ℕ
+plain_prefix pattern = before_first (λ b. b == 63) (before_first (λ b. b == 42) pattern)
 
 -- The folder before its first `*` or `?`; a pattern that has neither is its own front.
-abbrev pub front_of : List ℕ → List ℕ
-front_of pattern =
-    if list_any is_wild pattern then before_last (λ b. b == 47) (plain_front pattern) else pattern
+abbrev pub prefix_of : List ℕ → List ℕ
+prefix_of pattern =
+    if list_any is_wild pattern then before_last (λ b. b == 47) (plain_prefix pattern) else pattern

@@ -8,6 +8,6 @@ abbrev pub digests_of : Tree → Tree
 digests_of tree = map (λ file. (file.0, sha256 file.1)) tree
 
 -- No two contents at one path of the two trees share a digest without being equal.
-abbrev pub AreApart : Tree → Tree → Type 0
-AreApart old new =
+abbrev pub AreCollisionFree : Tree → Tree → Type 0
+AreCollisionFree old new =
     (path a b : List ℕ) → file_at old path ≡ Some a → file_at new path ≡ Some b → sha256 a ≡ sha256 b → a ≡ b

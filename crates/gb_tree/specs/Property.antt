@@ -8,8 +8,8 @@ use Rattle.gb_core.specs.Place.{is_beneath, is_place, is_under}
 use Rattle.gb_core.specs.Lists.{byte_order}
 use Rattle.gb_folder.specs.Files.{Place, Files, Contents, is_empty, is_own, places_under}
 use Rattle.gb_folder.specs.Limits.{max_files}
-use Rattle.gb_tree.specs.Pattern.{front_of, path_matches}
-use Rattle.gb_tree.specs.Tree.{Entries, contents_at, odd_roots, path_from, too_large, too_many}
+use Rattle.gb_tree.specs.Pattern.{prefix_of, path_matches}
+use Rattle.gb_tree.specs.Tree.{Entries, contents_at, special_roots, path_from, too_large, too_many}
 use Rattle.gb_tree.specs.declared.property.Naming.{Naming}
 use Rattle.gb_tree.specs.declared.property.Naming.TheVariants.{Relative, NameOnly}
 use Rattle.gb_tree.specs.declared.fault.TreeFault.{TreeFault}
@@ -21,8 +21,8 @@ abbrev pub last_segment : List ℕ → List ℕ
 last_segment place = after_last (λ b. b == 47) place
 
 -- the path of a file from a root; a root that is a file is named by its last segment
-abbrev pub seen_from : Place → Place → List ℕ
-seen_from root place = if bytes_eq place root then last_segment place else path_from root place
+abbrev pub relative_to : Place → Place → List ℕ
+relative_to root place = if bytes_eq place root then last_segment place else path_from root place
 
 abbrev pub matches_any : List (List ℕ) → List ℕ → Bool
 matches_any patterns path = list_any (λ pattern. path_matches pattern path) patterns
@@ -34,11 +34,11 @@ lets_in include exclude path =
 
 -- a file under the root belongs to the property
 abbrev pub is_in : List (List ℕ) → List (List ℕ) → Place → Place → Bool
-is_in include exclude root place = not (is_own place) && lets_in include exclude (seen_from root place)
+is_in include exclude root place = not (is_own place) && lets_in include exclude (relative_to root place)
 
 -- the path at which it is in the property's tree
 abbrev pub path_of : Naming → Place → Place → List ℕ
-path_of Relative root place = seen_from root place
+path_of Relative root place = relative_to root place
 path_of NameOnly root place = last_segment place
 
 -- the places that belong to the property, among those under a root, with their paths
@@ -66,7 +66,7 @@ found naming include exclude files roots =
 -- itself, where that would be no place, or where the pattern lets in a file that is the root.
 abbrev pub start_of : Place → List ℕ → Place
 start_of root pattern =
-    let start = root ++ 47 ∷ front_of pattern in
+    let start = root ++ 47 ∷ prefix_of pattern in
     if path_matches pattern (last_segment root) || not (is_place start) then root else start
 
 -- those of them that lie under no other, each once
@@ -130,7 +130,7 @@ abbrev pub entry_faults : List ℕ → Naming → List Place → List (List ℕ)
     → List TreeFault
 entry_faults name naming roots include exclude contents =
     let entries = entries_of naming roots include exclude contents.files in
-    odd_roots contents (places_of (starts_in include (distinct roots))) ++ too_many name entries
+    special_roots contents (places_of (starts_in include (distinct roots))) ++ too_many name entries
     ++ map (faults.DuplicateInput name) (doubled (paths_of entries))
 
 abbrev pub tree_faults : List ℕ → Naming → List Place → List (List ℕ) → List (List ℕ) → Contents

@@ -3,7 +3,7 @@ use Rattle.std.specs.Prelude.{ℕ, ◌≡◌, ◌⊎◌, ◌+◌, ◌++◌, Bool
 use Rattle.std.specs.Prelude.{nat_lt, unwrap_or, bytes_eq, Some, Result, Err}
 use Rattle.std.specs.List.{filter, list_any}
 use Rattle.gb_core.specs.Lists.{first_of}
-use Rattle.gb_folder.specs.Files.{Place, Bytes, Files, Contents, HasRisen, file_at, is_odd_under, is_own}
+use Rattle.gb_folder.specs.Files.{Place, Bytes, Files, Contents, HasRisen, file_at, is_special_under, is_own}
 use Rattle.gb_folder.specs.Files.{places_under}
 use Rattle.gb_folder.specs.Limits.{max_file, max_files}
 use Rattle.gb_tree.specs.declared.fault.TreeFault.{TreeFault}
@@ -47,8 +47,8 @@ abbrev pub is_large : Files → Place → Bool
 is_large files place = nat_lt max_file (length (bytes_at files place))
 
 -- places under which something exists that no place can name
-abbrev pub odd_roots : Contents → List Place → List TreeFault
-odd_roots contents roots = map faults.BadFileName (filter (is_odd_under contents) roots)
+abbrev pub special_roots : Contents → List Place → List TreeFault
+special_roots contents roots = map faults.BadFileName (filter (is_special_under contents) roots)
 
 abbrev pub too_many : List ℕ → Entries → List TreeFault
 too_many name entries = if nat_lt max_files (length entries) then faults.TooManyFiles name ∷ [] else []
@@ -61,7 +61,7 @@ too_large files entries =
 -- The faults in listing the files under a place, and an output's, and then in reading them, in this order.
 abbrev pub listing_faults : List ℕ → Place → Contents → List TreeFault
 listing_faults name root contents =
-    odd_roots contents (root ∷ []) ++ too_many name (entries_from root (places_under contents.files root))
+    special_roots contents (root ∷ []) ++ too_many name (entries_from root (places_under contents.files root))
 
 abbrev pub output_listing_faults : List ℕ → Place → Contents → List TreeFault
 output_listing_faults name root contents = if is_own root then [] else listing_faults name root contents

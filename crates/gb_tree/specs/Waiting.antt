@@ -1,11 +1,11 @@
 -- Small files that were read and wait to be digested, and the result for each.
 use Rattle.std.specs.Prelude.{ℕ, List, [], ◌∷◌, Option, Some, None, if◌then◌else◌}
 use Rattle.gb_folder.specs.Files.{Bytes}
-use Rattle.gb_tree.specs.declared.kept.SeenFile.{SeenFile}
+use Rattle.gb_tree.specs.declared.kept.ScannedFile.{ScannedFile}
 use Rattle.gb_tree.specs.declared.seeing.Content.{Content}
 use Rattle.gb_tree.specs.declared.seeing.Content.TheVariants.{Undigested, Digested}
 use Rattle.gb_tree.specs.declared.waiting.Found.{Found}
-use Rattle.gb_tree.specs.declared.waiting.Found.TheVariants.{Small, Seen}
+use Rattle.gb_tree.specs.declared.waiting.Found.TheVariants.{Small, Observed}
 use Rattle.gb_tree.specs.declared.waiting.SmallFile.{SmallFile}
 use Rattle.gb_tree.specs.declared.waiting.Waiting.{Waiting}
 use Rattle.gb_tree.specs.declared.waiting.Waiting.TheVariants.{Nothing, One, Two, Three}
@@ -22,7 +22,7 @@ kept_in (Undigested bytes is_kept) = if is_kept then Some bytes else None
 kept_in (Digested digest kept) = kept
 
 -- a small file, once it is digested
-abbrev pub file_of : SmallFile → SeenFile
+abbrev pub file_of : SmallFile → ScannedFile
 file_of small = record {
   path = small.path;
   place = small.place;
@@ -31,12 +31,12 @@ file_of small = record {
 }
 
 -- any file that was read
-abbrev pub file_in : Found → SeenFile
+abbrev pub file_in : Found → ScannedFile
 file_in (Small small) = file_of small
-file_in (Seen seen) = seen
+file_in (Observed observed) = observed
 
 -- those that wait, in their order
-abbrev pub waiting_files : Waiting → List SeenFile
+abbrev pub waiting_files : Waiting → List ScannedFile
 waiting_files Nothing = []
 waiting_files (One first) = file_of first ∷ []
 waiting_files (Two first second) = file_of first ∷ file_of second ∷ []

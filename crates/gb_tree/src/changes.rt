@@ -5,7 +5,7 @@ ghost use Rattle.gb_action.specs.Changes.{changes_between};
 ghost use Rattle.gb_core.specs.Lists.{byte_order};
 ghost use Rattle.gb_action.specs.Files.{Tree};
 ghost use Rattle.gb_tree.specs.Merge.{past, reported};
-ghost use Rattle.gb_tree.specs.Prints.{AreApart, digests_of};
+ghost use Rattle.gb_tree.specs.Prints.{AreCollisionFree, digests_of};
 
 use crate::prints::Prints;
 use gb_action::change::{Change, ChangeList};
@@ -18,24 +18,24 @@ use std::cmp::Ordering;
 pub fn compare(alloc: Global, old: &Prints, new: &Prints) -> Result<ChangeList, AllocError>
     ensures changes { IfOk result (λ changes. changes ≡ changes_between old.now.1 new.now.1) }
     ensures exact { IfOk result (λ changes. (before after : Tree) → old.now.1 ≡ digests_of before
-        → new.now.1 ≡ digests_of after → AreApart before after → changes ≡ changes_between before after) }
+        → new.now.1 ≡ digests_of after → AreCollisionFree before after → changes ≡ changes_between before after) }
 {
     let (before, after) = (old.as_slice(), new.as_slice());
     let mut changes = ChangeList::new(alloc);
     let (mut at, mut to) = (0, 0);
     while at < before.len() && to < after.len() {
-        let order = tell(&mut changes, &before[at], &after[to])?;
+        let order = report(&mut changes, &before[at], &after[to])?;
         let (more_before, more_after) = past(order);
         at += more_before;
         to += more_after;
     }
-    tell_removed(&mut changes, &before[at..])?;
-    tell_added(&mut changes, &after[to..])?;
+    report_removed(&mut changes, &before[at..])?;
+    report_added(&mut changes, &after[to..])?;
     Ok(changes)
 }
 
 /// Adds the change that two compared entries show, and returns their order.
-fn tell(
+fn report(
     changes: &mut ChangeList,
     old: &(RelPath, [u8; 32]),
     new: &(RelPath, [u8; 32]),
@@ -68,7 +68,7 @@ fn past(order: Ordering) -> (usize, usize)
     }
 }
 
-fn tell_removed(changes: &mut ChangeList, old: &[(RelPath, [u8; 32])]) -> Result<(), AllocError>
+fn report_removed(changes: &mut ChangeList, old: &[(RelPath, [u8; 32])]) -> Result<(), AllocError>
     ensures { OnOk result (changes.new ≡ changes.old ++ map (λ entry. Removed entry.0) old.now) }
 {
     for (path, _) in old.iter() {
@@ -77,7 +77,7 @@ fn tell_removed(changes: &mut ChangeList, old: &[(RelPath, [u8; 32])]) -> Result
     Ok(())
 }
 
-fn tell_added(changes: &mut ChangeList, new: &[(RelPath, [u8; 32])]) -> Result<(), AllocError>
+fn report_added(changes: &mut ChangeList, new: &[(RelPath, [u8; 32])]) -> Result<(), AllocError>
     ensures { OnOk result (changes.new ≡ changes.old ++ map (λ entry. Added entry.0) new.now) }
 {
     for (path, _) in new.iter() {

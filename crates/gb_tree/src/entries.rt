@@ -7,9 +7,9 @@ ghost use Rattle.std.specs.Ordering.{is_lt};
 ghost use Rattle.std.specs.FinMap.Entries.{is_sorted};
 ghost use Rattle.gb_core.specs.Place.{is_beneath, is_under};
 ghost use Rattle.gb_core.specs.Lists.{byte_order, first_of};
-ghost use Rattle.gb_folder.specs.Calls.{Asks, no_change};
+ghost use Rattle.gb_folder.specs.Calls.{Requests, no_change};
 ghost use Rattle.gb_folder.specs.Limits.{max_files};
-ghost use Rattle.gb_tree.specs.Tree.{Blames, IsRefused, odd_roots, too_many};
+ghost use Rattle.gb_tree.specs.Tree.{Blames, IsRefused, special_roots, too_many};
 ghost use Rattle.gb_tree.specs.Property.{doubled, entries_in, entries_of, entry_faults, found_from};
 ghost use Rattle.gb_tree.specs.Property.{held, in_order, is_in, is_under_any, lets_in, matches_any};
 ghost use Rattle.gb_tree.specs.Property.{paths_of, places_of};
@@ -17,7 +17,7 @@ ghost use Rattle.gb_tree.specs.Rising.{IsFrom, IsRising};
 ghost use Rattle.gb_tree.specs.Answered.{AreEntriesListed, IsStartListed, listed_in};
 
 use crate::fault::TreeFault;
-use crate::path::{path_of, seen_from};
+use crate::path::{path_of, relative_to};
 use crate::pattern::Pattern;
 use crate::property::Naming;
 use crate::reading::listed;
@@ -40,20 +40,20 @@ pub(crate) fn entries_of<F: Folder>(
     include: &[Pattern],
     exclude: &[Pattern],
 ) -> Result<Vec<(RelPath, Place)>, TreeFault>
-    ensures asks { Asks F.failures F.may_leave F.asked no_change folder.old folder.new }
+    ensures requests { Requests F.failures F.may_leave F.allowed no_change folder.old folder.new }
     ensures blame { Blames (λ at. IsTrue (is_under_any roots.now at))
         (F.failures folder.old) (F.failures folder.new) result }
     ensures under { IfOk result
         (λ entries. AllByRecursion (λ entry. IsTrue (is_under_any roots.now entry.1)) entries.items) }
     ensures ordered { IfOk result (λ entries. IsTrue (is_sorted byte_order entries.items)) }
-    ensures same { IsTrue F.tells → F.contents folder.new ≡ F.contents folder.old }
-    ensures listed { IfOk result (λ entries. AreEntriesListed F.failures F.may_leave F.asked naming
+    ensures same { IsTrue F.faithful → F.contents folder.new ≡ F.contents folder.old }
+    ensures listed { IfOk result (λ entries. AreEntriesListed F.failures F.may_leave F.allowed naming
         roots.now include.now exclude.now folder.old folder.new entries.items) }
-    ensures entries { IsTrue F.tells → IfOk result (λ entries.
+    ensures entries { IsTrue F.faithful → IfOk result (λ entries.
         entries.items ≡ entries_of naming roots.now include.now exclude.now (F.contents folder.old).files) }
-    ensures fit { IsTrue F.tells → OnOk result
+    ensures fit { IsTrue F.faithful → OnOk result
         (entry_faults name.now naming roots.now include.now exclude.now (F.contents folder.old) ≡ []) }
-    ensures err { IsTrue F.tells → IfErr result (λ fault.
+    ensures err { IsTrue F.faithful → IfErr result (λ fault.
         IsRefused (F.failures folder.old) (F.failures folder.new)
         (entry_faults name.now naming roots.now include.now exclude.now (F.contents folder.old)) fault) }
 {
@@ -84,23 +84,23 @@ fn found_few<F: Folder>(
     starts: &[(Place, Place)],
 ) -> Result<Vec<(RelPath, Place)>, TreeFault>
     requires { AllByRecursion (λ start. IsTrue (is_under start.1 start.0)) starts.now }
-    ensures asks { Asks F.failures F.may_leave F.asked no_change folder.old folder.new }
+    ensures requests { Requests F.failures F.may_leave F.allowed no_change folder.old folder.new }
     ensures blame { Blames (λ at. IsTrue (is_under_any (places_of starts.now) at))
         (F.failures folder.old) (F.failures folder.new) result }
     ensures under { IfOk result (λ entries.
         AllByRecursion (λ entry. IsTrue (is_under_any (places_of starts.now) entry.1)) entries.items) }
-    ensures same { IsTrue F.tells → F.contents folder.new ≡ F.contents folder.old }
+    ensures same { IsTrue F.faithful → F.contents folder.new ≡ F.contents folder.old }
     ensures answered { IfOk result (λ entries. (listings : List (List (List ℕ)))
-        × AllZip (IsStartListed F.failures F.may_leave F.asked folder.old folder.new) starts.now listings
+        × AllZip (IsStartListed F.failures F.may_leave F.allowed folder.old folder.new) starts.now listings
         × (entries.items ≡ listed_in naming include.now exclude.now (zip starts.now listings))) }
-    ensures found { IsTrue F.tells → IfOk result (λ entries.
+    ensures found { IsTrue F.faithful → IfOk result (λ entries.
         entries.items ≡ found_from naming include.now exclude.now (F.contents folder.old).files starts.now) }
-    ensures none_odd { IsTrue F.tells → OnOk result
-        (odd_roots (F.contents folder.old) (places_of starts.now) ≡ []) }
+    ensures none_special { IsTrue F.faithful → OnOk result
+        (special_roots (F.contents folder.old) (places_of starts.now) ≡ []) }
     ensures few { IfOk result (λ entries. too_many name.now entries.items ≡ []) }
-    ensures err { IsTrue F.tells → IfErr result (λ fault.
+    ensures err { IsTrue F.faithful → IfErr result (λ fault.
         IsRefused (F.failures folder.old) (F.failures folder.new)
-        (odd_roots (F.contents folder.old) (places_of starts.now)
+        (special_roots (F.contents folder.old) (places_of starts.now)
         ++ too_many name.now
         (found_from naming include.now exclude.now (F.contents folder.old).files starts.now)) fault) }
 {
@@ -122,24 +122,24 @@ fn found<F: Folder>(
     starts: &[(Place, Place)],
 ) -> Result<Vec<(RelPath, Place)>, TreeFault>
     requires { AllByRecursion (λ start. IsTrue (is_under start.1 start.0)) starts.now }
-    ensures asks { Asks F.failures F.may_leave F.asked no_change folder.old folder.new }
+    ensures requests { Requests F.failures F.may_leave F.allowed no_change folder.old folder.new }
     ensures blame { Blames (λ at. IsTrue (is_under_any (places_of starts.now) at))
         (F.failures folder.old) (F.failures folder.new) result }
     ensures under { IfOk result (λ entries.
         AllByRecursion (λ entry. IsTrue (is_under_any (places_of starts.now) entry.1)) entries.items) }
     ensures few { IfOk result (λ entries. length entries.items ≤ max_files + 1) }
-    ensures same { IsTrue F.tells → F.contents folder.new ≡ F.contents folder.old }
+    ensures same { IsTrue F.faithful → F.contents folder.new ≡ F.contents folder.old }
     ensures answered { IfOk result (λ entries. (listings : List (List (List ℕ)))
-        × AllZip (IsStartListed F.failures F.may_leave F.asked folder.old folder.new) starts.now listings
+        × AllZip (IsStartListed F.failures F.may_leave F.allowed folder.old folder.new) starts.now listings
         × (entries.items ≡ held (listed_in naming include.now exclude.now (zip starts.now listings)))) }
-    ensures found { IsTrue F.tells → IfOk result (λ entries.
+    ensures found { IsTrue F.faithful → IfOk result (λ entries.
         entries.items
         ≡ held (found_from naming include.now exclude.now (F.contents folder.old).files starts.now)) }
-    ensures none_odd { IsTrue F.tells → OnOk result
-        (odd_roots (F.contents folder.old) (places_of starts.now) ≡ []) }
-    ensures odd { IsTrue F.tells → IfErr result (λ fault.
+    ensures none_special { IsTrue F.faithful → OnOk result
+        (special_roots (F.contents folder.old) (places_of starts.now) ≡ []) }
+    ensures special { IsTrue F.faithful → IfErr result (λ fault.
         IsRefused (F.failures folder.old) (F.failures folder.new)
-        (odd_roots (F.contents folder.old) (places_of starts.now)) fault) }
+        (special_roots (F.contents folder.old) (places_of starts.now)) fault) }
 {
     let mut entries = Vec::new(alloc);
     for (root, start) in starts.iter() {
@@ -187,7 +187,7 @@ fn is_in(include: &[Pattern], exclude: &[Pattern], root: &Place, place: &Place) 
     requires { IsTrue (is_under place.now root.now) }
     ensures { result ≡ is_in include.now exclude.now root.now place.now }
 {
-    !is_own(place) && lets_in(include, exclude, seen_from(root.as_str(), place.as_str()))
+    !is_own(place) && lets_in(include, exclude, relative_to(root.as_str(), place.as_str()))
 }
 
 /// Whether some include matches the path, or there is none, and no exclude does.
@@ -255,8 +255,8 @@ fn first_beneath<'a>(
     ensures { IfOk result (λ other.
         option_copied other ≡ first_of (filter (λ other. is_beneath other path.now) (paths_of later.now))) }
 {
-    let front = with_slash(alloc, path)?;
-    let index = count_before(front.as_str(), later);
+    let prefix = with_slash(alloc, path)?;
+    let index = count_before(prefix.as_str(), later);
     match later[index..].first() {
         Some((other, _)) if is_beneath(other, path) => Ok(Some(other)),
         _ => Ok(None),
@@ -271,11 +271,11 @@ fn is_beneath(path: &RelPath, folder: &RelPath) -> bool
 
 /// The path and a slash: each path under it begins with this text.
 fn with_slash(alloc: Global, path: &RelPath) -> Result<String, AllocError>
-    ensures { IfOk result (λ front. string_bytes front ≡ path.now ++ 47 ∷ []) }
+    ensures { IfOk result (λ prefix. string_bytes prefix ≡ path.now ++ 47 ∷ []) }
 {
-    let mut front = String::from_str(alloc, path.as_str())?;
-    front.push('/')?;
-    Ok(front)
+    let mut prefix = String::from_str(alloc, path.as_str())?;
+    prefix.push('/')?;
+    Ok(prefix)
 }
 
 /// How many of the sorted paths come before the text.

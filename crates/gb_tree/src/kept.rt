@@ -1,7 +1,7 @@
 //! Files as they were read once. Their bytes are kept where there is room.
 ghost use Rattle.std.specs.Prelude.{◌≡◌, ◌↔◌, [], map, IsTrue, IfOk, IfErr};
 ghost use Rattle.std.specs.List.{AllByRecursion};
-ghost use Rattle.gb_folder.specs.Calls.{Asks, no_change};
+ghost use Rattle.gb_folder.specs.Calls.{Requests, no_change};
 ghost use Rattle.gb_tree.specs.Tree.{Blames, IsTreeFaultOfMachine, contents_at, is_among};
 ghost use Rattle.gb_tree.specs.Prints.{digests_of};
 
@@ -18,7 +18,7 @@ use std::marker::Model;
 
 /// A file as it was read.
 #[derive(Drop)]
-pub struct SeenFile {
+pub struct ScannedFile {
     /// Its path in the tree.
     pub path: RelPath,
     /// Where it is.
@@ -34,15 +34,15 @@ pub struct SeenFile {
 pub struct Reading {
     name: Name,
     /// Strictly in the byte order of the paths.
-    files: Vec<SeenFile>,
+    files: Vec<ScannedFile>,
 }
 
 impl Model for Reading {
     ghost use Rattle.std.specs.Prelude.{List, ℕ};
-    ghost use Rattle.gb_tree.specs.declared.kept.SeenFile.{SeenFile};
+    ghost use Rattle.gb_tree.specs.declared.kept.ScannedFile.{ScannedFile};
     ghost use Rattle.gb_tree.specs.Reading.{IsReading};
 
-    ghost Value = { List ℕ × List SeenFile };
+    ghost Value = { List ℕ × List ScannedFile };
 
     ghost view = { λ r. (r.name, r.files.items) };
 
@@ -50,10 +50,10 @@ impl Model for Reading {
 }
 
 impl Reading {
-    ghost use Rattle.gb_tree.specs.Answered.{IsTreeRead, WereSeen};
-    ghost use Rattle.gb_tree.specs.Reading.{IsReading, IsSeenIn, digests_seen, entries_seen};
+    ghost use Rattle.gb_tree.specs.Answered.{IsTreeRead, WereObserved};
+    ghost use Rattle.gb_tree.specs.Reading.{IsReading, IsObservedIn, digests_observed, entries_observed};
 
-    pub(crate) fn new(name: Name, files: Vec<SeenFile>) -> Reading
+    pub(crate) fn new(name: Name, files: Vec<ScannedFile>) -> Reading
         requires { IsReading files.items }
         ensures { result ≡ (name, files.items) }
     {
@@ -76,11 +76,11 @@ impl Reading {
 
     /// The digests that were taken as the files were read.
     pub fn prints(&self, alloc: Global) -> Result<Prints, AllocError>
-        ensures { IfOk result (λ prints. prints ≡ (self.now.0, digests_seen self.now.1)) }
+        ensures { IfOk result (λ prints. prints ≡ (self.now.0, digests_observed self.now.1)) }
     {
         let mut digests = Vec::with_capacity(alloc, self.files.len())?;
-        for seen in self.files.iter() {
-            digests.push((seen.path.copy()?, seen.digest))?;
+        for observed in self.files.iter() {
+            digests.push((observed.path.copy()?, observed.digest))?;
         }
         Ok(Prints::new(self.name.copy()?, digests))
     }
@@ -92,23 +92,23 @@ impl Reading {
         alloc: Global,
         folder: &mut F,
     ) -> Result<(Snapshot, Prints), TreeFault>
-        ensures asks { Asks F.failures F.may_leave F.asked no_change folder.old folder.new }
-        ensures blame { Blames (λ at. IsTrue (is_among (entries_seen self.1) at))
+        ensures requests { Requests F.failures F.may_leave F.allowed no_change folder.old folder.new }
+        ensures blame { Blames (λ at. IsTrue (is_among (entries_observed self.1) at))
             (F.failures folder.old) (F.failures folder.new) result }
-        ensures same { IsTrue F.tells → F.contents folder.new ≡ F.contents folder.old }
+        ensures same { IsTrue F.faithful → F.contents folder.new ≡ F.contents folder.old }
         ensures named { IfOk result (λ made. made.0.0 ≡ self.0) }
         ensures prints { IfOk result (λ made. made.1 ≡ (self.0, digests_of made.0.1)) }
         ensures paths { IfOk result
             (λ made. map (λ file. file.0) made.0.1 ≡ map (λ file. file.path) self.1) }
         // Over any folder: what calls returned before, and what calls return now for the rest.
-        ensures answered { (first : _) → Asks F.failures F.may_leave F.asked no_change first folder.old
-            → WereSeen F.failures F.may_leave F.asked first folder.old self.1
-            → IfOk result (λ made. IsTreeRead F.failures F.may_leave F.asked first folder.new
-            (entries_seen self.1) made.0.1) }
-        ensures tree { IsTrue F.tells → AllByRecursion (IsSeenIn (F.contents folder.old).files) self.1
+        ensures answered { (first : _) → Requests F.failures F.may_leave F.allowed no_change first folder.old
+            → WereObserved F.failures F.may_leave F.allowed first folder.old self.1
+            → IfOk result (λ made. IsTreeRead F.failures F.may_leave F.allowed first folder.new
+            (entries_observed self.1) made.0.1) }
+        ensures tree { IsTrue F.faithful → AllByRecursion (IsObservedIn (F.contents folder.old).files) self.1
             → IfOk result
-            (λ made. made.0.1 ≡ contents_at (F.contents folder.old).files (entries_seen self.1)) }
-        ensures err { IsTrue F.tells → AllByRecursion (IsSeenIn (F.contents folder.old).files) self.1
+            (λ made. made.0.1 ≡ contents_at (F.contents folder.old).files (entries_observed self.1)) }
+        ensures err { IsTrue F.faithful → AllByRecursion (IsObservedIn (F.contents folder.old).files) self.1
             → IfErr result (IsTreeFaultOfMachine (F.failures folder.old) (F.failures folder.new)) }
     {
         let Reading { name, files } = self;

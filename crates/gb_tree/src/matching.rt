@@ -8,7 +8,7 @@ ghost use Rattle.std.specs.Str.{chars};
 ghost use Rattle.std.specs.Option.{option_copied};
 ghost use Rattle.gb_core.specs.Place.{segments};
 ghost use Rattle.gb_tree.specs.Pattern.{is_double_star, is_star, is_wild, path_matches};
-ghost use Rattle.gb_tree.specs.Pattern.{segment_matches, stands_for, wild_matches};
+ghost use Rattle.gb_tree.specs.Pattern.{segment_matches, represents, wild_matches};
 ghost use Rattle.gb_tree.specs.Passes.{pass, fits_read, is_start};
 
 use crate::shortcut::{
@@ -32,34 +32,34 @@ struct Pass {
 
 impl Pass {
     /// Whether a match that has not read the element yet is before the next item.
-    fn is_open(self, stood: bool) -> bool
-        ensures { result ≡ (stood || self.waiting) }
+    fn is_open(self, existed: bool) -> bool
+        ensures { result ≡ (existed || self.waiting) }
     {
-        stood || self.waiting
+        existed || self.waiting
     }
 
     /// Passes one item; returns whether a match is before it.
-    fn over(&mut self, stood: bool, any: bool, fits: bool) -> bool
-        ensures stands { result ≡ (self.old.entered || (any && (stood || self.old.waiting))) }
+    fn over(&mut self, existed: bool, any: bool, fits: bool) -> bool
+        ensures exists { result ≡ (self.old.entered || (any && (existed || self.old.waiting))) }
         ensures entered { self.new.entered ≡ (if any
-            then (self.old.entered || (any && (stood || self.old.waiting)))
-            else ((stood || self.old.waiting) && fits)) }
-        ensures waiting { self.new.waiting ≡ (any && (stood || self.old.waiting)) }
+            then (self.old.entered || (any && (existed || self.old.waiting)))
+            else ((existed || self.old.waiting) && fits)) }
+        ensures waiting { self.new.waiting ≡ (any && (existed || self.old.waiting)) }
     {
-        let here = stood || self.waiting;
-        let stands = self.entered || any && here;
-        self.entered = if any { stands } else { here && fits };
+        let here = existed || self.waiting;
+        let exists = self.entered || any && here;
+        self.entered = if any { exists } else { here && fits };
         self.waiting = any && here;
-        stands
+        exists
     }
 }
 
 /// Reads one more character, or begins; returns whether all that was read matches.
 fn read_character(states: &mut [bool], pattern: &str, read: Option<char>) -> bool
     requires { length (chars pattern.now) ≤ length states.now }
-    ensures states { states.new ≡ (pass is_star (fits_read stands_for read) (is_start read) false
+    ensures states { states.new ≡ (pass is_star (fits_read represents read) (is_start read) false
         states.old (chars pattern.now)).0 }
-    ensures ended { result ≡ (pass is_star (fits_read stands_for read) (is_start read) false
+    ensures ended { result ≡ (pass is_star (fits_read represents read) (is_start read) false
         states.old (chars pattern.now)).1 }
 {
     let mut pass = Pass {
@@ -68,16 +68,16 @@ fn read_character(states: &mut [bool], pattern: &str, read: Option<char>) -> boo
     };
     let mut index = 0;
     for item in pattern.chars() {
-        let stood = states[index];
-        states[index] = pass.over(stood, item == '*', stands_for(item, read));
+        let existed = states[index];
+        states[index] = pass.over(existed, item == '*', represents(item, read));
         index += 1;
     }
     pass.entered
 }
 
 /// Whether the character that was read fits this one of a pattern.
-fn stands_for(item: char, read: Option<char>) -> bool
-    ensures { result ≡ fits_read stands_for read item }
+fn represents(item: char, read: Option<char>) -> bool
+    ensures { result ≡ fits_read represents read item }
 {
     match read {
         None => false,
@@ -116,7 +116,7 @@ fn wild_matches(pattern: &str, text: &str) -> bool
 /// The same with these flags, more than the pattern has bytes and none of them set.
 fn characters_match(states: &mut [bool], pattern: &str, text: &str) -> bool
     requires fit { length pattern.now < length states.now }
-    requires none { AllByRecursion (λ stands. stands ≡ false) states.now }
+    requires none { AllByRecursion (λ exists. exists ≡ false) states.now }
     ensures { result ≡ wild_matches pattern.now text.now }
 {
     let mut matched = read_character(states, pattern, None);
@@ -142,9 +142,9 @@ fn read_segment(states: &mut [bool], pattern: &str, read: Option<&str>) -> bool
     };
     let mut index = 0;
     for item in pattern.split('/') {
-        let stood = states[index];
-        let here = pass.is_open(stood);
-        states[index] = pass.over(stood, is_double_star(item), fits_here(here, item, read));
+        let existed = states[index];
+        let here = pass.is_open(existed);
+        states[index] = pass.over(existed, is_double_star(item), fits_here(here, item, read));
         index += 1;
     }
     pass.entered
@@ -197,7 +197,7 @@ fn steps_match(pattern: &str, path: &str) -> bool
 fn segments_match(states: &mut [bool], pattern: &str, path: &str) -> bool
     requires short { length pattern.now ≤ 1024 }
     requires fit { length pattern.now < length states.now }
-    requires none { AllByRecursion (λ stands. stands ≡ false) states.now }
+    requires none { AllByRecursion (λ exists. exists ≡ false) states.now }
     ensures { result ≡ path_matches pattern.now path.now }
 {
     let mut matched = read_segment(states, pattern, None);

@@ -5,13 +5,13 @@ ghost use Rattle.std.specs.List.Sorted.{IsStrictlySortedBy};
 ghost use Rattle.std.specs.FinMap.Entries.{is_sorted};
 ghost use Rattle.gb_core.specs.Place.{is_under};
 ghost use Rattle.gb_core.specs.Lists.{byte_order};
-ghost use Rattle.gb_folder.specs.Calls.{Asks, no_change};
+ghost use Rattle.gb_folder.specs.Calls.{Requests, no_change};
 ghost use Rattle.gb_folder.specs.Files.{places_under};
 ghost use Rattle.gb_tree.specs.Tree.{Blames, IsRefused, entries_from, files_from, listing_faults};
 ghost use Rattle.gb_tree.specs.Tree.{output_entries, output_faults, output_listing_faults};
 ghost use Rattle.gb_tree.specs.Prints.{digests_of};
-ghost use Rattle.gb_tree.specs.Answered.{AreOutputEntriesListed, WereSeen};
-ghost use Rattle.gb_tree.specs.Reading.{AreSeen, digests_seen, entries_seen};
+ghost use Rattle.gb_tree.specs.Answered.{AreOutputEntriesListed, WereObserved};
+ghost use Rattle.gb_tree.specs.Reading.{AreObserved, digests_observed, entries_observed};
 
 use crate::fault::TreeFault;
 use crate::kept::Reading;
@@ -36,15 +36,15 @@ pub fn outputs<F: Folder>(
     name: &Name,
     place: &Place,
 ) -> Result<Snapshot, TreeFault>
-    ensures asks { Asks F.failures F.may_leave F.asked no_change folder.old folder.new }
+    ensures requests { Requests F.failures F.may_leave F.allowed no_change folder.old folder.new }
     ensures blame { Blames (λ at. IsTrue (is_under at place.now))
         (F.failures folder.old) (F.failures folder.new) result }
-    ensures same { IsTrue F.tells → F.contents folder.new ≡ F.contents folder.old }
-    ensures files { IsTrue F.tells → IfOk result
+    ensures same { IsTrue F.faithful → F.contents folder.new ≡ F.contents folder.old }
+    ensures files { IsTrue F.faithful → IfOk result
         (λ snapshot. snapshot ≡ (name.now, files_from (F.contents folder.old).files place.now)) }
-    ensures fit { IsTrue F.tells → OnOk result
+    ensures fit { IsTrue F.faithful → OnOk result
         (output_faults name.now place.now (F.contents folder.old) ≡ []) }
-    ensures err { IsTrue F.tells → IfErr result (λ fault.
+    ensures err { IsTrue F.faithful → IfErr result (λ fault.
         IsRefused (F.failures folder.old) (F.failures folder.new)
         (output_faults name.now place.now (F.contents folder.old)) fault) }
 {
@@ -61,16 +61,16 @@ pub fn output_prints<F: Folder>(
     name: &Name,
     place: &Place,
 ) -> Result<Prints, TreeFault>
-    ensures asks { Asks F.failures F.may_leave F.asked no_change folder.old folder.new }
+    ensures requests { Requests F.failures F.may_leave F.allowed no_change folder.old folder.new }
     ensures blame { Blames (λ at. IsTrue (is_under at place.now))
         (F.failures folder.old) (F.failures folder.new) result }
-    ensures same { IsTrue F.tells → F.contents folder.new ≡ F.contents folder.old }
+    ensures same { IsTrue F.faithful → F.contents folder.new ≡ F.contents folder.old }
     ensures named { IfOk result (λ prints. prints.0 ≡ name.now) }
-    ensures prints { IsTrue F.tells → IfOk result
+    ensures prints { IsTrue F.faithful → IfOk result
         (λ prints. prints ≡ (name.now, digests_of (files_from (F.contents folder.old).files place.now))) }
-    ensures fit { IsTrue F.tells → OnOk result
+    ensures fit { IsTrue F.faithful → OnOk result
         (output_faults name.now place.now (F.contents folder.old) ≡ []) }
-    ensures err { IsTrue F.tells → IfErr result (λ fault.
+    ensures err { IsTrue F.faithful → IfErr result (λ fault.
         IsRefused (F.failures folder.old) (F.failures folder.new)
         (output_faults name.now place.now (F.contents folder.old)) fault) }
 {
@@ -88,32 +88,32 @@ pub fn output_reading<F: Folder>(
     place: &Place,
     room: &mut u64,
 ) -> Result<Reading, TreeFault>
-    ensures asks { Asks F.failures F.may_leave F.asked no_change folder.old folder.new }
+    ensures requests { Requests F.failures F.may_leave F.allowed no_change folder.old folder.new }
     ensures blame { Blames (λ at. IsTrue (is_under at place.now))
         (F.failures folder.old) (F.failures folder.new) result }
-    ensures same { IsTrue F.tells → F.contents folder.new ≡ F.contents folder.old }
+    ensures same { IsTrue F.faithful → F.contents folder.new ≡ F.contents folder.old }
     ensures named { IfOk result (λ reading. reading.0 ≡ name.now) }
     ensures under { IfOk result
-        (λ reading. AllByRecursion (λ seen. IsTrue (is_under seen.place place.now)) reading.1) }
+        (λ reading. AllByRecursion (λ observed. IsTrue (is_under observed.place place.now)) reading.1) }
     // Over any folder: the files are those that calls returned, and so are the digests and the
     // bytes.
-    ensures listed { IfOk result (λ reading. AreOutputEntriesListed F.failures F.may_leave F.asked
-        folder.old folder.new place.now (entries_seen reading.1)) }
+    ensures listed { IfOk result (λ reading. AreOutputEntriesListed F.failures F.may_leave F.allowed
+        folder.old folder.new place.now (entries_observed reading.1)) }
     ensures answered { IfOk result
-        (λ reading. WereSeen F.failures F.may_leave F.asked folder.old folder.new reading.1) }
-    ensures digests { IsTrue F.tells → IfOk result (λ reading.
-        digests_seen reading.1 ≡ digests_of (files_from (F.contents folder.old).files place.now)) }
-    ensures seen { IsTrue F.tells → IfOk result (λ reading. AreSeen (F.contents folder.old).files
+        (λ reading. WereObserved F.failures F.may_leave F.allowed folder.old folder.new reading.1) }
+    ensures digests { IsTrue F.faithful → IfOk result (λ reading.
+        digests_observed reading.1 ≡ digests_of (files_from (F.contents folder.old).files place.now)) }
+    ensures observed { IsTrue F.faithful → IfOk result (λ reading. AreObserved (F.contents folder.old).files
         (output_entries (F.contents folder.old).files place.now) reading.1) }
-    ensures fit { IsTrue F.tells → OnOk result
+    ensures fit { IsTrue F.faithful → OnOk result
         (output_faults name.now place.now (F.contents folder.old) ≡ []) }
-    ensures err { IsTrue F.tells → IfErr result (λ fault.
+    ensures err { IsTrue F.faithful → IfErr result (λ fault.
         IsRefused (F.failures folder.old) (F.failures folder.new)
         (output_faults name.now place.now (F.contents folder.old)) fault) }
 {
     let entries = entries_at(alloc, folder, name, place)?;
-    let seen = see_all(alloc, folder, entries.as_slice(), room)?;
-    Ok(Reading::new(name.copy()?, seen))
+    let observed = see_all(alloc, folder, entries.as_slice(), room)?;
+    Ok(Reading::new(name.copy()?, observed))
 }
 
 /// The places of the output's files, by their paths from its place.
@@ -123,20 +123,20 @@ fn entries_at<F: Folder>(
     name: &Name,
     place: &Place,
 ) -> Result<Vec<(RelPath, Place)>, TreeFault>
-    ensures asks { Asks F.failures F.may_leave F.asked no_change folder.old folder.new }
+    ensures requests { Requests F.failures F.may_leave F.allowed no_change folder.old folder.new }
     ensures blame { Blames (λ at. IsTrue (is_under at place.now))
         (F.failures folder.old) (F.failures folder.new) result }
     ensures under { IfOk result
         (λ entries. AllByRecursion (λ entry. IsTrue (is_under entry.1 place.now)) entries.items) }
     ensures ordered { IfOk result (λ entries. IsTrue (is_sorted byte_order entries.items)) }
-    ensures same { IsTrue F.tells → F.contents folder.new ≡ F.contents folder.old }
-    ensures listed { IfOk result (λ entries. AreOutputEntriesListed F.failures F.may_leave F.asked
+    ensures same { IsTrue F.faithful → F.contents folder.new ≡ F.contents folder.old }
+    ensures listed { IfOk result (λ entries. AreOutputEntriesListed F.failures F.may_leave F.allowed
         folder.old folder.new place.now entries.items) }
-    ensures entries { IsTrue F.tells → IfOk result
+    ensures entries { IsTrue F.faithful → IfOk result
         (λ entries. entries.items ≡ output_entries (F.contents folder.old).files place.now) }
-    ensures fit { IsTrue F.tells → OnOk result
+    ensures fit { IsTrue F.faithful → OnOk result
         (output_listing_faults name.now place.now (F.contents folder.old) ≡ []) }
-    ensures err { IsTrue F.tells → IfErr result (λ fault.
+    ensures err { IsTrue F.faithful → IfErr result (λ fault.
         IsRefused (F.failures folder.old) (F.failures folder.new)
         (output_listing_faults name.now place.now (F.contents folder.old)) fault) }
 {
@@ -153,20 +153,20 @@ fn entries_beneath<F: Folder>(
     name: &Name,
     place: &Place,
 ) -> Result<Vec<(RelPath, Place)>, TreeFault>
-    ensures asks { Asks F.failures F.may_leave F.asked no_change folder.old folder.new }
+    ensures requests { Requests F.failures F.may_leave F.allowed no_change folder.old folder.new }
     ensures blame { Blames (λ at. IsTrue (is_under at place.now))
         (F.failures folder.old) (F.failures folder.new) result }
     ensures under { IfOk result
         (λ entries. AllByRecursion (λ entry. IsTrue (is_under entry.1 place.now)) entries.items) }
     ensures ordered { IfOk result (λ entries. IsTrue (is_sorted byte_order entries.items)) }
-    ensures same { IsTrue F.tells → F.contents folder.new ≡ F.contents folder.old }
-    ensures listed { IfOk result (λ entries. AreOutputEntriesListed F.failures F.may_leave F.asked
+    ensures same { IsTrue F.faithful → F.contents folder.new ≡ F.contents folder.old }
+    ensures listed { IfOk result (λ entries. AreOutputEntriesListed F.failures F.may_leave F.allowed
         folder.old folder.new place.now entries.items) }
-    ensures entries { IsTrue F.tells → IfOk result (λ entries.
+    ensures entries { IsTrue F.faithful → IfOk result (λ entries.
         entries.items ≡ entries_from place.now (places_under (F.contents folder.old).files place.now)) }
-    ensures fit { IsTrue F.tells → OnOk result
+    ensures fit { IsTrue F.faithful → OnOk result
         (listing_faults name.now place.now (F.contents folder.old) ≡ []) }
-    ensures err { IsTrue F.tells → IfErr result (λ fault.
+    ensures err { IsTrue F.faithful → IfErr result (λ fault.
         IsRefused (F.failures folder.old) (F.failures folder.new)
         (listing_faults name.now place.now (F.contents folder.old)) fault) }
 {

@@ -2,7 +2,7 @@
 ghost use Rattle.std.specs.Prelude.{◌≡◌, ◌⊎◌, ◌∷◌, [], drop, ℕ, List, IsTrue, IfErr, IfOk};
 ghost use Rattle.gb_core.specs.Place.{is_place, is_rel_path, is_under};
 ghost use Rattle.gb_tree.specs.Tree.{path_from};
-ghost use Rattle.gb_tree.specs.Property.{last_segment, path_of, seen_from};
+ghost use Rattle.gb_tree.specs.Property.{last_segment, path_of, relative_to};
 
 use crate::fault::TreeFault;
 use crate::property::Naming;
@@ -31,7 +31,7 @@ pub(crate) fn path_of(
     ensures err { IfErr result (λ fault. fault ≡ TreeFault.OutOfMemory) }
 {
     let path = match naming {
-        Naming::Relative => seen_from(root.as_str(), place.as_str()),
+        Naming::Relative => relative_to(root.as_str(), place.as_str()),
         Naming::NameOnly => last_segment(place.as_str()),
     };
     read_path(alloc, path)
@@ -50,10 +50,10 @@ fn read_path(alloc: Global, text: &str) -> Result<RelPath, TreeFault>
 }
 
 /// The text of the place that patterns are matched against.
-pub(crate) fn seen_from<'a>(root: &str, place: &'a str) -> &'a str
+pub(crate) fn relative_to<'a>(root: &str, place: &'a str) -> &'a str
     requires under { IsTrue (is_under place.now root.now) }
     requires placed { IsTrue (is_place place.now) }
-    ensures path { result.now ≡ seen_from root.now place.now }
+    ensures path { result.now ≡ relative_to root.now place.now }
     ensures good { IsTrue (is_rel_path result.now) }
 {
     if place == root {

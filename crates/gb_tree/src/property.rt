@@ -1,12 +1,12 @@
 //! The files of a file property.
 ghost use Rattle.std.specs.Prelude.{◌≡◌, [], IsTrue, IfOk, IfErr, OnOk};
 ghost use Rattle.std.specs.List.{AllByRecursion};
-ghost use Rattle.gb_folder.specs.Calls.{Asks, no_change};
+ghost use Rattle.gb_folder.specs.Calls.{Requests, no_change};
 ghost use Rattle.gb_tree.specs.Tree.{Blames, IsRefused};
 ghost use Rattle.gb_tree.specs.Prints.{digests_of};
 ghost use Rattle.gb_tree.specs.Property.{entries_of, is_under_any, tree_faults, tree_of};
-ghost use Rattle.gb_tree.specs.Answered.{AreEntriesListed, WereSeen};
-ghost use Rattle.gb_tree.specs.Reading.{AreSeen, digests_seen, entries_seen};
+ghost use Rattle.gb_tree.specs.Answered.{AreEntriesListed, WereObserved};
+ghost use Rattle.gb_tree.specs.Reading.{AreObserved, digests_observed, entries_observed};
 
 use crate::entries::entries_of;
 use crate::fault::TreeFault;
@@ -50,16 +50,16 @@ pub fn snapshot<F: Folder>(
     include: &[Pattern],
     exclude: &[Pattern],
 ) -> Result<Snapshot, TreeFault>
-    ensures asks { Asks F.failures F.may_leave F.asked no_change folder.old folder.new }
+    ensures requests { Requests F.failures F.may_leave F.allowed no_change folder.old folder.new }
     ensures blame { Blames (λ at. IsTrue (is_under_any roots.now at))
         (F.failures folder.old) (F.failures folder.new) result }
-    ensures same { IsTrue F.tells → F.contents folder.new ≡ F.contents folder.old }
-    ensures files { IsTrue F.tells → IfOk result
+    ensures same { IsTrue F.faithful → F.contents folder.new ≡ F.contents folder.old }
+    ensures files { IsTrue F.faithful → IfOk result
         (λ snapshot. snapshot
         ≡ (name.now, tree_of naming roots.now include.now exclude.now (F.contents folder.old).files)) }
-    ensures fit { IsTrue F.tells → OnOk result
+    ensures fit { IsTrue F.faithful → OnOk result
         (tree_faults name.now naming roots.now include.now exclude.now (F.contents folder.old) ≡ []) }
-    ensures err { IsTrue F.tells → IfErr result (λ fault.
+    ensures err { IsTrue F.faithful → IfErr result (λ fault.
         IsRefused (F.failures folder.old) (F.failures folder.new)
         (tree_faults name.now naming roots.now include.now exclude.now (F.contents folder.old)) fault) }
 {
@@ -79,20 +79,20 @@ pub fn prints_of<F: Folder>(
     include: &[Pattern],
     exclude: &[Pattern],
 ) -> Result<Prints, TreeFault>
-    ensures asks { Asks F.failures F.may_leave F.asked no_change folder.old folder.new }
+    ensures requests { Requests F.failures F.may_leave F.allowed no_change folder.old folder.new }
     ensures blame { Blames (λ at. IsTrue (is_under_any roots.now at))
         (F.failures folder.old) (F.failures folder.new) result }
-    ensures same { IsTrue F.tells → F.contents folder.new ≡ F.contents folder.old }
+    ensures same { IsTrue F.faithful → F.contents folder.new ≡ F.contents folder.old }
     ensures named { IfOk result (λ prints. prints.0 ≡ name.now) }
-    ensures prints { IsTrue F.tells → IfOk result (λ prints. prints
+    ensures prints { IsTrue F.faithful → IfOk result (λ prints. prints
         ≡ (
           name.now,
           digests_of
               (tree_of naming roots.now include.now exclude.now (F.contents folder.old).files),
         )) }
-    ensures fit { IsTrue F.tells → OnOk result
+    ensures fit { IsTrue F.faithful → OnOk result
         (tree_faults name.now naming roots.now include.now exclude.now (F.contents folder.old) ≡ []) }
-    ensures err { IsTrue F.tells → IfErr result (λ fault.
+    ensures err { IsTrue F.faithful → IfErr result (λ fault.
         IsRefused (F.failures folder.old) (F.failures folder.new)
         (tree_faults name.now naming roots.now include.now exclude.now (F.contents folder.old)) fault) }
 {
@@ -113,30 +113,30 @@ pub fn reading_of<F: Folder>(
     exclude: &[Pattern],
     room: &mut u64,
 ) -> Result<Reading, TreeFault>
-    ensures asks { Asks F.failures F.may_leave F.asked no_change folder.old folder.new }
+    ensures requests { Requests F.failures F.may_leave F.allowed no_change folder.old folder.new }
     ensures blame { Blames (λ at. IsTrue (is_under_any roots.now at))
         (F.failures folder.old) (F.failures folder.new) result }
-    ensures same { IsTrue F.tells → F.contents folder.new ≡ F.contents folder.old }
+    ensures same { IsTrue F.faithful → F.contents folder.new ≡ F.contents folder.old }
     ensures named { IfOk result (λ reading. reading.0 ≡ name.now) }
     ensures under { IfOk result
-        (λ reading. AllByRecursion (λ seen. IsTrue (is_under_any roots.now seen.place)) reading.1) }
+        (λ reading. AllByRecursion (λ observed. IsTrue (is_under_any roots.now observed.place)) reading.1) }
     // Over any folder: the files are those that calls returned, and so are the digests and the
     // bytes.
-    ensures listed { IfOk result (λ reading. AreEntriesListed F.failures F.may_leave F.asked naming roots.now
-        include.now exclude.now folder.old folder.new (entries_seen reading.1)) }
+    ensures listed { IfOk result (λ reading. AreEntriesListed F.failures F.may_leave F.allowed naming roots.now
+        include.now exclude.now folder.old folder.new (entries_observed reading.1)) }
     ensures answered { IfOk result
-        (λ reading. WereSeen F.failures F.may_leave F.asked folder.old folder.new reading.1) }
-    ensures digests { IsTrue F.tells → IfOk result (λ reading. digests_seen reading.1
+        (λ reading. WereObserved F.failures F.may_leave F.allowed folder.old folder.new reading.1) }
+    ensures digests { IsTrue F.faithful → IfOk result (λ reading. digests_observed reading.1
         ≡ digests_of (tree_of naming roots.now include.now exclude.now (F.contents folder.old).files)) }
-    ensures seen { IsTrue F.tells → IfOk result (λ reading. AreSeen (F.contents folder.old).files
+    ensures observed { IsTrue F.faithful → IfOk result (λ reading. AreObserved (F.contents folder.old).files
         (entries_of naming roots.now include.now exclude.now (F.contents folder.old).files) reading.1) }
-    ensures fit { IsTrue F.tells → OnOk result
+    ensures fit { IsTrue F.faithful → OnOk result
         (tree_faults name.now naming roots.now include.now exclude.now (F.contents folder.old) ≡ []) }
-    ensures err { IsTrue F.tells → IfErr result (λ fault.
+    ensures err { IsTrue F.faithful → IfErr result (λ fault.
         IsRefused (F.failures folder.old) (F.failures folder.new)
         (tree_faults name.now naming roots.now include.now exclude.now (F.contents folder.old)) fault) }
 {
     let entries = entries_of(alloc, folder, name, naming, roots, include, exclude)?;
-    let seen = see_all(alloc, folder, entries.as_slice(), room)?;
-    Ok(Reading::new(name.copy()?, seen))
+    let observed = see_all(alloc, folder, entries.as_slice(), room)?;
+    Ok(Reading::new(name.copy()?, observed))
 }

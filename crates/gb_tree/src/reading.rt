@@ -7,8 +7,8 @@ ghost use Rattle.std.specs.FinMap.Entries.{is_sorted};
 ghost use Rattle.gb_core.specs.Place.{is_under};
 ghost use Rattle.gb_core.specs.Lists.{byte_order};
 ghost use Rattle.gb_folder.specs.Answers.{WereListed, WereRead};
-ghost use Rattle.gb_folder.specs.Calls.{Asks, no_change};
-ghost use Rattle.gb_folder.specs.Files.{file_at, is_odd_under, places_under};
+ghost use Rattle.gb_folder.specs.Calls.{Requests, no_change};
+ghost use Rattle.gb_folder.specs.Files.{file_at, is_special_under, places_under};
 ghost use Rattle.gb_tree.specs.Tree.{Blames, IsRefused, IsTreeFaultOfMachine, bytes_at, contents_at};
 ghost use Rattle.gb_tree.specs.Tree.{is_among, is_large, too_large};
 ghost use Rattle.gb_tree.specs.Prints.{digests_of};
@@ -35,21 +35,21 @@ pub(crate) fn listed<F: Folder>(
     folder: &mut F,
     place: &Place,
 ) -> Result<Vec<Place>, TreeFault>
-    ensures asks { Asks F.failures F.may_leave F.asked no_change folder.old folder.new }
+    ensures requests { Requests F.failures F.may_leave F.allowed no_change folder.old folder.new }
     ensures blame { Blames (λ at. at ≡ place.now)
         (F.failures folder.old) (F.failures folder.new) result }
     ensures under { IfOk result (λ places. AllPass (λ at. is_under at place.now) places.items) }
     ensures ordered { IfOk result (λ places. IsStrictlySortedBy byte_order places.items) }
-    ensures same { IsTrue F.tells → F.contents folder.new ≡ F.contents folder.old }
-    ensures answered { IfOk result (λ places. WereListed F.failures F.may_leave F.asked
+    ensures same { IsTrue F.faithful → F.contents folder.new ≡ F.contents folder.old }
+    ensures answered { IfOk result (λ places. WereListed F.failures F.may_leave F.allowed
         folder.old folder.new place.now places.items) }
-    ensures listed { IsTrue F.tells → IfOk result
+    ensures listed { IsTrue F.faithful → IfOk result
         (λ places. places.items ≡ places_under (F.contents folder.old).files place.now) }
-    ensures none_odd { IsTrue F.tells → OnOk result
-        (is_odd_under (F.contents folder.old) place.now ≡ false) }
-    ensures odd { IsTrue F.tells → IfErr result
+    ensures none_special { IsTrue F.faithful → OnOk result
+        (is_special_under (F.contents folder.old) place.now ≡ false) }
+    ensures special { IsTrue F.faithful → IfErr result
         (λ fault. IsTreeFaultOfMachine (F.failures folder.old) (F.failures folder.new) fault
-        ⊎ (IsTrue (is_odd_under (F.contents folder.old) place.now)
+        ⊎ (IsTrue (is_special_under (F.contents folder.old) place.now)
         × (fault ≡ TreeFault.BadFileName place.now))) }
 {
     folder
@@ -63,19 +63,19 @@ pub(crate) fn read_file<F: Folder>(
     folder: &mut F,
     place: &Place,
 ) -> Result<Bytes, TreeFault>
-    ensures asks { Asks F.failures F.may_leave F.asked no_change folder.old folder.new }
+    ensures requests { Requests F.failures F.may_leave F.allowed no_change folder.old folder.new }
     ensures blame { Blames (λ at. at ≡ place.now)
         (F.failures folder.old) (F.failures folder.new) result }
-    ensures same { IsTrue F.tells → F.contents folder.new ≡ F.contents folder.old }
-    ensures answered { IfOk result (λ bytes. WereRead F.failures F.may_leave F.asked
+    ensures same { IsTrue F.faithful → F.contents folder.new ≡ F.contents folder.old }
+    ensures answered { IfOk result (λ bytes. WereRead F.failures F.may_leave F.allowed
         folder.old folder.new place.now bytes) }
-    ensures read { IsTrue F.tells → IfOk result
+    ensures read { IsTrue F.faithful → IfOk result
         (λ bytes. bytes ≡ bytes_at (F.contents folder.old).files place.now) }
-    ensures stands { IsTrue F.tells → OnOk result
+    ensures exists { IsTrue F.faithful → OnOk result
         (IsSome (file_at (F.contents folder.old).files place.now)) }
-    ensures small { IsTrue F.tells → OnOk result
+    ensures small { IsTrue F.faithful → OnOk result
         (is_large (F.contents folder.old).files place.now ≡ false) }
-    ensures err { IsTrue F.tells → IsSome (file_at (F.contents folder.old).files place.now)
+    ensures err { IsTrue F.faithful → IsSome (file_at (F.contents folder.old).files place.now)
         → IfErr result (λ fault. IsTreeFaultOfMachine (F.failures folder.old) (F.failures folder.new) fault
         ⊎ ((is_large (F.contents folder.old).files place.now ≡ true)
         × (fault ≡ TreeFault.TooLarge place.now))) }
@@ -93,14 +93,14 @@ pub(crate) fn read_all<F: Folder>(
     entries: &[(RelPath, Place)],
 ) -> Result<Files, TreeFault>
     requires { IsTrue (is_sorted byte_order entries.now) }
-    ensures asks { Asks F.failures F.may_leave F.asked no_change folder.old folder.new }
+    ensures requests { Requests F.failures F.may_leave F.allowed no_change folder.old folder.new }
     ensures blame { Blames (λ at. IsTrue (is_among entries.now at))
         (F.failures folder.old) (F.failures folder.new) result }
-    ensures same { IsTrue F.tells → F.contents folder.new ≡ F.contents folder.old }
-    ensures read { IsTrue F.tells → IfOk result
+    ensures same { IsTrue F.faithful → F.contents folder.new ≡ F.contents folder.old }
+    ensures read { IsTrue F.faithful → IfOk result
         (λ files. files ≡ contents_at (F.contents folder.old).files entries.now) }
-    ensures small { IsTrue F.tells → OnOk result (too_large (F.contents folder.old).files entries.now ≡ []) }
-    ensures err { IsTrue F.tells
+    ensures small { IsTrue F.faithful → OnOk result (too_large (F.contents folder.old).files entries.now ≡ []) }
+    ensures err { IsTrue F.faithful
         → AllByRecursion (λ entry. IsSome (file_at (F.contents folder.old).files entry.1)) entries.now
         → IfErr result (λ fault.
         IsRefused (F.failures folder.old) (F.failures folder.new)
@@ -122,16 +122,16 @@ pub(crate) fn read_piece<F: Folder>(
     at: u64,
     len: u64,
 ) -> Result<Vec<u8>, TreeFault>
-    ensures asks { Asks F.failures F.may_leave F.asked no_change folder.old folder.new }
+    ensures requests { Requests F.failures F.may_leave F.allowed no_change folder.old folder.new }
     ensures blame { Blames (λ at. at ≡ place.now)
         (F.failures folder.old) (F.failures folder.new) result }
-    ensures same { IsTrue F.tells → F.contents folder.new ≡ F.contents folder.old }
+    ensures same { IsTrue F.faithful → F.contents folder.new ≡ F.contents folder.old }
     ensures within { IfOk result (λ piece. length piece.items ≤ len) }
-    ensures read { IsTrue F.tells → IfOk result
+    ensures read { IsTrue F.faithful → IfOk result
         (λ piece. piece.items ≡ take len (drop at (bytes_at (F.contents folder.old).files place.now))) }
-    ensures stands { IsTrue F.tells → OnOk result
+    ensures exists { IsTrue F.faithful → OnOk result
         (IsSome (file_at (F.contents folder.old).files place.now)) }
-    ensures err { IsTrue F.tells → IsSome (file_at (F.contents folder.old).files place.now)
+    ensures err { IsTrue F.faithful → IsSome (file_at (F.contents folder.old).files place.now)
         → IfErr result (λ fault. IsTreeFaultOfMachine (F.failures folder.old) (F.failures folder.new) fault) }
 {
     match folder.read_part(alloc, place, at, len) {
@@ -146,15 +146,15 @@ fn digest_file<F: Folder>(
     folder: &mut F,
     place: &Place,
 ) -> Result<[u8; 32], TreeFault>
-    ensures asks { Asks F.failures F.may_leave F.asked no_change folder.old folder.new }
+    ensures requests { Requests F.failures F.may_leave F.allowed no_change folder.old folder.new }
     ensures blame { Blames (λ at. at ≡ place.now)
         (F.failures folder.old) (F.failures folder.new) result }
-    ensures same { IsTrue F.tells → F.contents folder.new ≡ F.contents folder.old }
-    ensures digest { IsTrue F.tells → IfOk result
+    ensures same { IsTrue F.faithful → F.contents folder.new ≡ F.contents folder.old }
+    ensures digest { IsTrue F.faithful → IfOk result
         (λ digest. digest ≡ sha256 (bytes_at (F.contents folder.old).files place.now)) }
-    ensures small { IsTrue F.tells → OnOk result
+    ensures small { IsTrue F.faithful → OnOk result
         (is_large (F.contents folder.old).files place.now ≡ false) }
-    ensures err { IsTrue F.tells → IsSome (file_at (F.contents folder.old).files place.now)
+    ensures err { IsTrue F.faithful → IsSome (file_at (F.contents folder.old).files place.now)
         → IfErr result (λ fault. IsTreeFaultOfMachine (F.failures folder.old) (F.failures folder.new) fault
         ⊎ ((is_large (F.contents folder.old).files place.now ≡ true)
         × (fault ≡ TreeFault.TooLarge place.now))) }
@@ -182,15 +182,15 @@ pub(crate) fn digest_all<F: Folder>(
     entries: &[(RelPath, Place)],
 ) -> Result<Vec<(RelPath, [u8; 32])>, TreeFault>
     requires { IsTrue (is_sorted byte_order entries.now) }
-    ensures asks { Asks F.failures F.may_leave F.asked no_change folder.old folder.new }
+    ensures requests { Requests F.failures F.may_leave F.allowed no_change folder.old folder.new }
     ensures blame { Blames (λ at. IsTrue (is_among entries.now at))
         (F.failures folder.old) (F.failures folder.new) result }
-    ensures same { IsTrue F.tells → F.contents folder.new ≡ F.contents folder.old }
+    ensures same { IsTrue F.faithful → F.contents folder.new ≡ F.contents folder.old }
     ensures ordered { IfOk result (λ digests. IsTrue (is_sorted byte_order digests.items)) }
-    ensures digests { IsTrue F.tells → IfOk result
+    ensures digests { IsTrue F.faithful → IfOk result
         (λ digests. digests.items ≡ digests_of (contents_at (F.contents folder.old).files entries.now)) }
-    ensures small { IsTrue F.tells → OnOk result (too_large (F.contents folder.old).files entries.now ≡ []) }
-    ensures err { IsTrue F.tells
+    ensures small { IsTrue F.faithful → OnOk result (too_large (F.contents folder.old).files entries.now ≡ []) }
+    ensures err { IsTrue F.faithful
         → AllByRecursion (λ entry. IsSome (file_at (F.contents folder.old).files entry.1)) entries.now
         → IfErr result (λ fault.
         IsRefused (F.failures folder.old) (F.failures folder.new)

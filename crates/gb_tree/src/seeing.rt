@@ -7,17 +7,17 @@ ghost use Rattle.std.specs.List.{AllByRecursion};
 ghost use Rattle.std.specs.FinMap.Entries.{is_sorted};
 ghost use Rattle.gb_core.specs.Lists.{byte_order};
 ghost use Rattle.gb_folder.specs.Answers.{WereRead};
-ghost use Rattle.gb_folder.specs.Calls.{Asks, no_change};
+ghost use Rattle.gb_folder.specs.Calls.{Requests, no_change};
 ghost use Rattle.gb_folder.specs.Files.{file_at};
 ghost use Rattle.gb_tree.specs.Tree.{Blames, IsRefused, IsTreeFaultOfMachine, bytes_at, is_among, is_large};
 ghost use Rattle.gb_tree.specs.Tree.{too_large};
-ghost use Rattle.gb_tree.specs.Answered.{WasSeen, WereSeen};
-ghost use Rattle.gb_tree.specs.Reading.{IsReading, IsSeenIn, KeepsOnly, entries_seen, is_digest_of};
+ghost use Rattle.gb_tree.specs.Answered.{WasObserved, WereObserved};
+ghost use Rattle.gb_tree.specs.Reading.{IsReading, IsObservedIn, KeepsOnly, entries_observed, is_digest_of};
 ghost use Rattle.gb_tree.specs.Waiting.{digest_in, file_in, kept_in};
 ghost use Rattle.sha2.specs.Sha256.{sha256};
 
 use crate::fault::TreeFault;
-use crate::kept::SeenFile;
+use crate::kept::ScannedFile;
 use crate::reading::read_file;
 use crate::waiting::{Found, SmallFile, Waiting, add, digest_waiting};
 use gb_core::bytes::Bytes;
@@ -66,23 +66,23 @@ fn see_bytes<F: Folder>(
     place: &Place,
     room: &mut u64,
 ) -> Result<Content, TreeFault>
-    ensures asks { Asks F.failures F.may_leave F.asked no_change folder.old folder.new }
+    ensures requests { Requests F.failures F.may_leave F.allowed no_change folder.old folder.new }
     ensures blame { Blames (λ at. at ≡ place.now)
         (F.failures folder.old) (F.failures folder.new) result }
-    ensures same { IsTrue F.tells → F.contents folder.new ≡ F.contents folder.old }
+    ensures same { IsTrue F.faithful → F.contents folder.new ≡ F.contents folder.old }
     ensures digested { IfOk result (λ found. IsTrue (is_digest_of (kept_in found) (digest_in found))) }
     ensures answered { IfOk result (λ found. (bytes : List ℕ)
-        × WereRead F.failures F.may_leave F.asked folder.old folder.new place.now bytes
+        × WereRead F.failures F.may_leave F.allowed folder.old folder.new place.now bytes
         × (digest_in found ≡ sha256 bytes) × KeepsOnly bytes (kept_in found)) }
-    ensures digest { IsTrue F.tells → IfOk result
+    ensures digest { IsTrue F.faithful → IfOk result
         (λ found. digest_in found ≡ sha256 (bytes_at (F.contents folder.old).files place.now)) }
-    ensures kept { IsTrue F.tells → IfOk result
+    ensures kept { IsTrue F.faithful → IfOk result
         (λ found. KeepsOnly (bytes_at (F.contents folder.old).files place.now) (kept_in found)) }
-    ensures stands { IsTrue F.tells → OnOk result
+    ensures exists { IsTrue F.faithful → OnOk result
         (IsSome (file_at (F.contents folder.old).files place.now)) }
-    ensures small { IsTrue F.tells → OnOk result
+    ensures small { IsTrue F.faithful → OnOk result
         (is_large (F.contents folder.old).files place.now ≡ false) }
-    ensures err { IsTrue F.tells → IsSome (file_at (F.contents folder.old).files place.now)
+    ensures err { IsTrue F.faithful → IsSome (file_at (F.contents folder.old).files place.now)
         → IfErr result (λ fault. IsTreeFaultOfMachine (F.failures folder.old) (F.failures folder.new) fault
         ⊎ ((is_large (F.contents folder.old).files place.now ≡ true)
         × (fault ≡ TreeFault.TooLarge place.now))) }
@@ -105,19 +105,19 @@ fn see_file<F: Folder>(
     place: &Place,
     room: &mut u64,
 ) -> Result<Found, TreeFault>
-    ensures asks { Asks F.failures F.may_leave F.asked no_change folder.old folder.new }
+    ensures requests { Requests F.failures F.may_leave F.allowed no_change folder.old folder.new }
     ensures blame { Blames (λ at. at ≡ place.now)
         (F.failures folder.old) (F.failures folder.new) result }
-    ensures same { IsTrue F.tells → F.contents folder.new ≡ F.contents folder.old }
+    ensures same { IsTrue F.faithful → F.contents folder.new ≡ F.contents folder.old }
     ensures path { IfOk result (λ found. (file_in found).path ≡ path.now) }
     ensures place { IfOk result (λ found. (file_in found).place ≡ place.now) }
     ensures digested { IfOk result
         (λ found. IsTrue (is_digest_of (file_in found).kept (file_in found).digest)) }
     ensures answered { IfOk result
-        (λ found. WasSeen F.failures F.may_leave F.asked folder.old folder.new (file_in found)) }
-    ensures seen { IsTrue F.tells → IfOk result
-        (λ found. IsSeenIn (F.contents folder.old).files (file_in found)) }
-    ensures err { IsTrue F.tells → IsSome (file_at (F.contents folder.old).files place.now)
+        (λ found. WasObserved F.failures F.may_leave F.allowed folder.old folder.new (file_in found)) }
+    ensures observed { IsTrue F.faithful → IfOk result
+        (λ found. IsObservedIn (F.contents folder.old).files (file_in found)) }
+    ensures err { IsTrue F.faithful → IsSome (file_at (F.contents folder.old).files place.now)
         → IfErr result (λ fault. IsTreeFaultOfMachine (F.failures folder.old) (F.failures folder.new) fault
         ⊎ ((is_large (F.contents folder.old).files place.now ≡ true)
         × (fault ≡ TreeFault.TooLarge place.now))) }
@@ -132,7 +132,7 @@ fn see_file<F: Folder>(
             bytes,
             is_kept,
         })),
-        Content::Digested(digest, kept) => Ok(Found::Seen(SeenFile {
+        Content::Digested(digest, kept) => Ok(Found::Observed(ScannedFile {
             path,
             place,
             digest,
@@ -147,26 +147,26 @@ pub(crate) fn see_all<F: Folder>(
     folder: &mut F,
     entries: &[(RelPath, Place)],
     room: &mut u64,
-) -> Result<Vec<SeenFile>, TreeFault>
+) -> Result<Vec<ScannedFile>, TreeFault>
     requires { IsTrue (is_sorted byte_order entries.now) }
-    ensures asks { Asks F.failures F.may_leave F.asked no_change folder.old folder.new }
+    ensures requests { Requests F.failures F.may_leave F.allowed no_change folder.old folder.new }
     ensures blame { Blames (λ at. IsTrue (is_among entries.now at))
         (F.failures folder.old) (F.failures folder.new) result }
-    ensures same { IsTrue F.tells → F.contents folder.new ≡ F.contents folder.old }
-    ensures placed { IfOk result (λ seen. entries_seen seen.items ≡ entries.now) }
-    ensures reading { IfOk result (λ seen. IsReading seen.items) }
+    ensures same { IsTrue F.faithful → F.contents folder.new ≡ F.contents folder.old }
+    ensures placed { IfOk result (λ observed. entries_observed observed.items ≡ entries.now) }
+    ensures reading { IfOk result (λ observed. IsReading observed.items) }
     ensures answered { IfOk result
-        (λ seen. WereSeen F.failures F.may_leave F.asked folder.old folder.new seen.items) }
-    ensures seen { IsTrue F.tells → IfOk result
-        (λ seen. AllByRecursion (IsSeenIn (F.contents folder.old).files) seen.items) }
-    ensures small { IsTrue F.tells → OnOk result (too_large (F.contents folder.old).files entries.now ≡ []) }
-    ensures err { IsTrue F.tells
+        (λ observed. WereObserved F.failures F.may_leave F.allowed folder.old folder.new observed.items) }
+    ensures observed { IsTrue F.faithful → IfOk result
+        (λ observed. AllByRecursion (IsObservedIn (F.contents folder.old).files) observed.items) }
+    ensures small { IsTrue F.faithful → OnOk result (too_large (F.contents folder.old).files entries.now ≡ []) }
+    ensures err { IsTrue F.faithful
         → AllByRecursion (λ entry. IsSome (file_at (F.contents folder.old).files entry.1)) entries.now
         → IfErr result (λ fault.
         IsRefused (F.failures folder.old) (F.failures folder.new)
         (too_large (F.contents folder.old).files entries.now) fault) }
 {
-    let mut seen = Vec::with_capacity(alloc, entries.len())?;
+    let mut observed = Vec::with_capacity(alloc, entries.len())?;
     let mut waiting = Waiting::Nothing;
     for (path, place) in entries.iter() {
         let found = match see_file(alloc, folder, path, place, room) {
@@ -176,8 +176,8 @@ pub(crate) fn see_all<F: Folder>(
                 return Err(fault);
             }
         };
-        waiting = add(&mut seen, waiting, found)?;
+        waiting = add(&mut observed, waiting, found)?;
     }
-    digest_waiting(&mut seen, waiting)?;
-    Ok(seen)
+    digest_waiting(&mut observed, waiting)?;
+    Ok(observed)
 }

@@ -73,7 +73,7 @@ pub(crate) fn after_star(pattern: &str) -> Option<&str>
 
 /// The last segment of a path.
 pub(crate) fn last_of(path: &str) -> &str
-    ensures { (front : List (List ℕ)) × (segments path.now ≡ front ++ result.now ∷ []) }
+    ensures { (prefix : List (List ℕ)) × (segments path.now ≡ prefix ++ result.now ∷ []) }
 {
     match path.rsplit_once('/') {
         Some((_, last)) => last,

@@ -3,7 +3,7 @@
 ghost use Rattle.std.specs.Prelude.{◌≡◌, ◌++◌, ℕ, List, map, IsTrue, IfOk, IfErr, OnOk, bytes_eq};
 ghost use Rattle.std.specs.List.{AllByRecursion, list_any};
 ghost use Rattle.gb_core.specs.Place.{is_beneath, is_place};
-ghost use Rattle.gb_tree.specs.Pattern.{front_of, plain_front};
+ghost use Rattle.gb_tree.specs.Pattern.{prefix_of, plain_prefix};
 ghost use Rattle.gb_tree.specs.Property.{distinct, outermost, start_of, starts_in, starts_of};
 ghost use Rattle.gb_tree.specs.Starts.{HoldsPlaces};
 
@@ -84,7 +84,7 @@ fn start_of(alloc: Global, root: &Place, pattern: &Pattern) -> Result<Place, Tre
     if pattern.matches_text(last_segment(root.as_str())) {
         return Ok(root.copy()?);
     }
-    match Place::join(alloc, Some(root), front_of(pattern.as_str())) {
+    match Place::join(alloc, Some(root), prefix_of(pattern.as_str())) {
         Ok(start) => Ok(start),
         Err(PlaceFault::BadPlace) => Ok(root.copy()?),
         Err(PlaceFault::OutOfMemory) => Err(TreeFault::OutOfMemory),
@@ -92,29 +92,29 @@ fn start_of(alloc: Global, root: &Place, pattern: &Pattern) -> Result<Place, Tre
 }
 
 /// The folder before the first `*` or `?`; a pattern that has neither is its own front.
-fn front_of(pattern: &str) -> &str
-    ensures { result.now ≡ front_of pattern.now }
+fn prefix_of(pattern: &str) -> &str
+    ensures { result.now ≡ prefix_of pattern.now }
 {
     if !has_wild(pattern) {
         return pattern;
     }
-    match plain_front(pattern).rsplit_once('/') {
-        Some((front, _)) => front,
+    match plain_prefix(pattern).rsplit_once('/') {
+        Some((prefix, _)) => prefix,
         None => "",
     }
 }
 
 /// The text before the first `*` and before the first `?`.
-fn plain_front(pattern: &str) -> &str
-    ensures { result.now ≡ plain_front pattern.now }
+fn plain_prefix(pattern: &str) -> &str
+    ensures { result.now ≡ plain_prefix pattern.now }
 {
-    let front = match pattern.split_once('*') {
-        Some((front, _)) => front,
+    let prefix = match pattern.split_once('*') {
+        Some((prefix, _)) => prefix,
         None => pattern,
     };
-    match front.split_once('?') {
-        Some((front, _)) => front,
-        None => front,
+    match prefix.split_once('?') {
+        Some((prefix, _)) => prefix,
+        None => prefix,
     }
 }
 

@@ -6,7 +6,7 @@ use Rattle.std.specs.Cmp.Lexicographic.{bytes_decides}
 use Rattle.std.specs.Result.{is_ok}
 use Rattle.gb_action.specs.Files.{Tree, Trees, file_at}
 use Rattle.gb_action.specs.Meanings.{Making, Printing}
-use Rattle.gb_action.specs.Outputs.{written_at, stands_at, is_removed, names_only}
+use Rattle.gb_action.specs.Outputs.{written_at, exists_at, is_removed, names_only}
 use Rattle.gb_action.specs.Replies.{Answers, CarriesOver, FollowsOn, made_for}
 use Rattle.gb_action.specs.Shapes.{target}
 use Rattle.gb_action.specs.declared.output.OutputFiles.{OutputFiles}
@@ -16,13 +16,13 @@ use Rattle.gb_action.specs.declared.reply.Written.{Written}
 use Rattle.gb_action.specs.declared.request.Request.{Request}
 use Rattle.gb_with.specs.Anew.{IsRecheck, made_no_more, unless_made}
 use Rattle.gb_kinds.specs.Own.{are_own}
-use Rattle.gb_kinds.specs.Remade.{as_made, renewed, standing}
+use Rattle.gb_kinds.specs.Remade.{as_made, renewed, existing}
 use Rattle.gb_core.proofs.Found.{find-same, find-other}
 use Rattle.gb_kinds.specs.ByFile.{file_of, holds, where_new}
 use Rattle.gb_kinds.proofs.ByFileAnswers.{all_declared, both, is_output, removed_there, same_ok, written_there}
 use Rattle.gb_kinds.proofs.FileLaw.{and_false, or_false}
 use Rattle.gb_with.proofs.Differing.{NamesDifferences, carries_over}
-use Rattle.gb_kinds.proofs.RemadeLaw.{new_at, stood_at, wrote}
+use Rattle.gb_kinds.proofs.RemadeLaw.{new_at, existed_at, wrote}
 
 true_T : (b : Bool) → IsTrue b → T b
 true_T b e = subst T (sym e) tt
@@ -41,12 +41,12 @@ module _ (made : Tree) (output path : List ℕ) where
       by true = refl
       by false = or_false (bytes_eq target output && bytes_eq p path)
 
-  gone : (stood : Tree) → is_removed (made_no_more stood made) output path ≡ (bytes_eq target output && (is_some (file_at stood path) && stays path))
+  gone : (existed : Tree) → is_removed (made_no_more existed made) output path ≡ (bytes_eq target output && (is_some (file_at existed path) && stays path))
   gone [] = sym (and_false (bytes_eq target output) false refl)
-  gone (file ∷ stood) =
-      list_any-append (λ (removed : OutputPath). bytes_eq removed.output output && bytes_eq removed.path path) (unless_made made file.0) (made_no_more stood made)
-      ∙ ap (λ b. b || is_removed (made_no_more stood made) output path) (one_gone file.0)
-      ∙ ap (λ b. (stays file.0 && (bytes_eq target output && bytes_eq file.0 path)) || b) (gone stood)
+  gone (file ∷ existed) =
+      list_any-append (λ (removed : OutputPath). bytes_eq removed.output output && bytes_eq removed.path path) (unless_made made file.0) (made_no_more existed made)
+      ∙ ap (λ b. b || is_removed (made_no_more existed made) output path) (one_gone file.0)
+      ∙ ap (λ b. (stays file.0 && (bytes_eq target output && bytes_eq file.0 path)) || b) (gone existed)
       ∙ by (bytes_eq file.0 path) refl
     where
       once : (s t b : Bool) → ((s && (t && true)) || (t && (b && s))) ≡ (t && s)
@@ -62,24 +62,24 @@ module _ (made : Tree) (output path : List ℕ) where
       not_here false t = refl
 
       by : (b : Bool) → bytes_eq file.0 path ≡ b
-          → ((stays file.0 && (bytes_eq target output && bytes_eq file.0 path)) || (bytes_eq target output && (is_some (file_at stood path) && stays path)))
-          ≡ (bytes_eq target output && (is_some (file_at (file ∷ stood) path) && stays path))
+          → ((stays file.0 && (bytes_eq target output && bytes_eq file.0 path)) || (bytes_eq target output && (is_some (file_at existed path) && stays path)))
+          ≡ (bytes_eq target output && (is_some (file_at (file ∷ existed) path) && stays path))
       by true e =
-          ap (λ p. (stays p && (bytes_eq target output && bytes_eq file.0 path)) || (bytes_eq target output && (is_some (file_at stood path) && stays path))) ((bytes_decides file.0 path).0 e)
-          ∙ ap (λ b. (stays path && (bytes_eq target output && b)) || (bytes_eq target output && (is_some (file_at stood path) && stays path))) e
-          ∙ once (stays path) (bytes_eq target output) (is_some (file_at stood path))
-          ∙ ap (λ o. bytes_eq target output && (is_some o && stays path)) (sym (find-same path file stood ((bytes_decides file.0 path).0 e)))
+          ap (λ p. (stays p && (bytes_eq target output && bytes_eq file.0 path)) || (bytes_eq target output && (is_some (file_at existed path) && stays path))) ((bytes_decides file.0 path).0 e)
+          ∙ ap (λ b. (stays path && (bytes_eq target output && b)) || (bytes_eq target output && (is_some (file_at existed path) && stays path))) e
+          ∙ once (stays path) (bytes_eq target output) (is_some (file_at existed path))
+          ∙ ap (λ o. bytes_eq target output && (is_some o && stays path)) (sym (find-same path file existed ((bytes_decides file.0 path).0 e)))
       by false e =
           let other : file.0 ≢ path = λ is. true≢false (sym ((bytes_decides file.0 path).1 is) ∙ e) in
-          ap (λ b. (stays file.0 && (bytes_eq target output && b)) || (bytes_eq target output && (is_some (file_at stood path) && stays path))) e
-          ∙ ap (λ b. b || (bytes_eq target output && (is_some (file_at stood path) && stays path))) (not_here (stays file.0) (bytes_eq target output))
-          ∙ ap (λ o. bytes_eq target output && (is_some o && stays path)) (sym (find-other path file stood other))
+          ap (λ b. (stays file.0 && (bytes_eq target output && b)) || (bytes_eq target output && (is_some (file_at existed path) && stays path))) e
+          ∙ ap (λ b. b || (bytes_eq target output && (is_some (file_at existed path) && stays path))) (not_here (stays file.0) (bytes_eq target output))
+          ∙ ap (λ o. bytes_eq target output && (is_some o && stays path)) (sym (find-other path file existed other))
 
 -- ---- The outputs that are named
 
 module _ (outputs : List OutputFiles) (declared : list_any (λ (output : OutputFiles). bytes_eq output.name target) outputs ≡ true) where
-  one_there : (path : List ℕ) (stood : Option (List ℕ)) (bytes : List ℕ) → written_there outputs declared (where_new path stood bytes) ≡ true
-  one_there path stood bytes = by (holds stood bytes)
+  one_there : (path : List ℕ) (existed : Option (List ℕ)) (bytes : List ℕ) → written_there outputs declared (where_new path existed bytes) ≡ true
+  one_there path existed bytes = by (holds existed bytes)
     where
       by : (b : Bool) → written_there outputs declared (if b then [] else file_of path bytes ∷ []) ≡ true
       by true = refl
@@ -88,14 +88,14 @@ module _ (outputs : List OutputFiles) (declared : list_any (λ (output : OutputF
   renewed_there : (made : Tree) → written_there outputs declared (renewed outputs made) ≡ true
   renewed_there [] = refl
   renewed_there (file ∷ made) =
-      list_all-append (λ (written : Written). is_output outputs declared written.output) (where_new file.0 (stands_at outputs target file.0) file.1) (renewed outputs made)
-      ∙ both outputs declared _ _ (one_there file.0 (stands_at outputs target file.0) file.1) (renewed_there made)
+      list_all-append (λ (written : Written). is_output outputs declared written.output) (where_new file.0 (exists_at outputs target file.0) file.1) (renewed outputs made)
+      ∙ both outputs declared _ _ (one_there file.0 (exists_at outputs target file.0) file.1) (renewed_there made)
 
-  outdated_there : (made stood : Tree) → removed_there outputs declared (made_no_more stood made) ≡ true
+  outdated_there : (made existed : Tree) → removed_there outputs declared (made_no_more existed made) ≡ true
   outdated_there made [] = refl
-  outdated_there made (file ∷ stood) =
-      list_all-append (λ (removed : OutputPath). is_output outputs declared removed.output) (unless_made made file.0) (made_no_more stood made)
-      ∙ both outputs declared _ _ (by (is_some (file_at made file.0))) (outdated_there made stood)
+  outdated_there made (file ∷ existed) =
+      list_all-append (λ (removed : OutputPath). is_output outputs declared removed.output) (unless_made made file.0) (made_no_more existed made)
+      ∙ both outputs declared _ _ (by (is_some (file_at made file.0))) (outdated_there made existed)
     where
       by : (b : Bool) → removed_there outputs declared (if b then [] else record { output = target; path = file.0 } ∷ []) ≡ true
       by true = refl
@@ -118,12 +118,12 @@ module _ (makes : Making) (prints : Printing) (files : Tree) (lines : List (List
     writes = λ output path.
         ap (λ writes. written_at writes output path) (anew.by_changes changed).writes
         ∙ wrote request.outputs output path (anew.by_changes changed).made (true_T _ (anew.by_changes changed).in_order)
-        ∙ ap (λ o. if bytes_eq target output then new_at (stands_at request.outputs target path) o else None) ((anew.by_changes changed).is_made path);
+        ∙ ap (λ o. if bytes_eq target output then new_at (exists_at request.outputs target path) o else None) ((anew.by_changes changed).is_made path);
     removes = λ output path.
         ap (λ removes. is_removed removes output path) (anew.by_changes changed).removes
-        ∙ gone (anew.by_changes changed).made output path (standing request.outputs)
-        ∙ ap (λ o. bytes_eq target output && (is_some o && not (is_some (file_at (anew.by_changes changed).made path)))) (sym (stood_at request.outputs output path))
-        ∙ ap (λ o. bytes_eq target output && (is_some (stands_at request.outputs target path) && not (is_some o))) ((anew.by_changes changed).is_made path);
+        ∙ gone (anew.by_changes changed).made output path (existing request.outputs)
+        ∙ ap (λ o. bytes_eq target output && (is_some o && not (is_some (file_at (anew.by_changes changed).made path)))) (sym (existed_at request.outputs output path))
+        ∙ ap (λ o. bytes_eq target output && (is_some (exists_at request.outputs target path) && not (is_some o))) ((anew.by_changes changed).is_made path);
   }
 
   named : list_any (λ (output : OutputFiles). bytes_eq output.name target) request.outputs ≡ true → names_only request.outputs reply ≡ true
@@ -133,7 +133,7 @@ module _ (makes : Making) (prints : Printing) (files : Tree) (lines : List (List
       by true e =
           both request.outputs declared _ _
           (subst (λ writes. written_there request.outputs declared writes ≡ true) (sym (anew.by_changes e).writes) (renewed_there request.outputs declared (anew.by_changes e).made))
-          (subst (λ removes. removed_there request.outputs declared removes ≡ true) (sym (anew.by_changes e).removes) (outdated_there request.outputs declared (anew.by_changes e).made (standing request.outputs)))
+          (subst (λ removes. removed_there request.outputs declared removes ≡ true) (sym (anew.by_changes e).removes) (outdated_there request.outputs declared (anew.by_changes e).made (existing request.outputs)))
       by false e =
           subst (λ r. names_only request.outputs r ≡ true) (sym (anew.in_full e))
           (both request.outputs declared _ _ (all_declared request.outputs declared (λ bytes. bytes) files) refl)

@@ -8,7 +8,7 @@ use Rattle.gb_core.specs.Lists.{byte_order}
 use Rattle.gb_action.specs.Files.{Tree}
 use Rattle.gb_action.specs.declared.reply.ActionFault.{ActionFault}
 use Rattle.gb_action.specs.declared.reply.ActionFault.TheVariants.{ActionFailed, OutOfMemory}
-use Rattle.gb_with.specs.Renamed.{Taken, all_renamed, behind, made_at, new_path, onto, taking}
+use Rattle.gb_with.specs.Renamed.{Taken, all_renamed, following, made_at, new_path, onto, taking}
 use Rattle.gb_with.specs.TreeKinds.{IsFailure}
 
 -- a failure of something is one of a result that fails if it does
@@ -30,7 +30,7 @@ module _ (renamed : List ℕ → Option (List ℕ)) (edit : List ℕ → List �
   abbrev all : Taken → Tree → Result Tree (List ℕ)
   all taken files = all_renamed renamed edit taken files
 
-  joined : (made : Tree) (file : List ℕ × List ℕ) (later : Result Tree (List ℕ)) → behind (made ++ file ∷ []) later ≡ behind made (onto (Ok file) later)
+  joined : (made : Tree) (file : List ℕ × List ℕ) (later : Result Tree (List ℕ)) → following (made ++ file ∷ []) later ≡ following made (onto (Ok file) later)
   joined made file (Err text) = refl
   joined made file (Ok files) = ap Ok (append_assoc made (file ∷ []) files)
 
@@ -39,20 +39,20 @@ module _ (renamed : List ℕ → Option (List ℕ)) (edit : List ℕ → List �
     rest = drop (i + 1) files
 
     abbrev with_next : Result (List ℕ) (List ℕ) → Result Tree (List ℕ)
-    with_next at = behind made (made_at (edit file.1) at (λ new. all (taking taken new file.0) rest))
+    with_next at = following made (made_at (edit file.1) at (λ new. all (taking taken new file.0) rest))
 
-    next_is : behind made (all taken (drop i files)) ≡ with_next (new_path taken file.0 (renamed file.0))
-    next_is = ap (λ fs. behind made (all taken fs)) (drop_more files i file within ∙ ap (λ f. f ∷ rest) (sym is))
+    next_is : following made (all taken (drop i files)) ≡ with_next (new_path taken file.0 (renamed file.0))
+    next_is = ap (λ fs. following made (all taken fs)) (drop_more files i file within ∙ ap (λ f. f ∷ rest) (sym is))
 
     -- one more file
     pub one_more : (after : Taken) (new : List ℕ) → new_path taken file.0 (renamed file.0) ≡ Ok new → ((q : List ℕ) → after q ≡ taking taken new file.0 q)
-        → behind (made ++ (new, edit file.1) ∷ []) (all after rest) ≡ behind made (all taken (drop i files))
+        → following (made ++ (new, edit file.1) ∷ []) (all after rest) ≡ following made (all taken (drop i files))
     one_more after new named puts =
-        ap (λ t. behind (made ++ (new, edit file.1) ∷ []) (all t rest)) (fun_ext puts)
+        ap (λ t. following (made ++ (new, edit file.1) ∷ []) (all t rest)) (fun_ext puts)
         ∙ joined made (new, edit file.1) (all (taking taken new file.0) rest)
         ∙ sym (ap with_next named)
         ∙ sym next_is
 
     -- a file that fails
-    pub one_fails : (text : List ℕ) → new_path taken file.0 (renamed file.0) ≡ Err text → behind made (all taken (drop i files)) ≡ Err text
+    pub one_fails : (text : List ℕ) → new_path taken file.0 (renamed file.0) ≡ Err text → following made (all taken (drop i files)) ≡ Err text
     one_fails text named = next_is ∙ ap with_next named

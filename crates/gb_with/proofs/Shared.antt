@@ -5,7 +5,7 @@ use Rattle.std.specs.Ordering.{eq_by_cmp}
 use Rattle.std.specs.FinMap.Entries.{find}
 use Rattle.gb_core.specs.Lists.{byte_order}
 use Rattle.gb_with.specs.Both.{firsts, seconds}
-use Rattle.gb_with.specs.Names.{has, are_new, stand_once, share}
+use Rattle.gb_with.specs.Names.{has, are_new, occur_once, share}
 use Rattle.gb_with.specs.declared.both.Either.{Either}
 use Rattle.gb_with.specs.declared.both.Either.TheVariants.{First, Second}
 
@@ -16,12 +16,12 @@ and_assoc true b c = refl
 and_assoc false b c = refl
 
 -- none of two, and none of others, in another order
-apart : (a b c d : Bool) → (not (a || b) && (not c && d)) ≡ (not (a || c) && (not b && d))
-apart true b c d = refl
-apart false true true d = refl
-apart false true false d = refl
-apart false false true d = refl
-apart false false false d = refl
+separate : (a b c d : Bool) → (not (a || b) && (not c && d)) ≡ (not (a || c) && (not b && d))
+separate true b c d = refl
+separate false true true d = refl
+separate false true false d = refl
+separate false false true d = refl
+separate false false false d = refl
 
 -- ---- Look-ups
 
@@ -45,13 +45,13 @@ module _ {S : Type 0} where
       ∙ sym (and_assoc (not (has before x.0)) (are_new (before ++ x ∷ []) xs) (are_new (before ++ x ∷ xs) ys))
 
   -- entries are new after two tables if they are new after the second, and share no name with the first
-  are_new-behind : (a b ys : List (List ℕ × S)) → are_new (a ++ b) ys ≡ (not (share a ys) && are_new b ys)
-  are_new-behind a b [] = refl
-  are_new-behind a b (y ∷ ys) =
+  are_new-following : (a b ys : List (List ℕ × S)) → are_new (a ++ b) ys ≡ (not (share a ys) && are_new b ys)
+  are_new-following a b [] = refl
+  are_new-following a b (y ∷ ys) =
       ap (λ rest. not (has (a ++ b) y.0) && rest)
-      (ap (λ all. are_new all ys) (append_assoc a b (y ∷ [])) ∙ are_new-behind a (b ++ y ∷ []) ys)
+      (ap (λ all. are_new all ys) (append_assoc a b (y ∷ [])) ∙ are_new-following a (b ++ y ∷ []) ys)
       ∙ ap (λ found. not found && (not (share a ys) && are_new (b ++ y ∷ []) ys)) (has-append y.0 a b)
-      ∙ apart (has a y.0) (has b y.0) (share a ys) (are_new (b ++ y ∷ []) ys)
+      ∙ separate (has a y.0) (has b y.0) (share a ys) (are_new (b ++ y ∷ []) ys)
 
 -- ---- Tables as tables of both
 
@@ -90,21 +90,21 @@ module _ {A B S : Type 0} (one : A → S) (other : B → S) where
       ap (λ found. found || share (named one first) (named other second)) (has-named one entry.0 first)
       ∙ ap (λ rest. has first entry.0 || rest) (share-named first second)
 
-  pub new-behind : (first : List (List ℕ × A)) (second : List (List ℕ × B))
-      → are_new (named one first) (named other second) ≡ (not (share first second) && stand_once second)
-  new-behind first second =
+  pub new-following : (first : List (List ℕ × A)) (second : List (List ℕ × B))
+      → are_new (named one first) (named other second) ≡ (not (share first second) && occur_once second)
+  new-following first second =
       ap (λ all. are_new all (named other second)) (sym (append-nil (named one first)))
-      ∙ are_new-behind (named one first) [] (named other second)
+      ∙ are_new-following (named one first) [] (named other second)
       ∙ ap (λ found. not found && are_new [] (named other second)) (share-named first second)
       ∙ ap (λ rest. not (share first second) && rest) (are_new-named other [] second)
 
 -- a table with each name once, and entries that are new after it, have each name once together
-pub once-together : {S : Type 0} (xs ys : List (List ℕ × S)) → stand_once xs ≡ true → are_new xs ys ≡ true
-    → stand_once (xs ++ ys) ≡ true
+pub once-together : {S : Type 0} (xs ys : List (List ℕ × S)) → occur_once xs ≡ true → are_new xs ys ≡ true
+    → occur_once (xs ++ ys) ≡ true
 once-together xs ys e f = are_new-append [] xs ys ∙ ap (λ b. b && are_new xs ys) e ∙ f
 
 pub once-named : {A S : Type 0} (one : A → S) (table : List (List ℕ × A))
-    → stand_once (named one table) ≡ stand_once table
+    → occur_once (named one table) ≡ occur_once table
 once-named one table = are_new-named one [] table
 
 -- ---- What is known about them
@@ -119,13 +119,13 @@ some_one false c e f = absurd (cc)
 
 module _ {A B S : Type 0} (one : A → S) (other : B → S) (first : List (List ℕ × A))
     (second : List (List ℕ × B)) where
-  pub apart-where_new : are_new (named one first) (named other second) ≡ true → share first second ≡ false
-  apart-where_new e = not_both (share first second) (stand_once second) (sym (new-behind one other first second) ∙ e)
+  pub separate-where_new : are_new (named one first) (named other second) ≡ true → share first second ≡ false
+  separate-where_new e = not_both (share first second) (occur_once second) (sym (new-following one other first second) ∙ e)
 
-  pub shared-where_not : are_new (named one first) (named other second) ≡ false → stand_once second ≡ true
+  pub shared-where_not : are_new (named one first) (named other second) ≡ false → occur_once second ≡ true
       → share first second ≡ true
   shared-where_not e once =
-      some_one (share first second) (stand_once second) (sym (new-behind one other first second) ∙ e) once
+      some_one (share first second) (occur_once second) (sym (new-following one other first second) ∙ e) once
 
 -- ---- Two tables, one appended to the other
 
@@ -139,12 +139,12 @@ handed {X = X} r s fault reported what a b c d = c ∙ ap Err (sym b ∙ same_fa
 
 module _ {A B : Type 0} (first : List (List ℕ × A)) (second : List (List ℕ × B))
     (empty table : List (List ℕ × Either A B)) (nothing : empty ≡ []) where
-  new_firsts : (is : Bool) → are_new empty (firsts first) ≡ is → stand_once first ≡ is
+  new_firsts : (is : Bool) → are_new empty (firsts first) ≡ is → occur_once first ≡ is
   new_firsts is e =
       sym (once-named {S = Either A B} First first)
       ∙ sym (ap (λ before. are_new before (firsts first)) nothing) ∙ e
 
-  pub once-broken : are_new empty (firsts first) ≡ false → stand_once first ≡ true → ⊥
+  pub once-broken : are_new empty (firsts first) ≡ false → occur_once first ≡ true → ⊥
   once-broken e once = true≢false (sym once ∙ new_firsts false e)
 
   module _ (put : table ≡ empty ++ firsts first) where
@@ -154,16 +154,16 @@ module _ {A B : Type 0} (first : List (List ℕ × A)) (second : List (List ℕ 
     new_seconds : (is : Bool) → are_new table (seconds second) ≡ is → are_new (firsts first) (seconds second) ≡ is
     new_seconds is e = sym (ap (λ before. are_new before (seconds second)) table_is) ∙ e
 
-    pub apart-made : are_new table (seconds second) ≡ true → share first second ≡ false
-    apart-made e = apart-where_new {S = Either A B} First Second first second (new_seconds true e)
+    pub separate-made : are_new table (seconds second) ≡ true → share first second ≡ false
+    separate-made e = separate-where_new {S = Either A B} First Second first second (new_seconds true e)
 
-    pub shared-made : are_new table (seconds second) ≡ false → stand_once second ≡ true → share first second ≡ true
+    pub shared-made : are_new table (seconds second) ≡ false → occur_once second ≡ true → share first second ≡ true
     shared-made e once =
         shared-where_not {S = Either A B} First Second first second (new_seconds false e) once
 
     pub once-made : (made : List (List ℕ × Either A B)) → are_new empty (firsts first) ≡ true
-        → are_new table (seconds second) ≡ true → made ≡ table ++ seconds second → stand_once made ≡ true
+        → are_new table (seconds second) ≡ true → made ≡ table ++ seconds second → occur_once made ≡ true
     once-made made e f is =
-        ap stand_once (is ∙ ap (λ before. before ++ seconds second) table_is)
+        ap occur_once (is ∙ ap (λ before. before ++ seconds second) table_is)
         ∙ once-together (firsts first) (seconds second)
         (sym (ap (λ before. are_new before (firsts first)) nothing) ∙ e) (new_seconds true f)

@@ -10,7 +10,7 @@ use Rattle.gb_action.specs.declared.output.OutputFiles.{OutputFiles}
 use Rattle.gb_action.specs.declared.reply.OutputPath.{OutputPath}
 use Rattle.gb_action.specs.declared.reply.Reply.{Reply}
 use Rattle.gb_action.specs.declared.request.Request.{Request}
-use Rattle.gb_kinds.specs.Remade.{as_made, renewed, standing}
+use Rattle.gb_kinds.specs.Remade.{as_made, renewed, existing}
 
 -- the reply that writes these files and prints these lines, and removes nothing
 abbrev pub all_of : Tree → List (List ℕ) → Reply
@@ -23,7 +23,7 @@ unless_made made path =
 
 -- the existing files that are no longer made
 abbrev pub made_no_more : Tree → Tree → List OutputPath
-made_no_more stood made = flat_map (λ file. unless_made made file.0) stood
+made_no_more existed made = flat_map (λ file. unless_made made file.0) existed
 
 -- The reply that leaves exactly these files: it removes the existing ones that are no longer made, and writes
 -- those that differ from the existing ones. Each path is considered once, by the file made there in the end,
@@ -33,7 +33,7 @@ pub record IsDifference (files : Tree) (lines : List (List ℕ)) (outputs : List
   pub made : Tree
   pub in_order : IsTrue (is_sorted byte_order made)
   pub is_made : (path : List ℕ) → file_at made path ≡ written_at (as_made files) target path
-  pub removes : reply.removes ≡ made_no_more (standing outputs) made
+  pub removes : reply.removes ≡ made_no_more (existing outputs) made
   pub writes : reply.writes ≡ renewed outputs made
   pub prints : reply.lines ≡ lines
 

@@ -14,8 +14,8 @@ are_new before [] = true
 are_new before (entry ∷ others) = not (has before entry.0) && are_new (before ++ entry ∷ []) others
 
 -- each name occurs once
-abbrev pub stand_once : {S : Type 0} → List (List ℕ × S) → Bool
-stand_once table = are_new [] table
+abbrev pub occur_once : {S : Type 0} → List (List ℕ × S) → Bool
+occur_once table = are_new [] table
 
 -- a name occurs in both
 abbrev pub share : {A B : Type 0} → List (List ℕ × A) → List (List ℕ × B) → Bool

@@ -12,9 +12,9 @@ onto (Ok file) (Err text) = Err text
 onto (Ok file) (Ok files) = Ok (file ∷ files)
 
 -- files after those that are made
-abbrev pub behind : Tree → Result Tree (List ℕ) → Result Tree (List ℕ)
-behind made (Err text) = Err text
-behind made (Ok files) = Ok (made ++ files)
+abbrev pub following : Tree → Result Tree (List ℕ) → Result Tree (List ℕ)
+following made (Err text) = Err text
+following made (Ok files) = Ok (made ++ files)
 
 -- for each path the file from which one is made there, if there is one
 abbrev pub Taken : Type 0

@@ -70,7 +70,7 @@ fn difference(
     let made = by_path(alloc, files)?;
     let output = output_name(alloc)?;
     Ok(Reply {
-        removes: outdated(alloc, standing(request, &output), &made)?,
+        removes: outdated(alloc, existing(request, &output), &made)?,
         writes: renewed(alloc, request, made)?,
         lines,
     })
@@ -90,7 +90,7 @@ fn by_path(alloc: Global, files: Vec<(RelPath, Bytes)>) -> Result<Made, AllocErr
 }
 
 /// The files of an output.
-fn standing<'a>(request: &'a Request, output: &Name) -> &'a [(RelPath, Bytes)]
+fn existing<'a>(request: &'a Request, output: &Name) -> &'a [(RelPath, Bytes)]
     ensures { result.now ≡ unwrap_or (files_of request.now.outputs output.now) [] }
 {
     match request.outputs.get(output) {
@@ -100,11 +100,11 @@ fn standing<'a>(request: &'a Request, output: &Name) -> &'a [(RelPath, Bytes)]
 }
 
 /// The existing files that are no longer made.
-fn outdated(alloc: Global, stood: &[(RelPath, Bytes)], made: &Made) -> Result<Removals, AllocError>
-    ensures { IfOk result (λ removes. removes ≡ made_no_more stood.now made.now.entries) }
+fn outdated(alloc: Global, existed: &[(RelPath, Bytes)], made: &Made) -> Result<Removals, AllocError>
+    ensures { IfOk result (λ removes. removes ≡ made_no_more existed.now made.now.entries) }
 {
     let mut removes = Removals::new(alloc);
-    for (path, _) in stood {
+    for (path, _) in existed {
         if !is_made(made, path) {
             removes.push(OutputPath {
                 output: output_name(alloc)?,
@@ -128,8 +128,8 @@ fn renewed(alloc: Global, request: &Request, made: Made) -> Result<Writes, Alloc
     let output = output_name(alloc)?;
     let mut writes = Writes::new(alloc);
     for (path, bytes) in made {
-        let stood = request.outputs.file_at(&output, &path);
-        if !holds(stood, bytes.as_slice()) {
+        let existed = request.outputs.file_at(&output, &path);
+        if !holds(existed, bytes.as_slice()) {
             writes.push(Written {
                 output: output_name(alloc)?,
                 path,

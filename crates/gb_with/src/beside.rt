@@ -3,7 +3,7 @@ ghost use Rattle.std.specs.Prelude.{◌≡◌, ◌≤◌, ◌∷◌, ◌++◌, [
 ghost use Rattle.gb_core.specs.Name.{is_name};
 ghost use Rattle.gb_action.specs.declared.table.TableFault.TheVariants.{OutOfMemory};
 ghost use Rattle.gb_with.specs.Both.{firsts, seconds};
-ghost use Rattle.gb_with.specs.Names.{are_new, share, stand_once};
+ghost use Rattle.gb_with.specs.Names.{are_new, share, occur_once};
 ghost use Rattle.gb_with.specs.declared.both.Either.{Either};
 
 use crate::both::Either;
@@ -35,10 +35,10 @@ pub fn beside<A: Drop, B: Drop>(
     second: ActionTable<B>,
 ) -> Result<ActionTable<Either<A, B>>, TableFault>
     ensures ok { IfOk result (λ table. table ≡ firsts first ++ seconds second) }
-    ensures once { IfOk result (λ table. IsTrue (stand_once table)) }
-    ensures apart { IfOk result (λ _. share first second ≡ false) }
+    ensures once { IfOk result (λ table. IsTrue (occur_once table)) }
+    ensures separate { IfOk result (λ _. share first second ≡ false) }
     ensures duplicate { IsErrOf result TableFault.DuplicateAction
-        → IsTrue (stand_once first) → IsTrue (stand_once second) → IsTrue (share first second) }
+        → IsTrue (occur_once first) → IsTrue (occur_once second) → IsTrue (share first second) }
 {
     let mut table = ActionTable::new(alloc);
     add_firsts(&mut table, first)?;

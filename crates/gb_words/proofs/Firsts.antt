@@ -8,7 +8,7 @@ use Rattle.clap.specs.declared.error.kind.ErrorKind.{ErrorKind}
 use Rattle.gb_core.specs.Lists.{first_of}
 use Rattle.gb_report.specs.declared.fault.Fault.{Fault}
 use Rattle.gb_report.specs.declared.fault.Fault.TheVariants.{Usage}
-use Rattle.gb_words.specs.Faults.{IsFirstFault, TellsFirst}
+use Rattle.gb_words.specs.Faults.{IsFirstFault, ReportsFirst}
 
 -- the first of some faults is also the first of these faults followed by more
 pub first_among : (faults more whole : List Fault) (fault : Fault) → whole ≡ faults ++ more → IsFirstFault faults fault → IsFirstFault whole fault
@@ -17,7 +17,7 @@ first_among [] more whole fault same (inr first) = absurd (cc)
 first_among (one ∷ faults) more whole fault same (inr first) = inr (ap first_of same ∙ first)
 
 -- the error that the exit of a `?` returns
-pub reported_on : {T : Type 0} (faults : List Fault) (answer : Result T Fault) (fault : Fault) → IsErrAnd answer (λ handed. handed ≡ fault) → IsFirstFault faults fault → TellsFirst faults answer
+pub reported_on : {T : Type 0} (faults : List Fault) (answer : Result T Fault) (fault : Fault) → IsErrAnd answer (λ handed. handed ≡ fault) → IsFirstFault faults fault → ReportsFirst faults answer
 reported_on faults answer fault handed first = let p = err_from_is_err_and answer handed in rw (p.1, p.2) first
 
 -- where `clap` reports some kind of error, the arguments are refused

@@ -6,16 +6,16 @@ use Rattle.clap.specs.Matches.{matched_of, raw_values}
 use Rattle.clap.specs.Walk.{rows_of}
 use Rattle.clap.specs.declared.parser.matches.Found.{Found}
 use Rattle.gb_words.specs.Command.{texts_in}
-use Rattle.gb_words.specs.Values.{texts_behind}
+use Rattle.gb_words.specs.Values.{texts_after}
 
 unwrapped : (found : Option (Bor (List (Bor (List ℕ))))) (empty : Bor (List (Bor (List ℕ)))) → empty.now ≡ []
-    → texts_behind (unwrap_or found empty).now ≡ unwrap_or (option_map (λ s. texts_behind s.now) found) []
+    → texts_after (unwrap_or found empty).now ≡ unwrap_or (option_map (λ s. texts_after s.now) found) []
 unwrapped (Some texts) empty none = refl
-unwrapped None empty none = ap texts_behind none
+unwrapped None empty none = ap texts_after none
 
 pub texts_read : (f : Found) (id : List ℕ) (found : Option (Bor (List (Bor (List ℕ))))) (empty given : Bor (List (Bor (List ℕ))))
-    → option_map (λ s. texts_behind s.now) found ≡ option_map raw_values (matched_of f id) → given ≡ unwrap_or found empty → empty.now ≡ []
-    → texts_behind given.now ≡ texts_in id (rows_of f)
+    → option_map (λ s. texts_after s.now) found ≡ option_map raw_values (matched_of f id) → given ≡ unwrap_or found empty → empty.now ≡ []
+    → texts_after given.now ≡ texts_in id (rows_of f)
 texts_read f id found empty given same is none =
-    ap (λ (g : Bor (List (Bor (List ℕ)))). texts_behind g.now) is ∙ unwrapped found empty none
+    ap (λ (g : Bor (List (Bor (List ℕ)))). texts_after g.now) is ∙ unwrapped found empty none
     ∙ ap (λ (o : Option (List (List ℕ))). unwrap_or o []) (same ∙ raw_values-rows f id)

@@ -14,7 +14,7 @@ use Rattle.std.specs.Ordering.{eq_by_cmp, is_lt, match_ordering}
 use Rattle.std.specs.declared.cmp.Ordering.TheVariants.{Less, Equal, Greater}
 use Rattle.gb_core.proofs.Found.{same_tied}
 use Rattle.gb_core.specs.Lists.{byte_order}
-use Rattle.gb_words.specs.Values.{IsLastOf, name_in, part, part_faults, texts_behind, value_in}
+use Rattle.gb_words.specs.Values.{IsLastOf, name_in, part, part_faults, texts_after, value_in}
 
 abbrev Entries : Type 0
 Entries = List (List ℕ × List ℕ)
@@ -45,14 +45,14 @@ module _ (texts : List (Bor (List ℕ))) (i : ℕ) (d : Bor (List ℕ)) (within 
   abbrev text : List ℕ
   text = (get_or texts i d).now
 
-  last_first : reverse (map part (texts_behind (take (i + 1) texts))) ≡ part text ∷ reverse (map part (texts_behind (take i texts)))
+  last_first : reverse (map part (texts_after (take (i + 1) texts))) ≡ part text ∷ reverse (map part (texts_after (take i texts)))
   last_first = ap (λ ts. reverse (map part ts)) (map_more (λ t. t.now) texts i d within)
-      ∙ ap reverse (map-append part (texts_behind (take i texts)) (text ∷ []))
-      ∙ reverse-append (map part (texts_behind (take i texts))) (part text ∷ [])
+      ∙ ap reverse (map-append part (texts_after (take i texts)) (text ∷ []))
+      ∙ reverse-append (map part (texts_after (take i texts))) (part text ∷ [])
 
   -- the value stored under the name of a text is the last of this name
   pub last_more : (before after : Entries) → after ≡ insert_entry byte_order before (name_in text) (value_in text)
-      → IsLastOf (texts_behind (take i texts)) before → IsLastOf (texts_behind (take (i + 1) texts)) after
+      → IsLastOf (texts_after (take i texts)) before → IsLastOf (texts_after (take (i + 1) texts)) after
   last_more before after added so_far name =
       ap (find byte_order name) (added ∙ insert-put (name_in text) (value_in text) before)
       ∙ find-put byte_order nat_list_cmp_total name (name_in text) (value_in text) before
@@ -64,9 +64,9 @@ module _ (texts : List (Bor (List ℕ))) (i : ℕ) (d : Bor (List ℕ)) (within 
   length-put before after added few = let more = length-insert before (name_in text) (value_in text) in rw added (omega arith)
 
   -- the faults of the texts from this one on
-  pub faults_left : flat_map part_faults (texts_behind (drop i texts)) ≡ part_faults text ++ flat_map part_faults (texts_behind (drop (i + 1) texts))
-  faults_left = ap (λ ts. flat_map part_faults (texts_behind ts)) (drop-cons texts i d within)
-      ∙ ap (λ n. part_faults text ++ flat_map part_faults (texts_behind (drop n texts))) (sym (add-one i))
+  pub faults_left : flat_map part_faults (texts_after (drop i texts)) ≡ part_faults text ++ flat_map part_faults (texts_after (drop (i + 1) texts))
+  faults_left = ap (λ ts. flat_map part_faults (texts_after ts)) (drop-cons texts i d within)
+      ∙ ap (λ n. part_faults text ++ flat_map part_faults (texts_after (drop n texts))) (sym (add-one i))
 
 -- ---- entries of a map
 

@@ -12,8 +12,8 @@ IsFirstFault faults fault = (fault ≡ OutOfMemory) ⊎ (first_of faults ≡ Som
 
 -- If the call succeeds, there are no such faults. Otherwise it returns the first of them, or that memory ran
 -- out.
-abbrev pub TellsFirst : {T : Type 0} → List Fault → Result T Fault → Type 0
-TellsFirst faults answer = MatchResult answer (λ _. faults ≡ []) (IsFirstFault faults)
+abbrev pub ReportsFirst : {T : Type 0} → List Fault → Result T Fault → Type 0
+ReportsFirst faults answer = MatchResult answer (λ _. faults ≡ []) (IsFirstFault faults)
 
 -- Memory ran out, or the arguments are at fault: they do not fit the command, they give too many values, or
 -- they give a value to an invalid name.

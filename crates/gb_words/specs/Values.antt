@@ -36,8 +36,8 @@ abbrev pub names_of : List (List ℕ × List ℕ) → List (List ℕ)
 names_of given = map (λ entry. entry.0) given
 
 -- the texts to which references point
-abbrev pub texts_behind : List (Bor (List ℕ)) → List (List ℕ)
-texts_behind texts = map (λ text. text.now) texts
+abbrev pub texts_after : List (Bor (List ℕ)) → List (List ℕ)
+texts_after texts = map (λ text. text.now) texts
 
 -- a text with an invalid name
 abbrev pub part_faults : List ℕ → List Fault

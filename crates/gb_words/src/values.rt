@@ -4,9 +4,9 @@ ghost use Rattle.std.specs.BTreeMap.{insert_entry};
 ghost use Rattle.std.specs.List.{flat_map};
 ghost use Rattle.gb_core.specs.Lists.{byte_order};
 ghost use Rattle.gb_core.specs.Name.{is_name};
-ghost use Rattle.gb_words.specs.Faults.{IsOfWords, TellsFirst};
+ghost use Rattle.gb_words.specs.Faults.{IsOfWords, ReportsFirst};
 ghost use Rattle.gb_words.specs.Values.{AreLast, IsLastOf, name_in, names_of, part, part_faults};
-ghost use Rattle.gb_words.specs.Values.{texts_behind, value_in, values_faults};
+ghost use Rattle.gb_words.specs.Values.{texts_after, value_in, values_faults};
 
 use gb_core::name::{Name, NameFault};
 use gb_core::text::Text;
@@ -22,8 +22,8 @@ const MOST_VALUES: usize = 256;
 /// name, whatever the order of the texts.
 /// Refused where there are too many texts (58), otherwise with the first invalid name (1).
 pub fn properties(alloc: Global, texts: &[&str]) -> Result<Properties, Fault>
-    ensures last { IfOk result (AreLast (texts_behind texts.now)) }
-    ensures faults { TellsFirst (values_faults (texts_behind texts.now)) result }
+    ensures last { IfOk result (AreLast (texts_after texts.now)) }
+    ensures faults { ReportsFirst (values_faults (texts_after texts.now)) result }
     ensures only { IfErr result IsOfWords }
     ensures most { IfOk result (λ given. length given ≤ 256) }
     ensures names { IfOk result (λ given. All (λ name. IsTrue (is_name name)) (names_of given)) }
@@ -39,8 +39,8 @@ pub fn properties(alloc: Global, texts: &[&str]) -> Result<Properties, Fault>
 
 /// The values by their names, the last of each.
 fn by_name(alloc: Global, texts: &[&str]) -> Result<BTreeMap<Name, Text>, Fault>
-    ensures last { IfOk result (λ given. IsLastOf (texts_behind texts.now) given.entries) }
-    ensures faults { TellsFirst (flat_map part_faults (texts_behind texts.now)) result }
+    ensures last { IfOk result (λ given. IsLastOf (texts_after texts.now) given.entries) }
+    ensures faults { ReportsFirst (flat_map part_faults (texts_after texts.now)) result }
     ensures only { IfErr result IsOfWords }
     ensures most { IfOk result (λ given. length given.entries ≤ length texts.now) }
     ensures names { IfOk result (λ given. All (λ name. IsTrue (is_name name)) (names_of given.entries)) }
@@ -57,7 +57,7 @@ fn put(alloc: Global, given: &mut BTreeMap<Name, Text>, text: &str) -> Result<()
     ensures put { OnOk result (given.new.entries
         ≡ insert_entry byte_order given.old.entries (name_in text.now) (value_in text.now)) }
     ensures name { OnOk result (IsTrue (is_name (name_in text.now))) }
-    ensures faults { TellsFirst (part_faults text.now) result }
+    ensures faults { ReportsFirst (part_faults text.now) result }
     ensures only { IfErr result IsOfWords }
 {
     let (name, value) = parted(alloc, text)?;
@@ -69,7 +69,7 @@ fn put(alloc: Global, given: &mut BTreeMap<Name, Text>, text: &str) -> Result<()
 fn parted(alloc: Global, text: &str) -> Result<(Name, Text), Fault>
     ensures parted { IfOk result (λ parted. parted ≡ part text.now) }
     ensures name { OnOk result (IsTrue (is_name (name_in text.now))) }
-    ensures faults { TellsFirst (part_faults text.now) result }
+    ensures faults { ReportsFirst (part_faults text.now) result }
     ensures only { IfErr result IsOfWords }
 {
     let (name, value) = text.split_once('=').unwrap_or((text, ""));

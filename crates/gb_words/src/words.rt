@@ -6,8 +6,8 @@ ghost use Rattle.clap.specs.Simple.{app_of};
 ghost use Rattle.clap.specs.Walk.{rows_of, rule_of};
 ghost use Rattle.gb_core.specs.Name.{is_name};
 ghost use Rattle.gb_words.specs.Command.{flag, flag_in, gb_command, is_refused, rows_in, texts_in, valued};
-ghost use Rattle.gb_words.specs.Faults.{IsOfWords, TellsFirst};
-ghost use Rattle.gb_words.specs.Values.{AreLast, names_of, texts_behind, values_faults};
+ghost use Rattle.gb_words.specs.Faults.{IsOfWords, ReportsFirst};
+ghost use Rattle.gb_words.specs.Values.{AreLast, names_of, texts_after, values_faults};
 ghost use Rattle.gb_words.specs.Words.{IsAsked, words_faults};
 
 use crate::values::properties;
@@ -24,7 +24,7 @@ use std::alloc::{AllocError, Global};
 /// values of properties (58), then the first invalid name of a property (1).
 pub fn read(alloc: Global, words: Vec<String>) -> Result<Invocation, Fault>
     ensures asked { IfOk result (IsAsked (map string_bytes words.items)) }
-    ensures faults { TellsFirst (words_faults (map string_bytes words.items)) result }
+    ensures faults { ReportsFirst (words_faults (map string_bytes words.items)) result }
     ensures only { IfErr result IsOfWords }
     ensures most { IfOk result (λ asked. length asked.properties ≤ 256) }
     ensures names { IfOk result (λ asked. All (λ name. IsTrue (is_name name)) (names_of asked.properties)) }
@@ -43,7 +43,7 @@ pub fn read(alloc: Global, words: Vec<String>) -> Result<Invocation, Fault>
 fn found<'a>(alloc: Global, words: &'a [String]) -> Result<ArgMatches<'a>, Fault>
     ensures rows { IfOk result (λ matches.
         rows_of (found_of matches) ≡ rows_in (map string_bytes words.entry.now)) }
-    ensures faults { TellsFirst
+    ensures faults { ReportsFirst
         (if is_refused (map string_bytes words.entry.now) then Fault.Usage ∷ [] else []) result }
     ensures only { IfErr result IsOfWords }
 {
@@ -94,7 +94,7 @@ fn flag<'a>(alloc: Global, id: &'a str, long: &'a str) -> Arg<'a>
 /// The values of properties that are found.
 fn properties_found(alloc: Global, matches: &ArgMatches<'_>) -> Result<Properties, Fault>
     ensures last { IfOk result (AreLast (texts_in (codes "property") (rows_of (found_of matches.now)))) }
-    ensures faults { TellsFirst
+    ensures faults { ReportsFirst
         (values_faults (texts_in (codes "property") (rows_of (found_of matches.now)))) result }
     ensures only { IfErr result IsOfWords }
     ensures most { IfOk result (λ given. length given ≤ 256) }
@@ -114,7 +114,7 @@ fn texts_found(alloc: Global, matches: &ArgMatches<'_>, id: &str) -> Result<Text
 }
 
 fn copy_texts(alloc: Global, texts: &[&str]) -> Result<Texts, AllocError>
-    ensures { IfOk result (λ copied. copied ≡ texts_behind texts.now) }
+    ensures { IfOk result (λ copied. copied ≡ texts_after texts.now) }
 {
     let mut copied = Texts::new(alloc);
     for text in texts {

@@ -1,6 +1,6 @@
 //! A custom listener: it counts the tasks that were executed, and keeps all its notifications.
 ghost use Rattle.std.specs.Prelude.{◌≡◌, ◌∷◌, [], OnErr, OnOk};
-ghost use Rattle.gb_exec.specs.Telling.{Refuses};
+ghost use Rattle.gb_exec.specs.Notifying.{Refuses};
 ghost use Rattle.gb_meaning.specs.Headline.{HearsAll};
 ghost use Rattle.gb_report.specs.declared.report.Heard.TheVariants.{Start, End};
 

@@ -1,6 +1,6 @@
 //! Front matter of pages: keys in a layout, titles, and the order of dates.
 use crate::site::offering::{Kinds, offered};
-use crate::site::steps::{Step, go_on, stands};
+use crate::site::steps::{Step, go_on, exists};
 use gb_action::actions::Actions;
 use gb_folder::memory::MemoryFolder;
 use gb_kinds::builtin::Builtin;
@@ -101,21 +101,21 @@ fn are_filled_in<A: Actions, T: Transforms>(
     tables: &Tables<A, T>,
 ) -> Result<(), Fail> {
     go_on(alloc, folder, tables, &PAGES)?;
-    stands(
+    exists(
         alloc,
         folder,
         "build/site/a.html",
         "<title>1 &lt; 2</title>\n<p>I  {{</p>\n<p>X</p>\n",
     )?;
-    stands(
+    exists(
         alloc,
         folder,
         "build/site/d/b.html",
         "<title>B</title>\n<p>&quot;You&quot; ../ {{</p>\n<p>Y</p>\n",
     )?;
-    stands(alloc, folder, "build/all/index.html", ALL)?;
+    exists(alloc, folder, "build/all/index.html", ALL)?;
     go_on(alloc, folder, tables, &FAULTS)?;
-    stands(alloc, folder, "build/all/index.html", LEFT)
+    exists(alloc, folder, "build/all/index.html", LEFT)
 }
 
 #[test]

@@ -1,6 +1,6 @@
 //! An argument that a script may give or leave out: the name of the token of `template`.
 use crate::site::offering::{Kinds, offered};
-use crate::site::steps::{Step, go_on, stands};
+use crate::site::steps::{Step, go_on, exists};
 use gb_action::actions::Actions;
 use gb_folder::memory::MemoryFolder;
 use gb_kinds::builtin::Builtin;
@@ -74,9 +74,9 @@ fn may_be_left_out_in<A: Actions, T: Transforms>(
     tables: &Tables<A, T>,
 ) -> Result<(), Fail> {
     go_on(alloc, folder, tables, &LEFT_OUT)?;
-    stands(alloc, folder, "build/t/a.html", "<p>A</p>\n")?;
+    exists(alloc, folder, "build/t/a.html", "<p>A</p>\n")?;
     go_on(alloc, folder, tables, &GIVEN)?;
-    stands(alloc, folder, "build/t/a.html", "<p>A</p>\n")?;
+    exists(alloc, folder, "build/t/a.html", "<p>A</p>\n")?;
     go_on(alloc, folder, tables, &OTHERS)
 }
 

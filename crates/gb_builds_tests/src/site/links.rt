@@ -1,7 +1,7 @@
 //! Addresses on pages: those that could run code are left out, and those of files refer to the
 //! files.
 use crate::site::offering::{Kinds, offered};
-use crate::site::steps::{Step, go_on, stands};
+use crate::site::steps::{Step, go_on, exists};
 use gb_action::actions::Actions;
 use gb_folder::memory::MemoryFolder;
 use gb_kinds::builtin::Builtin;
@@ -109,8 +109,8 @@ const ALL: &str = "<h1>All</h1>
 fn are_safe<A: Actions, T: Transforms>(alloc: Global, tables: &Tables<A, T>) -> Result<(), Fail> {
     let mut folder = MemoryFolder::new(alloc);
     go_on(alloc, &mut folder, tables, &PAGES)?;
-    stands(alloc, &mut folder, "build/h/links.md", LINKED)?;
-    stands(alloc, &mut folder, "build/all/index.html", ALL)?;
+    exists(alloc, &mut folder, "build/h/links.md", LINKED)?;
+    exists(alloc, &mut folder, "build/all/index.html", ALL)?;
     go_on(alloc, &mut folder, tables, &LED)?;
     go_on(alloc, &mut folder, tables, &LED_OUT)
 }

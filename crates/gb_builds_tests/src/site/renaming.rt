@@ -1,6 +1,6 @@
 //! Pages at paths of their own: the kind `htmlPages`.
 use crate::site::offering::{Kinds, offered};
-use crate::site::steps::{Step, go_on, stand, stands};
+use crate::site::steps::{Step, go_on, exist, exists};
 use gb_action::actions::Actions;
 use gb_folder::memory::MemoryFolder;
 use gb_kinds::builtin::Builtin;
@@ -70,16 +70,16 @@ fn are_renamed_in<A: Actions, T: Transforms>(
     tables: &Tables<A, T>,
 ) -> Result<(), Fail> {
     go_on(alloc, folder, tables, &PAGES)?;
-    stand(
+    exist(
         alloc,
         folder,
         "build/p",
         "build/p/a.html\nbuild/p/d/b.html\n",
     )?;
-    stands(alloc, folder, "build/p/a.html", "<h1 id=\"a\">A</h1>\n")?;
+    exists(alloc, folder, "build/p/a.html", "<h1 id=\"a\">A</h1>\n")?;
     go_on(alloc, folder, tables, &MET)?;
     go_on(alloc, folder, tables, &OTHERS)?;
-    stand(alloc, folder, "build/p", "build/p/d/b.html\n")
+    exist(alloc, folder, "build/p", "build/p/d/b.html\n")
 }
 
 #[test]

@@ -1,6 +1,6 @@
 //! A site is built, edited and built again.
 use crate::site::offering::{Kinds, offered};
-use crate::site::steps::{Step, go_on, stand, stands};
+use crate::site::steps::{Step, go_on, exist, exists};
 use gb_action::actions::Actions;
 use gb_folder::memory::MemoryFolder;
 use gb_kinds::builtin::Builtin;
@@ -94,13 +94,13 @@ fn is_first<A: Actions, T: Transforms>(
     tables: &Tables<A, T>,
 ) -> Result<(), Fail> {
     go_on(alloc, folder, tables, &BUILDS)?;
-    stands(
+    exists(
         alloc,
         folder,
         "build/site/a.html",
         "<body><h1 id=\"a\">A</h1>\n<p>1 &lt; 2</p>\n</body>\n",
     )?;
-    stands(
+    exists(
         alloc,
         folder,
         "build/site/index.html",
@@ -115,14 +115,14 @@ fn follows<A: Actions, T: Transforms>(
     tables: &Tables<A, T>,
 ) -> Result<(), Fail> {
     go_on(alloc, folder, tables, &EDIT)?;
-    stands(
+    exists(
         alloc,
         folder,
         "build/site/b.html",
         "<body><h1 id=\"b\">B</h1>\n<p><em>new</em></p>\n</body>\n",
     )?;
     go_on(alloc, folder, tables, &REMOVAL)?;
-    stand(
+    exist(
         alloc,
         folder,
         "build/site",

@@ -100,7 +100,7 @@ fn have_counted(executed: u64, listeners: &[Counting]) -> Result<(), Fail> {
 }
 
 /// Fails if the bytes at a place differ.
-pub fn stands(
+pub fn exists(
     alloc: Global,
     folder: &mut MemoryFolder,
     place: &str,
@@ -112,7 +112,7 @@ pub fn stands(
 }
 
 /// Fails if the files under a place differ; each name is followed by a line feed.
-pub fn stand(
+pub fn exist(
     alloc: Global,
     folder: &mut MemoryFolder,
     root: &str,

@@ -56,26 +56,26 @@ module _ {S : Type 0} (meanings : Meanings S) where
   names_of rows = map (λ row. row.0) rows
 
   -- a row is found by its name after one of another name
-  found_behind : (name other : List ℕ) (stored first : S) (rows : Rows S) → bytes_eq other name ≡ false → find byte_order name rows ≡ Some stored
+  found_after : (name other : List ℕ) (stored first : S) (rows : Rows S) → bytes_eq other name ≡ false → find byte_order name rows ≡ Some stored
       → find byte_order name ((other, first) ∷ rows) ≡ Some stored
-  found_behind name other stored first rows differs is = by (eq_by_cmp byte_order name other) refl
+  found_after name other stored first rows differs is = by (eq_by_cmp byte_order name other) refl
     where
       by : (b : Bool) → eq_by_cmp byte_order name other ≡ b → cond b (Some first) (find byte_order name rows) ≡ Some stored
       by true e = not_false (sym (ap (bytes_eq other) (same_place name other e) ∙ itself other) ∙ differs)
       by false e = is
 
-  all_behind : (other : List ℕ) (first : S) (all rows : Rows S) → has_path (names_of rows) other ≡ false → AreFound all rows → AreFound ((other, first) ∷ all) rows
-  all_behind other first all [] differs found = tt
-  all_behind other first all (row ∷ rows) differs found = (
-    found_behind row.0 other row.1 first all (none_left (bytes_eq other row.0) (has_path (names_of rows) other) differs) found.0,
-    all_behind other first all rows (none_right (bytes_eq other row.0) (has_path (names_of rows) other) differs) found.1,
+  all_after : (other : List ℕ) (first : S) (all rows : Rows S) → has_path (names_of rows) other ≡ false → AreFound all rows → AreFound ((other, first) ∷ all) rows
+  all_after other first all [] differs found = tt
+  all_after other first all (row ∷ rows) differs found = (
+    found_after row.0 other row.1 first all (none_left (bytes_eq other row.0) (has_path (names_of rows) other) differs) found.0,
+    all_after other first all rows (none_right (bytes_eq other row.0) (has_path (names_of rows) other) differs) found.1,
   )
 
   are_found : (rows : Rows S) → no_repeats (names_of rows) ≡ true → AreFound rows rows
   are_found [] once = tt
   are_found ((name, stored) ∷ rows) once = (
     ap (λ (b : Bool). cond b (Some stored) (find byte_order name rows)) (ap is_eq (same_tied name name refl)),
-    all_behind name stored rows rows (no_longer (has_path (names_of rows) name) (left_of (not (has_path (names_of rows) name)) (no_repeats (names_of rows)) once))
+    all_after name stored rows rows (no_longer (has_path (names_of rows) name) (left_of (not (has_path (names_of rows) name)) (no_repeats (names_of rows)) once))
         (are_found rows (right_of (not (has_path (names_of rows) name)) (no_repeats (names_of rows)) once)),
   )
 

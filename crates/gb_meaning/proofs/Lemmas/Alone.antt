@@ -12,15 +12,15 @@ use Rattle.gb_core.specs.Place.{is_under}
 use Rattle.gb_plan.specs.declared.task.TaskDeclaration.{TaskDeclaration as Task}
 use Rattle.gb_plan.specs.Task.{roots_of, is_output_of}
 use Rattle.gb_meaning.specs.TrueRecord.{outside}
-use Rattle.gb_meaning.proofs.Standing.{rules_of, standing}
+use Rattle.gb_meaning.proofs.Existing.{rules_of, existing}
 use Rattle.gb_meaning.specs.Tree.{input_faults, listing_faults, has_no_source}
 use Rattle.gb_meaning.specs.Memory.{World}
 use Rattle.gb_plan.specs.Graph.{Plan}
 use Rattle.gb_meaning.specs.Label.{Moment, Early, Skips, HasNoActions, CannotRead, HasNoSource}
-use Rattle.gb_meaning.specs.Execution.{Standing, TouchesRecord, TouchesRecordIn, Builds}
+use Rattle.gb_meaning.specs.Execution.{WorldState, TouchesRecord, TouchesRecordIn, Builds}
 use Rattle.gb_report.specs.declared.report.Report.{Report}
 use Rattle.gb_meaning.specs.declared.events.Invocation.{Invocation}
-use Rattle.gb_meaning.specs.Events.{State, own_files, world_in, Setting, may_come, IsBuild}
+use Rattle.gb_meaning.specs.Events.{State, own_files, world_in, Setting, may_occur, IsBuild}
 use Rattle.gb_meaning.specs.Headline.{AreRegistries}
 use Rattle.gb_meaning.specs.Every.{always}
 use Rattle.gb_meaning.specs.Outline.{Outlines, IsOutlined}
@@ -33,7 +33,7 @@ touched true false at e = (refl, refl)
 touched true true at e = not_false (sym e)
 touched false empty at e = not_false (sym e)
 
-module _ (setting : Setting) (own : Files) (options : Options) (task : Task) (moment : Moment) (new : Standing) where
+module _ (setting : Setting) (own : Files) (options : Options) (task : Task) (moment : Moment) (new : WorldState) where
   abbrev rest : Bool → Bool → Option Early
   rest runs empty =
       let hindrances = input_faults task moment.world.folder ++ listing_faults task moment.world.folder in
@@ -45,7 +45,7 @@ module _ (setting : Setting) (own : Files) (options : Options) (task : Task) (mo
       elim task.runs as (λ runs. TouchesRecordIn options task moment.world (rest runs true) → ⊥) [ true ↦ λ t. t | false ↦ λ t. t ]
       (subst (λ b. TouchesRecordIn options task moment.world (rest task.runs b)) empty touches)
 
-  pub may_alone : (fault : Fault) → may_come setting own options task moment new fault → (task.runs ≡ false) ⊎ (is_empty task.actions ≡ true) → fault ≡ faults.OutOfMemory
+  pub may_alone : (fault : Fault) → may_occur setting own options task moment new fault → (task.runs ≡ false) ⊎ (is_empty task.actions ≡ true) → fault ≡ faults.OutOfMemory
   may_alone (faults.BadName a) comes idle = absurd comes
   may_alone (faults.BadPlace a) comes idle = absurd comes
   may_alone faults.OutOfMemory comes idle = refl
@@ -91,9 +91,9 @@ module _ (setting : Setting) (own : Files) (options : Options) (task : Task) (mo
   may_alone faults.Usage comes idle = absurd comes
 
 pub may_builds_outline : (setting : Setting) (own : Files) (options : Options) (plan : Plan) (before after : ℕ) (old new : World) (reports : List TaskReport)
-    → Builds (rules_of setting.kinds options (may_come setting own options) plan) all_assumed [] (standing old before) reports (standing new after) → Outlines options plan reports
+    → Builds (rules_of setting.kinds options (may_occur setting own options) plan) all_assumed [] (existing old before) reports (existing new after) → Outlines options plan reports
 may_builds_outline setting own options plan before after old new reports builds =
-    builds_outline setting.kinds options (may_come setting own options) plan (λ task moment new fault comes idle. may_alone setting own options task moment new fault comes idle)
+    builds_outline setting.kinds options (may_occur setting own options) plan (λ task moment new fault comes idle. may_alone setting own options task moment new fault comes idle)
     [] before after old new reports builds
 
 -- Where no step has a premise, a build is one by its outline.

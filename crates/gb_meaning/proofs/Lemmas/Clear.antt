@@ -1,7 +1,7 @@
 -- Where the contents before and after a build satisfy the guard, all its executions hold: no other contents
 -- exist between them.
-use Rattle.gb_meaning.proofs.Standing.{rules_of, standing, with_execution}
-use Rattle.gb_meaning.specs.TrueRecord.{AreApart}
+use Rattle.gb_meaning.proofs.Existing.{rules_of, existing, with_execution}
+use Rattle.gb_meaning.specs.TrueRecord.{AreCollisionFree}
 use Rattle.std.specs.Cmp.Lexicographic.{bytes_decides}
 use Rattle.std.proofs.lemmas.Map.Views.{Contains-from_any}
 use Rattle.std.specs.Prelude.{ℕ, ◌≡◌, ◌⊎◌, Bool, true, false, not, cond, ◌||◌, List, [], ◌∷◌, ◌++◌, map, bytes_eq, zero, suc, Contains}
@@ -21,7 +21,7 @@ use Rattle.gb_meaning.specs.Label.{Moment}
 use Rattle.gb_meaning.specs.Execution.{May, Guard, Executions, moment_after, Builds}
 use Rattle.gb_plan.proofs.Tests.{not_false, any_append, any_map, none_left, none_right}
 use Rattle.gb_meaning.proofs.Common.{all_assumed}
-use Rattle.gb_plan.proofs.Places.{apart_places, overlap_tail, out_of}
+use Rattle.gb_plan.proofs.Places.{separate_places, overlap_tail, out_of}
 
 abbrev pub places_of : List Planned → List Place
 places_of plan = flat_map (λ planned. output_places planned.task) plan
@@ -56,8 +56,8 @@ found (x ∷ xs) c (suc k, less, e) = right (bytes_eq c x) (has_path xs c) (foun
 pub listed : (xs : List Bytes) (c : Bytes) → has_path xs c ≡ true → Contains xs c
 listed xs c e = Contains-from_any (λ x y same. (bytes_decides x y).0 same) c xs e
 
-pub apart_of_fewer : (digest : Bytes → List ℕ) (all some : List Bytes) → Among some all → AreApart digest all → AreApart digest some
-apart_of_fewer digest all some among apart a b in_a in_b same = apart a b (listed all a (among a (found some a in_a))) (listed all b (among b (found some b in_b))) same
+pub separate_of_fewer : (digest : Bytes → List ℕ) (all some : List Bytes) → Among some all → AreCollisionFree digest all → AreCollisionFree digest some
+separate_of_fewer digest all some among separate a b in_a in_b same = separate a b (listed all a (among a (found some a in_a))) (listed all b (among b (found some b in_b))) same
 
 -- ---- Files
 
@@ -101,9 +101,9 @@ module _ (P : Place × Bytes → Bool) (t : Place → Bool) where
       ]
 
 -- contents in the middle exist before, or afterwards
-pub stood : (out : Place → Bool) (old mid new : Files) → files_where (λ q. not (out q)) mid ≡ files_where (λ q. not (out q)) old → files_where out new ≡ files_where out mid
+pub existed : (out : Place → Bool) (old mid new : Files) → files_where (λ q. not (out q)) mid ≡ files_where (λ q. not (out q)) old → files_where out new ≡ files_where out mid
     → (c : Bytes) → has_path (map (λ file. file.1) mid) c ≡ true → (has_path (map (λ file. file.1) old) c ≡ true) ⊎ (has_path (map (λ file. file.1) new) c ≡ true)
-stood out old mid new before afterwards c h =
+existed out old mid new before afterwards c h =
     let P : Place × Bytes → Bool = λ f. bytes_eq c f.1 in
     let snd : Place × Bytes → Bytes = λ f. f.1 in
     elim (parts P out mid (sym (any_map (bytes_eq c) snd mid) ∙ h)) [
@@ -112,67 +112,67 @@ stood out old mid new before afterwards c h =
     ]
 
 -- ---- Executions: no later task has an output place in common with this one
-pub later_apart : (task : Task) (rest : List Planned) → ((q : Place) → is_output_of task q ≡ true → list_any (is_under q) (places_of rest) ≡ false)
+pub later_separate : (task : Task) (rest : List Planned) → ((q : Place) → is_output_of task q ≡ true → list_any (is_under q) (places_of rest) ≡ false)
     → AllByRecursion (λ (later : Planned). (q : Place) → is_output_of task q ≡ true → is_output_of later.task q ≡ false) rest
-later_apart task [] h = tt
-later_apart task (later ∷ rest) h = (
+later_separate task [] h = tt
+later_separate task (later ∷ rest) h = (
   λ q e. out_of later.task q ∙ none_left (list_any (is_under q) (output_places later.task)) (list_any (is_under q) (places_of rest)) (sym (any_append (is_under q) (output_places later.task) (places_of rest)) ∙ h q e),
-  later_apart task rest (λ q e. none_right (list_any (is_under q) (output_places later.task)) (list_any (is_under q) (places_of rest)) (sym (any_append (is_under q) (output_places later.task) (places_of rest)) ∙ h q e)),
+  later_separate task rest (λ q e. none_right (list_any (is_under q) (output_places later.task)) (list_any (is_under q) (places_of rest)) (sym (any_append (is_under q) (output_places later.task) (places_of rest)) ∙ h q e)),
 )
 
-module _ (kinds : Kinds) (options : Options) (may_come : May) (plan : Plan) (assumed : Guard) where
+module _ (kinds : Kinds) (options : Options) (may_occur : May) (plan : Plan) (assumed : Guard) where
   -- executions leave the places that are no outputs of theirs
-  pub rest_leave : (test : Place → Bool) (seen : List Bytes) (rest : List Planned) (moment : Moment) (reports : List TaskReport) (new : World) (failures : ℕ)
+  pub rest_leave : (test : Place → Bool) (observed : List Bytes) (rest : List Planned) (moment : Moment) (reports : List TaskReport) (new : World) (failures : ℕ)
       → AllByRecursion (λ (later : Planned). (q : Place) → test q ≡ true → is_output_of later.task q ≡ false) rest
-      → Executions (rules_of kinds options may_come plan) assumed seen rest moment reports (standing new failures) → files_where test new.folder.files ≡ files_where test moment.world.folder.files
-  rest_leave test seen [] moment [] new failures apart executions = ap (λ (w : World). files_where test w.folder.files) executions.0
-  rest_leave test seen [] moment (report ∷ reports) new failures apart executions = absurd executions
-  rest_leave test seen (planned ∷ rest) moment [] new failures apart executions = absurd executions
-  rest_leave test seen (planned ∷ rest) moment (report ∷ reports) new failures apart executions =
-      rest_leave test (seen ++ folder_contents moment.world) rest (moment_after moment report executions.0) reports new failures apart.1 executions.2
-      ∙ same_narrow test (λ place. not (is_output_of planned.task place)) (λ q e. ap not (apart.0 q e)) moment.world.folder.files executions.0.world.folder.files executions.1.files
+      → Executions (rules_of kinds options may_occur plan) assumed observed rest moment reports (existing new failures) → files_where test new.folder.files ≡ files_where test moment.world.folder.files
+  rest_leave test observed [] moment [] new failures separate executions = ap (λ (w : World). files_where test w.folder.files) executions.0
+  rest_leave test observed [] moment (report ∷ reports) new failures separate executions = absurd executions
+  rest_leave test observed (planned ∷ rest) moment [] new failures separate executions = absurd executions
+  rest_leave test observed (planned ∷ rest) moment (report ∷ reports) new failures separate executions =
+      rest_leave test (observed ++ folder_contents moment.world) rest (moment_after moment report executions.0) reports new failures separate.1 executions.2
+      ∙ same_narrow test (λ place. not (is_output_of planned.task place)) (λ q e. ap not (separate.0 q e)) moment.world.folder.files executions.0.world.folder.files executions.1.files
 
   pub all_hold : ((all some : List Bytes) → Among some all → assumed all → assumed some)
-      → (seen : List Bytes) (rest : List Planned) (moment : Moment) (reports : List TaskReport) (new : World) (failures : ℕ)
-      → some_overlap (places_of rest) ≡ false → assumed (seen ++ folder_contents moment.world ++ folder_contents new)
-      → Executions (rules_of kinds options may_come plan) assumed seen rest moment reports (standing new failures)
-      → Executions (rules_of kinds options may_come plan) all_assumed seen rest moment reports (standing new failures)
-  all_hold fewer seen [] moment [] new failures apart given executions = executions
-  all_hold fewer seen [] moment (report ∷ reports) new failures apart given executions = absurd executions
-  all_hold fewer seen (planned ∷ rest) moment [] new failures apart given executions = absurd executions
-  all_hold fewer seen (planned ∷ rest) moment (report ∷ reports) new failures apart given executions = (
+      → (observed : List Bytes) (rest : List Planned) (moment : Moment) (reports : List TaskReport) (new : World) (failures : ℕ)
+      → some_overlap (places_of rest) ≡ false → assumed (observed ++ folder_contents moment.world ++ folder_contents new)
+      → Executions (rules_of kinds options may_occur plan) assumed observed rest moment reports (existing new failures)
+      → Executions (rules_of kinds options may_occur plan) all_assumed observed rest moment reports (existing new failures)
+  all_hold fewer observed [] moment [] new failures separate given executions = executions
+  all_hold fewer observed [] moment (report ∷ reports) new failures separate given executions = absurd executions
+  all_hold fewer observed (planned ∷ rest) moment [] new failures separate given executions = absurd executions
+  all_hold fewer observed (planned ∷ rest) moment (report ∷ reports) new failures separate given executions = (
     executions.0,
     with_execution executions.1 (λ _. executions.1.execution (fewer (before ++ folder_contents new) before (λ c e. in_left c before (folder_contents new) e) given)),
     all_hold fewer before rest (moment_after moment report executions.0) reports new failures
-        (overlap_tail (output_places planned.task) (places_of rest) apart)
+        (overlap_tail (output_places planned.task) (places_of rest) separate)
         (fewer (before ++ folder_contents new) (before ++ folder_contents executions.0.world ++ folder_contents new) between given) executions.2,
   )
     where
       before : List Bytes
-      before = seen ++ folder_contents moment.world
+      before = observed ++ folder_contents moment.world
 
       later_leave : files_where (is_output_of planned.task) new.folder.files ≡ files_where (is_output_of planned.task) executions.0.world.folder.files
       later_leave = rest_leave (is_output_of planned.task) before rest (moment_after moment report executions.0) reports new failures
-          (later_apart planned.task rest (λ q e. apart_places q (output_places planned.task) (places_of rest) apart (sym (out_of planned.task q) ∙ e))) executions.2
+          (later_separate planned.task rest (λ q e. separate_places q (output_places planned.task) (places_of rest) separate (sym (out_of planned.task q) ∙ e))) executions.2
 
       between : Among (before ++ folder_contents executions.0.world ++ folder_contents new) (before ++ folder_contents new)
       between c h = elim (in_one c (before ++ folder_contents executions.0.world) (folder_contents new) h) [
         | inr after ↦ in_right c before (folder_contents new) after
         | inl earlier ↦ elim (in_one c before (folder_contents executions.0.world) earlier) [
-          | inl seen_before ↦ in_left c before (folder_contents new) seen_before
-          | inr mid ↦ elim (stood (is_output_of planned.task) moment.world.folder.files executions.0.world.folder.files new.folder.files executions.1.files later_leave c mid) [
-            | inl old ↦ in_left c before (folder_contents new) (in_right c seen (folder_contents moment.world) old)
+          | inl observed_before ↦ in_left c before (folder_contents new) observed_before
+          | inr mid ↦ elim (existed (is_output_of planned.task) moment.world.folder.files executions.0.world.folder.files new.folder.files executions.1.files later_leave c mid) [
+            | inl old ↦ in_left c before (folder_contents new) (in_right c observed (folder_contents moment.world) old)
             | inr last ↦ in_right c before (folder_contents new) last
           ]
         ]
       ]
 
 -- over contents where no two share a digest, all executions of a build hold
-pub clear_build : (kinds : Kinds) (options : Options) (may_come : May) (digest : Bytes → List ℕ) (plan : Plan) (seen : List Bytes) (before after : ℕ) (old new : World) (reports : List TaskReport)
-    → some_overlap (places_of plan) ≡ false → AreApart digest (seen ++ folder_contents old ++ folder_contents new)
-    → Builds (rules_of kinds options may_come plan) (AreApart digest) seen (standing old before) reports (standing new after)
-    → Builds (rules_of kinds options may_come plan) all_assumed seen (standing old before) reports (standing new after)
-clear_build kinds options may_come digest plan seen before after old new reports apart clear builds = elim builds [
+pub clear_build : (kinds : Kinds) (options : Options) (may_occur : May) (digest : Bytes → List ℕ) (plan : Plan) (observed : List Bytes) (before after : ℕ) (old new : World) (reports : List TaskReport)
+    → some_overlap (places_of plan) ≡ false → AreCollisionFree digest (observed ++ folder_contents old ++ folder_contents new)
+    → Builds (rules_of kinds options may_occur plan) (AreCollisionFree digest) observed (existing old before) reports (existing new after)
+    → Builds (rules_of kinds options may_occur plan) all_assumed observed (existing old before) reports (existing new after)
+clear_build kinds options may_occur digest plan observed before after old new reports separate clear builds = elim builds [
   | inl dry ↦ inl dry
-  | inr run ↦ inr (run.0, all_hold kinds options may_come plan (AreApart digest) (apart_of_fewer digest) seen plan (record { world = old; outcomes = []; failures = before }) reports new after apart clear run.1)
+  | inr run ↦ inr (run.0, all_hold kinds options may_occur plan (AreCollisionFree digest) (separate_of_fewer digest) observed plan (record { world = old; outcomes = []; failures = before }) reports new after separate clear run.1)
 ]

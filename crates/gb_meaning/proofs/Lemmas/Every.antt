@@ -8,38 +8,38 @@ use Rattle.gb_meaning.specs.declared.events.Answer.TheVariants as answers
 use Rattle.gb_folder.specs.Files.{Bytes}
 use Rattle.gb_meaning.specs.Execution.{Guard}
 use Rattle.gb_meaning.specs.Events.{Setting, State, Step}
-use Rattle.gb_meaning.specs.Headline.{seen_with}
+use Rattle.gb_meaning.specs.Headline.{observed_with}
 use Rattle.gb_meaning.specs.Every.{Succeeds}
-use Rattle.gb_meaning.proofs.Lemmas.Clear.{Among, apart_of_fewer, in_left, in_right, in_one}
+use Rattle.gb_meaning.proofs.Lemmas.Clear.{Among, separate_of_fewer, in_left, in_right, in_one}
 
 -- the contents so far, and those before and after an event, are among all
-pub up_to_here : (seen here next rest : List Bytes) → Among (seen ++ here ++ next) (seen ++ (here ++ (next ++ rest)))
-up_to_here seen here next rest c h = elim (in_one c (seen ++ here) next h) [
-  | inl earlier ↦ elim (in_one c seen here earlier) [
-    | inl in_seen ↦ in_left c seen (here ++ (next ++ rest)) in_seen
-    | inr in_here ↦ in_right c seen (here ++ (next ++ rest)) (in_left c here (next ++ rest) in_here)
+pub up_to_here : (observed here next rest : List Bytes) → Among (observed ++ here ++ next) (observed ++ (here ++ (next ++ rest)))
+up_to_here observed here next rest c h = elim (in_one c (observed ++ here) next h) [
+  | inl earlier ↦ elim (in_one c observed here earlier) [
+    | inl in_observed ↦ in_left c observed (here ++ (next ++ rest)) in_observed
+    | inr in_here ↦ in_right c observed (here ++ (next ++ rest)) (in_left c here (next ++ rest) in_here)
   ]
-  | inr in_next ↦ in_right c seen (here ++ (next ++ rest)) (in_right c here (next ++ rest) (in_left c next rest in_next))
+  | inr in_next ↦ in_right c observed (here ++ (next ++ rest)) (in_right c here (next ++ rest) (in_left c next rest in_next))
 ]
 
 -- the same contents, otherwise joined
-pub joined : (seen here rest : List Bytes) → Among (seen ++ here ++ rest) (seen ++ (here ++ rest))
-joined seen here rest c h = elim (in_one c (seen ++ here) rest h) [
-  | inr later ↦ in_right c seen (here ++ rest) (in_right c here rest later)
-  | inl earlier ↦ elim (in_one c seen here earlier) [
-    | inl in_seen ↦ in_left c seen (here ++ rest) in_seen
-    | inr in_here ↦ in_right c seen (here ++ rest) (in_left c here rest in_here)
+pub joined : (observed here rest : List Bytes) → Among (observed ++ here ++ rest) (observed ++ (here ++ rest))
+joined observed here rest c h = elim (in_one c (observed ++ here) rest h) [
+  | inr later ↦ in_right c observed (here ++ rest) (in_right c here rest later)
+  | inl earlier ↦ elim (in_one c observed here earlier) [
+    | inl in_observed ↦ in_left c observed (here ++ rest) in_observed
+    | inr in_here ↦ in_right c observed (here ++ rest) (in_left c here rest in_here)
   ]
 ]
 
 module _ (setting : Setting) where
-  pub step_succeeds : (assumed : Guard) (seen : List Bytes) (old new : State) (event : Event) (answer : Answer)
-      → assumed (seen_with seen old new) → Step setting assumed seen old event answer new → Succeeds setting old.contents event answer new.contents
-  step_succeeds assumed seen old new (events.Put place bytes) answer given s = tt
-  step_succeeds assumed seen old new (events.Remove place) answer given s = tt
-  step_succeeds assumed seen old new events.Lost answer given s = tt
-  step_succeeds assumed seen old new (events.Invoke invocation) (answers.Built report) given s =
+  pub step_succeeds : (assumed : Guard) (observed : List Bytes) (old new : State) (event : Event) (answer : Answer)
+      → assumed (observed_with observed old new) → Step setting assumed observed old event answer new → Succeeds setting old.contents event answer new.contents
+  step_succeeds assumed observed old new (events.Put place bytes) answer given s = tt
+  step_succeeds assumed observed old new (events.Remove place) answer given s = tt
+  step_succeeds assumed observed old new events.Lost answer given s = tt
+  step_succeeds assumed observed old new (events.Invoke invocation) (answers.Built report) given s =
       λ none. let success = s.success given none in record { plan = s.plan; planned = s.planned; started = success.0; files = success.1 }
-  step_succeeds assumed seen old new (events.Invoke invocation) answers.Edited given s = tt
-  step_succeeds assumed seen old new (events.Invoke invocation) (answers.Refused fault) given s = tt
-  step_succeeds assumed seen old new (events.Invoke invocation) (answers.NotBuilt fault) given s = tt
+  step_succeeds assumed observed old new (events.Invoke invocation) answers.Edited given s = tt
+  step_succeeds assumed observed old new (events.Invoke invocation) (answers.Refused fault) given s = tt
+  step_succeeds assumed observed old new (events.Invoke invocation) (answers.NotBuilt fault) given s = tt

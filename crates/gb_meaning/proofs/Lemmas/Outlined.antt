@@ -10,7 +10,7 @@ use Rattle.gb_report.specs.declared.report.Options.{Options}
 use Rattle.gb_report.specs.declared.report.TaskReport.{TaskReport}
 use Rattle.gb_folder.specs.Files.{Bytes, is_empty}
 use Rattle.gb_plan.specs.declared.task.TaskDeclaration.{TaskDeclaration as Task}
-use Rattle.gb_meaning.proofs.Standing.{rules_of, standing}
+use Rattle.gb_meaning.proofs.Existing.{rules_of, existing}
 use Rattle.gb_meaning.specs.Tree.{input_faults, listing_faults, has_no_source, tree_of}
 use Rattle.gb_meaning.specs.Kinds.{Kinds}
 use Rattle.gb_meaning.specs.Memory.{World, folder_contents}
@@ -18,13 +18,13 @@ use Rattle.gb_plan.specs.Graph.{Plan, needs_in}
 use Rattle.gb_plan.specs.declared.plan.Planned.{Planned}
 use Rattle.gb_meaning.specs.Label.{Moment, Skips, HasNoActions, CannotRead, HasNoSource, IsLabelAt, EndsWith, run_of, some_outcome}
 use Rattle.gb_report.specs.Outcome.{is_executed}
-use Rattle.gb_meaning.specs.Execution.{May, Standing, Execution, Executions, Builds, Prints, moment_after}
+use Rattle.gb_meaning.specs.Execution.{May, WorldState, Execution, Executions, Builds, Prints, moment_after}
 use Rattle.gb_meaning.specs.Outline.{IsOutline, AreOutlines, Outlines, MayAnswer, AnswersAlone, PrintsNothing, moment_by, idle_outcome}
 use Rattle.gb_meaning.proofs.Common.{all_assumed}
 use Rattle.gb_meaning.proofs.Lemmas.Files.{left_of}
 
 module _ (kinds : Kinds) (options : Options) (may : May) (plan : Plan)
-    (alone : (task : Task) (moment : Moment) (new : Standing) (fault : Fault) → may task moment new fault → (task.runs ≡ false) ⊎ (is_empty task.actions ≡ true) → fault ≡ faults.OutOfMemory) where
+    (alone : (task : Task) (moment : Moment) (new : WorldState) (fault : Fault) → may task moment new fault → (task.runs ≡ false) ⊎ (is_empty task.actions ≡ true) → fault ≡ faults.OutOfMemory) where
   no_lines : (task : Task) (old : World) (outcome : Outcome) (report : TaskReport) → Prints kinds options task old outcome report.lines → PrintsNothing outcome report
   no_lines task old outcomes.Executed report prints = tt
   no_lines task old outcomes.UpToDate report prints = prints
@@ -63,13 +63,13 @@ module _ (kinds : Kinds) (options : Options) (may : May) (plan : Plan)
         acting (not (is_empty (input_faults task moment.world.folder ++ listing_faults task moment.world.folder))) (has_no_source task moment.world.folder.files)
         (λ e. left_of (list_any (λ property. property.skip_when_empty) task.files) (list_all (λ property. is_empty (tree_of property moment.world.folder.files)) (filter (λ property. property.skip_when_empty) task.files)) e) label
 
-    by_fault : (new : Standing) (fault : Fault) → may task moment new fault → outcome ≡ outcomes.Failed fault → (runs no_actions : Bool) → task.runs ≡ runs → is_empty task.actions ≡ no_actions
+    by_fault : (new : WorldState) (fault : Fault) → may task moment new fault → outcome ≡ outcomes.Failed fault → (runs no_actions : Bool) → task.runs ≡ runs → is_empty task.actions ≡ no_actions
         → AnswersAlone options plan (moment_by moment.outcomes) task runs no_actions outcome
     by_fault new fault comes e false no_actions r n = inr (e ∙ ap (λ f. outcomes.Failed f) (alone task moment new fault comes (inl r)))
     by_fault new fault comes e true true r n = inr (e ∙ ap (λ f. outcomes.Failed f) (alone task moment new fault comes (inr n)))
     by_fault new fault comes e true false r n = subst (MayAnswer options task) (sym e) tt
 
-  execution_outline : (moment : Moment) (planned : Planned) (report : TaskReport) (new : World) (failures : ℕ) → Execution (rules_of kinds options may plan) moment planned report (standing new failures) → IsOutline options plan (moment_by moment.outcomes) planned report
+  execution_outline : (moment : Moment) (planned : Planned) (report : TaskReport) (new : World) (failures : ℕ) → Execution (rules_of kinds options may plan) moment planned report (existing new failures) → IsOutline options plan (moment_by moment.outcomes) planned report
   execution_outline moment planned report new failures execution = record {
     path = execution.0;
     has_actions = execution.1;
@@ -82,26 +82,26 @@ module _ (kinds : Kinds) (options : Options) (may : May) (plan : Plan)
         record { needs_ended_well = started.0.needs_ended_well; is_called = started.0.is_called; goes_on = started.0.goes_on },
         elim started.1.label [
           | inl label ↦ by_label planned.task moment report.outcome planned.task.runs (is_empty planned.task.actions) label
-          | inr fault ↦ by_fault planned.task moment report.outcome (standing new failures) fault.0 fault.1 fault.2 planned.task.runs (is_empty planned.task.actions) refl refl
+          | inr fault ↦ by_fault planned.task moment report.outcome (existing new failures) fault.0 fault.1 fault.2 planned.task.runs (is_empty planned.task.actions) refl refl
         ],
       )
       | inr passed ↦ inr (λ starts. passed.0 (record { needs_ended_well = starts.needs_ended_well; is_called = starts.is_called; goes_on = starts.goes_on }), passed.1.outcome)
     ];
   }
 
-  executions_outline : (seen : List Bytes) (rest : List Planned) (moment : Moment) (reports : List TaskReport) (new : World) (failures : ℕ)
-      → Executions (rules_of kinds options may plan) all_assumed seen rest moment reports (standing new failures) → AreOutlines options plan moment.outcomes rest reports
-  executions_outline seen [] moment [] new failures executions = tt
-  executions_outline seen [] moment (report ∷ reports) new failures executions = absurd executions
-  executions_outline seen (planned ∷ rest) moment [] new failures executions = absurd executions
-  executions_outline seen (planned ∷ rest) moment (report ∷ reports) new failures executions = (
+  executions_outline : (observed : List Bytes) (rest : List Planned) (moment : Moment) (reports : List TaskReport) (new : World) (failures : ℕ)
+      → Executions (rules_of kinds options may plan) all_assumed observed rest moment reports (existing new failures) → AreOutlines options plan moment.outcomes rest reports
+  executions_outline observed [] moment [] new failures executions = tt
+  executions_outline observed [] moment (report ∷ reports) new failures executions = absurd executions
+  executions_outline observed (planned ∷ rest) moment [] new failures executions = absurd executions
+  executions_outline observed (planned ∷ rest) moment (report ∷ reports) new failures executions = (
     execution_outline moment planned report executions.0.world executions.0.failures (executions.1.execution tt),
-    executions_outline (seen ++ folder_contents moment.world) rest (moment_after moment report executions.0) reports new failures executions.2,
+    executions_outline (observed ++ folder_contents moment.world) rest (moment_after moment report executions.0) reports new failures executions.2,
   )
 
-  pub builds_outline : (seen : List Bytes) (before after : ℕ) (old new : World) (reports : List TaskReport)
-      → Builds (rules_of kinds options may plan) all_assumed seen (standing old before) reports (standing new after) → Outlines options plan reports
-  builds_outline seen before after old new reports builds = elim builds [
+  pub builds_outline : (observed : List Bytes) (before after : ℕ) (old new : World) (reports : List TaskReport)
+      → Builds (rules_of kinds options may plan) all_assumed observed (existing old before) reports (existing new after) → Outlines options plan reports
+  builds_outline observed before after old new reports builds = elim builds [
     | inl dry ↦ inl (dry.0, dry.1)
-    | inr run ↦ inr (run.0, executions_outline seen plan (record { world = old; outcomes = []; failures = before }) reports new after run.1)
+    | inr run ↦ inr (run.0, executions_outline observed plan (record { world = old; outcomes = []; failures = before }) reports new after run.1)
   ]

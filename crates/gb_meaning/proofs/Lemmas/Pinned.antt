@@ -15,7 +15,7 @@ use Rattle.gb_plan.specs.Graph.{Plan, some_overlap}
 use Rattle.gb_plan.specs.Task.{is_output_of, output_places}
 use Rattle.gb_plan.specs.declared.plan.Planned.{Planned}
 use Rattle.gb_plan.specs.declared.task.TaskDeclaration.{TaskDeclaration as Task}
-use Rattle.gb_plan.proofs.Places.{apart_places, overlap_tail, out_of}
+use Rattle.gb_plan.proofs.Places.{separate_places, overlap_tail, out_of}
 use Rattle.gb_plan.proofs.Tests.{none_left, none_right, not_false}
 use Rattle.gb_meaning.specs.declared.events.Event.{Event}
 use Rattle.gb_meaning.specs.declared.events.Event.TheVariants as events
@@ -26,15 +26,15 @@ use Rattle.gb_meaning.specs.Kinds.{Kinds}
 use Rattle.gb_meaning.specs.Label.{Moment}
 use Rattle.gb_meaning.specs.Made.{with_outputs}
 use Rattle.gb_meaning.specs.Memory.{Memory, World, folder_contents}
-use Rattle.gb_meaning.specs.TrueRecord.{AreApart, outside}
-use Rattle.gb_meaning.specs.Execution.{Builds, Guard, HasEnded, Leaves, May, Rules, Standing, Execution, Executions, memory_after, moment_after, world_with}
+use Rattle.gb_meaning.specs.TrueRecord.{AreCollisionFree, outside}
+use Rattle.gb_meaning.specs.Execution.{Builds, Guard, HasEnded, Leaves, May, Rules, WorldState, Execution, Executions, memory_after, moment_after, world_with}
 use Rattle.gb_meaning.specs.Edits.{IsStopped, PutStep, RemoveStep, Shown}
-use Rattle.gb_meaning.specs.Events.{HasPlan, IsBuild, Setting, State, Step, has_failure, may_come, own_files, shown_in, world_in}
-use Rattle.gb_meaning.specs.Headline.{GoesThrough, IsClear, StillClear, contents_outside, is_of_device, seen_with}
+use Rattle.gb_meaning.specs.Events.{HasPlan, IsBuild, Setting, State, Step, has_failure, may_occur, own_files, shown_in, world_in}
+use Rattle.gb_meaning.specs.Headline.{GoesThrough, IsClear, StillClear, contents_outside, is_of_device, observed_with}
 use Rattle.gb_meaning.specs.Every.{PlainRun, always, contents_of_all}
 use Rattle.gb_meaning.specs.Pinned.{HaveOnePlan, IsSettled, StatesAreOne}
-use Rattle.gb_meaning.proofs.Standing.{rules_of, standing}
-use Rattle.gb_meaning.proofs.Lemmas.Clear.{Among, apart_of_fewer, in_left, in_one, in_right, later_apart, places_of, rest_leave, stood}
+use Rattle.gb_meaning.proofs.Existing.{rules_of, existing}
+use Rattle.gb_meaning.proofs.Lemmas.Clear.{Among, separate_of_fewer, in_left, in_one, in_right, later_separate, places_of, rest_leave, existed}
 use Rattle.gb_meaning.proofs.Lemmas.Every.{joined, up_to_here}
 use Rattle.gb_meaning.proofs.Lemmas.Files.{at-where, at-with, same_files, sorted-where, sorted-with}
 use Rattle.gb_meaning.proofs.Lemmas.Plain.{Spreads, clear_spreads, plain}
@@ -65,7 +65,7 @@ leaves_one kinds options task old outcomes.NoSource one other well a b = a ∙ s
 leaves_one kinds options task old outcomes.NotRun one other well a b = a ∙ sym b
 leaves_one kinds options task old (outcomes.Failed fault) one other well a b = not_false well
 
-execution_leaves : (rules : Rules) (moment : Moment) (planned : Planned) (report : TaskReport) (new : Standing) → Execution rules moment planned report new
+execution_leaves : (rules : Rules) (moment : Moment) (planned : Planned) (report : TaskReport) (new : WorldState) → Execution rules moment planned report new
     → Leaves rules.kinds rules.options planned.task moment.world report.outcome new.world
 execution_leaves rules moment planned report new execution = elim execution.2 [
   | inl starts ↦ starts.1.leaves
@@ -75,45 +75,45 @@ execution_leaves rules moment planned report new execution = elim execution.2 [
 -- ---- Executions
 
 module _ (kinds : Kinds) (options : Options) (plan : Plan) (may other_may : May) (assumed : Guard) (spreads : Spreads assumed) where
-  executions_one : (seen other_seen : List Bytes) (rest : List Planned) (moment real : Moment) (reports : List TaskReport) (new left : World) (after later : ℕ)
+  executions_one : (observed other_observed : List Bytes) (rest : List Planned) (moment real : Moment) (reports : List TaskReport) (new left : World) (after later : ℕ)
       → moment.world ≡ real.world → some_overlap (places_of rest) ≡ false → list_any (λ task. is_failed task.outcome) reports ≡ false
-      → assumed (seen ++ folder_contents real.world ++ folder_contents left)
-      → Executions (rules_of kinds options may plan) assumed seen rest moment reports (standing new after)
-      → Executions (rules_of kinds options other_may plan) always other_seen rest real reports (standing left later) → new ≡ left
-  executions_one seen other_seen [] moment real [] new left after later same apart well given executions reals = executions.0 ∙ same ∙ sym reals.0
-  executions_one seen other_seen [] moment real (report ∷ reports) new left after later same apart well given executions reals = absurd executions
-  executions_one seen other_seen (planned ∷ rest) moment real [] new left after later same apart well given executions reals = absurd executions
-  executions_one seen other_seen (planned ∷ rest) moment real (report ∷ reports) new left after later same apart well given executions reals =
-      executions_one (seen ++ folder_contents moment.world) (other_seen ++ folder_contents real.world) rest (moment_after moment report executions.0) (moment_after real report reals.0) reports new left after later
-      next (overlap_tail (output_places planned.task) (places_of rest) apart)
+      → assumed (observed ++ folder_contents real.world ++ folder_contents left)
+      → Executions (rules_of kinds options may plan) assumed observed rest moment reports (existing new after)
+      → Executions (rules_of kinds options other_may plan) always other_observed rest real reports (existing left later) → new ≡ left
+  executions_one observed other_observed [] moment real [] new left after later same separate well given executions reals = executions.0 ∙ same ∙ sym reals.0
+  executions_one observed other_observed [] moment real (report ∷ reports) new left after later same separate well given executions reals = absurd executions
+  executions_one observed other_observed (planned ∷ rest) moment real [] new left after later same separate well given executions reals = absurd executions
+  executions_one observed other_observed (planned ∷ rest) moment real (report ∷ reports) new left after later same separate well given executions reals =
+      executions_one (observed ++ folder_contents moment.world) (other_observed ++ folder_contents real.world) rest (moment_after moment report executions.0) (moment_after real report reals.0) reports new left after later
+      next (overlap_tail (output_places planned.task) (places_of rest) separate)
       (none_right (is_failed report.outcome) (list_any (λ task. is_failed task.outcome) reports) well)
-      (subst (λ (world : World). assumed ((seen ++ folder_contents world) ++ folder_contents reals.0.world ++ folder_contents left)) (sym same)
+      (subst (λ (world : World). assumed ((observed ++ folder_contents world) ++ folder_contents reals.0.world ++ folder_contents left)) (sym same)
       (spreads (before ++ folder_contents left) (before ++ folder_contents reals.0.world ++ folder_contents left) between given))
       executions.2 reals.2
     where
       before : List Bytes
-      before = seen ++ folder_contents real.world
+      before = observed ++ folder_contents real.world
 
       next : executions.0.world ≡ reals.0.world
       next = leaves_one kinds options planned.task real.world report.outcome executions.0.world reals.0.world
           (none_left (is_failed report.outcome) (list_any (λ task. is_failed task.outcome) reports) well)
           (subst (λ (world : World). Leaves kinds options planned.task world report.outcome executions.0.world) same
           (execution_leaves (rules_of kinds options may plan) moment planned report executions.0 (executions.1.execution
-          (subst (λ (world : World). assumed (seen ++ folder_contents world)) (sym same)
+          (subst (λ (world : World). assumed (observed ++ folder_contents world)) (sym same)
           (spreads (before ++ folder_contents left) before (λ c e. in_left c before (folder_contents left) e) given)))))
           (execution_leaves (rules_of kinds options other_may plan) real planned report reals.0 (reals.1.execution tt))
 
       later_leave : files_where (is_output_of planned.task) left.folder.files ≡ files_where (is_output_of planned.task) reals.0.world.folder.files
-      later_leave = rest_leave kinds options other_may plan always (is_output_of planned.task) (other_seen ++ folder_contents real.world) rest (moment_after real report reals.0) reports left later
-          (later_apart planned.task rest (λ q e. apart_places q (output_places planned.task) (places_of rest) apart (sym (out_of planned.task q) ∙ e))) reals.2
+      later_leave = rest_leave kinds options other_may plan always (is_output_of planned.task) (other_observed ++ folder_contents real.world) rest (moment_after real report reals.0) reports left later
+          (later_separate planned.task rest (λ q e. separate_places q (output_places planned.task) (places_of rest) separate (sym (out_of planned.task q) ∙ e))) reals.2
 
       between : Among (before ++ folder_contents reals.0.world ++ folder_contents left) (before ++ folder_contents left)
       between c h = elim (in_one c (before ++ folder_contents reals.0.world) (folder_contents left) h) [
         | inr last ↦ in_right c before (folder_contents left) last
         | inl earlier ↦ elim (in_one c before (folder_contents reals.0.world) earlier) [
           | inl was ↦ in_left c before (folder_contents left) was
-          | inr mid ↦ elim (stood (is_output_of planned.task) real.world.folder.files reals.0.world.folder.files left.folder.files reals.1.files later_leave c mid) [
-            | inl old ↦ in_left c before (folder_contents left) (in_right c seen (folder_contents real.world) old)
+          | inr mid ↦ elim (existed (is_output_of planned.task) real.world.folder.files reals.0.world.folder.files left.folder.files reals.1.files later_leave c mid) [
+            | inl old ↦ in_left c before (folder_contents left) (in_right c observed (folder_contents real.world) old)
             | inr last ↦ in_right c before (folder_contents left) last
           ]
         ]
@@ -149,17 +149,17 @@ worlds_same one other contents remembered =
     ∙ ap (λ (memory : Memory). let world : World = record { folder = outside other.contents; memory = memory } in world) remembered
 
 -- two folders with the same files and special files outside the own places
-outsides_same : (one other : Contents) → files_where not_own one.files ≡ files_where not_own other.files → one.odd ≡ other.odd → outside one ≡ outside other
-outsides_same one other files odd =
-    ap (λ (fs : Files). let folder : Contents = record { files = fs; odd = one.odd } in folder) files
-    ∙ ap (λ (os : List (List ℕ)). let folder : Contents = record { files = files_where not_own other.files; odd = os } in folder) odd
+outsides_same : (one other : Contents) → files_where not_own one.files ≡ files_where not_own other.files → one.special ≡ other.special → outside one ≡ outside other
+outsides_same one other files special =
+    ap (λ (fs : Files). let folder : Contents = record { files = fs; special = one.special } in folder) files
+    ∙ ap (λ (os : List (List ℕ)). let folder : Contents = record { files = files_where not_own other.files; special = os } in folder) special
 
 module _ (old real : State) (same : world_in old ≡ world_in real) (folder : IsFolder old.contents.files) (real_folder : IsFolder real.contents.files) where
   memory_same : old.remembered ≡ real.remembered
   memory_same = ap (λ (world : World). world.memory) same
 
-  odd_same : old.contents.odd ≡ real.contents.odd
-  odd_same = ap (λ (world : World). world.folder.odd) same
+  special_same : old.contents.special ≡ real.contents.special
+  special_same = ap (λ (world : World). world.folder.special) same
 
   files_same : (q : Place) → not_own q ≡ true → file_at old.contents.files q ≡ file_at real.contents.files q
   files_same = answers_alike old.contents.files real.contents.files (ap (λ (world : World). world.folder.files) same)
@@ -179,7 +179,7 @@ module _ (old real : State) (same : world_in old ≡ world_in real) (folder : Is
       (ap outside contents
       ∙ outsides_same (record old.contents { files = change old.contents.files }) (record real.contents { files = change real.contents.files })
       (alike (change old.contents.files) (change real.contents.files) (sorted old.contents.files folder.in_order) (sorted real.contents.files real_folder.in_order)
-      (alike_then old.contents.files real.contents.files files_same)) odd_same
+      (alike_then old.contents.files real.contents.files files_same)) special_same
       ∙ sym (ap outside real_contents))
       remembered
 
@@ -212,117 +212,117 @@ module _ (may_leave : Tearing) (place : Place) (next : Option Bytes) (old : Show
   remove_kept (inr (inr missing)) is = missing.0
 
 module _ (setting : Setting) (one_plan : HaveOnePlan setting) (assumed : Guard) (spreads : Spreads assumed) where
-  runs_one : (options : Options) (plan : Plan) (may other_may : May) (seen other_seen : List Bytes) (old real new left : World) (first real_first after later : ℕ) (reports : List TaskReport)
+  runs_one : (options : Options) (plan : Plan) (may other_may : May) (observed other_observed : List Bytes) (old real new left : World) (first real_first after later : ℕ) (reports : List TaskReport)
       → old ≡ real → some_overlap (places_of plan) ≡ false → list_any (λ task. is_failed task.outcome) reports ≡ false
-      → assumed (seen ++ folder_contents real ++ folder_contents left)
-      → Builds (rules_of setting.kinds options may plan) assumed seen (standing old first) reports (standing new after)
-      → Builds (rules_of setting.kinds options other_may plan) always other_seen (standing real real_first) reports (standing left later) → new ≡ left
-  runs_one options plan may other_may seen other_seen old real new left first real_first after later reports same apart well given (inl dry) (inl real_dry) = dry.2 ∙ same ∙ sym real_dry.2
-  runs_one options plan may other_may seen other_seen old real new left first real_first after later reports same apart well given (inl dry) (inr run) = not_false (sym dry.0 ∙ run.0)
-  runs_one options plan may other_may seen other_seen old real new left first real_first after later reports same apart well given (inr run) (inl dry) = not_false (sym dry.0 ∙ run.0)
-  runs_one options plan may other_may seen other_seen old real new left first real_first after later reports same apart well given (inr run) (inr real_run) =
-      executions_one setting.kinds options plan may other_may assumed spreads seen other_seen plan
+      → assumed (observed ++ folder_contents real ++ folder_contents left)
+      → Builds (rules_of setting.kinds options may plan) assumed observed (existing old first) reports (existing new after)
+      → Builds (rules_of setting.kinds options other_may plan) always other_observed (existing real real_first) reports (existing left later) → new ≡ left
+  runs_one options plan may other_may observed other_observed old real new left first real_first after later reports same separate well given (inl dry) (inl real_dry) = dry.2 ∙ same ∙ sym real_dry.2
+  runs_one options plan may other_may observed other_observed old real new left first real_first after later reports same separate well given (inl dry) (inr run) = not_false (sym dry.0 ∙ run.0)
+  runs_one options plan may other_may observed other_observed old real new left first real_first after later reports same separate well given (inr run) (inl dry) = not_false (sym dry.0 ∙ run.0)
+  runs_one options plan may other_may observed other_observed old real new left first real_first after later reports same separate well given (inr run) (inr real_run) =
+      executions_one setting.kinds options plan may other_may assumed spreads observed other_observed plan
       (record { world = old; outcomes = []; failures = first }) (record { world = real; outcomes = []; failures = real_first }) reports new left after later
-      same apart well given run.1 real_run.1
+      same separate well given run.1 real_run.1
 
-  built_one : (seen other_seen : List Bytes) (old real new left : State) (invocation : Invocation) (report : Report) → world_in old ≡ world_in real → has_failure report ≡ false
-      → assumed (seen ++ folder_contents (world_in real) ++ folder_contents (world_in left))
-      → IsBuild setting assumed seen old invocation report new → IsBuild setting always other_seen real invocation report left → world_in new ≡ world_in left
-  built_one seen other_seen old real new left invocation report same well given built real_built =
+  built_one : (observed other_observed : List Bytes) (old real new left : State) (invocation : Invocation) (report : Report) → world_in old ≡ world_in real → has_failure report ≡ false
+      → assumed (observed ++ folder_contents (world_in real) ++ folder_contents (world_in left))
+      → IsBuild setting assumed observed old invocation report new → IsBuild setting always other_observed real invocation report left → world_in new ≡ world_in left
+  built_one observed other_observed old real new left invocation report same well given built real_built =
       let plans : built.plan ≡ real_built.plan =
       one_plan (outside real.contents) invocation built.plan real_built.plan
       (subst (λ (world : World). HasPlan setting world.folder invocation built.plan) same built.planned) real_built.planned in
-      runs_one invocation.options real_built.plan (may_come setting (own_files old.contents) invocation.options) (may_come setting (own_files real.contents) invocation.options) seen other_seen
+      runs_one invocation.options real_built.plan (may_occur setting (own_files old.contents) invocation.options) (may_occur setting (own_files real.contents) invocation.options) observed other_observed
       (world_in old) (world_in real) (world_in new) (world_in left) old.failures real.failures new.failures left.failures report.tasks same
-      real_built.planned.planned.sound.outputs_apart well given
-      (subst (λ (plan : Plan). Builds (rules_of setting.kinds invocation.options (may_come setting (own_files old.contents) invocation.options) plan) assumed seen
-      (standing (world_in old) old.failures) report.tasks (standing (world_in new) new.failures)) plans built.builds)
+      real_built.planned.planned.sound.outputs_separate well given
+      (subst (λ (plan : Plan). Builds (rules_of setting.kinds invocation.options (may_occur setting (own_files old.contents) invocation.options) plan) assumed observed
+      (existing (world_in old) old.failures) report.tasks (existing (world_in new) new.failures)) plans built.builds)
       real_built.builds
 
-  step_one : (seen other_seen : List Bytes) (old real new left : State) (event : Event) (answer : Answer) → world_in old ≡ world_in real
+  step_one : (observed other_observed : List Bytes) (old real new left : State) (event : Event) (answer : Answer) → world_in old ≡ world_in real
       → IsFolder old.contents.files → IsFolder real.contents.files → IsSettled event answer
-      → assumed (seen ++ folder_contents (world_in real) ++ folder_contents (world_in left))
-      → Step setting assumed seen old event answer new → Step setting always other_seen real event answer left → world_in new ≡ world_in left
-  step_one seen other_seen old real new left (events.Put place bytes) answers.Edited same folder real_folder settled given s r =
+      → assumed (observed ++ folder_contents (world_in real) ++ folder_contents (world_in left))
+      → Step setting assumed observed old event answer new → Step setting always other_observed real event answer left → world_in new ≡ world_in left
+  step_one observed other_observed old real new left (events.Put place bytes) answers.Edited same folder real_folder settled given s r =
       done_one old real same folder real_folder (λ files. with_file files place bytes) (λ files sorted. sorted-with files place bytes sorted) (put_alike place bytes) new left s.0.3 r.0.3
       (s.1 ∙ memory_same old real same folder real_folder ∙ sym r.1)
-  step_one seen other_seen old real new left (events.Put place bytes) (answers.Refused fault) same folder real_folder settled given s r =
+  step_one observed other_observed old real new left (events.Put place bytes) (answers.Refused fault) same folder real_folder settled given s r =
       kept_one old real same folder real_folder new left
       (put_kept setting.may_leave place (Some bytes) (shown_in old) fault (shown_in new) settled bytes s.0 refl) s.1
       (put_kept setting.may_leave place (Some bytes) (shown_in real) fault (shown_in left) settled bytes r.0 refl) r.1
-  step_one seen other_seen old real new left (events.Put place bytes) (answers.Built report) same folder real_folder settled given s r = absurd s.0
-  step_one seen other_seen old real new left (events.Put place bytes) (answers.NotBuilt fault) same folder real_folder settled given s r = absurd s.0
-  step_one seen other_seen old real new left (events.Remove place) answers.Edited same folder real_folder settled given s r =
+  step_one observed other_observed old real new left (events.Put place bytes) (answers.Built report) same folder real_folder settled given s r = absurd s.0
+  step_one observed other_observed old real new left (events.Put place bytes) (answers.NotBuilt fault) same folder real_folder settled given s r = absurd s.0
+  step_one observed other_observed old real new left (events.Remove place) answers.Edited same folder real_folder settled given s r =
       done_one old real same folder real_folder (λ files. without files place) (λ files sorted. sorted-where (λ other. not (bytes_eq other place)) files sorted)
       (where_alike (λ other. not (bytes_eq other place))) new left s.0.2 r.0.2
       (s.1 ∙ memory_same old real same folder real_folder ∙ sym r.1)
-  step_one seen other_seen old real new left (events.Remove place) (answers.Refused fault) same folder real_folder settled given s r =
+  step_one observed other_observed old real new left (events.Remove place) (answers.Refused fault) same folder real_folder settled given s r =
       kept_one old real same folder real_folder new left
       (remove_kept setting.may_leave place None (shown_in old) fault (shown_in new) settled s.0 refl) s.1
       (remove_kept setting.may_leave place None (shown_in real) fault (shown_in left) settled r.0 refl) r.1
-  step_one seen other_seen old real new left (events.Remove place) (answers.Built report) same folder real_folder settled given s r = absurd s.0
-  step_one seen other_seen old real new left (events.Remove place) (answers.NotBuilt fault) same folder real_folder settled given s r = absurd s.0
-  step_one seen other_seen old real new left events.Lost answers.Edited same folder real_folder settled given s r =
+  step_one observed other_observed old real new left (events.Remove place) (answers.Built report) same folder real_folder settled given s r = absurd s.0
+  step_one observed other_observed old real new left (events.Remove place) (answers.NotBuilt fault) same folder real_folder settled given s r = absurd s.0
+  step_one observed other_observed old real new left events.Lost answers.Edited same folder real_folder settled given s r =
       done_one old real same folder real_folder (files_where not_own) (sorted-where not_own) (where_alike not_own) new left s.0 r.0 (s.1 ∙ sym r.1)
-  step_one seen other_seen old real new left events.Lost (answers.Refused fault) same folder real_folder settled given s r = absurd settled
-  step_one seen other_seen old real new left events.Lost (answers.Built report) same folder real_folder settled given s r = absurd s.0
-  step_one seen other_seen old real new left events.Lost (answers.NotBuilt fault) same folder real_folder settled given s r = absurd s.0
-  step_one seen other_seen old real new left (events.Invoke invocation) (answers.Built report) same folder real_folder settled given s r =
-      built_one seen other_seen old real new left invocation report same settled given s r
-  step_one seen other_seen old real new left (events.Invoke invocation) (answers.NotBuilt fault) same folder real_folder settled given s r =
+  step_one observed other_observed old real new left events.Lost (answers.Refused fault) same folder real_folder settled given s r = absurd settled
+  step_one observed other_observed old real new left events.Lost (answers.Built report) same folder real_folder settled given s r = absurd s.0
+  step_one observed other_observed old real new left events.Lost (answers.NotBuilt fault) same folder real_folder settled given s r = absurd s.0
+  step_one observed other_observed old real new left (events.Invoke invocation) (answers.Built report) same folder real_folder settled given s r =
+      built_one observed other_observed old real new left invocation report same settled given s r
+  step_one observed other_observed old real new left (events.Invoke invocation) (answers.NotBuilt fault) same folder real_folder settled given s r =
       kept_one old real same folder real_folder new left s.1 s.2 r.1 r.2
-  step_one seen other_seen old real new left (events.Invoke invocation) answers.Edited same folder real_folder settled given s r = absurd s
-  step_one seen other_seen old real new left (events.Invoke invocation) (answers.Refused fault) same folder real_folder settled given s r = absurd s
+  step_one observed other_observed old real new left (events.Invoke invocation) answers.Edited same folder real_folder settled given s r = absurd s
+  step_one observed other_observed old real new left (events.Invoke invocation) (answers.Refused fault) same folder real_folder settled given s r = absurd s
 
 -- ---- A run
 
 module _ (setting : Setting) (one_plan : HaveOnePlan setting) where
-  states_one : (clear : Type 0) (seen : List Bytes) (old real : State) (states reals : List State) (all : List Event) (reported : List Answer) (end left : Shown) → world_in old ≡ world_in real
+  states_one : (clear : Type 0) (observed : List Bytes) (old real : State) (states reals : List State) (all : List Event) (reported : List Answer) (end left : Shown) → world_in old ≡ world_in real
       → IsFolder old.contents.files → IsFolder real.contents.files → AllZip IsSettled all reported → clear
-      → GoesThrough setting clear seen old states all reported end → PlainRun setting real reals all reported left
-      → AreApart setting.digest (seen ++ contents_of_all (real ∷ reals)) → map world_in states ≡ map world_in reals
-  states_one clear seen old real [] [] [] [] end left same folder real_folder settled is_clear run reals apart = refl
-  states_one clear seen old real (next ∷ states) (then ∷ others) (event ∷ rest) (answer ∷ more) end left same folder real_folder settled is_clear run reals apart =
+      → GoesThrough setting clear observed old states all reported end → PlainRun setting real reals all reported left
+      → AreCollisionFree setting.digest (observed ++ contents_of_all (real ∷ reals)) → map world_in states ≡ map world_in reals
+  states_one clear observed old real [] [] [] [] end left same folder real_folder settled is_clear run reals separate = refl
+  states_one clear observed old real (next ∷ states) (then ∷ others) (event ∷ rest) (answer ∷ more) end left same folder real_folder settled is_clear run reals separate =
       ap (λ (world : World). world ∷ map world_in states) next_one
       ∙ ap (λ (worlds : List World). world_in then ∷ worlds)
-      (states_one (StillClear setting clear old (seen_with seen old next)) (seen ++ contents_outside old.contents) next then states others rest more end left next_one
+      (states_one (StillClear setting clear old (observed_with observed old next)) (observed ++ contents_outside old.contents) next then states others rest more end left next_one
       (run.2 (is_clear, here_too)).is_folder reals.2.is_folder settled.1 (is_clear, here_too) run.3 reals.3 later)
     where
-      here_seen : List Bytes
-      here_seen = contents_outside real.contents
+      here_observed : List Bytes
+      here_observed = contents_outside real.contents
 
-      here : IsClear setting old.remembered (seen ++ here_seen ++ contents_outside then.contents)
-      here = inr (apart_of_fewer setting.digest (seen ++ contents_of_all (real ∷ then ∷ others)) (seen ++ here_seen ++ contents_outside then.contents)
-          (up_to_here seen here_seen (contents_outside then.contents) (contents_of_all others)) apart)
+      here : IsClear setting old.remembered (observed ++ here_observed ++ contents_outside then.contents)
+      here = inr (separate_of_fewer setting.digest (observed ++ contents_of_all (real ∷ then ∷ others)) (observed ++ here_observed ++ contents_outside then.contents)
+          (up_to_here observed here_observed (contents_outside then.contents) (contents_of_all others)) separate)
 
       next_one : world_in next ≡ world_in then
-      next_one = step_one setting one_plan (StillClear setting clear old) (clear_spreads setting clear old) seen [] old real next then event answer same folder real_folder settled.0
+      next_one = step_one setting one_plan (StillClear setting clear old) (clear_spreads setting clear old) observed [] old real next then event answer same folder real_folder settled.0
           (is_clear, here) run.1 (reals.1 [])
 
-      here_too : IsClear setting old.remembered (seen_with seen old next)
-      here_too = subst (λ (world : World). IsClear setting old.remembered (seen ++ folder_contents world ++ contents_outside next.contents)) (sym same)
-          (subst (λ (world : World). IsClear setting old.remembered (seen ++ here_seen ++ folder_contents world)) (sym next_one) here)
+      here_too : IsClear setting old.remembered (observed_with observed old next)
+      here_too = subst (λ (world : World). IsClear setting old.remembered (observed ++ folder_contents world ++ contents_outside next.contents)) (sym same)
+          (subst (λ (world : World). IsClear setting old.remembered (observed ++ here_observed ++ folder_contents world)) (sym next_one) here)
 
-      later : AreApart setting.digest ((seen ++ contents_outside old.contents) ++ contents_of_all (then ∷ others))
-      later = subst (λ (world : World). AreApart setting.digest ((seen ++ folder_contents world) ++ contents_of_all (then ∷ others))) (sym same)
-          (apart_of_fewer setting.digest (seen ++ contents_of_all (real ∷ then ∷ others)) ((seen ++ here_seen) ++ contents_of_all (then ∷ others))
-          (joined seen here_seen (contents_of_all (then ∷ others))) apart)
-  states_one clear seen old real [] [] [] (answer ∷ more) end left same folder real_folder settled is_clear run reals apart = absurd run
-  states_one clear seen old real [] [] (event ∷ rest) [] end left same folder real_folder settled is_clear run reals apart = absurd run
-  states_one clear seen old real [] [] (event ∷ rest) (answer ∷ more) end left same folder real_folder settled is_clear run reals apart = absurd run
-  states_one clear seen old real [] (then ∷ others) [] [] end left same folder real_folder settled is_clear run reals apart = absurd reals
-  states_one clear seen old real [] (then ∷ others) [] (answer ∷ more) end left same folder real_folder settled is_clear run reals apart = absurd run
-  states_one clear seen old real [] (then ∷ others) (event ∷ rest) [] end left same folder real_folder settled is_clear run reals apart = absurd run
-  states_one clear seen old real [] (then ∷ others) (event ∷ rest) (answer ∷ more) end left same folder real_folder settled is_clear run reals apart = absurd run
-  states_one clear seen old real (next ∷ states) [] [] [] end left same folder real_folder settled is_clear run reals apart = absurd run
-  states_one clear seen old real (next ∷ states) [] [] (answer ∷ more) end left same folder real_folder settled is_clear run reals apart = absurd run
-  states_one clear seen old real (next ∷ states) [] (event ∷ rest) [] end left same folder real_folder settled is_clear run reals apart = absurd run
-  states_one clear seen old real (next ∷ states) [] (event ∷ rest) (answer ∷ more) end left same folder real_folder settled is_clear run reals apart = absurd reals
-  states_one clear seen old real (next ∷ states) (then ∷ others) [] [] end left same folder real_folder settled is_clear run reals apart = absurd run
-  states_one clear seen old real (next ∷ states) (then ∷ others) [] (answer ∷ more) end left same folder real_folder settled is_clear run reals apart = absurd run
-  states_one clear seen old real (next ∷ states) (then ∷ others) (event ∷ rest) [] end left same folder real_folder settled is_clear run reals apart = absurd run
+      later : AreCollisionFree setting.digest ((observed ++ contents_outside old.contents) ++ contents_of_all (then ∷ others))
+      later = subst (λ (world : World). AreCollisionFree setting.digest ((observed ++ folder_contents world) ++ contents_of_all (then ∷ others))) (sym same)
+          (separate_of_fewer setting.digest (observed ++ contents_of_all (real ∷ then ∷ others)) ((observed ++ here_observed) ++ contents_of_all (then ∷ others))
+          (joined observed here_observed (contents_of_all (then ∷ others))) separate)
+  states_one clear observed old real [] [] [] (answer ∷ more) end left same folder real_folder settled is_clear run reals separate = absurd run
+  states_one clear observed old real [] [] (event ∷ rest) [] end left same folder real_folder settled is_clear run reals separate = absurd run
+  states_one clear observed old real [] [] (event ∷ rest) (answer ∷ more) end left same folder real_folder settled is_clear run reals separate = absurd run
+  states_one clear observed old real [] (then ∷ others) [] [] end left same folder real_folder settled is_clear run reals separate = absurd reals
+  states_one clear observed old real [] (then ∷ others) [] (answer ∷ more) end left same folder real_folder settled is_clear run reals separate = absurd run
+  states_one clear observed old real [] (then ∷ others) (event ∷ rest) [] end left same folder real_folder settled is_clear run reals separate = absurd run
+  states_one clear observed old real [] (then ∷ others) (event ∷ rest) (answer ∷ more) end left same folder real_folder settled is_clear run reals separate = absurd run
+  states_one clear observed old real (next ∷ states) [] [] [] end left same folder real_folder settled is_clear run reals separate = absurd run
+  states_one clear observed old real (next ∷ states) [] [] (answer ∷ more) end left same folder real_folder settled is_clear run reals separate = absurd run
+  states_one clear observed old real (next ∷ states) [] (event ∷ rest) [] end left same folder real_folder settled is_clear run reals separate = absurd run
+  states_one clear observed old real (next ∷ states) [] (event ∷ rest) (answer ∷ more) end left same folder real_folder settled is_clear run reals separate = absurd reals
+  states_one clear observed old real (next ∷ states) (then ∷ others) [] [] end left same folder real_folder settled is_clear run reals separate = absurd run
+  states_one clear observed old real (next ∷ states) (then ∷ others) [] (answer ∷ more) end left same folder real_folder settled is_clear run reals separate = absurd run
+  states_one clear observed old real (next ∷ states) (then ∷ others) (event ∷ rest) [] end left same folder real_folder settled is_clear run reals separate = absurd run
 
 pub one : (setting : Setting) → StatesAreOne setting
-one setting one_plan start stands states others all reported end left settled went other_went apart =
-    states_one setting one_plan ⊤ _ start start states others all reported end left refl stands.is_folder stands.is_folder settled tt went
-    (plain setting start others all reported left other_went apart) apart
+one setting one_plan start exists states others all reported end left settled went other_went separate =
+    states_one setting one_plan ⊤ _ start start states others all reported end left refl exists.is_folder exists.is_folder settled tt went
+    (plain setting start others all reported left other_went separate) separate

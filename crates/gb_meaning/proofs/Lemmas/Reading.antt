@@ -6,7 +6,7 @@ use Rattle.std.proofs.Common.{refl, sym, ap, ◌∙◌}
 use Rattle.gb_core.specs.Place.{is_under}
 use Rattle.gb_folder.specs.Files.{Place, Bytes, Files, Contents, is_empty, file_at, files_where, places_under}
 use Rattle.gb_folder.specs.Limits.{max_file}
-use Rattle.gb_tree.specs.Tree.{Entries, bytes_at, contents_at, odd_roots, too_many, too_large}
+use Rattle.gb_tree.specs.Tree.{Entries, bytes_at, contents_at, special_roots, too_many, too_large}
 use Rattle.gb_tree.specs.Property.{distinct, doubled, entries_in, entries_of, entry_faults, entry_order, found, in_order, inserted, is_in, path_of, paths_of, places_of, starts_in}
 use Rattle.gb_tree.specs.declared.fault.TreeFault.TheVariants as trees
 use Rattle.gb_tree.specs.declared.property.Naming.{Naming}
@@ -102,8 +102,8 @@ all_entries P naming include exclude files roots h =
 
 module _ (test : Place → Bool) where
   -- every place under the root passes
-  abbrev pub Unseen : Place → Type 0
-  Unseen root = (q : Place) → is_under q root ≡ true → test q ≡ true
+  abbrev pub Unobserved : Place → Type 0
+  Unobserved root = (q : Place) → is_under q root ≡ true → test q ≡ true
 
   abbrev Passes : List ℕ × Place → Type 0
   Passes entry = test entry.1 ≡ true
@@ -111,7 +111,7 @@ module _ (test : Place → Bool) where
   bytes_same : (files : Files) (place : Place) → test place ≡ true → bytes_at (files_where test files) place ≡ bytes_at files place
   bytes_same files place e = ap (λ o. unwrap_or o []) (at-where test files place ∙ ap (λ b. cond b (file_at files place) None) e)
 
-  module _ (property : FileProperty) (files : Files) (h : AllByRecursion Unseen property.roots) where
+  module _ (property : FileProperty) (files : Files) (h : AllByRecursion Unobserved property.roots) where
     roots : List Place
     roots = distinct property.roots
 
@@ -122,17 +122,17 @@ module _ (test : Place → Bool) where
     entries_same =
         ap in_order
         (flat_map_same _ _ (distinct property.roots)
-        (each Unseen _ (λ root u.
+        (each Unobserved _ (λ root u.
         ap (λ (fs : Files). entries_in property.naming property.include property.exclude root (map (λ (file : Place × Bytes). file.0) fs))
         (where_where (λ place. is_under place root) test u files))
-        (distinct property.roots) (all_distinct Unseen property.roots h)))
+        (distinct property.roots) (all_distinct Unobserved property.roots h)))
 
     all_pass : AllByRecursion Passes (entries files)
     all_pass =
         all_in_order Passes (found property.naming property.include property.exclude files (distinct property.roots))
         (all_entries (λ place. test place ≡ true) property.naming property.include property.exclude files (distinct property.roots)
-        (each Unseen _ (λ root u. all_where (λ place. test place ≡ true) (λ place. is_under place root) u files)
-        (distinct property.roots) (all_distinct Unseen property.roots h)))
+        (each Unobserved _ (λ root u. all_where (λ place. test place ≡ true) (λ place. is_under place root) u files)
+        (distinct property.roots) (all_distinct Unobserved property.roots h)))
 
     pub tree_same : tree_of property (files_where test files) ≡ tree_of property files
     tree_same =
@@ -144,31 +144,31 @@ module _ (test : Place → Bool) where
         ap (map (λ (entry : List ℕ × Place). trees.TooLarge entry.1))
         (filter_same _ _ (entries files) (each Passes _ (λ entry e. ap (λ (b : Bytes). nat_lt max_file (length b)) (bytes_same files entry.1 e)) (entries files) all_pass))
 
-    tree_faults_same : (odd : List (List ℕ)) → tree_faults property (record { files = files_where test files; odd = odd }) ≡ tree_faults property (record { files = files; odd = odd })
-    tree_faults_same odd =
+    tree_faults_same : (special : List (List ℕ)) → tree_faults property (record { files = files_where test files; special = special }) ≡ tree_faults property (record { files = files; special = special })
+    tree_faults_same special =
         ap (map reported_of_tree)
-        ((λ i. (odd_roots (record { files = files; odd = odd }) (places_of (starts_in property.include (distinct property.roots))) ++ too_many property.name (entries_same i)
+        ((λ i. (special_roots (record { files = files; special = special }) (places_of (starts_in property.include (distinct property.roots))) ++ too_many property.name (entries_same i)
         ++ map (trees.DuplicateInput property.name) (doubled (paths_of (entries_same i)))) ++ too_large (files_where test files) (entries_same i))
-        ∙ ap (λ large. entry_faults property.name property.naming property.roots property.include property.exclude (record { files = files; odd = odd }) ++ large) large_same)
+        ∙ ap (λ large. entry_faults property.name property.naming property.roots property.include property.exclude (record { files = files; special = special }) ++ large) large_same)
 
-  abbrev pub AllUnseen : Task → Type 0
-  AllUnseen task = AllByRecursion (λ property. AllByRecursion Unseen property.roots) task.files
+  abbrev pub AllUnobserved : Task → Type 0
+  AllUnobserved task = AllByRecursion (λ property. AllByRecursion Unobserved property.roots) task.files
 
-  pub input_faults_same : (task : Task) (folder : Contents) (files : Files) → AllUnseen task
+  pub input_faults_same : (task : Task) (folder : Contents) (files : Files) → AllUnobserved task
       → input_faults task (record folder { files = files_where test files }) ≡ input_faults task (record folder { files = files })
-  input_faults_same task folder files h = flat_map_same _ _ task.files (each _ _ (λ property u. tree_faults_same property files u folder.odd) task.files h)
+  input_faults_same task folder files h = flat_map_same _ _ task.files (each _ _ (λ property u. tree_faults_same property files u folder.special) task.files h)
 
-  pub trees_same : (task : Task) (files : Files) → AllUnseen task → trees_of task (files_where test files) ≡ trees_of task files
+  pub trees_same : (task : Task) (files : Files) → AllUnobserved task → trees_of task (files_where test files) ≡ trees_of task files
   trees_same task files h = map_same _ _ task.files (each _ _ (λ property u. ap (λ tree. (property.name, tree)) (tree_same property files u)) task.files h)
 
-  source_same : (task : Task) (files : Files) → AllUnseen task → has_no_source task (files_where test files) ≡ has_no_source task files
+  source_same : (task : Task) (files : Files) → AllUnobserved task → has_no_source task (files_where test files) ≡ has_no_source task files
   source_same task files h =
       ap (λ b. list_any (λ property. property.skip_when_empty) task.files && b)
       (list_all_same _ _ (filter (λ property. property.skip_when_empty) task.files)
       (each _ _ (λ property u. ap is_empty (tree_same property files u)) (filter (λ property. property.skip_when_empty) task.files)
-      (all_filter (λ property. AllByRecursion Unseen property.roots) (λ property. property.skip_when_empty) task.files h)))
+      (all_filter (λ property. AllByRecursion Unobserved property.roots) (λ property. property.skip_when_empty) task.files h)))
 
-  pub made_same : (kinds : Kinds) (task : Task) (files : Files) → AllUnseen task → made kinds task (files_where test files) ≡ made kinds task files
+  pub made_same : (kinds : Kinds) (task : Task) (files : Files) → AllUnobserved task → made kinds task (files_where test files) ≡ made kinds task files
   made_same kinds task files h =
       let s = source_same task files h in
       let t = trees_same task files h in

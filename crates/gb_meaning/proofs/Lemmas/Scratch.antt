@@ -12,7 +12,7 @@ use Rattle.gb_core.specs.Lists.{byte_order}
 use Rattle.gb_core.specs.Place.{is_beneath}
 use Rattle.gb_plan.specs.Task.{Path, is_output_of}
 use Rattle.gb_plan.specs.declared.task.TaskDeclaration.{TaskDeclaration as Task}
-use Rattle.gb_meaning.proofs.Standing.{rules_of, standing}
+use Rattle.gb_meaning.proofs.Existing.{rules_of, existing}
 use Rattle.gb_meaning.specs.Tree.{input_faults}
 use Rattle.gb_meaning.specs.Kinds.{Kinds}
 use Rattle.gb_meaning.specs.Made.{made, put_over, with_outputs, blocked_in, rest_of}
@@ -22,12 +22,12 @@ use Rattle.gb_plan.specs.declared.plan.Planned.{Planned}
 use Rattle.gb_meaning.specs.Label.{Moment}
 use Rattle.gb_report.specs.Outcome.{is_failed, is_started}
 use Rattle.gb_meaning.specs.Execution.{May, Executions, moment_after}
-use Rattle.gb_meaning.specs.Scratch.{cleared, put_in, add_task}
+use Rattle.gb_meaning.specs.Scratch.{cleared, store_record, add_task}
 use Rattle.gb_plan.proofs.Tests.{not_true}
 use Rattle.gb_meaning.proofs.Common.{all_assumed}
 use Rattle.gb_meaning.proofs.Lemmas.Files.{at-where, at-put_over, sorted-where, sorted-put_over, same_files, tied_same, total, or_else, left_of, right_of}
 use Rattle.gb_meaning.proofs.Lemmas.Worked.{Did, skipped, idle, worked, Worked, IsTrusted, what_it_did}
-use Rattle.gb_meaning.proofs.Lemmas.Reading.{AllUnseen, input_faults_same, made_same}
+use Rattle.gb_meaning.proofs.Lemmas.Reading.{AllUnobserved, input_faults_same, made_same}
 use Rattle.gb_meaning.proofs.Lemmas.Making.{IsRight, made_right}
 
 abbrev pub any_out : List Task → Place → Bool
@@ -39,8 +39,8 @@ no_out tasks place = not (any_out tasks place)
 -- What a sound plan gives for a task and those that run after it: disjoint outputs, inputs that none of them
 -- writes, and no outputs without actions.
 pub record Fits (task : Task) (others : List Task) : Type 0 where
-  pub apart : (q : Place) → is_output_of task q ≡ true → any_out others q ≡ false
-  pub unseen : AllUnseen (no_out (task ∷ others)) task
+  pub separate : (q : Place) → is_output_of task q ≡ true → any_out others q ≡ false
+  pub unobserved : AllUnobserved (no_out (task ∷ others)) task
   pub idle_writes_none : is_empty task.actions ≡ true → (q : Place) → is_output_of task q ≡ false
 
 abbrev pub AllFit : List Task → Type 0
@@ -50,9 +50,9 @@ AllFit (task ∷ tasks) = Fits task tasks × AllFit tasks
 abbrev pub actives : List Planned → List Task
 actives plan = filter (λ task. task.runs) (map (λ planned. planned.task) plan)
 
-abbrev pub PathsApart : List Planned → Type 0
-PathsApart [] = ⊤
-PathsApart (planned ∷ rest) = AllByRecursion (λ (other : Planned). bytes_eq other.task.path planned.task.path ≡ false) rest × PathsApart rest
+abbrev pub PathsDistinct : List Planned → Type 0
+PathsDistinct [] = ⊤
+PathsDistinct (planned ∷ rest) = AllByRecursion (λ (other : Planned). bytes_eq other.task.path planned.task.path ≡ false) rest × PathsDistinct rest
 
 -- ---- Files
 
@@ -85,7 +85,7 @@ put_then_clear task others files new sorted right fits =
         ≡ cond (not (any_out others q)) (or_else (file_at new q) (cond (not (is_output_of task q)) (file_at files q) None)) None
     both q true e =
         ap (λ b. or_else (file_at new q) (cond (not (b || any_out others q)) (file_at files q) None)) e
-        ∙ sym (ap (λ b. cond (not b) (or_else (file_at new q) (cond (not (is_output_of task q)) (file_at files q) None)) None) (fits.apart q e)
+        ∙ sym (ap (λ b. cond (not b) (or_else (file_at new q) (cond (not (is_output_of task q)) (file_at files q) None)) None) (fits.separate q e)
         ∙ ap (λ b. or_else (file_at new q) (cond (not b) (file_at files q) None)) e)
     both q false e =
         ap (λ b. or_else (file_at new q) (cond (not (b || any_out others q)) (file_at files q) None)) e
@@ -136,13 +136,13 @@ room_stays task test files new h =
 -- ---- One task more
 
 module _ (kinds : Kinds) (folder : Contents) where
-  add_worked : (task : Task) (others : List Task) (old new : World) → folder.odd ≡ old.folder.odd → is_sorted byte_order old.folder.files ≡ true → Fits task others → Worked kinds task old new
+  add_worked : (task : Task) (others : List Task) (old new : World) → folder.special ≡ old.folder.special → is_sorted byte_order old.folder.files ≡ true → Fits task others → Worked kinds task old new
       → add_task kinds folder (Some (cleared (task ∷ others) old.folder.files)) task ≡ Some (cleared others new.folder.files)
-  add_worked task others old new odd sorted fits did =
-      ap (λ b. cond b (Some S) (cond (is_empty (input_faults task (record folder { files = S }))) (put_in task S (made kinds task S)) None)) did.has_actions
-      ∙ ap (λ fs. cond (is_empty fs) (put_in task S (made kinds task S)) None) (input_faults_same (no_out (task ∷ others)) task folder F fits.unseen ∙ here)
-      ∙ ap (λ b. cond b (put_in task S (made kinds task S)) None) did.readable
-      ∙ ap (put_in task S) (made_same (no_out (task ∷ others)) kinds task F fits.unseen ∙ did.makes)
+  add_worked task others old new special sorted fits did =
+      ap (λ b. cond b (Some S) (cond (is_empty (input_faults task (record folder { files = S }))) (store_record task S (made kinds task S)) None)) did.has_actions
+      ∙ ap (λ fs. cond (is_empty fs) (store_record task S (made kinds task S)) None) (input_faults_same (no_out (task ∷ others)) task folder F fits.unobserved ∙ here)
+      ∙ ap (λ b. cond b (store_record task S (made kinds task S)) None) did.readable
+      ∙ ap (store_record task S) (made_same (no_out (task ∷ others)) kinds task F fits.unobserved ∙ did.makes)
       ∙ ap (λ b. cond b (Some (put_over S did.made_files)) None) (room_stays task (no_out (task ∷ others)) F did.made_files did.room)
       ∙ ap Some (put_then_clear task others F did.made_files sorted (made_right kinds task F did.made_files did.makes) fits ∙ ap (cleared others) (sym did.files))
     where
@@ -153,7 +153,7 @@ module _ (kinds : Kinds) (folder : Contents) where
       S = cleared (task ∷ others) F
 
       here : input_faults task (record folder { files = F }) ≡ input_faults task old.folder
-      here = ap (λ o. input_faults task (record { files = F; odd = o })) odd
+      here = ap (λ o. input_faults task (record { files = F; special = o })) special
 
 -- ---- Memory of the others
 
@@ -183,9 +183,9 @@ AllTrusted kinds memory plan = AllByRecursion (λ (planned : Planned). IsTrusted
 
 still_trusted : (kinds : Kinds) (task : Task) (old new : World) → Worked kinds task old new → (rest : List Planned)
     → AllByRecursion (λ (other : Planned). bytes_eq other.task.path task.path ≡ false) rest → AllTrusted kinds old.memory rest → AllTrusted kinds new.memory rest
-still_trusted kinds task old new did [] apart trusted = tt
-still_trusted kinds task old new did (other ∷ rest) apart trusted =
-    (λ files is_folder h. trusted.0 files is_folder (sym (same_recall kinds task old new did other.task.path apart.0) ∙ h), still_trusted kinds task old new did rest apart.1 trusted.1)
+still_trusted kinds task old new did [] separate trusted = tt
+still_trusted kinds task old new did (other ∷ rest) separate trusted =
+    (λ files is_folder h. trusted.0 files is_folder (sym (same_recall kinds task old new did other.task.path separate.0) ∙ h), still_trusted kinds task old new did rest separate.1 trusted.1)
 
 -- ---- All tasks
 
@@ -201,27 +201,27 @@ Built kinds folder tasks files end = fold (add_task kinds folder) (Some (cleared
 
 abbrev Again : Kinds → Contents → List Planned → World → World → Type 0
 Again kinds folder rest mid new =
-    folder.odd ≡ mid.folder.odd → AllFit (actives rest) → AllTrusted kinds mid.memory rest
+    folder.special ≡ mid.folder.special → AllFit (actives rest) → AllTrusted kinds mid.memory rest
     → Built kinds folder (actives rest) mid.folder.files new.folder.files
 
 module _ (kinds : Kinds) (folder : Contents) where
   after_execution : (planned : Planned) (rest : List Planned) (old mid new : World) → Again kinds folder rest mid new
-      → folder.odd ≡ old.folder.odd → is_sorted byte_order old.folder.files ≡ true
-      → AllFit (actives (planned ∷ rest)) → AllTrusted kinds old.memory (planned ∷ rest) → PathsApart (planned ∷ rest)
+      → folder.special ≡ old.folder.special → is_sorted byte_order old.folder.files ≡ true
+      → AllFit (actives (planned ∷ rest)) → AllTrusted kinds old.memory (planned ∷ rest) → PathsDistinct (planned ∷ rest)
       → Did kinds planned.task old mid → Built kinds folder (actives (planned ∷ rest)) old.folder.files new.folder.files
-  after_execution planned rest old mid new again odd sorted fit trusted apart (skipped runs same) =
+  after_execution planned rest old mid new again special sorted fit trusted separate (skipped runs same) =
       subst (λ b. Built kinds folder (cond b (planned.task ∷ actives rest) (actives rest)) old.folder.files new.folder.files) (sym runs)
       (subst (λ (w : World). Built kinds folder (actives rest) w.folder.files new.folder.files) same
-      (again (odd ∙ ap (λ (w : World). w.folder.odd) (sym same))
+      (again (special ∙ ap (λ (w : World). w.folder.special) (sym same))
       (subst (λ b. AllFit (cond b (planned.task ∷ actives rest) (actives rest))) runs fit)
       (subst (λ (w : World). AllTrusted kinds w.memory rest) (sym same) trusted.1)))
-  after_execution planned rest old mid new again odd sorted fit trusted apart (idle runs acts same) =
+  after_execution planned rest old mid new again special sorted fit trusted separate (idle runs acts same) =
       subst (λ b. Built kinds folder (cond b (planned.task ∷ actives rest) (actives rest)) old.folder.files new.folder.files) (sym runs)
       (ap (λ o. fold (add_task kinds folder) o (actives rest))
-      (ap (λ b. cond b (Some S) (cond (is_empty (input_faults planned.task (record folder { files = S }))) (put_in planned.task S (made kinds planned.task S)) None)) acts
+      (ap (λ b. cond b (Some S) (cond (is_empty (input_faults planned.task (record folder { files = S }))) (store_record planned.task S (made kinds planned.task S)) None)) acts
       ∙ ap Some (λ i. files_where (λ q. not (here.0.idle_writes_none acts q i || any_out (actives rest) q)) old.folder.files)
       ∙ ap (λ (w : World). Some (cleared (actives rest) w.folder.files)) (sym same))
-      ∙ again (odd ∙ ap (λ (w : World). w.folder.odd) (sym same))
+      ∙ again (special ∙ ap (λ (w : World). w.folder.special) (sym same))
       here.1 (subst (λ (w : World). AllTrusted kinds w.memory rest) (sym same) trusted.1))
     where
       S : Files
@@ -229,32 +229,32 @@ module _ (kinds : Kinds) (folder : Contents) where
 
       here : AllFit (planned.task ∷ actives rest)
       here = subst (λ b. AllFit (cond b (planned.task ∷ actives rest) (actives rest))) runs fit
-  after_execution planned rest old mid new again odd sorted fit trusted apart (worked did) =
+  after_execution planned rest old mid new again special sorted fit trusted separate (worked did) =
       subst (λ b. Built kinds folder (cond b (planned.task ∷ actives rest) (actives rest)) old.folder.files new.folder.files) (sym did.runs)
-      (ap (λ o. fold (add_task kinds folder) o (actives rest)) (add_worked kinds folder planned.task (actives rest) old mid odd sorted here.0 did)
-      ∙ again (odd ∙ sym did.odd)
-      here.1 (still_trusted kinds planned.task old mid did rest apart.0 trusted.1))
+      (ap (λ o. fold (add_task kinds folder) o (actives rest)) (add_worked kinds folder planned.task (actives rest) old mid special sorted here.0 did)
+      ∙ again (special ∙ sym did.special)
+      here.1 (still_trusted kinds planned.task old mid did rest separate.0 trusted.1))
     where
       here : AllFit (planned.task ∷ actives rest)
       here = subst (λ b. AllFit (cond b (planned.task ∷ actives rest) (actives rest))) did.runs fit
 
-module _ (kinds : Kinds) (options : Options) (may_come : May) (plan : Plan) (folder : Contents) where
-  pub follows : (seen : List Bytes) (rest : List Planned) (moment : Moment) (reports : List TaskReport) (new : World) (failures : ℕ)
-      → folder.odd ≡ moment.world.folder.odd → IsFolder moment.world.folder.files
-      → AllFit (actives rest) → AllTrusted kinds moment.world.memory rest → PathsApart rest
+module _ (kinds : Kinds) (options : Options) (may_occur : May) (plan : Plan) (folder : Contents) where
+  pub follows : (observed : List Bytes) (rest : List Planned) (moment : Moment) (reports : List TaskReport) (new : World) (failures : ℕ)
+      → folder.special ≡ moment.world.folder.special → IsFolder moment.world.folder.files
+      → AllFit (actives rest) → AllTrusted kinds moment.world.memory rest → PathsDistinct rest
       → list_all ended_well reports ≡ true
-      → Executions (rules_of kinds options may_come plan) all_assumed seen rest moment reports (standing new failures)
+      → Executions (rules_of kinds options may_occur plan) all_assumed observed rest moment reports (existing new failures)
       → Built kinds folder (actives rest) moment.world.folder.files new.folder.files
-  follows seen [] moment [] new failures odd sorted fit trusted apart well executions =
+  follows observed [] moment [] new failures special sorted fit trusted separate well executions =
       ap Some (where_all (no_out []) (λ q. refl) moment.world.folder.files ∙ sym (ap (λ (w : World). w.folder.files) executions.0))
-  follows seen [] moment (report ∷ reports) new failures odd sorted fit trusted apart well executions = absurd executions
-  follows seen (planned ∷ rest) moment [] new failures odd sorted fit trusted apart well executions = absurd executions
-  follows seen (planned ∷ rest) moment (report ∷ reports) new failures odd sorted fit trusted apart well executions =
+  follows observed [] moment (report ∷ reports) new failures special sorted fit trusted separate well executions = absurd executions
+  follows observed (planned ∷ rest) moment [] new failures special sorted fit trusted separate well executions = absurd executions
+  follows observed (planned ∷ rest) moment (report ∷ reports) new failures special sorted fit trusted separate well executions =
       elim (executions.1.execution tt).2 [
         | inl started ↦ after_execution kinds folder planned rest moment.world executions.0.world new
-            (λ odd' fit' trusted'. follows (seen ++ folder_contents moment.world) rest (moment_after moment report executions.0) reports new failures odd' executions.1.folder fit' trusted' apart.1 (right_of (ended_well report) (list_all ended_well reports) well) executions.2)
-            odd sorted.in_order fit trusted apart
-            (what_it_did kinds options plan planned.task moment executions.0.world may_come executions.0.failures report
+            (λ special' fit' trusted'. follows (observed ++ folder_contents moment.world) rest (moment_after moment report executions.0) reports new failures special' executions.1.folder fit' trusted' separate.1 (right_of (ended_well report) (list_all ended_well reports) well) executions.2)
+            special sorted.in_order fit trusted separate
+            (what_it_did kinds options plan planned.task moment executions.0.world may_occur executions.0.failures report
             (not_of_true (is_failed report.outcome) (right_of (is_started report.outcome) (not (is_failed report.outcome)) (left_of (ended_well report) (list_all ended_well reports) well))) sorted trusted.0 started.1)
         | inr passed ↦ not_true (sym (ap is_started passed.1.outcome) ∙ left_of (is_started report.outcome) (not (is_failed report.outcome)) (left_of (ended_well report) (list_all ended_well reports) well))
       ]

@@ -13,7 +13,7 @@ use Rattle.gb_meaning.specs.Memory.{Entry, Memory, recalled}
 use Rattle.gb_meaning.specs.TrueRecord.{Stores}
 use Rattle.gb_meaning.specs.Edits.{Shown}
 use Rattle.gb_meaning.specs.Events.{Setting, State}
-use Rattle.gb_meaning.specs.Headline.{Registering, Stands}
+use Rattle.gb_meaning.specs.Headline.{Registering, HoldsMemory}
 use Rattle.gb_meaning.specs.Every.{PlainRun}
 use Rattle.gb_meaning.specs.Sessions.{Session, IsEdited, SessionsHold, AllHold, HeadlineOfSessions, begins, remembered_after, setting_at, still_remembered}
 use Rattle.gb_meaning.proofs.Common.{none_some}
@@ -42,17 +42,17 @@ module _ (setting : Setting) where
   gone path (Some bytes) entry is_none = none_some (sym is_none)
 
   -- after an edit the records that still exist are those of what is still remembered
-  still_stands : (old new : Contents) (remembered : Memory) → IsEdited setting old new → Stands setting old remembered
-      → Stands setting new (still_remembered setting new remembered)
-  still_stands old new remembered edited stands = record {
+  still_exists : (old new : Contents) (remembered : Memory) → IsEdited setting old new → HoldsMemory setting old remembered
+      → HoldsMemory setting new (still_remembered setting new remembered)
+  still_exists old new remembered edited exists = record {
     is_folder = edited.is_folder;
-    in_order = of_T _ (is_sorted-where_key byte_order there remembered (T_of _ stands.in_order));
-    of_tasks = some_hold there (λ entry. IsTrue (is_task_path entry.0)) remembered stands.of_tasks;
+    in_order = of_T _ (is_sorted-where_key byte_order there remembered (T_of _ exists.in_order));
+    of_tasks = some_hold there (λ entry. IsTrue (is_task_path entry.0)) remembered exists.of_tasks;
     records = λ path is_path. subst (Stores setting.digest setting.says path (file_at new.files (setting.record_place path))) (sym (found path)) (elim (edited.records path is_path) [
-      | inl same ↦ stores path (file_at old.files (setting.record_place path)) (file_at new.files (setting.record_place path)) (recalled remembered path) (stands.records path is_path) same
+      | inl same ↦ stores path (file_at old.files (setting.record_place path)) (file_at new.files (setting.record_place path)) (recalled remembered path) (exists.records path is_path) same
       | inr is_none ↦ gone path (file_at new.files (setting.record_place path)) (recalled remembered path) is_none
     ]);
-    made = some_hold there _ remembered stands.made;
+    made = some_hold there _ remembered exists.made;
   }
     where
       there : Path → Bool
@@ -62,32 +62,32 @@ module _ (setting : Setting) where
       found path = find-where_key byte_order there path (λ x e. ap there (sym (tied_same path x e))) remembered
 
   -- what a plain run leaves is what is remembered after its last state
-  plain_end : (old : State) (states : List State) (all : List Event) (reported : List Answer) (end : Shown) → Stands setting old.contents old.remembered
-      → PlainRun setting old states all reported end → Stands setting end.contents (remembered_after old.remembered states)
-  plain_end old [] [] [] end stands run = subst (λ folder. Stands setting folder old.remembered) run.1 stands
-  plain_end old (next ∷ states) (event ∷ rest) (answer ∷ others) end stands run = plain_end next states rest others end run.2 run.3
-  plain_end old [] [] (answer ∷ others) end stands run = absurd run
-  plain_end old [] (event ∷ rest) [] end stands run = absurd run
-  plain_end old [] (event ∷ rest) (answer ∷ others) end stands run = absurd run
-  plain_end old (next ∷ states) [] [] end stands run = absurd run
-  plain_end old (next ∷ states) [] (answer ∷ others) end stands run = absurd run
-  plain_end old (next ∷ states) (event ∷ rest) [] end stands run = absurd run
+  plain_end : (old : State) (states : List State) (all : List Event) (reported : List Answer) (end : Shown) → HoldsMemory setting old.contents old.remembered
+      → PlainRun setting old states all reported end → HoldsMemory setting end.contents (remembered_after old.remembered states)
+  plain_end old [] [] [] end exists run = subst (λ folder. HoldsMemory setting folder old.remembered) run.1 exists
+  plain_end old (next ∷ states) (event ∷ rest) (answer ∷ others) end exists run = plain_end next states rest others end run.2 run.3
+  plain_end old [] [] (answer ∷ others) end exists run = absurd run
+  plain_end old [] (event ∷ rest) [] end exists run = absurd run
+  plain_end old [] (event ∷ rest) (answer ∷ others) end exists run = absurd run
+  plain_end old (next ∷ states) [] [] end exists run = absurd run
+  plain_end old (next ∷ states) [] (answer ∷ others) end exists run = absurd run
+  plain_end old (next ∷ states) (event ∷ rest) [] end exists run = absurd run
 
 module _ (setting : Setting) (registers : ℕ → Registering) (may_leave : ℕ → Tearing) where
   abbrev at : ℕ → Setting
   at number = setting_at setting registers may_leave number
 
   all_hold : (number : ℕ) (left : Contents) (sessions : List Session) → SessionsHold setting registers may_leave number left sessions
-      → (remembered : Memory) → Stands setting left remembered → AllHold setting registers may_leave number remembered sessions
-  all_hold number left [] hold remembered stands = tt
-  all_hold number left (session ∷ rest) hold remembered stands =
+      → (remembered : Memory) → HoldsMemory setting left remembered → AllHold setting registers may_leave number remembered sessions
+  all_hold number left [] hold remembered exists = tt
+  all_hold number left (session ∷ rest) hold remembered exists =
       let first : State = begins setting session remembered in
-      let found : Stands (at number) session.start.contents first.remembered = still_stands setting left session.start.contents remembered hold.0 stands in
+      let found : HoldsMemory (at number) session.start.contents first.remembered = still_exists setting left session.start.contents remembered hold.0 exists in
       let run = headline (at number) session.start session.end session.events session.answers hold.1 first.remembered found in (
         run.0,
         run.1,
-        λ apart.
-            let plain = run.2 apart in (
+        λ separate.
+            let plain = run.2 separate in (
               plain.0,
               plain.1,
               all_hold (suc number) session.end.contents rest hold.2 (remembered_after first.remembered run.0)
@@ -96,4 +96,4 @@ module _ (setting : Setting) (registers : ℕ → Registering) (may_leave : ℕ 
       )
 
 pub sessions : (setting : Setting) (registers : ℕ → Registering) (may_leave : ℕ → Tearing) → HeadlineOfSessions setting registers may_leave
-sessions setting registers may_leave left all hold remembered stands = all_hold setting registers may_leave 0 left all hold remembered stands
+sessions setting registers may_leave left all hold remembered exists = all_hold setting registers may_leave 0 left all hold remembered exists

@@ -11,11 +11,11 @@ use Rattle.gb_plan.specs.declared.task.Output.{Output}
 use Rattle.gb_plan.specs.Graph.{Plan, order, stuck, no_repeats, IsSound, some_overlap, reads_output_of}
 use Rattle.gb_plan.specs.declared.plan.Planned.{Planned}
 use Rattle.gb_plan.proofs.Tests.{not_true, none_left, none_right, neither, any_append, all_at, each_all, no_longer, turned}
-use Rattle.gb_plan.proofs.Places.{none_under, out_of, apart_places, overlap_tail}
+use Rattle.gb_plan.proofs.Places.{none_under, out_of, separate_places, overlap_tail}
 use Rattle.gb_plan.proofs.Chains.{Closed, closed_more, closed_push, grouped, order_append, reads_no_later, ready_here, stuck_rest}
 use Rattle.gb_meaning.proofs.Lemmas.Files.{left_of, right_of}
-use Rattle.gb_meaning.proofs.Lemmas.Reading.{AllUnseen}
-use Rattle.gb_meaning.proofs.Lemmas.Scratch.{any_out, no_out, AllFit, actives, PathsApart}
+use Rattle.gb_meaning.proofs.Lemmas.Reading.{AllUnobserved}
+use Rattle.gb_meaning.proofs.Lemmas.Scratch.{any_out, no_out, AllFit, actives, PathsDistinct}
 
 -- ---- Tests on lists
 
@@ -55,8 +55,8 @@ roots_each p (property ∷ files) e =
     each_root (root ∷ roots) e = (none_left (p root) (list_any p roots) e, each_root roots (none_right (p root) (list_any p roots) e))
 
 -- what reads none of the places reads none of the files there
-pub unseen_of : (task : Task) (test : Place → Bool) (places : List Place) → ((q : Place) → list_any (is_under q) places ≡ false → test q ≡ true) → ReadsNone task places → AllUnseen test task
-unseen_of task test places passes e =
+pub unobserved_of : (task : Task) (test : Place → Bool) (places : List Place) → ((q : Place) → list_any (is_under q) places ≡ false → test q ≡ true) → ReadsNone task places → AllUnobserved test task
+unobserved_of task test places passes e =
     each_all _ _ (λ property h. each_all _ _ (λ root h q under. passes q (none_under q root places under h)) property.roots h)
     task.files (roots_each (λ root. list_any (overlaps root) places) task.files e)
 
@@ -100,10 +100,10 @@ module _ (plan : Plan) where
   all_fit set placed (next ∷ rest) whole same once closed ready sound shaped =
       let is_next = ready_here plan set next rest ready in
       let reads_none_later = reads_no_later plan set placed next rest whole same once closed is_next sound in
-      let reads_none_own = (all_at _ placed next rest (subst (AllByRecursion (λ (planned : Planned). reads_output_of planned.task planned.task ≡ false)) whole sound.inputs_apart)).0 in (
+      let reads_none_own = (all_at _ placed next rest (subst (AllByRecursion (λ (planned : Planned). reads_output_of planned.task planned.task ≡ false)) whole sound.inputs_separate)).0 in (
         record {
-          apart = λ q e. any_out_of rest q ∙ apart_places q (output_places next.task) (places_of rest) (places_apart placed (ap (λ p. some_overlap (places_of p)) (sym whole) ∙ sound.outputs_apart)) (sym (out_of next.task q) ∙ e);
-          unseen = unseen_of next.task (no_out (tasks_of (next ∷ rest))) (places_of (next ∷ rest)) (λ q e. ap not (any_out_of (next ∷ rest) q ∙ e)) (reads_all next.task (next ∷ rest) (reads_none_own, reads_none_later));
+          separate = λ q e. any_out_of rest q ∙ separate_places q (output_places next.task) (places_of rest) (places_separate placed (ap (λ p. some_overlap (places_of p)) (sym whole) ∙ sound.outputs_separate)) (sym (out_of next.task q) ∙ e);
+          unobserved = unobserved_of next.task (no_out (tasks_of (next ∷ rest))) (places_of (next ∷ rest)) (λ q e. ap not (any_out_of (next ∷ rest) q ∙ e)) (reads_all next.task (next ∷ rest) (reads_none_own, reads_none_later));
           idle_writes_none = λ e q. no_outputs next.task (shaped.0 e) q;
         },
         all_fit (set ++ next.task.path ∷ []) (placed ++ next ∷ []) rest (whole ∙ grouped placed next rest)
@@ -120,8 +120,8 @@ module _ (plan : Plan) where
           joined [] ys zs = refl
           joined (x ∷ xs) ys zs = ap (λ ps. x ∷ ps) (joined xs ys zs)
 
-      places_apart : (before : List Planned) → some_overlap (places_of (before ++ next ∷ rest)) ≡ false → some_overlap (output_places next.task ++ places_of rest) ≡ false
-      places_apart before e = overlap_tail (places_of before) (output_places next.task ++ places_of rest) (ap some_overlap (sym (places_append before (next ∷ rest))) ∙ e)
+      places_separate : (before : List Planned) → some_overlap (places_of (before ++ next ∷ rest)) ≡ false → some_overlap (output_places next.task ++ places_of rest) ≡ false
+      places_separate before e = overlap_tail (places_of before) (output_places next.task ++ places_of rest) (ap some_overlap (sym (places_append before (next ∷ rest))) ∙ e)
 
 -- the tasks that are skipped may be left out
 fewer_fit : (tasks : List Task) → AllFit tasks → AllFit (filter (λ task. task.runs) tasks)
@@ -131,8 +131,8 @@ fewer_fit (task ∷ tasks) h =
     elim task.runs as (λ b. AllFit (cond b (task ∷ filter (λ t. t.runs) tasks) (filter (λ t. t.runs) tasks))) [
       | true ↦ (
         record {
-          apart = λ q e. fewer_any (λ t. is_output_of t q) (λ t. t.runs) tasks (h.0.apart q e);
-          unseen = each_all _ _ (λ property u. each_all _ _ (λ root seen q under. fewer q (seen q under)) property.roots u) task.files h.0.unseen;
+          separate = λ q e. fewer_any (λ t. is_output_of t q) (λ t. t.runs) tasks (h.0.separate q e);
+          unobserved = each_all _ _ (λ property u. each_all _ _ (λ root observed q under. fewer q (observed q under)) property.roots u) task.files h.0.unobserved;
           idle_writes_none = h.0.idle_writes_none;
         },
         rest,
@@ -146,11 +146,11 @@ fewer_fit (task ∷ tasks) h =
         ap not (neither (is_output_of task q) (any_out (filter (λ t. t.runs) tasks) q) (none_left (is_output_of task q) (any_out tasks q) none)
         (fewer_any (λ t. is_output_of t q) (λ t. t.runs) tasks (none_right (is_output_of task q) (any_out tasks q) none)))
 
-pub paths_apart : (plan : List Planned) → no_repeats (order plan) ≡ true → PathsApart plan
-paths_apart [] e = tt
-paths_apart (planned ∷ rest) e = (
+pub paths_distinct : (plan : List Planned) → no_repeats (order plan) ≡ true → PathsDistinct plan
+paths_distinct [] e = tt
+paths_distinct (planned ∷ rest) e = (
   others rest (no_longer (has_path (order rest) planned.task.path) (left_of (not (has_path (order rest) planned.task.path)) (no_repeats (order rest)) e)),
-  paths_apart rest (right_of (not (has_path (order rest) planned.task.path)) (no_repeats (order rest)) e),
+  paths_distinct rest (right_of (not (has_path (order rest) planned.task.path)) (no_repeats (order rest)) e),
 )
   where
     others : (later : List Planned) → has_path (order later) planned.task.path ≡ false → AllByRecursion (λ (other : Planned). bytes_eq other.task.path planned.task.path ≡ false) later

@@ -11,7 +11,7 @@ use Rattle.gb_folder.specs.Files.{Bytes}
 use Rattle.gb_plan.specs.Task.{Path, has_path}
 use Rattle.gb_plan.specs.declared.task.TaskDeclaration.{TaskDeclaration as Task}
 use Rattle.gb_plan.proofs.Registered.{in_with_tasks}
-use Rattle.gb_meaning.proofs.Standing.{rules_of, standing}
+use Rattle.gb_meaning.proofs.Existing.{rules_of, existing}
 use Rattle.gb_meaning.specs.Kinds.{Kinds}
 use Rattle.gb_meaning.specs.Memory.{World, folder_contents}
 use Rattle.gb_plan.specs.Graph.{Plan, Request, start, step, order, needs_in, finalized_by, is_ready, is_scheduled_in, stuck, brings, brought_by, declaration_at, selected, IsSchedule, IsScheduled}
@@ -204,14 +204,14 @@ module _ (options : Options) (request : Request) (plan : Plan) (schedule : IsSch
           of_two some = elim (either (has_path z.task.needs planned.task.path) (has_path z.task.finalizers planned.task.path) (sym (any_append (bytes_eq planned.task.path) z.task.needs z.task.finalizers) ∙ some)) [
             | inl needed ↦ inr (inl (in_plan.0 (λ (other : Planned). has_path other.task.needs planned.task.path) needed))
             | inr finalizer ↦
-                let behind = any_map (bytes_eq z.task.path) (λ (y : Planned). y.task.path) (filter (λ (y : Planned). has_path y.task.finalizers planned.task.path) plan)
+                let following = any_map (bytes_eq z.task.path) (λ (y : Planned). y.task.path) (filter (λ (y : Planned). has_path y.task.finalizers planned.task.path) plan)
                 ∙ any_filter (λ (y : Planned). bytes_eq z.task.path y.task.path) (λ (y : Planned). has_path y.task.finalizers planned.task.path) plan
                 (in_plan.0 (λ (y : Planned). has_path y.task.finalizers planned.task.path && bytes_eq z.task.path y.task.path)
                 (both_true (has_path z.task.finalizers planned.task.path) (bytes_eq z.task.path z.task.path) finalizer (itself z.task.path))) in
-                let stands = at_member (has_path (paths_done moment.outcomes)) (finalized_by plan planned.task.path) z.task.path
+                let exists = at_member (has_path (paths_done moment.outcomes)) (finalized_by plan planned.task.path) z.task.path
                 (all_right (has_path (paths_done moment.outcomes)) (needs_in plan planned.task) (finalized_by plan planned.task.path)
-                (all_left (has_path (paths_done moment.outcomes)) (needs_in plan planned.task ++ finalized_by plan planned.task.path) (filter (is_scheduled_in plan) planned.task.must_run_after) ready)) behind in
-                inr (inr (some_started (finalized_by plan planned.task.path) moment.outcomes z.task.path well stands behind))
+                (all_left (has_path (paths_done moment.outcomes)) (needs_in plan planned.task ++ finalized_by plan planned.task.path) (filter (is_scheduled_in plan) planned.task.must_run_after) ready)) following in
+                inr (inr (some_started (finalized_by plan planned.task.path) moment.outcomes z.task.path well exists following))
           ]
 
   called_by : (moment : Moment) (planned : Planned) → all_well moment.outcomes ≡ true → is_ready plan (paths_done moment.outcomes) planned.task ≡ true
@@ -241,21 +241,21 @@ module _ (options : Options) (request : Request) (plan : Plan) (schedule : IsSch
           at_place [] = ap (λ b. b || has_path (order rest) planned.task.path) (itself planned.task.path)
           at_place (z ∷ before) = or_right (bytes_eq planned.task.path z.task.path) (has_path (order (before ++ planned ∷ rest)) planned.task.path) (at_place before)
 
-  pub all_started : (kinds : Kinds) (may_come : May) (seen : List Bytes) (placed rest : List Planned) (moment : Moment) (reports : List TaskReport) (new : World) (failures : ℕ)
+  pub all_started : (kinds : Kinds) (may_occur : May) (observed : List Bytes) (placed rest : List Planned) (moment : Moment) (reports : List TaskReport) (new : World) (failures : ℕ)
       → plan ≡ placed ++ rest → all_well moment.outcomes ≡ true → stuck plan (paths_done moment.outcomes) rest ≡ []
       → list_any (λ (report : TaskReport). is_failed report.outcome) reports ≡ false
-      → Executions (rules_of kinds options may_come plan) all_assumed seen rest moment reports (standing new failures) → list_all ended_well reports ≡ true
-  all_started kinds may_come seen placed [] moment [] new failures whole well ready none executions = refl
-  all_started kinds may_come seen placed [] moment (report ∷ reports) new failures whole well ready none executions = absurd executions
-  all_started kinds may_come seen placed (planned ∷ rest) moment [] new failures whole well ready none executions = absurd executions
-  all_started kinds may_come seen placed (planned ∷ rest) moment (report ∷ reports) new failures whole well ready none executions =
+      → Executions (rules_of kinds options may_occur plan) all_assumed observed rest moment reports (existing new failures) → list_all ended_well reports ≡ true
+  all_started kinds may_occur observed placed [] moment [] new failures whole well ready none executions = refl
+  all_started kinds may_occur observed placed [] moment (report ∷ reports) new failures whole well ready none executions = absurd executions
+  all_started kinds may_occur observed placed (planned ∷ rest) moment [] new failures whole well ready none executions = absurd executions
+  all_started kinds may_occur observed placed (planned ∷ rest) moment (report ∷ reports) new failures whole well ready none executions =
       let is_next = ready_here plan (paths_done moment.outcomes) planned rest ready in
       let not_failed = none_left (is_failed report.outcome) (list_any (λ (r : TaskReport). is_failed r.outcome) reports) none in
       elim (executions.1.execution tt).2 [
         | inl started ↦
             let here = ended report executions.0.world executions.0.failures started.1 not_failed in
             both_true (ended_well report) (list_all ended_well reports) here
-            (all_started kinds may_come (seen ++ folder_contents moment.world) (placed ++ planned ∷ []) rest (moment_after moment report executions.0) reports new failures
+            (all_started kinds may_occur (observed ++ folder_contents moment.world) (placed ++ planned ∷ []) rest (moment_after moment report executions.0) reports new failures
             (whole ∙ grouped placed planned rest)
             (all_push moment.outcomes (report.path, report.outcome) well here)
             (ap (λ s. stuck plan s rest) (paths_push moment.outcomes report.path report.outcome ∙ ap (λ p. paths_done moment.outcomes ++ p ∷ []) (executions.1.execution tt).0) ∙ stuck_rest plan (paths_done moment.outcomes) planned rest ready)
@@ -263,7 +263,7 @@ module _ (options : Options) (request : Request) (plan : Plan) (schedule : IsSch
         | inr passed ↦ absurd (passed.0 (does_start moment placed planned rest whole well is_next))
       ]
     where
-      ended : (r : TaskReport) (w : World) (count : ℕ) → StartedExecution (rules_of kinds options may_come plan) moment planned.task r (standing w count) → is_failed r.outcome ≡ false → ended_well r ≡ true
+      ended : (r : TaskReport) (w : World) (count : ℕ) → StartedExecution (rules_of kinds options may_occur plan) moment planned.task r (existing w count) → is_failed r.outcome ≡ false → ended_well r ≡ true
       ended r w count execution e = both_true (is_started r.outcome) (not (is_failed r.outcome))
           (elim execution.label [
             | inl label ↦ label_started kinds options plan planned.task moment (early_case planned.task moment.world.folder) r.outcome label

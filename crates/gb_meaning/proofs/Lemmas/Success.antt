@@ -6,7 +6,7 @@ use Rattle.gb_report.specs.declared.fault.Fault.{Fault}
 use Rattle.gb_report.specs.declared.fault.Fault.TheVariants as faults
 use Rattle.gb_report.specs.declared.report.TaskReport.{TaskReport}
 use Rattle.gb_plan.proofs.Registered.{planned_shaped}
-use Rattle.gb_meaning.proofs.Standing.{rules_of, standing}
+use Rattle.gb_meaning.proofs.Existing.{rules_of, existing}
 use Rattle.gb_meaning.specs.declared.events.Invocation.{Invocation}
 use Rattle.gb_folder.specs.Files.{Place, Bytes, Files, IsFolder, files_where, is_own, is_blocked, is_empty}
 use Rattle.gb_core.specs.Place.{is_beneath}
@@ -21,7 +21,7 @@ use Rattle.gb_report.specs.Outcome.{is_failed, is_started}
 use Rattle.gb_meaning.specs.Execution.{May, Guard, Builds}
 use Rattle.gb_meaning.specs.Scratch.{from_scratch}
 use Rattle.gb_meaning.specs.Events.{Setting, State, HasPlan, world_in}
-use Rattle.gb_meaning.specs.Headline.{Stands, contents_outside, AreRegistries}
+use Rattle.gb_meaning.specs.Headline.{HoldsMemory, contents_outside, AreRegistries}
 use Rattle.gb_meaning.proofs.Lemmas.Plain.{Spreads, plain_builds}
 use Rattle.gb_meaning.proofs.Lemmas.Kept.{executions_keep}
 use Rattle.gb_meaning.proofs.Lemmas.Truth.{AllMade, fewer_block, each_of_all, filter_each}
@@ -76,19 +76,19 @@ asked_of registry requested excluded = checked (words_of registry requested)
 registry_is : (registry : Registry) (requested excluded : List Text) (request : Request) → request_of registry requested excluded ≡ Ok request → registry ≡ request.registry
 registry_is registry requested excluded request e = sym (asked_of registry requested excluded) ∙ ap (registry_in registry) e
 
-pub success_follows : (setting : Setting) (assumed : Guard) → Spreads assumed → AreRegistries setting.registers → (old : State) → Stands setting old.contents old.remembered
+pub success_follows : (setting : Setting) (assumed : Guard) → Spreads assumed → AreRegistries setting.registers → (old : State) → HoldsMemory setting old.contents old.remembered
     → (invocation : Invocation) (plan : Plan) → HasPlan setting (outside old.contents) invocation plan
-    → (may : May) (seen : List Bytes) (after : ℕ) (new : World) (reports : List TaskReport)
-    → assumed (seen ++ contents_outside old.contents ++ folder_contents new)
+    → (may : May) (observed : List Bytes) (after : ℕ) (new : World) (reports : List TaskReport)
+    → assumed (observed ++ contents_outside old.contents ++ folder_contents new)
     → list_any (λ (report : TaskReport). is_failed report.outcome) reports ≡ false
-    → Builds (rules_of setting.kinds invocation.options may plan) assumed seen (standing (world_in old) old.failures) reports (standing new after)
+    → Builds (rules_of setting.kinds invocation.options may plan) assumed observed (existing (world_in old) old.failures) reports (existing new after)
     → (invocation.options.dry_run ≡ false → IsTrue (list_all (λ (report : TaskReport). is_started report.outcome) reports))
     × (from_scratch setting.kinds invocation.options plan (outside old.contents) ≡ Some new.folder.files)
-success_follows setting assumed spreads registries old stands invocation plan planned may seen after new reports given none builds =
-    let plain = plain_builds setting assumed spreads may invocation.options planned.request plan seen seen old.failures after (world_in old) new reports planned.planned given builds in (
-      λ wet. each_started reports (all_end_well setting.kinds invocation.options may planned.request plan seen old.failures after (world_in old) new reports planned.planned none wet plain),
-      from_scratch_follows setting.kinds invocation.options may planned.request plan seen old.failures after (world_in old) new reports planned.planned shaped
-          (folder_where (λ place. not (is_own place)) old.contents.files stands.is_folder) stands.made none plain,
+success_follows setting assumed spreads registries old exists invocation plan planned may observed after new reports given none builds =
+    let plain = plain_builds setting assumed spreads may invocation.options planned.request plan observed observed old.failures after (world_in old) new reports planned.planned given builds in (
+      λ wet. each_started reports (all_end_well setting.kinds invocation.options may planned.request plan observed old.failures after (world_in old) new reports planned.planned none wet plain),
+      from_scratch_follows setting.kinds invocation.options may planned.request plan observed old.failures after (world_in old) new reports planned.planned shaped
+          (folder_where (λ place. not (is_own place)) old.contents.files exists.is_folder) exists.made none plain,
     )
   where
     is_registry : IsRegistry planned.registry
@@ -99,15 +99,15 @@ success_follows setting assumed spreads registries old stands invocation plan pl
 
 -- What is remembered after a build is true, whatever the result: this part of what a folder holds follows
 -- too.
-pub truth_follows : (setting : Setting) (assumed : Guard) → Spreads assumed → (old : State) → Stands setting old.contents old.remembered
+pub truth_follows : (setting : Setting) (assumed : Guard) → Spreads assumed → (old : State) → HoldsMemory setting old.contents old.remembered
     → (invocation : Invocation) (plan : Plan) → HasPlan setting (outside old.contents) invocation plan
-    → (may : May) (seen : List Bytes) (after : ℕ) (new : World) (reports : List TaskReport)
-    → assumed (seen ++ contents_outside old.contents ++ folder_contents new)
-    → Builds (rules_of setting.kinds invocation.options may plan) assumed seen (standing (world_in old) old.failures) reports (standing new after)
+    → (may : May) (observed : List Bytes) (after : ℕ) (new : World) (reports : List TaskReport)
+    → assumed (observed ++ contents_outside old.contents ++ folder_contents new)
+    → Builds (rules_of setting.kinds invocation.options may plan) assumed observed (existing (world_in old) old.failures) reports (existing new after)
     → AllMade setting.kinds new.memory
-truth_follows setting assumed spreads old stands invocation plan planned may seen after new reports given builds =
-    elim (plain_builds setting assumed spreads may invocation.options planned.request plan seen seen old.failures after (world_in old) new reports planned.planned given builds) [
-      | inl dry ↦ subst (λ (w : World). AllMade setting.kinds w.memory) (sym dry.2) stands.made
-      | inr run ↦ executions_keep setting.kinds invocation.options may plan seen plan (record { world = world_in old; outcomes = []; failures = old.failures }) reports new after stands.made
-          (folder_where (λ place. not (is_own place)) old.contents.files stands.is_folder) planned.planned.sound.inputs_apart run.1
+truth_follows setting assumed spreads old exists invocation plan planned may observed after new reports given builds =
+    elim (plain_builds setting assumed spreads may invocation.options planned.request plan observed observed old.failures after (world_in old) new reports planned.planned given builds) [
+      | inl dry ↦ subst (λ (w : World). AllMade setting.kinds w.memory) (sym dry.2) exists.made
+      | inr run ↦ executions_keep setting.kinds invocation.options may plan observed plan (record { world = world_in old; outcomes = []; failures = old.failures }) reports new after exists.made
+          (folder_where (λ place. not (is_own place)) old.contents.files exists.is_folder) planned.planned.sound.inputs_separate run.1
     ]

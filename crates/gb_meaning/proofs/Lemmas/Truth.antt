@@ -20,7 +20,7 @@ use Rattle.gb_meaning.proofs.Common.{none_some, some_same}
 use Rattle.gb_meaning.proofs.Lemmas.Files.{at-where, at-put_over, sorted-where, sorted-put_over, same_files, or_else, left_of, right_of}
 use Rattle.gb_meaning.proofs.Lemmas.Worked.{IsTrusted}
 use Rattle.gb_meaning.proofs.Lemmas.Making.{IsRight}
-use Rattle.gb_meaning.proofs.Lemmas.Reading.{AllUnseen, trees_same}
+use Rattle.gb_meaning.proofs.Lemmas.Reading.{AllUnobserved, trees_same}
 
 abbrev pub AllMade : Kinds → Memory → Type 0
 AllMade kinds memory = AllByRecursion (λ (entry : Path × Entry). IsMade kinds entry.1) memory
@@ -104,9 +104,9 @@ trusted_in kinds memory task all files folder e = record {
 -- The entry of a run that ended well is true, if the task reads nothing at its own outputs.
 pub entry_made : (kinds : Kinds) (task : Task) (files new : Files) → is_sorted byte_order files ≡ true → IsRight task.outputs new
     → made_of kinds task.actions task.values (trees_of task files) task.outputs ≡ Ok new
-    → AllUnseen (λ q. not (is_output_of task q)) task
+    → AllUnobserved (λ q. not (is_output_of task q)) task
     → IsMade kinds (entry_of task (with_outputs task files new))
-entry_made kinds task files new sorted right makes unseen =
+entry_made kinds task files new sorted right makes unobserved =
     ap (λ trees. made_of kinds task.actions task.values trees task.outputs) same_trees ∙ makes ∙ ap Ok (sym only_new)
   where
     rest : Files
@@ -124,7 +124,7 @@ entry_made kinds task files new sorted right makes unseen =
         outside false n o h = ap (λ m. or_else m o) (h refl)
 
     same_trees : trees_of task (with_outputs task files new) ≡ trees_of task files
-    same_trees = sym (trees_same (λ q. not (is_output_of task q)) task (with_outputs task files new) unseen) ∙ ap (trees_of task) same_rest ∙ trees_same (λ q. not (is_output_of task q)) task files unseen
+    same_trees = sym (trees_same (λ q. not (is_output_of task q)) task (with_outputs task files new) unobserved) ∙ ap (trees_of task) same_rest ∙ trees_same (λ q. not (is_output_of task q)) task files unobserved
 
     only_new : output_files task (with_outputs task files new) ≡ new
     only_new = same_files _ _ (sorted-where (is_output_of task) (with_outputs task files new) (sorted-put_over rest new (sorted-where (λ q. not (is_output_of task q)) files sorted))) right.in_order

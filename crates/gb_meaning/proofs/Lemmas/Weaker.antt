@@ -6,16 +6,16 @@ use Rattle.gb_report.specs.declared.report.Options.{Options}
 use Rattle.gb_report.specs.declared.report.TaskReport.{TaskReport}
 use Rattle.gb_folder.specs.Files.{Bytes}
 use Rattle.gb_plan.specs.declared.task.TaskDeclaration.{TaskDeclaration as Task}
-use Rattle.gb_meaning.proofs.Standing.{rules_of, standing, with_execution}
+use Rattle.gb_meaning.proofs.Existing.{rules_of, existing, with_execution}
 use Rattle.gb_meaning.specs.Kinds.{Kinds}
 use Rattle.gb_meaning.specs.Memory.{World, folder_contents}
 use Rattle.gb_plan.specs.Graph.{Plan}
 use Rattle.gb_plan.specs.declared.plan.Planned.{Planned}
 use Rattle.gb_meaning.specs.Label.{Moment}
-use Rattle.gb_meaning.specs.Execution.{May, Standing, Guard, Execution, Executions, Builds, moment_after}
+use Rattle.gb_meaning.specs.Execution.{May, WorldState, Guard, Execution, Executions, Builds, moment_after}
 
 -- an execution remains one where more faults may occur in it
-pub execution_weaker : (kinds : Kinds) (options : Options) (plan : Plan) (may wider : May) (moment : Moment) (planned : Planned) (report : TaskReport) (new : Standing)
+pub execution_weaker : (kinds : Kinds) (options : Options) (plan : Plan) (may wider : May) (moment : Moment) (planned : Planned) (report : TaskReport) (new : WorldState)
     → ((fault : Fault) → may planned.task moment new fault → wider planned.task moment new fault)
     → Execution (rules_of kinds options may plan) moment planned report new → Execution (rules_of kinds options wider plan) moment planned report new
 execution_weaker kinds options plan may wider moment planned report new widens execution = (
@@ -36,22 +36,22 @@ execution_weaker kinds options plan may wider moment planned report new widens e
   ],
 )
 
-module _ (kinds : Kinds) (options : Options) (plan : Plan) (may wider : May) (widens : (task : Task) (moment : Moment) (new : Standing) (fault : Fault) → may task moment new fault → wider task moment new fault)
+module _ (kinds : Kinds) (options : Options) (plan : Plan) (may wider : May) (widens : (task : Task) (moment : Moment) (new : WorldState) (fault : Fault) → may task moment new fault → wider task moment new fault)
     (assumed less : Guard) (grants : (contents : List Bytes) → less contents → assumed contents) where
-  pub executions_weaker : (seen : List Bytes) (rest : List Planned) (moment : Moment) (reports : List TaskReport) (new : World) (failures : ℕ)
-      → Executions (rules_of kinds options may plan) assumed seen rest moment reports (standing new failures) → Executions (rules_of kinds options wider plan) less seen rest moment reports (standing new failures)
-  executions_weaker seen [] moment [] new failures executions = executions
-  executions_weaker seen [] moment (report ∷ reports) new failures executions = executions
-  executions_weaker seen (planned ∷ rest) moment [] new failures executions = executions
-  executions_weaker seen (planned ∷ rest) moment (report ∷ reports) new failures executions = (
+  pub executions_weaker : (observed : List Bytes) (rest : List Planned) (moment : Moment) (reports : List TaskReport) (new : World) (failures : ℕ)
+      → Executions (rules_of kinds options may plan) assumed observed rest moment reports (existing new failures) → Executions (rules_of kinds options wider plan) less observed rest moment reports (existing new failures)
+  executions_weaker observed [] moment [] new failures executions = executions
+  executions_weaker observed [] moment (report ∷ reports) new failures executions = executions
+  executions_weaker observed (planned ∷ rest) moment [] new failures executions = executions
+  executions_weaker observed (planned ∷ rest) moment (report ∷ reports) new failures executions = (
     executions.0,
-    with_execution executions.1 (λ h. execution_weaker kinds options plan may wider moment planned report executions.0 (widens planned.task moment executions.0) (executions.1.execution (grants (seen ++ folder_contents moment.world) h))),
-    executions_weaker (seen ++ folder_contents moment.world) rest (moment_after moment report executions.0) reports new failures executions.2,
+    with_execution executions.1 (λ h. execution_weaker kinds options plan may wider moment planned report executions.0 (widens planned.task moment executions.0) (executions.1.execution (grants (observed ++ folder_contents moment.world) h))),
+    executions_weaker (observed ++ folder_contents moment.world) rest (moment_after moment report executions.0) reports new failures executions.2,
   )
 
-  pub builds_weaker : (seen : List Bytes) (before after : ℕ) (old new : World) (reports : List TaskReport)
-      → Builds (rules_of kinds options may plan) assumed seen (standing old before) reports (standing new after) → Builds (rules_of kinds options wider plan) less seen (standing old before) reports (standing new after)
-  builds_weaker seen before after old new reports builds = elim builds [
+  pub builds_weaker : (observed : List Bytes) (before after : ℕ) (old new : World) (reports : List TaskReport)
+      → Builds (rules_of kinds options may plan) assumed observed (existing old before) reports (existing new after) → Builds (rules_of kinds options wider plan) less observed (existing old before) reports (existing new after)
+  builds_weaker observed before after old new reports builds = elim builds [
     | inl dry ↦ inl dry
-    | inr run ↦ inr (run.0, executions_weaker seen plan (record { world = old; outcomes = []; failures = before }) reports new after run.1)
+    | inr run ↦ inr (run.0, executions_weaker observed plan (record { world = old; outcomes = []; failures = before }) reports new after run.1)
   ]

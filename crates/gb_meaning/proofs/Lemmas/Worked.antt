@@ -11,7 +11,7 @@ use Rattle.gb_report.specs.declared.report.TaskReport.{TaskReport}
 use Rattle.gb_folder.specs.Files.{IsFolder, is_empty, Place, Bytes, Files, files_where, is_blocked}
 use Rattle.gb_plan.specs.declared.task.TaskDeclaration.{TaskDeclaration as Task}
 use Rattle.gb_plan.specs.Task.{is_output_of}
-use Rattle.gb_meaning.proofs.Standing.{rules_of, standing}
+use Rattle.gb_meaning.proofs.Existing.{rules_of, existing}
 use Rattle.gb_meaning.proofs.Lemmas.Ending.{ended_is_made, none_blocked}
 use Rattle.gb_meaning.specs.Tree.{input_faults, listing_faults, has_no_source, trees_of}
 use Rattle.gb_meaning.specs.Kinds.{Kinds}
@@ -43,7 +43,7 @@ pub record Worked (kinds : Kinds) (task : Task) (old new : World) : Type 0 where
   pub makes : made kinds task old.folder.files ≡ Ok made_files
   pub room : is_empty (blocked_in (rest_of task old.folder.files) made_files) ≡ true
   pub files : new.folder.files ≡ with_outputs task old.folder.files made_files
-  pub odd : new.folder.odd ≡ old.folder.odd
+  pub special : new.folder.special ≡ old.folder.special
   pub memory : (new.memory ≡ old.memory) ⊎ (new.memory ≡ forget old.memory task.path) ⊎ (new.memory ≡ remember old.memory task.path (entry_of task new.folder.files))
 
 pub data Did (kinds : Kinds) (task : Task) (old new : World) : Type 0 where
@@ -87,7 +87,7 @@ module _ (kinds : Kinds) (options : Options) (plan : Plan) (task : Task) (moment
         makes = makes;
         room = room;
         files = ap (λ (w : World). w.folder.files) end.2 ∙ ap (with_outputs task old.folder.files) same;
-        odd = ap (λ (w : World). w.folder.odd) end.2;
+        special = ap (λ (w : World). w.folder.special) end.2;
         memory = memory_kept end.0 end.2;
       })
 
@@ -139,7 +139,7 @@ module _ (kinds : Kinds) (options : Options) (plan : Plan) (task : Task) (moment
             makes = ap (λ b. cond b (Ok []) (made_of kinds task.actions task.values (trees_of task old.folder.files) task.outputs)) source;
             room = refl;
             files = ap (λ (w : World). w.folder.files) end;
-            odd = ap (λ (w : World). w.folder.odd) end;
+            special = ap (λ (w : World). w.folder.special) end;
             memory = inr (inl (ap (λ (w : World). w.memory) end));
           })
       readable_case false source readable label = elim label [
@@ -154,15 +154,15 @@ module _ (kinds : Kinds) (options : Options) (plan : Plan) (task : Task) (moment
               makes = ap (λ b. cond b (Ok []) (made_of kinds task.actions task.values (trees_of task old.folder.files) task.outputs)) source ∙ shows.makes;
               room = shows.room;
               files = ap (λ (w : World). w.folder.files) same ∙ shows.same;
-              odd = ap (λ (w : World). w.folder.odd) same;
+              special = ap (λ (w : World). w.folder.special) same;
               memory = inl (ap (λ (w : World). w.memory) same);
             })
         | inr run ↦ ran outcome well source runs acts readable ((run_of kinds task old.folder.files).fault) refl run.1 leaves
       ]
 
-  pub what_it_did : (may_come : May) (failures : ℕ) (report : TaskReport) → is_failed report.outcome ≡ false → IsFolder old.folder.files → IsTrusted kinds old.memory task
-      → StartedExecution (rules_of kinds options may_come plan) moment task report (standing new failures) → Did kinds task old new
-  what_it_did may_come failures report well folder trusted execution = elim execution.label [
+  pub what_it_did : (may_occur : May) (failures : ℕ) (report : TaskReport) → is_failed report.outcome ≡ false → IsFolder old.folder.files → IsTrusted kinds old.memory task
+      → StartedExecution (rules_of kinds options may_occur plan) moment task report (existing new failures) → Did kinds task old new
+  what_it_did may_occur failures report well folder trusted execution = elim execution.label [
     | inl label ↦ by_case report.outcome well folder trusted task.runs (is_empty task.actions) (has_no_source task old.folder.files) refl refl refl label execution.leaves
     | inr fault ↦ not_failed report.outcome fault.0 well fault.2
   ]

@@ -11,7 +11,7 @@ use Rattle.gb_action.specs.declared.reply.Written.{Written}
 use Rattle.gb_report.specs.declared.report.Heard.{Heard}
 use Rattle.gb_report.specs.declared.report.Report.{Report}
 use Rattle.gb_report.specs.declared.report.Heard.TheVariants as heard
-use Rattle.gb_meaning.specs.Headline.{Ear, HaveHeard, counted, is_of_device, TearsAreSeen}
+use Rattle.gb_meaning.specs.Headline.{Ear, HaveHeard, counted, is_of_device, TornWritesAreDetected}
 use Rattle.gb_plan.specs.declared.task.TaskDeclaration.{TaskDeclaration as Task}
 use Rattle.gb_action.specs.declared.output.Form.TheVariants.{Dir as DirForm}
 use Rattle.gb_plan.specs.Task.{Text}
@@ -24,13 +24,13 @@ use Rattle.gb_meaning.proofs.Lemmas.Files.{same_place}
 use Rattle.gb_meaning.proofs.Rows.Copies.{before, only, folder, gen, at_first}
 use Rattle.gb_meaning.specs.Execution.{Leaves, InventsNothing, IsWritten}
 use Rattle.gb_meaning.specs.Outline.{Outlines}
-use Rattle.gb_meaning.specs.Events.{Setting, State, shown_in, may_come, StandsInRun, is_read_first, IsNotBuilt}
+use Rattle.gb_meaning.specs.Events.{Setting, State, shown_in, may_occur, ExistsInRun, is_read_first, IsNotBuilt}
 use Rattle.gb_meaning.specs.declared.events.Invocation.{Invocation}
 use Rattle.gb_plan.specs.Graph.{Registry}
 use Rattle.gb_meaning.specs.Made.{placed}
 use Rattle.gb_meaning.specs.Memory.{World}
 use Rattle.gb_tree.specs.declared.property.Naming.TheVariants.{Relative}
-use Rattle.gb_meaning.proofs.Standing.{standing}
+use Rattle.gb_meaning.proofs.Existing.{existing}
 use Rattle.std.specs.Result.{result_unwrap_or}
 use Rattle.gb_meaning.specs.Edits.{LossStep}
 use Rattle.std.specs.List.{count_by, items_where_true, list_any}
@@ -43,10 +43,10 @@ use Rattle.gb_meaning.proofs.Rows.Finalized.{plain_run}
 -- ---- A loss that is refused changes nothing outside `.gb`
 
 abbrev sources : Contents
-sources = record { files = (codes "src/a", codes "A") ∷ (codes "src/b", codes "B") ∷ []; odd = [] }
+sources = record { files = (codes "src/a", codes "A") ∷ (codes "src/b", codes "B") ∷ []; special = [] }
 
 abbrev less_sources : Contents
-less_sources = record { files = (codes "src/b", codes "B") ∷ []; odd = [] }
+less_sources = record { files = (codes "src/b", codes "B") ∷ []; special = [] }
 
 abbrev has_a : Contents → Bool
 has_a contents = list_any (λ file. bytes_eq file.0 (codes "src/a")) contents.files
@@ -59,7 +59,7 @@ no_place [] left place e = not_false (ap is_empty e)
 no_place (other ∷ gone) left place e = not_false (ap is_empty e)
 
 -- refused because memory ran out, the loss leaves the sources
-pub loss_keeps_sources : ¬ LossStep (λ place stood next left. ⊥) (shown_in (state_of sources)) (answers.Refused faults.OutOfMemory) (shown_in (state_of less_sources))
+pub loss_keeps_sources : ¬ LossStep (λ place existed next left. ⊥) (shown_in (state_of sources)) (answers.Refused faults.OutOfMemory) (shown_in (state_of less_sources))
 loss_keeps_sources step = elim step [
   | inl kept ↦ not_true (ap has_a kept.0)
   | inr cut ↦ no_place cut.1.gone cut.1.left cut.1.place cut.1.all
@@ -104,23 +104,23 @@ fails_alone x written (suc k, less, e) makes = absurd (omega arith)
 
 pub nothing_is_picked : (a b : Bytes) → ¬ Leaves row_kinds plain_run failing (folder [] []) fails (folder ((codes "build/o/x", a) ∷ (codes "build/o/y", b) ∷ []) [])
 nothing_is_picked a b leaves = elim (leaves.0.invents_nothing (codes "build/o/x") a refl refl) [
-  | inl stood ↦ none_some stood
+  | inl existed ↦ none_some existed
   | inr other ↦ elim other [
     | inl written ↦ fails_alone written.1 written.2 written.3 written.4
     | inr device ↦ not_true (ap (λ f. is_of_device f) device)
   ]
 ]
 
-abbrev text_stands : World
-text_stands = folder ((codes "build.gb", codes "..") ∷ (codes "build/a.txt", codes "abc") ∷ []) []
+abbrev text_exists : World
+text_exists = folder ((codes "build.gb", codes "..") ∷ (codes "build/a.txt", codes "abc") ∷ []) []
 
 -- no file of an action after the one that failed
 abbrev first_fails : Task
 first_fails = record gen { actions = action (codes "fail") (codes "no") ∷ action (codes "writeText") (codes "abc") ∷ [] }
 
-pub none_behind_the_failed : ¬ Leaves row_kinds plain_run first_fails before fails text_stands
-none_behind_the_failed leaves = elim (leaves.0.invents_nothing (codes "build/a.txt") (codes "abc") refl refl) [
-  | inl stood ↦ none_some stood
+pub none_after_the_failed : ¬ Leaves row_kinds plain_run first_fails before fails text_exists
+none_after_the_failed leaves = elim (leaves.0.invents_nothing (codes "build/a.txt") (codes "abc") refl refl) [
+  | inl existed ↦ none_some existed
   | inr other ↦ elim other [ inl written ↦ fails_alone written.1 written.2 written.3 written.4 | inr device ↦ not_true (ap (λ f. is_of_device f) device) ]
 ]
 
@@ -131,11 +131,11 @@ no_source = record gen { files = record { name = codes "src"; roots = codes "src
 abbrev has_text : World → Bool
 has_text world = list_any (λ file. bytes_eq file.0 (codes "build/a.txt")) world.folder.files
 
-pub none_without_source : ¬ Leaves row_kinds plain_run no_source before (outcomes.Failed faults.OutOfMemory) text_stands
+pub none_without_source : ¬ Leaves row_kinds plain_run no_source before (outcomes.Failed faults.OutOfMemory) text_exists
 none_without_source leaves = elim leaves [
   | inl same ↦ not_false (ap has_text same)
   | inr given ↦ elim (given.invents_nothing (codes "build/a.txt") (codes "abc") refl refl) [
-    | inl stood ↦ none_some stood
+    | inl existed ↦ none_some existed
     | inr other ↦ elim other [ inl written ↦ not_false written.0 | inr device ↦ not_true (ap (λ f. is_of_device f) device) ]
   ]
 ]
@@ -145,14 +145,14 @@ none_without_source leaves = elim leaves [
 abbrev says_r : RecordTexts
 says_r path reported bytes = bytes ≡ codes "R"
 
-abbrev fronts : Tearing
-fronts place old new left = (bytes : Bytes) × (count : ℕ) × (new ≡ Some bytes) × (left ≡ Some (take count bytes))
+abbrev prefixes : Tearing
+prefixes place old new left = (bytes : Bytes) × (count : ℕ) × (new ≡ Some bytes) × (left ≡ Some (take count bytes))
 
 -- A prefix of what the tool writes is that text or no text of a record, though a prefix of other bytes may be
 -- one.
-pub fronts_are_seen : TearsAreSeen says_r (λ path. path) fronts
-fronts_are_seen path old None left is of_tool torn = none_some torn.2
-fronts_are_seen path old (Some text) left is of_tool torn = by_count torn.1 (torn.3 ∙ ap (λ b. Some (take torn.1 b)) (sym (some_same torn.2) ∙ of_tool.1))
+pub prefixes_are_observed : TornWritesAreDetected says_r (λ path. path) prefixes
+prefixes_are_observed path old None left is of_tool torn = none_some torn.2
+prefixes_are_observed path old (Some text) left is of_tool torn = by_count torn.1 (torn.3 ∙ ap (λ b. Some (take torn.1 b)) (sym (some_same torn.2) ∙ of_tool.1))
   where
     none_left : (n : ℕ) → take {A = ℕ} n [] ≡ []
     none_left zero = refl
@@ -212,7 +212,7 @@ abbrev stopped : Fault
 stopped = faults.Device (codes "build/a.txt")
 
 torn_invents_nothing : InventsNothing row_kinds gen stopped before (folder torn_files [])
-torn_invents_nothing place bytes out stands =
+torn_invents_nothing place bytes out exists =
     elim (eq_by_cmp byte_order place (codes "build.gb")) as (λ b. cond b (Some (codes "..")) (cond (eq_by_cmp byte_order place (codes "build/a.txt")) (Some (codes "ab")) None) ≡ Some bytes
     → (cond b (Some (codes "..")) None ≡ Some bytes) ⊎ IsWritten row_kinds gen before.folder.files place bytes ⊎ (stopped ≡ faults.Device place)) [
       | true ↦ λ e. inl e
@@ -221,12 +221,12 @@ torn_invents_nothing place bytes out stands =
             | true ↦ λ same _. inr (inr (ap (λ p. faults.Device p) (sym (same_place place (codes "build/a.txt") same))))
             | false ↦ λ _ none. none_some none
           ] refl e
-    ] stands
+    ] exists
 
 pub torn_write : Leaves row_kinds plain_run gen before (outcomes.Failed stopped) (folder torn_files [])
 torn_write = (
   λ current. none_some current.same,
-  inr (inl (record { files = refl; invents_nothing = torn_invents_nothing; odd = refl; memory = refl }, λ incremental. none_some incremental.remembered)),
+  inr (inl (record { files = refl; invents_nothing = torn_invents_nothing; special = refl; memory = refl }, λ incremental. none_some incremental.remembered)),
 )
 
 -- ---- Where the device failed in a write: the place has what it had, what was written, or what it may leave
@@ -245,15 +245,15 @@ with_device may_leave = record {
 abbrev gen_writes : IsWritten row_kinds gen before.folder.files (codes "build/a.txt") (codes "abc")
 gen_writes = (refl, action (codes "writeText") (codes "abc"), record { output = codes "out"; path = []; bytes = codes "abc" } ∷ [], (0, lit≤ tt, refl), refl, (0, lit≤ tt, refl))
 
-pub front_may_stand : (own : Files) → may_come (with_device fronts) own plain_run gen (at_first before) (standing (folder torn_files []) 1) stopped
-front_may_stand own = (inl (omega arith), refl, inr (None, Some (codes "abc"), tt, inr gen_writes, (codes "abc", 2, refl, refl)))
+pub prefix_may_exist : (own : Files) → may_occur (with_device prefixes) own plain_run gen (at_first before) (existing (folder torn_files []) 1) stopped
+prefix_may_exist own = (inl (omega arith), refl, inr (None, Some (codes "abc"), tt, inr gen_writes, (codes "abc", 2, refl, refl)))
 
 -- leaves what was there, or what was being written
 abbrev whole : Tearing
-whole place stood next left = (left ≡ stood) ⊎ (left ≡ next)
+whole place existed next left = (left ≡ existed) ⊎ (left ≡ next)
 
-only_text : (bytes : Bytes) → StandsInRun row_kinds gen before.folder.files (codes "build/a.txt") (Some bytes) → bytes ≡ codes "abc"
-only_text bytes (inl stood) = none_some stood
+only_text : (bytes : Bytes) → ExistsInRun row_kinds gen before.folder.files (codes "build/a.txt") (Some bytes) → bytes ≡ codes "abc"
+only_text bytes (inl existed) = none_some existed
 only_text bytes (inr written) = of_action written.1 written.2 written.3 written.4 written.5
   where
     in_one : Contains {X = Bytes × Bytes} ((codes "build/a.txt", codes "abc") ∷ []) (codes "build/a.txt", bytes) → bytes ≡ codes "abc"
@@ -270,13 +270,13 @@ only_text bytes (inr written) = of_action written.1 written.2 written.3 written.
 no_lie : codes "lie" ≡ codes "abc" → ⊥
 no_lie e = not_true (ap (bytes_eq (codes "abc")) e)
 
-pub nothing_else_stands : (own : Files) → ¬ may_come (with_device whole) own plain_run gen (at_first before)
-    (standing (folder ((codes "build.gb", codes "..") ∷ (codes "build/a.txt", codes "lie") ∷ []) []) 1) stopped
-nothing_else_stands own comes = elim comes.2 [
-  | inl stands ↦ no_lie (only_text (codes "lie") stands)
+pub nothing_else_exists : (own : Files) → ¬ may_occur (with_device whole) own plain_run gen (at_first before)
+    (existing (folder ((codes "build.gb", codes "..") ∷ (codes "build/a.txt", codes "lie") ∷ []) []) 1) stopped
+nothing_else_exists own comes = elim comes.2 [
+  | inl exists ↦ no_lie (only_text (codes "lie") exists)
   | inr torn ↦ elim torn.4 [
-    | inl stood ↦ no_lie (only_text (codes "lie") (subst (StandsInRun row_kinds gen before.folder.files (codes "build/a.txt")) (sym stood) torn.2))
-    | inr next ↦ no_lie (only_text (codes "lie") (subst (StandsInRun row_kinds gen before.folder.files (codes "build/a.txt")) (sym next) torn.3))
+    | inl existed ↦ no_lie (only_text (codes "lie") (subst (ExistsInRun row_kinds gen before.folder.files (codes "build/a.txt")) (sym existed) torn.2))
+    | inr next ↦ no_lie (only_text (codes "lie") (subst (ExistsInRun row_kinds gen before.folder.files (codes "build/a.txt")) (sym next) torn.3))
   ]
 ]
 
@@ -314,5 +314,5 @@ dry_run_reads_no_record count = not_read true (codes ".gb/x") count refl
 
 -- ---- A record whose place is invalid cannot be written
 
-pub no_place_is_reported : may_come (record (with_device whole) { record_place = λ path. [] }) [] plain_run gen (at_first before) (standing before 0) faults.HistoryNotWritten
+pub no_place_is_reported : may_occur (record (with_device whole) { record_place = λ path. [] }) [] plain_run gen (at_first before) (existing before 0) faults.HistoryNotWritten
 no_place_is_reported = ((λ current. none_some current.same, inl refl), inr (inl refl))

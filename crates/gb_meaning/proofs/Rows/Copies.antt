@@ -14,7 +14,7 @@ use Rattle.gb_plan.specs.declared.task.FileProperty.{FileProperty}
 use Rattle.gb_action.specs.declared.output.Form.TheVariants.{File as FileForm, Dir as DirForm}
 use Rattle.gb_plan.specs.Graph.{Plan}
 use Rattle.gb_tree.specs.declared.property.Naming.TheVariants.{Relative}
-use Rattle.gb_meaning.proofs.Standing.{rules_of, standing}
+use Rattle.gb_meaning.proofs.Existing.{rules_of, existing}
 use Rattle.gb_meaning.specs.Memory.{World, Entry, Memory, entry_of}
 use Rattle.gb_meaning.specs.Tree.{tree_faults}
 use Rattle.gb_meaning.specs.Made.{made}
@@ -35,7 +35,7 @@ abbrev pub at_first : World → Moment
 at_first world = record { world = world; outcomes = []; failures = 0 }
 
 abbrev pub folder : Files → Memory → World
-folder files memory = record { folder = record { files = files; odd = [] }; memory = memory }
+folder files memory = record { folder = record { files = files; special = [] }; memory = memory }
 
 -- ---- A text
 
@@ -74,7 +74,7 @@ after_gen = folder with_text ((codes ":gen", gen_entry) ∷ [])
 pub scratch_gen : from_scratch row_kinds plain_run (only gen) before.folder ≡ Some with_text
 scratch_gen = refl
 
-pub gen_runs : StartedExecution (rules_of row_kinds plain_run no_fault_comes (only gen)) (at_first before) gen (reported gen outcomes.Executed []) (standing after_gen 0)
+pub gen_runs : StartedExecution (rules_of row_kinds plain_run no_fault_comes (only gen)) (at_first before) gen (reported gen outcomes.Executed []) (existing after_gen 0)
 gen_runs = record {
   label = inl (inr (λ current. none_some current.same, refl));
   leaves = inr (refl, ((codes "build/a.txt", codes "abc") ∷ [], refl, refl));
@@ -83,7 +83,7 @@ gen_runs = record {
   begun = λ fault is printed. absurd (cc);
 }
 
-pub gen_is_current : StartedExecution (rules_of row_kinds plain_run no_fault_comes (only gen)) (at_first after_gen) gen (reported gen outcomes.UpToDate []) (standing after_gen 0)
+pub gen_is_current : StartedExecution (rules_of row_kinds plain_run no_fault_comes (only gen)) (at_first after_gen) gen (reported gen outcomes.UpToDate []) (existing after_gen 0)
 gen_is_current = record {
   label = inl (inl (record { has_outputs = refl; not_stale = refl; no_rerun = refl; same = refl }, refl));
   leaves = refl;
@@ -129,7 +129,7 @@ copied = (codes "build/o/a", codes "A") ∷ (codes "build/o/b", codes "B") ∷ (
 abbrev pub after_copy : World
 after_copy = folder copied ((codes ":cp", entry_of cp copied) ∷ [])
 
-pub cp_runs : StartedExecution (rules_of row_kinds plain_run no_fault_comes (only cp)) (at_first three) cp (reported cp outcomes.Executed (codes "ADDED a" ∷ codes "ADDED b" ∷ codes "ADDED c" ∷ [])) (standing after_copy 0)
+pub cp_runs : StartedExecution (rules_of row_kinds plain_run no_fault_comes (only cp)) (at_first three) cp (reported cp outcomes.Executed (codes "ADDED a" ∷ codes "ADDED b" ∷ codes "ADDED c" ∷ [])) (existing after_copy 0)
 cp_runs = record {
   label = inl (inr (λ current. none_some current.same, refl));
   leaves = inr (refl, ((codes "build/o/a", codes "A") ∷ (codes "build/o/b", codes "B") ∷ (codes "build/o/c", codes "C") ∷ [], refl, refl));
@@ -166,7 +166,7 @@ cp_is_incremental = record {
 abbrev has_b : Option Entry → Bool
 has_b entry = list_any (λ tree. list_any (λ file. bytes_eq file.0 (codes "b")) tree.1) (unwrap_or entry (entry_of gen [])).inputs
 
-pub cp_follows : StartedExecution (rules_of row_kinds plain_run no_fault_comes (only cp)) (at_first edited) cp (reported cp outcomes.Executed (codes "MODIFIED a" ∷ codes "REMOVED b" ∷ codes "ADDED d" ∷ [])) (standing (folder copied_again ((codes ":cp", entry_of cp copied_again) ∷ [])) 0)
+pub cp_follows : StartedExecution (rules_of row_kinds plain_run no_fault_comes (only cp)) (at_first edited) cp (reported cp outcomes.Executed (codes "MODIFIED a" ∷ codes "REMOVED b" ∷ codes "ADDED d" ∷ [])) (existing (folder copied_again ((codes ":cp", entry_of cp copied_again) ∷ [])) 0)
 unfolding cp_is_incremental
 cp_follows = record {
   label = inl (inr (λ current. not_false (ap has_b current.same), refl));
@@ -183,7 +183,7 @@ scratch_cp = refl
 abbrev pub emptied : World
 emptied = folder ((codes "build/o/a", codes "X") ∷ (codes "build/o/c", codes "C") ∷ (codes "build/o/d", codes "D") ∷ []) ((codes ":cp", entry_of cp copied_again) ∷ [])
 
-pub cp_has_no_source : StartedExecution (rules_of row_kinds plain_run no_fault_comes (only cp)) (at_first emptied) cp (reported cp outcomes.NoSource []) (standing (folder [] []) 0)
+pub cp_has_no_source : StartedExecution (rules_of row_kinds plain_run no_fault_comes (only cp)) (at_first emptied) cp (reported cp outcomes.NoSource []) (existing (folder [] []) 0)
 cp_has_no_source = record { label = inl refl; leaves = refl; prints = refl; reading = λ place is out. absurd (cc); begun = λ fault is printed. absurd (cc) }
 
 pub scratch_no_source : from_scratch row_kinds plain_run (only cp) emptied.folder ≡ Some []
@@ -204,7 +204,7 @@ foreign_not_incremental : ¬ IsIncremental row_kinds plain_run cp foreign
 foreign_not_incremental incremental =
     not_true (ap has_zz (ap files_of incremental.remembered ∙ incremental.same_files))
 
-pub cp_clears : StartedExecution (rules_of row_kinds plain_run no_fault_comes (only cp)) (at_first foreign) cp (reported cp outcomes.Executed (codes "ADDED a" ∷ codes "ADDED c" ∷ codes "ADDED d" ∷ [])) (standing (folder copied_again ((codes ":cp", entry_of cp copied_again) ∷ [])) 0)
+pub cp_clears : StartedExecution (rules_of row_kinds plain_run no_fault_comes (only cp)) (at_first foreign) cp (reported cp outcomes.Executed (codes "ADDED a" ∷ codes "ADDED c" ∷ codes "ADDED d" ∷ [])) (existing (folder copied_again ((codes ":cp", entry_of cp copied_again) ∷ [])) 0)
 cp_clears = record {
   label = inl (inr (λ current. not_true (ap (λ o. has_zz (files_of o)) current.same), refl));
   leaves = inr (refl, ((codes "build/o/a", codes "X") ∷ (codes "build/o/c", codes "C") ∷ (codes "build/o/d", codes "D") ∷ [], refl, refl));
@@ -233,6 +233,6 @@ both_makes = refl
 abbrev pub two_roots : FileProperty
 two_roots = record { name = codes "src"; roots = codes "m" ∷ codes "n" ∷ []; include = []; exclude = []; incremental = false; skip_when_empty = false; naming = Relative }
 
-pub one_path_twice : tree_faults two_roots (record { files = (codes "m/a", codes "1") ∷ (codes "n/a", codes "2") ∷ []; odd = [] })
+pub one_path_twice : tree_faults two_roots (record { files = (codes "m/a", codes "1") ∷ (codes "n/a", codes "2") ∷ []; special = [] })
     ≡ faults.DuplicateInput (codes "src") (codes "a") ∷ []
 one_path_twice = refl

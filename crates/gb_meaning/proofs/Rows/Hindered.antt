@@ -6,8 +6,8 @@ use Rattle.gb_plan.specs.Graph.{absolute}
 use Rattle.gb_core.specs.Path.{is_task_path}
 use Rattle.gb_tree.specs.Pattern.{path_matches, spelled_out}
 use Rattle.gb_tree.specs.Property.{doubled, in_order, paths_of}
-use Rattle.gb_meaning.proofs.Standing.{rules_of, standing}
-use Rattle.gb_meaning.specs.Events.{Setting, may_come}
+use Rattle.gb_meaning.proofs.Existing.{rules_of, existing}
+use Rattle.gb_meaning.specs.Events.{Setting, may_occur}
 use Rattle.std.specs.Str.{chars}
 use Rattle.std.specs.Prelude.{map, ◌≡◌, ◌⊎◌, List, true, false, [], ◌∷◌, codes, refl, Err, IsTrue, bytes_eq}
 use Rattle.std.specs.List.{list_any}
@@ -23,7 +23,7 @@ use Rattle.gb_action.specs.declared.change.Change.TheVariants.{Removed, Modified
 use Rattle.gb_meaning.specs.Memory.{World, Entry}
 use Rattle.gb_meaning.specs.Label.{IsLabel}
 use Rattle.gb_report.specs.Outcome.{is_executed, is_started}
-use Rattle.gb_meaning.specs.TrueRecord.{AreApart}
+use Rattle.gb_meaning.specs.TrueRecord.{AreCollisionFree}
 use Rattle.gb_meaning.specs.Execution.{Guard, StartedExecution, Prints, Executions, TouchesRecord}
 use Rattle.gb_meaning.proofs.RowKinds.{row_kinds}
 use Rattle.gb_plan.proofs.Tests.{not_true, not_false}
@@ -40,10 +40,10 @@ gen_fail = record gen { actions = action (codes "writeText") (codes "abc") ∷ a
 abbrev pub blocked : World
 blocked = folder ((codes "build", codes "x") ∷ []) []
 
-pub no_room : StartedExecution (rules_of row_kinds plain_run no_fault_comes (only gen_fail)) (at_first blocked) gen_fail (reported gen_fail (outcomes.Failed (faults.Blocked (codes "build/a.txt"))) []) (standing blocked 0)
+pub no_room : StartedExecution (rules_of row_kinds plain_run no_fault_comes (only gen_fail)) (at_first blocked) gen_fail (reported gen_fail (outcomes.Failed (faults.Blocked (codes "build/a.txt"))) []) (existing blocked 0)
 no_room = record {
   label = inl (inr (λ current. none_some current.same, refl));
-  leaves = (record { files = refl; invents_nothing = λ place bytes out stands. inl stands; odd = refl; memory = refl }, λ incremental files made place bytes new old. old);
+  leaves = (record { files = refl; invents_nothing = λ place bytes out exists. inl exists; special = refl; memory = refl }, λ incremental files made place bytes new old. old);
   prints = ([], inr (λ incremental. none_some incremental.remembered, refl), refl);
   reading = λ place is out. absurd (cc);
   begun = λ fault is printed. absurd (cc);
@@ -58,12 +58,12 @@ fails = inr (λ current. none_some current.same, refl)
 pub touches_none : ¬ TouchesRecord plain_run p before
 touches_none touches = elim touches.1 [ inl outputs ↦ not_false outputs | inr entry ↦ entry refl ]
 
-pub none_unwritten : (setting : Setting) (own : Files) → ¬ may_come setting own plain_run p (at_first before) (standing before 0) faults.HistoryNotWritten
+pub none_unwritten : (setting : Setting) (own : Files) → ¬ may_occur setting own plain_run p (at_first before) (existing before 0) faults.HistoryNotWritten
 none_unwritten setting own come = touches_none come.0
 
 -- ---- After one failure of the device, a later execution may not report it again
 
-pub second_blame : (setting : Setting) (own : Files) → ¬ may_come setting own plain_run p (record { world = before; outcomes = []; failures = 1 }) (standing before 1) (faults.Device (codes "src"))
+pub second_blame : (setting : Setting) (own : Files) → ¬ may_occur setting own plain_run p (record { world = before; outcomes = []; failures = 1 }) (existing before 1) (faults.Device (codes "src"))
 second_blame setting own come = elim come.0 [ inl risen ↦ omega arith | inr last ↦ omega arith ]
 
 -- ---- A current task prints nothing, whatever it fails with
@@ -89,9 +89,9 @@ prints_none prints = elim prints [
 -- ---- Without memory a label is right, though all contents have the same digest
 
 abbrev pub all_collide : Guard
-all_collide contents = IsTrue (is_empty before.memory) ⊎ AreApart (λ bytes. []) contents
+all_collide contents = IsTrue (is_empty before.memory) ⊎ AreCollisionFree (λ bytes. []) contents
 
-pub no_lie : (new : World) → ¬ Executions (rules_of row_kinds plain_run no_fault_comes (only gen)) all_collide [] (only gen) (at_first before) (reported gen outcomes.UpToDate [] ∷ []) (standing new 0)
+pub no_lie : (new : World) → ¬ Executions (rules_of row_kinds plain_run no_fault_comes (only gen)) all_collide [] (only gen) (at_first before) (reported gen outcomes.UpToDate [] ∷ []) (existing new 0)
 no_lie new executions = elim (executions.1.execution (inl refl)).2 [
   | inl started ↦ elim started.1.label [
     | inl label ↦ elim label [

@@ -10,7 +10,7 @@ use Rattle.gb_plan.specs.declared.task.Output.{Output}
 use Rattle.gb_action.specs.declared.output.Form.TheVariants.{File as FileForm}
 use Rattle.gb_plan.specs.Graph.{Plan}
 use Rattle.gb_tree.specs.declared.property.Naming.TheVariants.{Relative}
-use Rattle.gb_meaning.proofs.Standing.{rules_of, standing}
+use Rattle.gb_meaning.proofs.Existing.{rules_of, existing}
 use Rattle.gb_meaning.specs.Memory.{World, entry_of}
 use Rattle.gb_meaning.specs.Scratch.{from_scratch}
 use Rattle.gb_meaning.specs.Execution.{Builds}
@@ -26,30 +26,30 @@ use Rattle.gb_meaning.proofs.Rows.Copies.{folder}
 abbrev pub skipped : Task
 skipped = record a { runs = false }
 
-abbrev pub behind_skipped : Plan
-behind_skipped = record { task = skipped; word = 0; is_selected = false } ∷ record { task = reads_x (codes ":a" ∷ []) []; word = 0; is_selected = true } ∷ []
+abbrev pub after_skipped : Plan
+after_skipped = record { task = skipped; word = 0; is_selected = false } ∷ record { task = reads_x (codes ":a" ∷ []) []; word = 0; is_selected = true } ∷ []
 
 abbrev pub both_ran : World
 both_ran = folder ((codes "build/x", codes "A") ∷ (codes "build/y", codes "A") ∷ [])
     ((codes ":a", entry_of a ((codes "build/x", codes "A") ∷ [])) ∷ (codes ":b", entry_of (reads_x (codes ":a" ∷ []) []) ((codes "build/x", codes "A") ∷ (codes "build/y", codes "A") ∷ [])) ∷ [])
 
 -- the skipped task's file stays, and is an input of the next
-pub scratch_behind_skipped : from_scratch row_kinds plain_run behind_skipped (record { files = (codes "build/x", codes "Z") ∷ (codes "build/y", codes "A") ∷ []; odd = [] })
+pub scratch_after_skipped : from_scratch row_kinds plain_run after_skipped (record { files = (codes "build/x", codes "Z") ∷ (codes "build/y", codes "A") ∷ []; special = [] })
     ≡ Some ((codes "build/x", codes "Z") ∷ (codes "build/y", codes "Z") ∷ [])
-scratch_behind_skipped = refl
+scratch_after_skipped = refl
 
 abbrev ran_folder : IsFolder both_ran.folder.files
 ran_folder = record { in_order = refl; none_blocked = refl }
 
-pub second_run : Builds (rules_of row_kinds plain_run no_fault_comes behind_skipped) all_assumed [] (standing both_ran 0) (reported skipped outcomes.Skipped [] ∷ reported (reads_x (codes ":a" ∷ []) []) outcomes.UpToDate [] ∷ []) (standing both_ran 0)
+pub second_run : Builds (rules_of row_kinds plain_run no_fault_comes after_skipped) all_assumed [] (existing both_ran 0) (reported skipped outcomes.Skipped [] ∷ reported (reads_x (codes ":a" ∷ []) []) outcomes.UpToDate [] ∷ []) (existing both_ran 0)
 second_run = inr (
   refl,
   (
-    standing both_ran 0,
+    existing both_ran 0,
     record {
       folder = ran_folder;
       files = refl;
-      odd = refl;
+      special = refl;
       count = lit≤ tt;
       execution = λ assumed. (
         refl,
@@ -61,11 +61,11 @@ second_run = inr (
       );
     },
     (
-      standing both_ran 0,
+      existing both_ran 0,
       record {
         folder = ran_folder;
         files = refl;
-        odd = refl;
+        special = refl;
         count = lit≤ tt;
         execution = λ assumed. (
           refl,

@@ -11,7 +11,7 @@ use Rattle.gb_plan.specs.Graph.{start}
 use Rattle.gb_report.specs.declared.fault.Fault.{Fault}
 use Rattle.gb_report.specs.declared.fault.Fault.TheVariants as faults
 use Rattle.gb_plan.specs.declared.task.TaskDeclaration.{TaskDeclaration as Task}
-use Rattle.gb_meaning.proofs.Standing.{rules_of, standing}
+use Rattle.gb_meaning.proofs.Existing.{rules_of, existing}
 use Rattle.gb_meaning.specs.Memory.{World, Entry, entry_of}
 use Rattle.gb_meaning.specs.Label.{IsLabel}
 use Rattle.gb_report.specs.Outcome.{is_executed, is_started}
@@ -75,7 +75,7 @@ abbrev is_unwritten : Fault → Bool
 is_unwritten faults.HistoryNotWritten = true
 is_unwritten other = false
 
-pub unbegun_prints_nothing : ¬ StartedExecution (rules_of row_kinds plain_run wants_memory (only cp)) (at_first edited) cp (reported cp (outcomes.Failed faults.OutOfMemory) (codes "MODIFIED a" ∷ [])) (standing edited 0)
+pub unbegun_prints_nothing : ¬ StartedExecution (rules_of row_kinds plain_run wants_memory (only cp)) (at_first edited) cp (reported cp (outcomes.Failed faults.OutOfMemory) (codes "MODIFIED a" ∷ [])) (existing edited 0)
 unbegun_prints_nothing execution = elim (execution.begun faults.OutOfMemory refl refl) [
   | inl given ↦ not_true (ap is_empty given.0.memory)
   | inr ended ↦ not_true (ap is_unwritten ended.0)
@@ -89,7 +89,7 @@ pub begun_is_forgotten : ¬ Leaves row_kinds plain_run failing_gen after_gen (ou
 begun_is_forgotten leaves = not_true (ap is_empty leaves.0.memory)
 
 -- a finalizer of a started task that is left out
-pub finalizer_is_not_passed_over : ¬ Execution (rules_of row_kinds plain_run no_fault_comes plan) second (record { task = fin; word = 0; is_selected = false }) (reported fin outcomes.NotRun []) (standing world 0)
+pub finalizer_is_not_passed_over : ¬ Execution (rules_of row_kinds plain_run no_fault_comes plan) second (record { task = fin; word = 0; is_selected = false }) (reported fin outcomes.NotRun []) (existing world 0)
 finalizer_is_not_passed_over execution = elim execution.2 [
   | inl started ↦ elim started.1.label [
     | inl label ↦ elim label [

@@ -27,27 +27,27 @@ returns-clause-reply g c =
     let between = F.failures c.read_registry.new.folder in
     let after = F.failures c.check_configured.new.folder in
     let tables = tables_of g.T.Transforms.meanings M c.args.tables.now in
-    let given = c.args.asked.now.properties in
-    let said : IsTrue F.tells → FolderSays tables old.files given (Ok source) =
-    λ tells. subst (λ values. FolderSays tables old.files values (Ok source)) (c.into_vec-given.ensures ∙ c.in_ok-copied.ensures) (c.in_ok-configured.ensures.said tells) in
-    let found : IfOk c.check_configured.result (AreFindingsOf tables F.tells source mid) =
-    subst (λ (handed_in : tables_of_code.Tables _ _ _ _ _ _ _). IfOk c.check_configured.result (AreFindingsOf (tables_of g.T.Transforms.meanings M handed_in) F.tells source mid)) c.in_ok-configured.ensures.tables c.check_configured.ensures.found in
+    let given = c.args.allowed.now.properties in
+    let said : IsTrue F.faithful → FolderSays tables old.files given (Ok source) =
+    λ faithful. subst (λ values. FolderSays tables old.files values (Ok source)) (c.into_vec-given.ensures ∙ c.in_ok-copied.ensures) (c.in_ok-configured.ensures.said faithful) in
+    let found : IfOk c.check_configured.result (AreFindingsOf tables F.faithful source mid) =
+    subst (λ (handed_in : tables_of_code.Tables _ _ _ _ _ _ _). IfOk c.check_configured.result (AreFindingsOf (tables_of g.T.Transforms.meanings M handed_in) F.faithful source mid)) c.in_ok-configured.ensures.tables c.check_configured.ensures.found in
     let Unread : Contents → Fault → Type 0 = λ contents fault. (scripts : List (Path × List Statement)) × IsRead source scripts × IsUnread contents.files scripts fault in
     let Bad : Fault → Type 0 = λ fault. IsOfMachine between after fault ⊎ Unread mid fault in
     let Worse : Fault → Type 0 = λ fault. IsOfMachine before after fault ⊎ FolderSays tables old.files given (Err fault) in
-    match_of c.check_configured.result (AreFindingsOf tables F.tells source mid) (IsChecked tables F.tells c.args.asked.now old) F.tells Bad Worse
+    match_of c.check_configured.result (AreFindingsOf tables F.faithful source mid) (IsChecked tables F.faithful c.args.allowed.now old) F.faithful Bad Worse
     (λ findings are.
-    let here : AreFindingsOf tables F.tells source old findings = found_in_same tables F.tells old mid c.read_registry.ensures.same source findings are in
+    let here : AreFindingsOf tables F.faithful source old findings = found_in_same tables F.faithful old mid c.read_registry.ensures.same source findings are in
     record {
       source = source;
       said = said;
       found_of = here;
-      quiet = λ tells none. quiet tables source old given (said tells) (here.findings.silent (sym here.faults ∙ none));
+      quiet = λ faithful none. quiet tables source old given (said faithful) (here.findings.silent (sym here.faults ∙ none));
     })
-    (λ fault tells bad.
+    (λ fault faithful bad.
     elim bad as (λ _. Worse fault) [
-      | inl machine ↦ inl (machine_before before between after fault c.read_registry.ensures.asks.count c.check_configured.ensures.asks.count machine)
-      | inr unread ↦ absurd (none_again tables old.files given source unread.0 fault (said tells) unread.1 (subst (λ (contents : Contents). IsUnread contents.files unread.0 fault) (c.read_registry.ensures.same tells) unread.2))
+      | inl machine ↦ inl (machine_before before between after fault c.read_registry.ensures.requests.count c.check_configured.ensures.requests.count machine)
+      | inr unread ↦ absurd (none_again tables old.files given source unread.0 fault (said faithful) unread.1 (subst (λ (contents : Contents). IsUnread contents.files unread.0 fault) (c.read_registry.ensures.same faithful) unread.2))
     ])
     found
     c.check_configured.ensures.err
@@ -60,6 +60,6 @@ returns-in_err-configured-clause-reply g c =
     let fault = c.in_err-configured.field-0.0 in
     let Refused : List (List _ × List _) → Fault → Type 0 = λ given fault.
     IsOfMachine (F.failures c.args.folder.now) (F.failures c.read_registry.new.folder) fault ⊎ FolderSays tables files given (Err fault) in
-    handed (IsChecked tables F.tells c.args.asked.now (F.contents c.args.folder.now)) (λ fault. IsTrue F.tells → Refused c.args.asked.now.properties fault)
+    handed (IsChecked tables F.faithful c.args.allowed.now (F.contents c.args.folder.now)) (λ fault. IsTrue F.faithful → Refused c.args.allowed.now.properties fault)
     c.from_residual-in_err-configured.result fault c.from_residual-in_err-configured.ensures.1
-    (λ tells. subst (λ given. Refused given fault) (c.into_vec-given.ensures ∙ c.in_ok-copied.ensures) (c.in_err-configured.ensures.said tells))
+    (λ faithful. subst (λ given. Refused given fault) (c.into_vec-given.ensures ∙ c.in_ok-copied.ensures) (c.in_err-configured.ensures.said faithful))

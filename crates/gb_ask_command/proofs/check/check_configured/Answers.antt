@@ -5,7 +5,7 @@ use Rattle.gb_declare.specs.Registered.{registry_said}
 use Rattle.gb_plan.specs.Graph.{paths_of}
 use Rattle.gb_registry.specs.Projects.{Path}
 use Rattle.gb_registry.specs.Read.{IsRead}
-use Rattle.gb_registry.specs.Seen.{scripts_in}
+use Rattle.gb_registry.specs.SoFar.{scripts_in}
 use Rattle.gb_registry.specs.Tables.{tables_of}
 use Rattle.gb_report.specs.declared.fault.Fault.{Fault}
 use Rattle.gb_script.specs.declared.script.Statement.{Statement}
@@ -31,7 +31,7 @@ returns-clause-found g c =
       in_tasks = found;
       findings = c.in_ok-found.ensures.found;
       left = left;
-      are_left = left_of_same F.tells (F.contents c.args.folder.now) (F.contents c.check_tasks.new.folder) c.check_tasks.ensures.same
+      are_left = left_of_same F.faithful (F.contents c.args.folder.now) (F.contents c.check_tasks.new.folder) c.check_tasks.ensures.same
           (paths_of (registry_said tables source)) left c.in_ok-left.ensures.found;
       faults = reported.0;
       warnings =
@@ -40,7 +40,7 @@ returns-clause-found g c =
     }
 
 pub returns-in_err-left-clause-err : goal.returns-in_err-left-clause-err
-returns-in_err-left-clause-err g c = λ tells.
+returns-in_err-left-clause-err g c = λ faithful.
     let F = g.F.Folder in
     let files = (F.contents c.args.folder.now).files in
     let failures = F.failures in
@@ -50,4 +50,4 @@ returns-in_err-left-clause-err g c = λ tells.
     ⊎ ((scripts : List (Path × List Statement)) × IsRead source scripts × IsUnread files scripts fault) in
     let fault = c.in_err-left.field-0.0 in
     handed Bad c.from_residual-in_err-left.result fault c.from_residual-in_err-left.ensures.1
-    (inl (machine_before _ _ _ fault c.check_tasks.ensures.asks.count c.warn_left.ensures.asks.count (c.in_err-left.ensures.err tells)))
+    (inl (machine_before _ _ _ fault c.check_tasks.ensures.requests.count c.warn_left.ensures.requests.count (c.in_err-left.ensures.err faithful)))

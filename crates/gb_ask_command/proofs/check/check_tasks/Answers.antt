@@ -1,7 +1,7 @@
 use Rattle.std.proofs.Common.{◌≡◌, ap, subst, sym, ◌∙◌}
 use Rattle.std.specs.Prelude.{IfOk}
 use Rattle.gb_plan.specs.Graph.{Registry, paths_of}
-use Rattle.gb_registry.specs.Seen.{scripts_in}
+use Rattle.gb_registry.specs.SoFar.{scripts_in}
 use Rattle.gb_registry.specs.Source.{Source}
 use Rattle.gb_registry.specs.Tables.{tables_of}
 use Rattle.gb_check.specs.All.{AreFindings}
@@ -23,4 +23,4 @@ returns-clause-found g c =
     let F = g.F.Folder in
     let tables = tables_of g.T.Transforms.meanings g.A.Actions.meanings c.args.configured.now.tables.now in
     let same : registry_in g.T.Transforms.meanings g.A.Actions.meanings c.in_ok-tasks.tasks.workspace ≡ registry_said tables c.args.configured.now.registry = c.in_ok-tasks.ensures.registry in
-    subst (λ (registry : Registry). IfOk c.find.result (AreFindings F.tells (F.contents c.args.folder.now) registry (scripts_in c.args.scripts.now))) same c.find.ensures.findings
+    subst (λ (registry : Registry). IfOk c.find.result (AreFindings F.faithful (F.contents c.args.folder.now) registry (scripts_in c.args.scripts.now))) same c.find.ensures.findings

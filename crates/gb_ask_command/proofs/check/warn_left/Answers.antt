@@ -19,4 +19,4 @@ returns-clause-found g c =
     let left = c.in_ok-left.left.items in
     let names : c.as_slice.result.now ≡ paths_of (registry_said tables source) =
     c.as_slice.ensures.value ∙ c.in_ok-names.ensures ∙ sym c.tasks-registered.ensures.tasks ∙ c.tasks-registered.ensures.registered ∙ sym (paths_said tables source) in
-    (left, λ tells. subst (λ (paths : List Path). AreUnregistered contents paths left) names (c.in_ok-left.ensures.left tells), c.in_ok-left_found.ensures ∙ ap (map left_of) c.as_slice-2.ensures.value)
+    (left, λ faithful. subst (λ (paths : List Path). AreUnregistered contents paths left) names (c.in_ok-left.ensures.left faithful), c.in_ok-left_found.ensures ∙ ap (map left_of) c.as_slice-2.ensures.value)

@@ -1,19 +1,19 @@
 use Rattle.std.proofs.Common.{◌++◌, length, map, string_bytes, sym, ◌∙◌}
 use Rattle.gb_folder.specs.Device.{device_of}
-use Rattle.gb_folder.proofs.Leading.{asks_of, leads_as}
+use Rattle.gb_folder.proofs.Leading.{requests_of, leads_as}
 use Rattle.gb_printer.proofs.Printed.{all_printed, prints_more}
 use Rattle.gb_ask_command.specs.Fmt.{end_text, is_headed, may_write}
 use Rattle.gb_ask_command.proofs.Writing.{all_may}
 use Rattle.gb_ask_command.proofs.fmt.run.Goals as goal
 
-pub returns-then-is_whole-clause-asks : goal.returns-then-is_whole-clause-asks
-returns-then-is_whole-clause-asks g c =
+pub returns-then-is_whole-clause-requests : goal.returns-then-is_whole-clause-requests
+returns-then-is_whole-clause-requests g c =
     let F = g.F.Folder in
-    let device = device_of F.failures F.may_leave F.asked F.tells F.contents in
+    let device = device_of F.failures F.may_leave F.allowed F.faithful F.contents in
     let all = c.treat_all-ended.ensures in
     let mode = c.args.mode in
     let names = c.args.names.now in
-    asks_of device (may_write mode (map string_bytes names)) c.args.folder.now c.treat_all-ended.new.folder all.0
+    requests_of device (may_write mode (map string_bytes names)) c.args.folder.now c.treat_all-ended.new.folder all.0
     (all_may mode (is_headed mode (length names)) c.args.input.now names all.0 all.1 c.treat_all-ended.result all.3)
     (leads_as F.device device g.met.F.Folder.said c.args.folder.now c.treat_all-ended.new.folder all.0 all.2)
 
@@ -33,14 +33,14 @@ returns-then-is_whole-clause-treated g c =
       (all_printed W.contents W.whole (all.1 ++ end_text ended) c.args.writer.now end prints (sym c.is_whole.ensures ∙ c.if-is_whole.true), c.status_of-status.ensures all.1 all.5),
     )
 
-pub returns-else-is_whole-clause-asks : goal.returns-else-is_whole-clause-asks
-returns-else-is_whole-clause-asks g c =
+pub returns-else-is_whole-clause-requests : goal.returns-else-is_whole-clause-requests
+returns-else-is_whole-clause-requests g c =
     let F = g.F.Folder in
-    let device = device_of F.failures F.may_leave F.asked F.tells F.contents in
+    let device = device_of F.failures F.may_leave F.allowed F.faithful F.contents in
     let all = c.treat_all-ended.ensures in
     let mode = c.args.mode in
     let names = c.args.names.now in
-    asks_of device (may_write mode (map string_bytes names)) c.args.folder.now c.treat_all-ended.new.folder all.0
+    requests_of device (may_write mode (map string_bytes names)) c.args.folder.now c.treat_all-ended.new.folder all.0
     (all_may mode (is_headed mode (length names)) c.args.input.now names all.0 all.1 c.treat_all-ended.result all.3)
     (leads_as F.device device g.met.F.Folder.said c.args.folder.now c.treat_all-ended.new.folder all.0 all.2)
 

@@ -1,6 +1,6 @@
 use Rattle.std.proofs.Common.{◌≡◌, take}
 use Rattle.std.specs.List.{flat_map}
-use Rattle.gb_registry.specs.Seen.{scripts_in}
+use Rattle.gb_registry.specs.SoFar.{scripts_in}
 use Rattle.gb_ask_command.specs.Unread.{unread_value}
 use Rattle.gb_ask_command.proofs.unread.warn_unread.Given as goal
 

@@ -7,8 +7,8 @@ use Rattle.gb_records.specs.Said.{IsReadAt}
 use Rattle.gb_store.specs.Faults.{IsOfMachine}
 use Rattle.gb_build.specs.Refusing.{IsUnread}
 use Rattle.gb_build.proofs.Read.{all_read, unread}
-use Rattle.gb_folder.specs.Calls.{Asks, no_change}
-use Rattle.gb_folder.proofs.Asked.{asks_nothing}
+use Rattle.gb_folder.specs.Calls.{Requests, no_change}
+use Rattle.gb_folder.proofs.Asked.{requests_nothing}
 use Rattle.gb_records.specs.Answered.{WasAnswered}
 use Rattle.gb_build.proofs.before.records_for.Goals as goal
 use Rattle.gb_build.proofs.before.records_for.Goals.{then-dry_run, else-dry_run+in_ok-paths_of+in_ok-records}
@@ -25,12 +25,12 @@ returns-in_err-records-clause-unread g c =
     c.args.dry_run c.if-dry_run.false)
 
 pub returns-clause-read : goal.returns-clause-read
-returns-clause-read g c = λ tells wet. elim c.if-dry_run.branch [
+returns-clause-read g c = λ faithful wet. elim c.if-dry_run.branch [
   | then-dry_run w ↦ not_true (sym wet ∙ w.if-dry_run.true)
   | else-dry_run+in_ok-paths_of+in_ok-records w ↦
       all_read (IsReadAt (g.F.Folder.contents c.args.folder.now).files) c.args.tasks.now c.if-dry_run.records.items c.resize_with.new.self.items c.in_ok-resize_with.ensures.items.0
       (subst (λ v. AllZip (IsReadAt (g.F.Folder.contents c.args.folder.now).files) _ v.items) (sym w.records-is)
-      (subst (λ (paths : List Path). AllZip (IsReadAt (g.F.Folder.contents c.args.folder.now).files) paths w.in_ok-records.records.items) (w.as_slice.ensures.value ∙ w.in_ok-paths_of.ensures) (w.in_ok-records.ensures.read tells)))
+      (subst (λ (paths : List Path). AllZip (IsReadAt (g.F.Folder.contents c.args.folder.now).files) paths w.in_ok-records.records.items) (w.as_slice.ensures.value ∙ w.in_ok-paths_of.ensures) (w.in_ok-records.ensures.read faithful)))
       c.in_ok-resize_with.ensures.items.2 (omega (arith, c.resize_with.new.self.ok.0, c.in_ok-resize_with.ensures.len))
 ]
 
@@ -41,9 +41,9 @@ returns-clause-answered g c = λ wet.
     elim c.if-dry_run.branch [
       | then-dry_run w ↦ not_true (sym wet ∙ w.if-dry_run.true)
       | else-dry_run+in_ok-paths_of+in_ok-records w ↦
-          all_read (WasAnswered F.failures F.may_leave F.asked start c.if-dry_run.folder) c.args.tasks.now c.if-dry_run.records.items c.resize_with.new.self.items c.in_ok-resize_with.ensures.items.0
-          (subst (λ v. AllZip (WasAnswered F.failures F.may_leave F.asked start c.if-dry_run.folder) _ v.items) (sym w.records-is)
-          (subst (λ now. AllZip (WasAnswered F.failures F.may_leave F.asked start now) _ w.in_ok-records.records.items) (sym w.folder-is)
-          (subst (λ (paths : List Path). AllZip (WasAnswered F.failures F.may_leave F.asked start w.read_records.new.folder) paths w.in_ok-records.records.items) (w.as_slice.ensures.value ∙ w.in_ok-paths_of.ensures) w.in_ok-records.ensures.answered)))
+          all_read (WasAnswered F.failures F.may_leave F.allowed start c.if-dry_run.folder) c.args.tasks.now c.if-dry_run.records.items c.resize_with.new.self.items c.in_ok-resize_with.ensures.items.0
+          (subst (λ v. AllZip (WasAnswered F.failures F.may_leave F.allowed start c.if-dry_run.folder) _ v.items) (sym w.records-is)
+          (subst (λ now. AllZip (WasAnswered F.failures F.may_leave F.allowed start now) _ w.in_ok-records.records.items) (sym w.folder-is)
+          (subst (λ (paths : List Path). AllZip (WasAnswered F.failures F.may_leave F.allowed start w.read_records.new.folder) paths w.in_ok-records.records.items) (w.as_slice.ensures.value ∙ w.in_ok-paths_of.ensures) w.in_ok-records.ensures.answered)))
           c.in_ok-resize_with.ensures.items.2 (omega (arith, c.resize_with.new.self.ok.0, c.in_ok-resize_with.ensures.len))
     ]

@@ -8,7 +8,7 @@ use Rattle.gb_build.proofs.RowLemmas.{first_fault, long_more, passes_at, text_mo
 use Rattle.gb_build.proofs.SaidLemmas.{handed}
 use Rattle.gb_build.specs.Scripts.{script_place}
 use Rattle.gb_build.specs.Texts.{TextSays}
-use Rattle.gb_folder.proofs.Asked.{asks_then}
+use Rattle.gb_folder.proofs.Asked.{requests_then}
 use Rattle.gb_build.proofs.each_script.read_scripts.Goals as goal
 
 pub read_script_of-requires : goal.read_script_of-requires
@@ -21,25 +21,25 @@ loop-project-preserved g c =
     let F = g.F.Folder in
     let project = c.project-item.result in
     record {
-      asks = asks_then c.loop-project.invariant.asks c.read_script_of.ensures.asks;
-      same = λ tells. c.read_script_of.ensures.same tells ∙ c.loop-project.invariant.same tells;
+      requests = requests_then c.loop-project.invariant.requests c.read_script_of.ensures.requests;
+      same = λ faithful. c.read_script_of.ensures.same faithful ∙ c.loop-project.invariant.same faithful;
       one_each = long_more c.loop-project.scripts.items _ c.in_ok-read_script_of.field-0 c.loop-project.project-index c.in_ok-push.ensures.items c.loop-project.invariant.one_each;
-      texts = λ tells.
+      texts = λ faithful.
           text_more (F.contents c.args.folder.now).files c.args.projects.now c.loop-project.project-index project c.loop-project.scripts.items _ c.in_ok-read_script_of.field-0
-          c.loop-project-test.true c.project-item.is (c.loop-project.invariant.texts tells)
-          (subst (λ (folder : Contents). TextSays Says folder.files (script_place project.1) (Ok c.in_ok-read_script_of.field-0)) (c.loop-project.invariant.same tells) (c.in_ok-read_script_of.ensures.said tells))
+          c.loop-project-test.true c.project-item.is (c.loop-project.invariant.texts faithful)
+          (subst (λ (folder : Contents). TextSays Says folder.files (script_place project.1) (Ok c.in_ok-read_script_of.field-0)) (c.loop-project.invariant.same faithful) (c.in_ok-read_script_of.ensures.said faithful))
           c.in_ok-push.ensures.items;
     }
 
 pub returns-in_err-read_script_of-clause-said : goal.returns-in_err-read_script_of-clause-said
-returns-in_err-read_script_of-clause-said g c = λ tells.
+returns-in_err-read_script_of-clause-said g c = λ faithful.
     let F = g.F.Folder in
     let project = c.project-item.result in
     let fault = c.in_err-read_script_of.field-0.0 in
     handed _ _ c.from_residual.result fault c.from_residual.ensures.1
-    (elim (c.in_err-read_script_of.ensures.said tells) [
-      | inl machine ↦ inl (machine_before _ _ _ fault c.loop-project.invariant.asks.count c.read_script_of.ensures.asks.count machine)
+    (elim (c.in_err-read_script_of.ensures.said faithful) [
+      | inl machine ↦ inl (machine_before _ _ _ fault c.loop-project.invariant.requests.count c.read_script_of.ensures.requests.count machine)
       | inr bad ↦ inr (first_fault (F.contents c.args.folder.now).files c.args.projects.now c.loop-project.project-index project c.loop-project.scripts.items fault
-          c.loop-project-test.true c.project-item.is (c.loop-project.invariant.texts tells)
-          (subst (λ (folder : Contents). TextSays Says folder.files (script_place project.1) (Err fault)) (c.loop-project.invariant.same tells) bad))
+          c.loop-project-test.true c.project-item.is (c.loop-project.invariant.texts faithful)
+          (subst (λ (folder : Contents). TextSays Says folder.files (script_place project.1) (Err fault)) (c.loop-project.invariant.same faithful) bad))
     ])

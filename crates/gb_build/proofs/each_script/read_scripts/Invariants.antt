@@ -1,5 +1,5 @@
 use Rattle.std.proofs.Common.{◌≡◌, ◌≤◌, IsTrue, length, take}
-use Rattle.gb_folder.specs.Calls.{Asks, no_change}
+use Rattle.gb_folder.specs.Calls.{Requests, no_change}
 use Rattle.gb_build.specs.Scripts.{AreTexts, script_places}
 use Rattle.gb_build.proofs.each_script.read_scripts.Given as goal
 
@@ -7,8 +7,8 @@ abbrev pub invariant-loop-project : goal.invariant-loop-project
 invariant-loop-project g l =
     let contents = g.F.Folder.contents in
     record {
-      asks : Asks g.F.Folder.failures g.F.Folder.may_leave g.F.Folder.asked no_change l.fn.folder l.folder;
-      same : IsTrue g.F.Folder.tells → contents l.folder ≡ contents l.fn.folder;
+      requests : Requests g.F.Folder.failures g.F.Folder.may_leave g.F.Folder.allowed no_change l.fn.folder l.folder;
+      same : IsTrue g.F.Folder.faithful → contents l.folder ≡ contents l.fn.folder;
       one_each : length l.scripts.items ≡ l.project-index;
-      texts : IsTrue g.F.Folder.tells → AreTexts (contents l.fn.folder).files (script_places (take l.project-index l.projects)) l.scripts.items;
+      texts : IsTrue g.F.Folder.faithful → AreTexts (contents l.fn.folder).files (script_places (take l.project-index l.projects)) l.scripts.items;
     }

@@ -7,46 +7,46 @@ use Rattle.gb_store.proofs.Machine.{at_err, changes_chain, changes_none, among_a
 use Rattle.gb_meaning.specs.Edits.{LossStep, own_place}
 use Rattle.gb_build.specs.Answers.{edit_answer}
 use Rattle.gb_build.proofs.Editing.{lost_from, not_listed, shows}
-use Rattle.gb_folder.proofs.Asked.{asks_reading, asks_then, takes_where}
+use Rattle.gb_folder.proofs.Asked.{requests_reading, requests_then, takes_where}
 use Rattle.gb_store.specs.Changes.{is_among}
 use Rattle.std.proofs.lemmas.List.Sums.{list_all-from_AllPass}
 use Rattle.gb_core.specs.Place.{is_under}
 use Rattle.gb_build.proofs.edits.lose.Goals as goal
 
 pub returns-in_err-places-clause-step : goal.returns-in_err-places-clause-step
-returns-in_err-places-clause-step g c = λ tells.
+returns-in_err-places-clause-step g c = λ faithful.
     let contents = g.F.Folder.contents in
     let failures = g.F.Folder.failures in
     let old = contents c.args.folder.now in
     let fault = c.in_err-places.field-0.0 in
     let p = err_from_is_err_and c.from_residual-in_err-places.result c.from_residual-in_err-places.ensures.1 in
     at_err (λ edit. LossStep (g.F.Folder.may_leave c.args.folder.now) (shows old (failures c.args.folder.now)) (edit_answer edit) (shows (contents c.listed_at.new.folder) (failures c.listed_at.new.folder))) c.from_residual-in_err-places.result p.0 fault p.1 p.2
-    (inl (c.listed_at.ensures.same tells, not_listed _ _ old _ fault c.in_ok-own.ensures (λ place device. c.listed_at.ensures.blamed place (c.in_err-places.was ∙ ap Err device)) (c.in_err-places.ensures.odd tells)))
+    (inl (c.listed_at.ensures.same faithful, not_listed _ _ old _ fault c.in_ok-own.ensures (λ place device. c.listed_at.ensures.blamed place (c.in_err-places.was ∙ ap Err device)) (c.in_err-places.ensures.special faithful)))
 
 pub returns-clause-step : goal.returns-clause-step
-returns-clause-step g c = λ tells.
+returns-clause-step g c = λ faithful.
     let contents = g.F.Folder.contents in
     let old = contents c.args.folder.now in
-    let listed : c.as_slice.result.now ≡ places_under old.files own_place = c.as_slice.ensures.value ∙ c.in_ok-places.ensures.listed tells ∙ ap (places_under old.files) c.in_ok-own.ensures in
-    lost_from _ _ c.remove_all.result c.as_slice.result.now _ _ _ old (contents c.listed_at.new.folder) (contents c.remove_all.new.folder) (g.met.F.Folder.sound c.args.folder.now) listed (c.listed_at.ensures.same tells)
-    c.listed_at.ensures.asks.tearing c.listed_at.ensures.asks.count c.remove_all.ensures.asks.count (c.remove_all.ensures.ok tells) (c.remove_all.ensures.err tells) (c.remove_all.ensures.cut tells)
+    let listed : c.as_slice.result.now ≡ places_under old.files own_place = c.as_slice.ensures.value ∙ c.in_ok-places.ensures.listed faithful ∙ ap (places_under old.files) c.in_ok-own.ensures in
+    lost_from _ _ c.remove_all.result c.as_slice.result.now _ _ _ old (contents c.listed_at.new.folder) (contents c.remove_all.new.folder) (g.met.F.Folder.sound c.args.folder.now) listed (c.listed_at.ensures.same faithful)
+    c.listed_at.ensures.requests.tearing c.listed_at.ensures.requests.count c.remove_all.ensures.requests.count (c.remove_all.ensures.ok faithful) (c.remove_all.ensures.err faithful) (c.remove_all.ensures.cut faithful)
 
 pub returns-clause-elsewhere : goal.returns-clause-elsewhere
-returns-clause-elsewhere g c = λ tells.
+returns-clause-elsewhere g c = λ faithful.
     let contents = g.F.Folder.contents in
     let old = contents c.args.folder.now in
-    let listed : c.as_slice.result.now ≡ places_under old.files own_place = c.as_slice.ensures.value ∙ c.in_ok-places.ensures.listed tells ∙ ap (places_under old.files) c.in_ok-own.ensures in
-    changes_chain is_own _ _ _ (changes_none is_own old (contents c.listed_at.new.folder) (c.listed_at.ensures.same tells))
-    (c.remove_all.ensures.changes tells is_own (subst (λ (places : List (List ℕ)). AllByRecursion (λ place. is_own place ≡ true) places) (sym listed) (all_under old.files own_place)))
+    let listed : c.as_slice.result.now ≡ places_under old.files own_place = c.as_slice.ensures.value ∙ c.in_ok-places.ensures.listed faithful ∙ ap (places_under old.files) c.in_ok-own.ensures in
+    changes_chain is_own _ _ _ (changes_none is_own old (contents c.listed_at.new.folder) (c.listed_at.ensures.same faithful))
+    (c.remove_all.ensures.changes faithful is_own (subst (λ (places : List (List ℕ)). AllByRecursion (λ place. is_own place ≡ true) places) (sym listed) (all_under old.files own_place)))
 
-pub returns-in_err-places-clause-asks : goal.returns-in_err-places-clause-asks
-returns-in_err-places-clause-asks g c = asks_reading c.listed_at.ensures.asks
+pub returns-in_err-places-clause-requests : goal.returns-in_err-places-clause-requests
+returns-in_err-places-clause-requests g c = requests_reading c.listed_at.ensures.requests
 
-pub returns-clause-asks : goal.returns-clause-asks
-returns-clause-asks g c =
+pub returns-clause-requests : goal.returns-clause-requests
+returns-clause-requests g c =
     let own : list_all is_own c.as_slice.result.now ≡ true =
     ap (list_all is_own) c.as_slice.ensures.value
     ∙ subst (λ (place : List ℕ). list_all (λ at. is_under at place) c.in_ok-places.places.items ≡ true) c.in_ok-own.ensures
     (list_all-from_AllPass (λ at. is_under at c.in_ok-own.own) c.in_ok-places.places.items c.in_ok-places.ensures.under) in
-    asks_then (asks_reading c.listed_at.ensures.asks)
-    (takes_where (is_among c.as_slice.result.now) is_own (λ place is. among_all is_own c.as_slice.result.now place own is) c.remove_all.ensures.asks)
+    requests_then (requests_reading c.listed_at.ensures.requests)
+    (takes_where (is_among c.as_slice.result.now) is_own (λ place is. among_all is_own c.as_slice.result.now place own is) c.remove_all.ensures.requests)

@@ -4,22 +4,22 @@ use Rattle.gb_build.proofs.Editing.{remove_failed}
 use Rattle.gb_build.proofs.edits.remove.Goals as goal
 
 pub returns-in-Err-clause-step : goal.returns-in-Err-clause-step
-returns-in-Err-clause-step g c = λ tells.
+returns-in-Err-clause-step g c = λ faithful.
     let fault = c.in-Err.fault in
     let w = c.remove.ensures in
     remove_failed (g.F.Folder.may_leave c.args.folder.now) c.args.place.now _ _ _ _ fault c.fault_of.result (sym c.is_own.ensures ∙ c.if-is_own.false) (c.fault_of.ensures ∙ ap (λ p. reported_at p fault) c.in_ok-at.ensures)
-    (λ e. w.device (c.in-Err.is ∙ ap Err e)) (λ other. c.in-Err.ensures.same tells other) (λ e. w.blocked tells (c.in-Err.is ∙ ap Err e))
-    (λ e. w.missing tells (c.in-Err.is ∙ ap Err e)) (λ e. w.missing_free tells (c.in-Err.is ∙ ap Err e))
-    (λ e. w.not_large (c.in-Err.is ∙ ap Err e)) (λ e. w.not_named (c.in-Err.is ∙ ap Err e)) (λ e. w.torn tells (c.in-Err.is ∙ ap Err e))
+    (λ e. w.device (c.in-Err.is ∙ ap Err e)) (λ other. c.in-Err.ensures.same faithful other) (λ e. w.blocked faithful (c.in-Err.is ∙ ap Err e))
+    (λ e. w.missing faithful (c.in-Err.is ∙ ap Err e)) (λ e. w.missing_free faithful (c.in-Err.is ∙ ap Err e))
+    (λ e. w.not_large (c.in-Err.is ∙ ap Err e)) (λ e. w.not_named (c.in-Err.is ∙ ap Err e)) (λ e. w.torn faithful (c.in-Err.is ∙ ap Err e))
 
-pub returns-in_err-at-clause-asks : goal.returns-in_err-at-clause-asks
-returns-in_err-at-clause-asks g c = inl refl
+pub returns-in_err-at-clause-requests : goal.returns-in_err-at-clause-requests
+returns-in_err-at-clause-requests g c = inl refl
 
-pub returns-then-is_own-clause-asks : goal.returns-then-is_own-clause-asks
-returns-then-is_own-clause-asks g c = inl refl
+pub returns-then-is_own-clause-requests : goal.returns-then-is_own-clause-requests
+returns-then-is_own-clause-requests g c = inl refl
 
-pub returns-in-Ok-clause-asks : goal.returns-in-Ok-clause-asks
-returns-in-Ok-clause-asks g c = inr (c.remove.result, c.remove.ensures.call)
+pub returns-in-Ok-clause-requests : goal.returns-in-Ok-clause-requests
+returns-in-Ok-clause-requests g c = inr (c.remove.result, c.remove.ensures.call)
 
-pub returns-in-Err-clause-asks : goal.returns-in-Err-clause-asks
-returns-in-Err-clause-asks g c = inr (c.remove.result, c.remove.ensures.call)
+pub returns-in-Err-clause-requests : goal.returns-in-Err-clause-requests
+returns-in-Err-clause-requests g c = inr (c.remove.result, c.remove.ensures.call)

@@ -17,7 +17,7 @@ use Rattle.gb_build.proofs.Editing.{shows}
 use Rattle.gb_records.specs.Setting.{setting_by}
 use Rattle.gb_build.proofs.Running.{RunsFrom, heard_more, keeps_more, more_ahead, outlined_more, runs_hold, runs_nowhere, runs_on, take_all, taken_all, to_the_end}
 use Rattle.gb_build.specs.EventAsked.{EventsAsk}
-use Rattle.gb_build.proofs.EventAsked.{asks_more_events}
+use Rattle.gb_build.proofs.EventAsked.{requests_more_events}
 use Rattle.gb_build.proofs.events.run_events.Goals as goal
 
 pub loop-event-preserved : goal.loop-event-preserved
@@ -47,29 +47,29 @@ loop-event-preserved g c =
       outlined = subst (λ (reported : List Answer). AllZip AnswerIsOutlined (take (index + 1) c.args.events.now) reported) (sym items)
           (subst (λ (events : List Event). AllZip AnswerIsOutlined events (c.loop-event.answers.items ++ c.take.result ∷ [])) taken_here
           (outlined_more (take index c.args.events.now) c.loop-event.answers.items c.event-item.result c.take.result so_far.outlined c.take.ensures.outlined));
-      asks =
-          subst (λ (reported : List Answer). EventsAsk F.failures F.may_leave F.asked g.A.Actions.meanings c.args.tables.now.actions (take (index + 1) c.args.events.now) reported c.args.folder.now c.take.new.folder) (sym items)
-          (subst (λ (events : List Event). EventsAsk F.failures F.may_leave F.asked g.A.Actions.meanings c.args.tables.now.actions events (c.loop-event.answers.items ++ c.take.result ∷ []) c.args.folder.now c.take.new.folder) taken_here
-          (asks_more_events g.F.Folder.failures g.F.Folder.may_leave g.F.Folder.asked g.A.Actions.meanings c.args.tables.now.actions (take index c.args.events.now) c.loop-event.answers.items c.event-item.result c.take.result c.args.folder.now c.loop-event.folder c.take.new.folder
-          (taken_all index c.args.events.now c.loop-event.answers.items so_far.each c.loop-event-test.true) so_far.asks c.take.ensures.asks));
-      elsewhere = λ tells.
+      requests =
+          subst (λ (reported : List Answer). EventsAsk F.failures F.may_leave F.allowed g.A.Actions.meanings c.args.tables.now.actions (take (index + 1) c.args.events.now) reported c.args.folder.now c.take.new.folder) (sym items)
+          (subst (λ (events : List Event). EventsAsk F.failures F.may_leave F.allowed g.A.Actions.meanings c.args.tables.now.actions events (c.loop-event.answers.items ++ c.take.result ∷ []) c.args.folder.now c.take.new.folder) taken_here
+          (requests_more_events g.F.Folder.failures g.F.Folder.may_leave g.F.Folder.allowed g.A.Actions.meanings c.args.tables.now.actions (take index c.args.events.now) c.loop-event.answers.items c.event-item.result c.take.result c.args.folder.now c.loop-event.folder c.take.new.folder
+          (taken_all index c.args.events.now c.loop-event.answers.items so_far.each c.loop-event-test.true) so_far.requests c.take.ensures.requests));
+      elsewhere = λ faithful.
           subst (λ (reported : List Answer). AllKeepElsewhere registers (take (index + 1) c.args.events.now) reported start.contents next.contents) (sym items)
           (subst (λ (events : List Event). AllKeepElsewhere registers events (c.loop-event.answers.items ++ c.take.result ∷ []) start.contents next.contents) taken_here
           (keeps_more registers (take index c.args.events.now) c.loop-event.answers.items c.event-item.result c.take.result start.contents here.contents next.contents
-          (taken_all index c.args.events.now c.loop-event.answers.items so_far.each c.loop-event-test.true) (so_far.elsewhere tells) (c.take.ensures.keeps tells)));
-      holds = λ tells kinds assumed rest others end runs.
+          (taken_all index c.args.events.now c.loop-event.answers.items so_far.each c.loop-event-test.true) (so_far.elsewhere faithful) (c.take.ensures.keeps faithful)));
+      holds = λ faithful kinds assumed rest others end runs.
           let setting = setting_by kinds registers first in
           subst (λ (reported : List Answer). RunsFrom setting start (take (index + 1) c.args.events.now ++ rest) (reported ++ others) end) (sym items)
           (subst (λ (events : List Event). RunsFrom setting start (events ++ rest) (c.loop-event.answers.items ++ c.take.result ∷ [] ++ others) end) taken_here
           (more_ahead setting start end (take index c.args.events.now) c.event-item.result rest c.loop-event.answers.items c.take.result others
-          (so_far.holds tells kinds assumed (c.event-item.result ∷ rest) (c.take.result ∷ others) end
+          (so_far.holds faithful kinds assumed (c.event-item.result ∷ rest) (c.take.result ∷ others) end
           (runs_on setting here next end c.event-item.result c.take.result rest others c.take.ensures.count
           (leads_alike first second so_far.tearing kinds registers here c.event-item.result c.take.result next
-          (c.take.ensures.leads tells kinds (assumed_later first second so_far.tearing assumed))) runs))));
+          (c.take.ensures.leads faithful kinds (assumed_later first second so_far.tearing assumed))) runs))));
     }
 
 pub returns-clause-holds : goal.returns-clause-holds
-returns-clause-holds g c = λ tells kinds assumed.
+returns-clause-holds g c = λ faithful kinds assumed.
     let F = g.F.Folder in
     let registers = registers_in (tables_of g.T.Transforms.meanings g.A.Actions.meanings c.args.tables.now) in
     let setting = setting_by kinds registers (F.may_leave c.args.folder.now) in
@@ -78,7 +78,7 @@ returns-clause-holds g c = λ tells kinds assumed.
     let end : Shown = shows (F.contents c.loop-event.folder) (F.failures c.loop-event.folder) in
     runs_hold setting start end c.args.events.now c.loop-event.answers.items
     (to_the_end setting start end c.loop-event.event-index c.args.events.now c.loop-event.answers.items c.loop-event-test.false
-    (so_far.holds tells kinds assumed [] [] end (runs_nowhere setting end)))
+    (so_far.holds faithful kinds assumed [] [] end (runs_nowhere setting end)))
 
 pub returns-clause-outlined : goal.returns-clause-outlined
 returns-clause-outlined g c =
@@ -86,15 +86,15 @@ returns-clause-outlined g c =
     c.loop-event.invariant.outlined
 
 pub returns-clause-promise : goal.returns-clause-promise
-returns-clause-promise g c = λ tells kinds assumed.
+returns-clause-promise g c = λ faithful kinds assumed.
     let F = g.F.Folder in
     let registers = registers_in (tables_of g.T.Transforms.meanings g.A.Actions.meanings c.args.tables.now) in
     headline (setting_by kinds registers (F.may_leave c.args.folder.now)) (shows (F.contents c.args.folder.now) (F.failures c.args.folder.now))
     (shows (F.contents c.loop-event.folder) (F.failures c.loop-event.folder)) c.args.events.now c.loop-event.answers.items
-    (returns-clause-holds g c tells kinds assumed)
+    (returns-clause-holds g c faithful kinds assumed)
 
-pub returns-clause-asks : goal.returns-clause-asks
-returns-clause-asks g c =
+pub returns-clause-requests : goal.returns-clause-requests
+returns-clause-requests g c =
     let F = g.F.Folder in
-    subst (λ (events : List Event). EventsAsk F.failures F.may_leave F.asked g.A.Actions.meanings c.args.tables.now.actions events c.loop-event.answers.items c.args.folder.now c.loop-event.folder)
-    (take_all c.loop-event.event-index c.args.events.now c.loop-event-test.false) c.loop-event.invariant.asks
+    subst (λ (events : List Event). EventsAsk F.failures F.may_leave F.allowed g.A.Actions.meanings c.args.tables.now.actions events c.loop-event.answers.items c.args.folder.now c.loop-event.folder)
+    (take_all c.loop-event.event-index c.args.events.now c.loop-event-test.false) c.loop-event.invariant.requests

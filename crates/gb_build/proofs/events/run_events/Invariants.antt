@@ -27,13 +27,13 @@ invariant-loop-event g l =
       each : length l.answers.items ≡ l.event-index;
       count : F.failures l.fn.folder ≤ F.failures l.folder;
       tearing : SameTearing (F.may_leave l.fn.folder) (F.may_leave l.folder);
-      asks : EventsAsk F.failures F.may_leave F.asked g.A.Actions.meanings l.tables.actions (take l.event-index l.events) l.answers.items l.fn.folder l.folder;
+      requests : EventsAsk F.failures F.may_leave F.allowed g.A.Actions.meanings l.tables.actions (take l.event-index l.events) l.answers.items l.fn.folder l.folder;
       device : HasFailed (times_blamed_in_all l.answers.items) (F.failures l.fn.folder) (F.failures l.folder);
       heard : HaveHeardAll l.answers.items (map g.L.TaskListener.ear l.fn.listeners.items) (map g.L.TaskListener.ear l.listeners.items);
       outlined : AllZip AnswerIsOutlined (take l.event-index l.events) l.answers.items;
-      elsewhere : IsTrue F.tells → AllKeepElsewhere (registers_in tables) (take l.event-index l.events) l.answers.items (F.contents l.fn.folder) (F.contents l.folder);
+      elsewhere : IsTrue F.faithful → AllKeepElsewhere (registers_in tables) (take l.event-index l.events) l.answers.items (F.contents l.fn.folder) (F.contents l.folder);
       -- with any run that continues from here, these events are one run
-      holds : IsTrue F.tells → (kinds : Kinds) → IsAssumed g.A.Actions.meanings l.tables.actions kinds (F.may_leave l.fn.folder)
+      holds : IsTrue F.faithful → (kinds : Kinds) → IsAssumed g.A.Actions.meanings l.tables.actions kinds (F.may_leave l.fn.folder)
           → (rest : List Event) (others : List Answer) (end : Shown)
           → RunsFrom (setting_by kinds (registers_in tables) (F.may_leave l.fn.folder)) (shows (F.contents l.folder) (F.failures l.folder)) rest others end
           → RunsFrom (setting_by kinds (registers_in tables) (F.may_leave l.fn.folder)) (shows (F.contents l.fn.folder) (F.failures l.fn.folder))

@@ -15,22 +15,22 @@ use Rattle.gb_build.proofs.Losing.{loss_leads}
 use Rattle.gb_build.proofs.Outside.{put_leads, remove_leads}
 use Rattle.gb_records.specs.Setting.{setting_by}
 use Rattle.gb_build.proofs.Running.{edit_outlined, report_outlined}
-use Rattle.gb_build.specs.EventAsked.{EventAsks}
-use Rattle.gb_build.proofs.EventAsked.{invocation_asks}
+use Rattle.gb_build.specs.EventAsked.{EventRequests}
+use Rattle.gb_build.proofs.EventAsked.{invocation_requests}
 use Rattle.gb_build.proofs.events.take.Goals as goal
 
 pub returns-in-Put-clause-keeps : goal.returns-in-Put-clause-keeps
-returns-in-Put-clause-keeps g c = λ tells.
+returns-in-Put-clause-keeps g c = λ faithful.
     let F = g.F.Folder in
     let registers = registers_in (tables_of g.T.Transforms.meanings g.A.Actions.meanings c.args.tables.now) in
     let old : Shown = shows (F.contents c.args.folder.now) (F.failures c.args.folder.now) in
     let new : Shown = shows (F.contents c.put.new.folder) (F.failures c.put.new.folder) in
     subst (λ (event : Event). EventKeeps registers event c.edited.result old.contents new.contents) (sym c.in-Put.is)
     (subst (λ (answer : Answer). EventKeeps registers (events.Put c.in-Put.place c.in-Put.bytes) answer old.contents new.contents) (sym c.edited.ensures)
-    (put_keeps registers (F.may_leave c.args.folder.now) c.in-Put.place c.in-Put.bytes old new (edit_answer c.put.result) (c.put.ensures.step tells)))
+    (put_keeps registers (F.may_leave c.args.folder.now) c.in-Put.place c.in-Put.bytes old new (edit_answer c.put.result) (c.put.ensures.step faithful)))
 
 pub returns-in-Put-clause-leads : goal.returns-in-Put-clause-leads
-returns-in-Put-clause-leads g c = λ tells kinds assumed.
+returns-in-Put-clause-leads g c = λ faithful kinds assumed.
     let F = g.F.Folder in
     let registers = registers_in (tables_of g.T.Transforms.meanings g.A.Actions.meanings c.args.tables.now) in
     let may_leave = F.may_leave c.args.folder.now in
@@ -38,20 +38,20 @@ returns-in-Put-clause-leads g c = λ tells kinds assumed.
     let new : Shown = shows (F.contents c.put.new.folder) (F.failures c.put.new.folder) in
     subst (λ (event : Event). Leads (setting_by kinds registers may_leave) old event c.edited.result new) (sym c.in-Put.is)
     (subst (λ (answer : Answer). Leads (setting_by kinds registers may_leave) old (events.Put c.in-Put.place c.in-Put.bytes) answer new) (sym c.edited.ensures)
-    (put_leads kinds registers may_leave old new (g.met.F.Folder.sound c.put.new.folder) c.in-Put.place c.in-Put.bytes (edit_answer c.put.result) (c.put.ensures.step tells)))
+    (put_leads kinds registers may_leave old new (g.met.F.Folder.sound c.put.new.folder) c.in-Put.place c.in-Put.bytes (edit_answer c.put.result) (c.put.ensures.step faithful)))
 
 pub returns-in-Remove-clause-keeps : goal.returns-in-Remove-clause-keeps
-returns-in-Remove-clause-keeps g c = λ tells.
+returns-in-Remove-clause-keeps g c = λ faithful.
     let F = g.F.Folder in
     let registers = registers_in (tables_of g.T.Transforms.meanings g.A.Actions.meanings c.args.tables.now) in
     let old : Shown = shows (F.contents c.args.folder.now) (F.failures c.args.folder.now) in
     let new : Shown = shows (F.contents c.remove.new.folder) (F.failures c.remove.new.folder) in
     subst (λ (event : Event). EventKeeps registers event c.edited-in-Remove.result old.contents new.contents) (sym c.in-Remove.is)
     (subst (λ (answer : Answer). EventKeeps registers (events.Remove c.in-Remove.place) answer old.contents new.contents) (sym c.edited-in-Remove.ensures)
-    (remove_keeps registers (F.may_leave c.args.folder.now) c.in-Remove.place old new (edit_answer c.remove.result) (c.remove.ensures.step tells)))
+    (remove_keeps registers (F.may_leave c.args.folder.now) c.in-Remove.place old new (edit_answer c.remove.result) (c.remove.ensures.step faithful)))
 
 pub returns-in-Remove-clause-leads : goal.returns-in-Remove-clause-leads
-returns-in-Remove-clause-leads g c = λ tells kinds assumed.
+returns-in-Remove-clause-leads g c = λ faithful kinds assumed.
     let F = g.F.Folder in
     let registers = registers_in (tables_of g.T.Transforms.meanings g.A.Actions.meanings c.args.tables.now) in
     let may_leave = F.may_leave c.args.folder.now in
@@ -59,10 +59,10 @@ returns-in-Remove-clause-leads g c = λ tells kinds assumed.
     let new : Shown = shows (F.contents c.remove.new.folder) (F.failures c.remove.new.folder) in
     subst (λ (event : Event). Leads (setting_by kinds registers may_leave) old event c.edited-in-Remove.result new) (sym c.in-Remove.is)
     (subst (λ (answer : Answer). Leads (setting_by kinds registers may_leave) old (events.Remove c.in-Remove.place) answer new) (sym c.edited-in-Remove.ensures)
-    (remove_leads kinds registers may_leave old new (g.met.F.Folder.sound c.remove.new.folder) c.in-Remove.place (edit_answer c.remove.result) (c.remove.ensures.step tells)))
+    (remove_leads kinds registers may_leave old new (g.met.F.Folder.sound c.remove.new.folder) c.in-Remove.place (edit_answer c.remove.result) (c.remove.ensures.step faithful)))
 
 pub returns-in-Lost-clause-leads : goal.returns-in-Lost-clause-leads
-returns-in-Lost-clause-leads g c = λ tells kinds assumed.
+returns-in-Lost-clause-leads g c = λ faithful kinds assumed.
     let F = g.F.Folder in
     let registers = registers_in (tables_of g.T.Transforms.meanings g.A.Actions.meanings c.args.tables.now) in
     let may_leave = F.may_leave c.args.folder.now in
@@ -70,7 +70,7 @@ returns-in-Lost-clause-leads g c = λ tells kinds assumed.
     let new : Shown = shows (F.contents c.lose.new.folder) (F.failures c.lose.new.folder) in
     subst (λ (event : Event). Leads (setting_by kinds registers may_leave) old event c.edited-in-Lost.result new) (sym c.in-Lost.is)
     (subst (λ (answer : Answer). Leads (setting_by kinds registers may_leave) old events.Lost answer new) (sym c.edited-in-Lost.ensures)
-    (loss_leads kinds registers may_leave assumed.tears old new (g.met.F.Folder.sound c.lose.new.folder) (edit_answer c.lose.result) (c.lose.ensures.step tells)))
+    (loss_leads kinds registers may_leave assumed.tears old new (g.met.F.Folder.sound c.lose.new.folder) (edit_answer c.lose.result) (c.lose.ensures.step faithful)))
 
 pub returns-in-Put-clause-device : goal.returns-in-Put-clause-device
 returns-in-Put-clause-device g c =
@@ -88,7 +88,7 @@ pub returns-in-Lost-clause-device : goal.returns-in-Lost-clause-device
 returns-in-Lost-clause-device g c =
     let F = g.F.Folder in
     subst (λ (answer : Answer). HasFailed (times_blamed answer) (F.failures c.args.folder.now) (F.failures c.lose.new.folder)) (sym c.edited-in-Lost.ensures)
-    (edit_blames c.lose.result (F.failures c.args.folder.now) (F.failures c.lose.new.folder) c.lose.ensures.asks.count c.lose.ensures.blame)
+    (edit_blames c.lose.result (F.failures c.args.folder.now) (F.failures c.lose.new.folder) c.lose.ensures.requests.count c.lose.ensures.blame)
 
 pub returns-in-Put-clause-outlined : goal.returns-in-Put-clause-outlined
 returns-in-Put-clause-outlined g c =
@@ -108,28 +108,28 @@ returns-in-Invoke-clause-outlined g c =
     (subst (λ (answer : Answer). AnswerIsOutlined (events.Invoke c.in-Invoke.invocation) answer) (sym c.built.ensures)
     (report_outlined c.in-Invoke.invocation c.invoke.result c.invoke.ensures.outlined))
 
-pub returns-in-Put-clause-asks : goal.returns-in-Put-clause-asks
-returns-in-Put-clause-asks g c =
+pub returns-in-Put-clause-requests : goal.returns-in-Put-clause-requests
+returns-in-Put-clause-requests g c =
     let F = g.F.Folder in
-    subst (λ (event : Event). EventAsks F.failures F.may_leave F.asked g.A.Actions.meanings c.args.tables.now.actions event c.edited.result c.args.folder.now c.put.new.folder) (sym c.in-Put.is)
-    c.put.ensures.asks
+    subst (λ (event : Event). EventRequests F.failures F.may_leave F.allowed g.A.Actions.meanings c.args.tables.now.actions event c.edited.result c.args.folder.now c.put.new.folder) (sym c.in-Put.is)
+    c.put.ensures.requests
 
-pub returns-in-Remove-clause-asks : goal.returns-in-Remove-clause-asks
-returns-in-Remove-clause-asks g c =
+pub returns-in-Remove-clause-requests : goal.returns-in-Remove-clause-requests
+returns-in-Remove-clause-requests g c =
     let F = g.F.Folder in
-    subst (λ (event : Event). EventAsks F.failures F.may_leave F.asked g.A.Actions.meanings c.args.tables.now.actions event c.edited-in-Remove.result c.args.folder.now c.remove.new.folder) (sym c.in-Remove.is)
-    c.remove.ensures.asks
+    subst (λ (event : Event). EventRequests F.failures F.may_leave F.allowed g.A.Actions.meanings c.args.tables.now.actions event c.edited-in-Remove.result c.args.folder.now c.remove.new.folder) (sym c.in-Remove.is)
+    c.remove.ensures.requests
 
-pub returns-in-Lost-clause-asks : goal.returns-in-Lost-clause-asks
-returns-in-Lost-clause-asks g c =
+pub returns-in-Lost-clause-requests : goal.returns-in-Lost-clause-requests
+returns-in-Lost-clause-requests g c =
     let F = g.F.Folder in
-    subst (λ (event : Event). EventAsks F.failures F.may_leave F.asked g.A.Actions.meanings c.args.tables.now.actions event c.edited-in-Lost.result c.args.folder.now c.lose.new.folder) (sym c.in-Lost.is)
-    c.lose.ensures.asks
+    subst (λ (event : Event). EventRequests F.failures F.may_leave F.allowed g.A.Actions.meanings c.args.tables.now.actions event c.edited-in-Lost.result c.args.folder.now c.lose.new.folder) (sym c.in-Lost.is)
+    c.lose.ensures.requests
 
-pub returns-in-Invoke-clause-asks : goal.returns-in-Invoke-clause-asks
-returns-in-Invoke-clause-asks g c =
+pub returns-in-Invoke-clause-requests : goal.returns-in-Invoke-clause-requests
+returns-in-Invoke-clause-requests g c =
     let F = g.F.Folder in
     let rows = c.args.tables.now.actions in
-    subst (λ (event : Event). EventAsks F.failures F.may_leave F.asked g.A.Actions.meanings rows event c.built.result c.args.folder.now c.invoke.new.folder) (sym c.in-Invoke.is)
-    (subst (λ (answer : Answer). EventAsks F.failures F.may_leave F.asked g.A.Actions.meanings rows (events.Invoke c.in-Invoke.invocation) answer c.args.folder.now c.invoke.new.folder) (sym c.built.ensures)
-    (invocation_asks g.F.Folder.failures g.F.Folder.may_leave g.F.Folder.asked g.A.Actions.meanings rows c.in-Invoke.invocation c.invoke.result c.args.folder.now c.invoke.new.folder c.invoke.ensures.asks))
+    subst (λ (event : Event). EventRequests F.failures F.may_leave F.allowed g.A.Actions.meanings rows event c.built.result c.args.folder.now c.invoke.new.folder) (sym c.in-Invoke.is)
+    (subst (λ (answer : Answer). EventRequests F.failures F.may_leave F.allowed g.A.Actions.meanings rows (events.Invoke c.in-Invoke.invocation) answer c.args.folder.now c.invoke.new.folder) (sym c.built.ensures)
+    (invocation_requests g.F.Folder.failures g.F.Folder.may_leave g.F.Folder.allowed g.A.Actions.meanings rows c.in-Invoke.invocation c.invoke.result c.args.folder.now c.invoke.new.folder c.invoke.ensures.requests))

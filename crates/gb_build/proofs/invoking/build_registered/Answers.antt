@@ -13,7 +13,7 @@ use Rattle.gb_build.proofs.Keeping.{each_fault, each_report, of_fault}
 use Rattle.gb_meaning.specs.declared.events.Event.TheVariants as events
 use Rattle.gb_meaning.specs.Headline.{KeepsElsewhere, answer_of}
 use Rattle.gb_plan.specs.Graph.{IsRegistry, Registry}
-use Rattle.gb_registry.specs.Seen.{scripts_in}
+use Rattle.gb_registry.specs.SoFar.{scripts_in}
 use Rattle.gb_registry.specs.Tables.{tables_of}
 use Rattle.gb_task.specs.Executing.{setting_with}
 use Rattle.gb_declare.specs.Registered.{registry_said}
@@ -22,12 +22,12 @@ use Rattle.gb_build.proofs.Blamed.{memory_blames_none}
 use Rattle.gb_build.proofs.BlamelessTasks.{declared_blame_none}
 use Rattle.gb_build.proofs.Buildable.{are_buildable}
 use Rattle.gb_build.proofs.Passing.{out_of_memory}
-use Rattle.gb_folder.proofs.Asked.{asks_nothing}
-use Rattle.gb_build.proofs.InvocationAsked.{refusal_asks, registered_asks}
+use Rattle.gb_folder.proofs.Asked.{requests_nothing}
+use Rattle.gb_build.proofs.InvocationAsked.{refusal_requests, registered_requests}
 use Rattle.gb_build.proofs.invoking.build_registered.Goals as goal
 
 pub returns-in_err-tasks-clause-leads : goal.returns-in_err-tasks-clause-leads
-returns-in_err-tasks-clause-leads g c = λ tells kinds assumed.
+returns-in_err-tasks-clause-leads g c = λ faithful kinds assumed.
     let F = g.F.Folder in
     let tables = tables_of g.T.Transforms.meanings g.A.Actions.meanings c.args.configured.now.tables.now in
     let old : Shown = record { contents = F.contents c.args.folder.now; failures = F.failures c.args.folder.now } in
@@ -43,7 +43,7 @@ build_requested-answered-requires g c =
     (are_buildable tables c.args.configured.now.registry (scripts_in c.scripts-scripts.result.now) c.scripts-scripts.ensures.read (subst IsRegistry same c.in_ok-tasks.tasks.ordered))
 
 pub returns-clause-leads : goal.returns-clause-leads
-returns-clause-leads g c = λ tells kinds assumed.
+returns-clause-leads g c = λ faithful kinds assumed.
     let F = g.F.Folder in
     let tables = tables_of g.T.Transforms.meanings g.A.Actions.meanings c.args.configured.now.tables.now in
     let declared = registry_in g.T.Transforms.meanings g.A.Actions.meanings c.in_ok-tasks.tasks.workspace in
@@ -51,19 +51,19 @@ returns-clause-leads g c = λ tells kinds assumed.
     let old : Shown = record { contents = F.contents c.args.folder.now; failures = F.failures c.args.folder.now } in
     let new : Shown = record { contents = F.contents c.build_requested-answered.new.folder; failures = F.failures c.build_requested-answered.new.folder } in
     subst (λ (registry : Registry). Leads (setting_with kinds (λ files given. Ok registry) (F.may_leave c.args.folder.now)) old (events.Invoke c.args.invocation.now) (answer_of c.build_requested-answered.result) new) same
-    (c.build_requested-answered.ensures.leads tells kinds (λ files given. Ok declared) assumed refl)
+    (c.build_requested-answered.ensures.leads faithful kinds (λ files given. Ok declared) assumed refl)
 
 pub returns-clause-keeps : goal.returns-clause-keeps
-returns-clause-keeps g c = λ tells.
+returns-clause-keeps g c = λ faithful.
     let F = g.F.Folder in
     let tables = tables_of g.T.Transforms.meanings g.A.Actions.meanings c.args.configured.now.tables.now in
     let declared = registry_in g.T.Transforms.meanings g.A.Actions.meanings c.in_ok-tasks.tasks.workspace in
     let same : declared ≡ registry_said tables c.args.configured.now.registry = c.in_ok-tasks.ensures.registry in
-    let changes = c.build_requested-answered.ensures.elsewhere tells in
-    subst (λ (registry : Registry). KeepsElsewhere registry (F.contents c.args.folder.now) (F.contents c.build_requested-answered.new.folder)) same (changes.elsewhere, changes.odd)
+    let changes = c.build_requested-answered.ensures.elsewhere faithful in
+    subst (λ (registry : Registry). KeepsElsewhere registry (F.contents c.args.folder.now) (F.contents c.build_requested-answered.new.folder)) same (changes.elsewhere, changes.special)
 
 pub returns-in_err-tasks-clause-keeps : goal.returns-in_err-tasks-clause-keeps
-returns-in_err-tasks-clause-keeps g c = λ tells. (refl, refl)
+returns-in_err-tasks-clause-keeps g c = λ faithful. (refl, refl)
 
 pub returns-in_err-tasks-clause-device : goal.returns-in_err-tasks-clause-device
 returns-in_err-tasks-clause-device g c =
@@ -120,12 +120,12 @@ returns-clause-places g c =
     (λ fault why. refused_at registry c.args.invocation.now fault before after (declared_blame_none tables c.args.configured.now.registry) why)
     c.build_requested-answered.result (returns-clause-not_begun g c)
 
-pub returns-clause-asks : goal.returns-clause-asks
-returns-clause-asks g c =
-    registered_asks g.F.Folder.failures g.F.Folder.may_leave g.F.Folder.asked g.A.Actions.meanings c.args.configured.now.tables.now.actions c.args.invocation.now (registry_in g.T.Transforms.meanings g.A.Actions.meanings c.in_ok-tasks.tasks.workspace) c.in_ok-tasks.tasks.ordered
-    c.build_requested-answered.result c.args.folder.now c.build_requested-answered.new.folder c.build_requested-answered.ensures.asks
+pub returns-clause-requests : goal.returns-clause-requests
+returns-clause-requests g c =
+    registered_requests g.F.Folder.failures g.F.Folder.may_leave g.F.Folder.allowed g.A.Actions.meanings c.args.configured.now.tables.now.actions c.args.invocation.now (registry_in g.T.Transforms.meanings g.A.Actions.meanings c.in_ok-tasks.tasks.workspace) c.in_ok-tasks.tasks.ordered
+    c.build_requested-answered.result c.args.folder.now c.build_requested-answered.new.folder c.build_requested-answered.ensures.requests
 
-pub returns-in_err-tasks-clause-asks : goal.returns-in_err-tasks-clause-asks
-returns-in_err-tasks-clause-asks g c =
+pub returns-in_err-tasks-clause-requests : goal.returns-in_err-tasks-clause-requests
+returns-in_err-tasks-clause-requests g c =
     let p = err_from_is_err_and c.from_residual.result c.from_residual.ensures.1 in
-    refusal_asks g.F.Folder.failures g.F.Folder.may_leave g.F.Folder.asked g.A.Actions.meanings c.args.configured.now.tables.now.actions c.args.invocation.now c.from_residual.result p.0 c.args.folder.now c.args.folder.now p.1 (asks_nothing c.args.folder.now)
+    refusal_requests g.F.Folder.failures g.F.Folder.may_leave g.F.Folder.allowed g.A.Actions.meanings c.args.configured.now.tables.now.actions c.args.invocation.now c.from_residual.result p.0 c.args.folder.now c.args.folder.now p.1 (requests_nothing c.args.folder.now)

@@ -17,19 +17,19 @@ use Rattle.gb_registry.specs.declared.tables.Tables as handed
 use Rattle.gb_report.specs.declared.fault.Fault.{Fault}
 use Rattle.gb_report.specs.declared.fault.Fault.TheVariants as faults
 use Rattle.gb_declare.specs.Registered.{registry_said}
-use Rattle.gb_build.specs.InvocationAsked.{InvocationAsks}
+use Rattle.gb_build.specs.InvocationAsked.{InvocationRequests}
 use Rattle.gb_build.specs.Registering.{registers_in, setting_of}
 use Rattle.gb_build.proofs.Blamed.{failed_since, memory_blames_none, reading_fails}
 use Rattle.gb_build.proofs.Keeping.{begun_before, each_fault, invoked_keeps, of_fault, refusal_keeps}
 use Rattle.gb_build.proofs.Passing.{always, out_of_memory, refused_leads, shows, since_read}
 use Rattle.gb_records.specs.Setting.{setting_by}
 use Rattle.gb_build.proofs.Readings.{not_read, own_is_read_first, read_first, registered}
-use Rattle.gb_folder.proofs.Asked.{asks_nothing}
-use Rattle.gb_build.proofs.InvocationAsked.{refusal_asks, scripts_before}
+use Rattle.gb_folder.proofs.Asked.{requests_nothing}
+use Rattle.gb_build.proofs.InvocationAsked.{refusal_requests, scripts_before}
 use Rattle.gb_build.proofs.invoking.invoke.Goals as goal
 
 pub returns-in_err-copied-clause-leads : goal.returns-in_err-copied-clause-leads
-returns-in_err-copied-clause-leads g c = λ tells kinds assumed.
+returns-in_err-copied-clause-leads g c = λ faithful kinds assumed.
     let F = g.F.Folder in
     let tables = tables_of g.T.Transforms.meanings g.A.Actions.meanings c.args.tables.now in
     let old : Shown = shows (F.contents c.args.folder.now) (F.failures c.args.folder.now) in
@@ -37,7 +37,7 @@ returns-in_err-copied-clause-leads g c = λ tells kinds assumed.
     out_of_memory (setting_of tables kinds (F.may_leave c.args.folder.now)) old old c.args.invocation.now p.0 p.2 refl c.from_residual.result p.1
 
 pub returns-in_err-configured-clause-leads : goal.returns-in_err-configured-clause-leads
-returns-in_err-configured-clause-leads g c = λ tells kinds assumed.
+returns-in_err-configured-clause-leads g c = λ faithful kinds assumed.
     let F = g.F.Folder in
     let tables = tables_of g.T.Transforms.meanings g.A.Actions.meanings c.args.tables.now in
     let may_leave = F.may_leave c.args.folder.now in
@@ -46,12 +46,12 @@ returns-in_err-configured-clause-leads g c = λ tells kinds assumed.
     let p = err_from_is_err_and c.from_residual-in_err-configured.result c.from_residual-in_err-configured.ensures.1 in
     refused_leads (setting_of tables kinds may_leave) old new c.args.invocation.now p.0
     (not_read tables old.contents c.args.invocation.now c.into_vec-given.result.items (c.into_vec-given.ensures ∙ c.in_ok-copied.ensures)
-    c.read_registry.result c.in_err-configured.field-0.0 p.0 old.failures new.failures c.in_err-configured.was p.2 c.read_registry.ensures.blamed (c.in_err-configured.ensures.said tells)
+    c.read_registry.result c.in_err-configured.field-0.0 p.0 old.failures new.failures c.in_err-configured.was p.2 c.read_registry.ensures.blamed (c.in_err-configured.ensures.said faithful)
     old refl refl)
-    (c.read_registry.ensures.same tells) c.from_residual-in_err-configured.result p.1
+    (c.read_registry.ensures.same faithful) c.from_residual-in_err-configured.result p.1
 
 pub returns-clause-leads : goal.returns-clause-leads
-returns-clause-leads g c = λ tells kinds assumed.
+returns-clause-leads g c = λ faithful kinds assumed.
     let F = g.F.Folder in
     let same = c.in_ok-configured.ensures.tables in
     let tables = tables_of g.T.Transforms.meanings g.A.Actions.meanings c.args.tables.now in
@@ -61,72 +61,72 @@ returns-clause-leads g c = λ tells kinds assumed.
     let before = F.contents c.args.folder.now in
     let later = F.failures c.read_registry.new.folder in
     let new : Shown = shows (F.contents c.build_registered-answered.new.folder) (F.failures c.build_registered-answered.new.folder) in
-    since_read kinds (registry_said tables source) (registers_in tables) first second c.read_registry.ensures.asks.tearing c.args.invocation.now before (F.failures c.args.folder.now) later
-    c.read_registry.ensures.asks.count
-    (registered tables before c.into_vec-given.result.items c.args.invocation.now.properties (c.into_vec-given.ensures ∙ c.in_ok-copied.ensures) source (c.in_ok-configured.ensures.said tells))
+    since_read kinds (registry_said tables source) (registers_in tables) first second c.read_registry.ensures.requests.tearing c.args.invocation.now before (F.failures c.args.folder.now) later
+    c.read_registry.ensures.requests.count
+    (registered tables before c.into_vec-given.result.items c.args.invocation.now.properties (c.into_vec-given.ensures ∙ c.in_ok-copied.ensures) source (c.in_ok-configured.ensures.said faithful))
     c.build_registered-answered.result new c.build_registered-answered.ensures.count
     (subst (λ (contents : Contents). Leads (setting_by kinds (always (registry_said tables source)) second) (shows contents later) (events.Invoke c.args.invocation.now) (answer_of c.build_registered-answered.result) new)
-    (c.read_registry.ensures.same tells)
+    (c.read_registry.ensures.same faithful)
     (subst (λ (given : handed.Tables _ _ _ _ _ _ _). Leads (setting_by kinds (always (registry_said (tables_of g.T.Transforms.meanings g.A.Actions.meanings given) source)) second)
     (shows (F.contents c.read_registry.new.folder) later) (events.Invoke c.args.invocation.now) (answer_of c.build_registered-answered.result) new)
     same
-    (c.build_registered-answered.ensures.leads tells kinds
+    (c.build_registered-answered.ensures.leads faithful kinds
     (subst (λ (given : handed.Tables _ _ _ _ _ _ _). IsAssumed g.A.Actions.meanings given.actions kinds second) (sym same)
-    (assumed_later first second c.read_registry.ensures.asks.tearing assumed)))))
+    (assumed_later first second c.read_registry.ensures.requests.tearing assumed)))))
 
 pub returns-in_err-copied-clause-holds : goal.returns-in_err-copied-clause-holds
-returns-in_err-copied-clause-holds g c = λ tells kinds assumed.
+returns-in_err-copied-clause-holds g c = λ faithful kinds assumed.
     let F = g.F.Folder in
     let tables = tables_of g.T.Transforms.meanings g.A.Actions.meanings c.args.tables.now in
     led_holds (setting_of tables kinds (F.may_leave c.args.folder.now)) (shows (F.contents c.args.folder.now) (F.failures c.args.folder.now))
     (shows (F.contents c.args.folder.now) (F.failures c.args.folder.now)) c.args.invocation.now c.from_residual.result (omega arith)
-    (returns-in_err-copied-clause-leads g c tells kinds assumed)
+    (returns-in_err-copied-clause-leads g c faithful kinds assumed)
 
 pub returns-in_err-configured-clause-holds : goal.returns-in_err-configured-clause-holds
-returns-in_err-configured-clause-holds g c = λ tells kinds assumed.
+returns-in_err-configured-clause-holds g c = λ faithful kinds assumed.
     let F = g.F.Folder in
     let tables = tables_of g.T.Transforms.meanings g.A.Actions.meanings c.args.tables.now in
     led_holds (setting_of tables kinds (F.may_leave c.args.folder.now)) (shows (F.contents c.args.folder.now) (F.failures c.args.folder.now))
-    (shows (F.contents c.read_registry.new.folder) (F.failures c.read_registry.new.folder)) c.args.invocation.now c.from_residual-in_err-configured.result c.read_registry.ensures.asks.count
-    (returns-in_err-configured-clause-leads g c tells kinds assumed)
+    (shows (F.contents c.read_registry.new.folder) (F.failures c.read_registry.new.folder)) c.args.invocation.now c.from_residual-in_err-configured.result c.read_registry.ensures.requests.count
+    (returns-in_err-configured-clause-leads g c faithful kinds assumed)
 
 pub returns-clause-holds : goal.returns-clause-holds
-returns-clause-holds g c = λ tells kinds assumed.
+returns-clause-holds g c = λ faithful kinds assumed.
     let F = g.F.Folder in
     let tables = tables_of g.T.Transforms.meanings g.A.Actions.meanings c.args.tables.now in
     led_holds (setting_of tables kinds (F.may_leave c.args.folder.now)) (shows (F.contents c.args.folder.now) (F.failures c.args.folder.now))
-    (shows (F.contents c.build_registered-answered.new.folder) (F.failures c.build_registered-answered.new.folder)) c.args.invocation.now c.build_registered-answered.result (omega (arith, c.read_registry.ensures.asks.count, c.build_registered-answered.ensures.count))
-    (returns-clause-leads g c tells kinds assumed)
+    (shows (F.contents c.build_registered-answered.new.folder) (F.failures c.build_registered-answered.new.folder)) c.args.invocation.now c.build_registered-answered.result (omega (arith, c.read_registry.ensures.requests.count, c.build_registered-answered.ensures.count))
+    (returns-clause-leads g c faithful kinds assumed)
 
 pub returns-clause-keeps : goal.returns-clause-keeps
-returns-clause-keeps g c = λ tells.
+returns-clause-keeps g c = λ faithful.
     let F = g.F.Folder in
     let tables = tables_of g.T.Transforms.meanings g.A.Actions.meanings c.args.tables.now in
     let source = c.in_ok-configured.configured.registry in
     let before = F.contents c.args.folder.now in
     invoked_keeps (registers_in tables) c.args.invocation.now c.build_registered-answered.result before (F.contents c.build_registered-answered.new.folder) (registry_said tables source)
-    (registered tables before c.into_vec-given.result.items c.args.invocation.now.properties (c.into_vec-given.ensures ∙ c.in_ok-copied.ensures) source (c.in_ok-configured.ensures.said tells))
-    (subst (λ (contents : Contents). KeepsElsewhere (registry_said tables source) contents (F.contents c.build_registered-answered.new.folder)) (c.read_registry.ensures.same tells)
+    (registered tables before c.into_vec-given.result.items c.args.invocation.now.properties (c.into_vec-given.ensures ∙ c.in_ok-copied.ensures) source (c.in_ok-configured.ensures.said faithful))
+    (subst (λ (contents : Contents). KeepsElsewhere (registry_said tables source) contents (F.contents c.build_registered-answered.new.folder)) (c.read_registry.ensures.same faithful)
     (subst (λ (given : handed.Tables _ _ _ _ _ _ _). KeepsElsewhere (registry_said (tables_of g.T.Transforms.meanings g.A.Actions.meanings given) source)
     (F.contents c.read_registry.new.folder) (F.contents c.build_registered-answered.new.folder))
-    c.in_ok-configured.ensures.tables (c.build_registered-answered.ensures.keeps tells)))
-    (subst (λ (contents : Contents). OnErr c.build_registered-answered.result (F.contents c.build_registered-answered.new.folder ≡ contents)) (c.read_registry.ensures.same tells)
-    (c.build_registered-answered.ensures.refused tells))
+    c.in_ok-configured.ensures.tables (c.build_registered-answered.ensures.keeps faithful)))
+    (subst (λ (contents : Contents). OnErr c.build_registered-answered.result (F.contents c.build_registered-answered.new.folder ≡ contents)) (c.read_registry.ensures.same faithful)
+    (c.build_registered-answered.ensures.refused faithful))
 
 pub returns-in_err-copied-clause-keeps : goal.returns-in_err-copied-clause-keeps
-returns-in_err-copied-clause-keeps g c = λ tells.
+returns-in_err-copied-clause-keeps g c = λ faithful.
     let F = g.F.Folder in
     let tables = tables_of g.T.Transforms.meanings g.A.Actions.meanings c.args.tables.now in
     let p = err_from_is_err_and c.from_residual.result c.from_residual.ensures.1 in
     refusal_keeps (registers_in tables) c.args.invocation.now c.from_residual.result p.0 p.1 (F.contents c.args.folder.now) (F.contents c.args.folder.now) refl
 
 pub returns-in_err-configured-clause-keeps : goal.returns-in_err-configured-clause-keeps
-returns-in_err-configured-clause-keeps g c = λ tells.
+returns-in_err-configured-clause-keeps g c = λ faithful.
     let F = g.F.Folder in
     let tables = tables_of g.T.Transforms.meanings g.A.Actions.meanings c.args.tables.now in
     let p = err_from_is_err_and c.from_residual-in_err-configured.result c.from_residual-in_err-configured.ensures.1 in
     refusal_keeps (registers_in tables) c.args.invocation.now c.from_residual-in_err-configured.result p.0 p.1 (F.contents c.args.folder.now) (F.contents c.read_registry.new.folder)
-    (c.read_registry.ensures.same tells)
+    (c.read_registry.ensures.same faithful)
 
 pub returns-in_err-copied-clause-device : goal.returns-in_err-copied-clause-device
 returns-in_err-copied-clause-device g c =
@@ -138,14 +138,14 @@ pub returns-in_err-configured-clause-device : goal.returns-in_err-configured-cla
 returns-in_err-configured-clause-device g c =
     let F = g.F.Folder in
     let p = err_from_is_err_and c.from_residual-in_err-configured.result c.from_residual-in_err-configured.ensures.1 in
-    reading_fails c.read_registry.result c.in_err-configured.field-0.0 p.0 (F.failures c.args.folder.now) (F.failures c.read_registry.new.folder) c.read_registry.ensures.asks.count c.in_err-configured.was
+    reading_fails c.read_registry.result c.in_err-configured.field-0.0 p.0 (F.failures c.args.folder.now) (F.failures c.read_registry.new.folder) c.read_registry.ensures.requests.count c.in_err-configured.was
     p.2 c.read_registry.ensures.blame c.from_residual-in_err-configured.result p.1
 
 pub returns-clause-device : goal.returns-clause-device
 returns-clause-device g c =
     let F = g.F.Folder in
     failed_since (times_blamed (answer_of c.build_registered-answered.result)) (F.failures c.args.folder.now) (F.failures c.read_registry.new.folder) (F.failures c.build_registered-answered.new.folder)
-    c.read_registry.ensures.asks.count c.build_registered-answered.ensures.device
+    c.read_registry.ensures.requests.count c.build_registered-answered.ensures.device
 
 -- ---- Why it is refused
 
@@ -159,7 +159,7 @@ returns-in_err-copied-clause-places g c =
     no_device place e = cc
 
 pub returns-in_err-copied-clause-not_built : goal.returns-in_err-copied-clause-not_built
-returns-in_err-copied-clause-not_built g c = λ tells.
+returns-in_err-copied-clause-not_built g c = λ faithful.
     let F = g.F.Folder in
     let tables = tables_of g.T.Transforms.meanings g.A.Actions.meanings c.args.tables.now in
     let p = err_from_is_err_and c.from_residual.result c.from_residual.ensures.1 in
@@ -173,7 +173,7 @@ returns-in_err-configured-clause-places g c =
     (read_first c.args.invocation.now c.read_registry.result c.in_err-configured.field-0.0 p.0 c.in_err-configured.was p.2 c.read_registry.ensures.blamed)
 
 pub returns-in_err-configured-clause-not_built : goal.returns-in_err-configured-clause-not_built
-returns-in_err-configured-clause-not_built g c = λ tells.
+returns-in_err-configured-clause-not_built g c = λ faithful.
     let F = g.F.Folder in
     let tables = tables_of g.T.Transforms.meanings g.A.Actions.meanings c.args.tables.now in
     let old : Shown = shows (F.contents c.args.folder.now) (F.failures c.args.folder.now) in
@@ -181,7 +181,7 @@ returns-in_err-configured-clause-not_built g c = λ tells.
     let p = err_from_is_err_and c.from_residual-in_err-configured.result c.from_residual-in_err-configured.ensures.1 in
     of_fault (λ (fault : Fault). IsNotBuilt (registers_in tables) old c.args.invocation.now fault after) c.from_residual-in_err-configured.result p.0 p.1
     (not_read tables old.contents c.args.invocation.now c.into_vec-given.result.items (c.into_vec-given.ensures ∙ c.in_ok-copied.ensures)
-    c.read_registry.result c.in_err-configured.field-0.0 p.0 old.failures after c.in_err-configured.was p.2 c.read_registry.ensures.blamed (c.in_err-configured.ensures.said tells)
+    c.read_registry.result c.in_err-configured.field-0.0 p.0 old.failures after c.in_err-configured.was p.2 c.read_registry.ensures.blamed (c.in_err-configured.ensures.said faithful)
     old refl refl)
 
 pub returns-clause-places : goal.returns-clause-places
@@ -192,7 +192,7 @@ returns-clause-places g c =
     c.build_registered-answered.result c.build_registered-answered.ensures.places
 
 pub returns-clause-not_built : goal.returns-clause-not_built
-returns-clause-not_built g c = λ tells.
+returns-clause-not_built g c = λ faithful.
     let F = g.F.Folder in
     let tables = tables_of g.T.Transforms.meanings g.A.Actions.meanings c.args.tables.now in
     let source = c.in_ok-configured.configured.registry in
@@ -201,59 +201,59 @@ returns-clause-not_built g c = λ tells.
     let after = F.failures c.build_registered-answered.new.folder in
     each_fault (IsNotBegun (registry_said tables source) c.args.invocation.now later after) (λ (fault : Fault). IsNotBuilt (registers_in tables) old c.args.invocation.now fault after)
     (λ fault why. not_built (registers_in tables) (registry_said tables source) old c.args.invocation.now fault after
-    (registered tables old.contents c.into_vec-given.result.items c.args.invocation.now.properties (c.into_vec-given.ensures ∙ c.in_ok-copied.ensures) source (c.in_ok-configured.ensures.said tells))
-    (begun_before (registry_said tables source) c.args.invocation.now old.failures later after c.read_registry.ensures.asks.count c.build_registered-answered.ensures.count fault why))
+    (registered tables old.contents c.into_vec-given.result.items c.args.invocation.now.properties (c.into_vec-given.ensures ∙ c.in_ok-copied.ensures) source (c.in_ok-configured.ensures.said faithful))
+    (begun_before (registry_said tables source) c.args.invocation.now old.failures later after c.read_registry.ensures.requests.count c.build_registered-answered.ensures.count fault why))
     c.build_registered-answered.result
     (subst (λ (given : handed.Tables _ _ _ _ _ _ _). IfErr c.build_registered-answered.result
     (IsNotBegun (registry_said (tables_of g.T.Transforms.meanings g.A.Actions.meanings given) source) c.args.invocation.now later after))
     c.in_ok-configured.ensures.tables c.build_registered-answered.ensures.not_begun)
 
 pub returns-clause-dry : goal.returns-clause-dry
-returns-clause-dry g c = λ tells dry.
-    ap g.F.Folder.contents (c.build_registered-answered.ensures.dry dry) ∙ c.read_registry.ensures.same tells
+returns-clause-dry g c = λ faithful dry.
+    ap g.F.Folder.contents (c.build_registered-answered.ensures.dry dry) ∙ c.read_registry.ensures.same faithful
 
 -- ---- The promise
 
 pub returns-in_err-copied-clause-promise : goal.returns-in_err-copied-clause-promise
-returns-in_err-copied-clause-promise g c = λ tells kinds assumed.
+returns-in_err-copied-clause-promise g c = λ faithful kinds assumed.
     let F = g.F.Folder in
     let tables = tables_of g.T.Transforms.meanings g.A.Actions.meanings c.args.tables.now in
     headline (setting_of tables kinds (F.may_leave c.args.folder.now)) (shows (F.contents c.args.folder.now) (F.failures c.args.folder.now))
     (shows (F.contents c.args.folder.now) (F.failures c.args.folder.now)) (events.Invoke c.args.invocation.now ∷ []) (answer_of c.from_residual.result ∷ [])
-    (returns-in_err-copied-clause-holds g c tells kinds assumed)
+    (returns-in_err-copied-clause-holds g c faithful kinds assumed)
 
 pub returns-in_err-configured-clause-promise : goal.returns-in_err-configured-clause-promise
-returns-in_err-configured-clause-promise g c = λ tells kinds assumed.
+returns-in_err-configured-clause-promise g c = λ faithful kinds assumed.
     let F = g.F.Folder in
     let tables = tables_of g.T.Transforms.meanings g.A.Actions.meanings c.args.tables.now in
     headline (setting_of tables kinds (F.may_leave c.args.folder.now)) (shows (F.contents c.args.folder.now) (F.failures c.args.folder.now))
     (shows (F.contents c.read_registry.new.folder) (F.failures c.read_registry.new.folder)) (events.Invoke c.args.invocation.now ∷ []) (answer_of c.from_residual-in_err-configured.result ∷ [])
-    (returns-in_err-configured-clause-holds g c tells kinds assumed)
+    (returns-in_err-configured-clause-holds g c faithful kinds assumed)
 
 pub returns-clause-promise : goal.returns-clause-promise
-returns-clause-promise g c = λ tells kinds assumed.
+returns-clause-promise g c = λ faithful kinds assumed.
     let F = g.F.Folder in
     let tables = tables_of g.T.Transforms.meanings g.A.Actions.meanings c.args.tables.now in
     headline (setting_of tables kinds (F.may_leave c.args.folder.now)) (shows (F.contents c.args.folder.now) (F.failures c.args.folder.now))
     (shows (F.contents c.build_registered-answered.new.folder) (F.failures c.build_registered-answered.new.folder)) (events.Invoke c.args.invocation.now ∷ []) (answer_of c.build_registered-answered.result ∷ [])
-    (returns-clause-holds g c tells kinds assumed)
+    (returns-clause-holds g c faithful kinds assumed)
 
 -- ---- The calls that it makes
 
-pub returns-in_err-copied-clause-asks : goal.returns-in_err-copied-clause-asks
-returns-in_err-copied-clause-asks g c =
+pub returns-in_err-copied-clause-requests : goal.returns-in_err-copied-clause-requests
+returns-in_err-copied-clause-requests g c =
     let p = err_from_is_err_and c.from_residual.result c.from_residual.ensures.1 in
-    refusal_asks g.F.Folder.failures g.F.Folder.may_leave g.F.Folder.asked g.A.Actions.meanings c.args.tables.now.actions c.args.invocation.now c.from_residual.result p.0 c.args.folder.now c.args.folder.now p.1 (asks_nothing c.args.folder.now)
+    refusal_requests g.F.Folder.failures g.F.Folder.may_leave g.F.Folder.allowed g.A.Actions.meanings c.args.tables.now.actions c.args.invocation.now c.from_residual.result p.0 c.args.folder.now c.args.folder.now p.1 (requests_nothing c.args.folder.now)
 
-pub returns-in_err-configured-clause-asks : goal.returns-in_err-configured-clause-asks
-returns-in_err-configured-clause-asks g c =
+pub returns-in_err-configured-clause-requests : goal.returns-in_err-configured-clause-requests
+returns-in_err-configured-clause-requests g c =
     let p = err_from_is_err_and c.from_residual-in_err-configured.result c.from_residual-in_err-configured.ensures.1 in
-    refusal_asks g.F.Folder.failures g.F.Folder.may_leave g.F.Folder.asked g.A.Actions.meanings c.args.tables.now.actions c.args.invocation.now c.from_residual-in_err-configured.result p.0 c.args.folder.now c.read_registry.new.folder p.1 c.read_registry.ensures.asks
+    refusal_requests g.F.Folder.failures g.F.Folder.may_leave g.F.Folder.allowed g.A.Actions.meanings c.args.tables.now.actions c.args.invocation.now c.from_residual-in_err-configured.result p.0 c.args.folder.now c.read_registry.new.folder p.1 c.read_registry.ensures.requests
 
-pub returns-clause-asks : goal.returns-clause-asks
-returns-clause-asks g c =
-    scripts_before g.F.Folder.failures g.F.Folder.may_leave g.F.Folder.asked g.A.Actions.meanings c.args.tables.now.actions c.args.invocation.now c.build_registered-answered.result c.args.folder.now c.read_registry.new.folder c.build_registered-answered.new.folder
-    c.read_registry.ensures.asks
-    (subst (λ (given : handed.Tables _ _ _ _ _ _ _). InvocationAsks g.F.Folder.failures g.F.Folder.may_leave g.F.Folder.asked g.A.Actions.meanings given.actions c.args.invocation.now
+pub returns-clause-requests : goal.returns-clause-requests
+returns-clause-requests g c =
+    scripts_before g.F.Folder.failures g.F.Folder.may_leave g.F.Folder.allowed g.A.Actions.meanings c.args.tables.now.actions c.args.invocation.now c.build_registered-answered.result c.args.folder.now c.read_registry.new.folder c.build_registered-answered.new.folder
+    c.read_registry.ensures.requests
+    (subst (λ (given : handed.Tables _ _ _ _ _ _ _). InvocationRequests g.F.Folder.failures g.F.Folder.may_leave g.F.Folder.allowed g.A.Actions.meanings given.actions c.args.invocation.now
     c.build_registered-answered.result c.read_registry.new.folder c.build_registered-answered.new.folder)
-    c.in_ok-configured.ensures.tables c.build_registered-answered.ensures.asks)
+    c.in_ok-configured.ensures.tables c.build_registered-answered.ensures.requests)

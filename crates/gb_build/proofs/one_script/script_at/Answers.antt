@@ -4,12 +4,12 @@ use Rattle.gb_build.proofs.FileLemmas.{reported_there, unread_there}
 use Rattle.gb_build.proofs.one_script.script_at.Goals as goal
 
 pub returns-in-Ok-clause-said : goal.returns-in-Ok-clause-said
-returns-in-Ok-clause-said g c = λ tells.
+returns-in-Ok-clause-said g c = λ faithful.
     reported_there Says (g.F.Folder.contents c.args.folder.now).files c.args.place _ _ c.as_slice.result.now c.script_in.result (g.met.F.Folder.sound c.args.folder.now)
-    (c.in-Ok.ensures.found tells ∙ ap Some (sym c.as_slice.ensures.value)) c.script_in.ensures
+    (c.in-Ok.ensures.found faithful ∙ ap Some (sym c.as_slice.ensures.value)) c.script_in.ensures
 
 pub returns-in_default-clause-said : goal.returns-in_default-clause-said
-returns-in_default-clause-said g c = λ tells.
-    let asked = c.in-Err.ensures in
+returns-in_default-clause-said g c = λ faithful.
+    let allowed = c.in-Err.ensures in
     unread_there Says (g.F.Folder.contents c.args.folder.now).files c.args.place _ _ c.in-Err.fault c.unread.result (g.met.F.Folder.sound c.args.folder.now) (λ bytes long. long)
-    (λ e. asked.device (ap Err e)) c.in_default.not-Missing (λ e. asked.blocked tells (ap Err e)) (λ e. asked.large tells (ap Err e)) (λ e. asked.not_named (ap Err e)) c.unread.ensures
+    (λ e. allowed.device (ap Err e)) c.in_default.not-Missing (λ e. allowed.blocked faithful (ap Err e)) (λ e. allowed.large faithful (ap Err e)) (λ e. allowed.not_named (ap Err e)) c.unread.ensures

@@ -34,18 +34,18 @@ read_scripts-requires g c = record {
 }
 
 pub returns-in_err-scripts-clause-said : goal.returns-in_err-scripts-clause-said
-returns-in_err-scripts-clause-said g c = λ tells.
+returns-in_err-scripts-clause-said g c = λ faithful.
     let F = g.F.Folder in
     let settings = c.in_ok-settings.settings in
     let files = (F.contents c.args.folder.now).files in
     let fault = c.in_err-scripts.field-0.0 in
     handed _ _ c.from_residual-in_err-scripts.result fault c.from_residual-in_err-scripts.ensures.1
-    (elim (c.in_err-scripts.ensures.said tells) [
-      | inl machine ↦ inl (machine_before _ _ _ fault c.read_settings_of.ensures.asks.count c.read_scripts.ensures.asks.count machine)
+    (elim (c.in_err-scripts.ensures.said faithful) [
+      | inl machine ↦ inl (machine_before _ _ _ fault c.read_settings_of.ensures.requests.count c.read_scripts.ensures.requests.count machine)
       | inr bad ↦ inr (scripts_refused (tables_of g.T.Transforms.meanings g.A.Actions.meanings c.args.tables.now) files c.args.given.items settings
-          (c.in_ok-settings.ensures.said tells) c.in_ok-projects.ensures.faults fault (
+          (c.in_ok-settings.ensures.said faithful) c.in_ok-projects.ensures.faults fault (
           scripts_here (F.contents c.read_settings_of.new.folder) (F.contents c.args.folder.now) c.as_slice.result.now (projects_of settings) (Err fault)
-          (c.read_settings_of.ensures.same tells) (c.as_slice.ensures.value ∙ c.in_ok-projects.ensures.projects) bad))
+          (c.read_settings_of.ensures.same faithful) (c.as_slice.ensures.value ∙ c.in_ok-projects.ensures.projects) bad))
     ])
 
 pub returns-clause-blame : goal.returns-clause-blame
@@ -61,11 +61,11 @@ returns-clause-blamed g c = λ place device.
     (configure_blameless tables (source_of c.in_ok-settings.settings c.in_ok-scripts.scripts.items c.args.given.items)) c.configure.ensures.faults device)
 
 pub returns-clause-said : goal.returns-clause-said
-returns-clause-said g c = λ tells.
+returns-clause-said g c = λ faithful.
     let F = g.F.Folder in
     let files = (F.contents c.args.folder.now).files in
     put_together (tables_of g.T.Transforms.meanings g.A.Actions.meanings c.args.tables.now) files c.args.given.items c.in_ok-settings.settings
-    (c.in_ok-settings.ensures.said tells) c.in_ok-projects.ensures.faults c.in_ok-scripts.scripts.items _ _ c.configure.result (λ configured. configured.registry)
+    (c.in_ok-settings.ensures.said faithful) c.in_ok-projects.ensures.faults c.in_ok-scripts.scripts.items _ _ c.configure.result (λ configured. configured.registry)
     (scripts_here (F.contents c.read_settings_of.new.folder) (F.contents c.args.folder.now) c.as_slice.result.now (projects_of c.in_ok-settings.settings) (Ok c.in_ok-scripts.scripts.items)
-    (c.read_settings_of.ensures.same tells) (c.as_slice.ensures.value ∙ c.in_ok-projects.ensures.projects) (c.in_ok-scripts.ensures.said tells))
+    (c.read_settings_of.ensures.same faithful) (c.as_slice.ensures.value ∙ c.in_ok-projects.ensures.projects) (c.in_ok-scripts.ensures.said faithful))
     c.configure.ensures.registry c.configure.ensures.faults

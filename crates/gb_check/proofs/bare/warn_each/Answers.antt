@@ -1,6 +1,6 @@
 use Rattle.std.proofs.Common.{◌++◌, List, ap, ◌∙◌}
 use Rattle.gb_folder.specs.Files.{Contents}
-use Rattle.gb_folder.proofs.Asked.{asks_then}
+use Rattle.gb_folder.proofs.Asked.{requests_then}
 use Rattle.gb_check.specs.Warnings.{bare_root}
 use Rattle.gb_check.specs.declared.findings.Finding.{Finding}
 use Rattle.gb_store.proofs.Machine.{machine_before}
@@ -18,18 +18,18 @@ loop-rooted-preserved g c =
     let before = c.loop-rooted.found.items in
     let of = bare_root sites (F.contents c.args.folder.now) outputs in
     record {
-      asks = asks_then c.loop-rooted.invariant.asks c.push_rooted.ensures.asks;
-      same = λ tells. c.push_rooted.ensures.same tells ∙ c.loop-rooted.invariant.same tells;
-      found = λ tells.
-          c.in_ok-push_rooted.ensures.found tells
-          ∙ ap (λ (contents : Contents). before ++ bare_root sites contents outputs rooted) (c.loop-rooted.invariant.same tells)
-          ∙ ap (λ (found : List Finding). found ++ of rooted) (c.loop-rooted.invariant.found tells)
+      requests = requests_then c.loop-rooted.invariant.requests c.push_rooted.ensures.requests;
+      same = λ faithful. c.push_rooted.ensures.same faithful ∙ c.loop-rooted.invariant.same faithful;
+      found = λ faithful.
+          c.in_ok-push_rooted.ensures.found faithful
+          ∙ ap (λ (contents : Contents). before ++ bare_root sites contents outputs rooted) (c.loop-rooted.invariant.same faithful)
+          ∙ ap (λ (found : List Finding). found ++ of rooted) (c.loop-rooted.invariant.found faithful)
           ∙ one_more of c.args.roots.now c.loop-rooted.rooted-index rooted c.loop-rooted-test.true c.rooted-item.is;
     }
 
 pub returns-in_err-push_rooted-clause-err : goal.returns-in_err-push_rooted-clause-err
-returns-in_err-push_rooted-clause-err g c = λ tells.
+returns-in_err-push_rooted-clause-err g c = λ faithful.
     let failures = g.F.Folder.failures in
     let fault = c.in_err-push_rooted.field-0.0 in
     handed (IsOfMachine (failures c.args.folder.now) (failures c.push_rooted.new.folder)) c.from_residual.result fault c.from_residual.ensures.1
-    (machine_before _ _ _ fault c.loop-rooted.invariant.asks.count c.push_rooted.ensures.asks.count (c.in_err-push_rooted.ensures.err tells))
+    (machine_before _ _ _ fault c.loop-rooted.invariant.requests.count c.push_rooted.ensures.requests.count (c.in_err-push_rooted.ensures.err faithful))

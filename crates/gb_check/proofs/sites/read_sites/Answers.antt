@@ -1,8 +1,8 @@
 use Rattle.std.proofs.Common.{◌⊎◌, ◌++◌, arith, ◌∙◌, [], List, append-nil, append_assoc, ap, refl, subst, sym}
 use Rattle.std.proofs.lemmas.List.{drop_all}
 use Rattle.gb_folder.specs.Files.{Contents}
-use Rattle.gb_folder.proofs.Asked.{asks_then}
-use Rattle.gb_registry.specs.Seen.{scripts_in}
+use Rattle.gb_folder.proofs.Asked.{requests_then}
+use Rattle.gb_registry.specs.SoFar.{scripts_in}
 use Rattle.gb_registry.specs.declared.checking.Scripted.{Scripted}
 use Rattle.gb_report.specs.declared.fault.Fault.{Fault}
 use Rattle.gb_store.specs.Faults.{IsOfMachine}
@@ -30,17 +30,17 @@ loop-scripted-preserved g c =
     let marks_before = c.loop-scripted.marks.items in
     let marked = marks_of scripted.project scripted.script added.0 in
     record {
-      asks = asks_then c.loop-scripted.invariant.asks c.push_script.ensures.asks;
-      same = λ tells. c.push_script.ensures.same tells ∙ c.loop-scripted.invariant.same tells;
+      requests = requests_then c.loop-scripted.invariant.requests c.push_script.ensures.requests;
+      same = λ faithful. c.push_script.ensures.same faithful ∙ c.loop-scripted.invariant.same faithful;
       sites = λ others words rest.
-          subst (λ (sites : List Site). AreSites F.tells files (scripts_in scripts) sites (c.push_script.new.marks.items ++ words)) (sym (ap (λ (sites : List Site). sites ++ others) added.2 ∙ append_assoc before more others))
-          (subst (λ (marks : List Mark). AreSites F.tells files (scripts_in scripts) (before ++ (more ++ others)) marks) (sym (ap (λ (marks : List Mark). marks ++ words) added.3 ∙ append_assoc marks_before marked words))
+          subst (λ (sites : List Site). AreSites F.faithful files (scripts_in scripts) sites (c.push_script.new.marks.items ++ words)) (sym (ap (λ (sites : List Site). sites ++ others) added.2 ∙ append_assoc before more others))
+          (subst (λ (marks : List Mark). AreSites F.faithful files (scripts_in scripts) (before ++ (more ++ others)) marks) (sym (ap (λ (marks : List Mark). marks ++ words) added.3 ∙ append_assoc marks_before marked words))
           (c.loop-scripted.invariant.sites (more ++ others) (marked ++ words)
-          (subst (λ (left : List Scripted). AreSites F.tells files (scripts_in left) (more ++ others) (marked ++ words)) (sym (rest_from scripts index scripted c.loop-scripted-test.true c.scripted-item.is)) (
+          (subst (λ (left : List Scripted). AreSites F.faithful files (scripts_in left) (more ++ others) (marked ++ words)) (sym (rest_from scripts index scripted c.loop-scripted-test.true c.scripted-item.is)) (
             added.0,
             others,
             words,
-            λ tells. subst (λ (contents : Contents). AreLinesAt contents.files place added.0) (c.loop-scripted.invariant.same tells) (added.1 tells),
+            λ faithful. subst (λ (contents : Contents). AreLinesAt contents.files place added.0) (c.loop-scripted.invariant.same faithful) (added.1 faithful),
             rest,
             refl,
             refl,
@@ -48,7 +48,7 @@ loop-scripted-preserved g c =
     }
 
 pub returns-in_err-push_script-clause-err : goal.returns-in_err-push_script-clause-err
-returns-in_err-push_script-clause-err g c = λ tells.
+returns-in_err-push_script-clause-err g c = λ faithful.
     let F = g.F.Folder in
     let scripted = c.scripted-item.result in
     let scripts = c.args.scripts.now in
@@ -59,9 +59,9 @@ returns-in_err-push_script-clause-err g c = λ tells.
     handed Bad c.from_residual.result fault c.from_residual.ensures.1
     (unread_one files (scripts_in scripts) script _ (F.failures c.loop-scripted.folder) _ fault
     (contained (λ (s : Scripted). (s.project, s.script)) scripts c.loop-scripted.scripted-index scripted c.loop-scripted-test.true c.scripted-item.is)
-    c.loop-scripted.invariant.asks.count c.push_script.ensures.asks.count
+    c.loop-scripted.invariant.requests.count c.push_script.ensures.requests.count
     (subst (λ (contents : Contents). IsOfMachine (F.failures c.loop-scripted.folder) (F.failures c.push_script.new.folder) fault ⊎ HasTextFault contents.files (script_of_project scripted.project) fault)
-    (c.loop-scripted.invariant.same tells) (c.in_err-push_script.ensures.err tells)))
+    (c.loop-scripted.invariant.same faithful) (c.in_err-push_script.ensures.err faithful)))
 
 pub returns-clause-sites : goal.returns-clause-sites
 returns-clause-sites g c =
@@ -71,6 +71,6 @@ returns-clause-sites g c =
     let sites = c.loop-scripted.sites.items in
     let marks = c.loop-scripted.marks.items in
     let all = drop_all c.loop-scripted.scripted-index scripts (omega (arith, c.loop-scripted-test.false)) in
-    subst (λ (s : List Site). AreSites F.tells files (scripts_in scripts) s marks) (append-nil sites)
-    (subst (λ (m : List Mark). AreSites F.tells files (scripts_in scripts) (sites ++ []) m) (append-nil marks)
-    (c.loop-scripted.invariant.sites [] [] (subst (λ (left : List Scripted). AreSites F.tells files (scripts_in left) [] []) (sym all) (refl, refl))))
+    subst (λ (s : List Site). AreSites F.faithful files (scripts_in scripts) s marks) (append-nil sites)
+    (subst (λ (m : List Mark). AreSites F.faithful files (scripts_in scripts) (sites ++ []) m) (append-nil marks)
+    (c.loop-scripted.invariant.sites [] [] (subst (λ (left : List Scripted). AreSites F.faithful files (scripts_in left) [] []) (sym all) (refl, refl))))

@@ -1,7 +1,7 @@
 use Rattle.std.proofs.Common.{Ok, Err}
 use Rattle.std.proofs.lemmas.Result.{err_from_is_err_and}
 use Rattle.std.specs.FinMap.Entries.{find}
-use Rattle.gb_evaluate.proofs.TellLemmas.{first_fails, passed_on, sorted_tells, then_gives}
+use Rattle.gb_evaluate.proofs.ReportLemmas.{first_fails, passed_on, sorted_shows, then_gives}
 use Rattle.gb_core.specs.Lists.{byte_order}
 use Rattle.gb_registry.specs.Tables.{tables_of}
 use Rattle.gb_declare.specs.Realised.{action_of, each_of, fitting, required}
@@ -31,4 +31,4 @@ returns-clause-reported g c = λ source number over at is are.
     let fits = fitting tables source at (spots tables source) (whole tables source) call (find byte_order call.name tables.kinds) in
     then_gives tables source given fits c.in_ok-args.args c.fitting.result
     (arguments_there tables source number at c.args.path.now is c.args.row.now call.arguments are call.name (Ok c.in_ok-args.args) (c.in_ok-args.ensures.reported source number over))
-    (sorted_tells tables source (fits c.in_ok-args.args) c.fitting.result (c.fitting.ensures source at is))
+    (sorted_shows tables source (fits c.in_ok-args.args) c.fitting.result (c.fitting.ensures source at is))

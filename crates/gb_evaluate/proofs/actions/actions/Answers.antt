@@ -2,7 +2,7 @@ use Rattle.std.proofs.Common.{◌<◌, Bor, length, map, sym, ap, subst, ◌∙�
 use Rattle.std.specs.List.{flat_map}
 use Rattle.std.proofs.lemmas.List.Elements.{All-append}
 use Rattle.std.proofs.lemmas.Result.{err_from_is_err_and}
-use Rattle.gb_evaluate.proofs.TellLemmas.{passed_on}
+use Rattle.gb_evaluate.proofs.ReportLemmas.{passed_on}
 use Rattle.gb_evaluate.specs.Given.{HasValue}
 use Rattle.gb_evaluate.specs.Over.{IsOver, known_names}
 use Rattle.gb_registry.specs.Tables.{tables_of}
@@ -10,7 +10,7 @@ use Rattle.gb_declare.specs.Whole.{spots, whole}
 use Rattle.gb_provider.specs.declared.expression.Node.{Node}
 use Rattle.gb_evaluate.specs.Rows.{AreWithin, HaveValues}
 use Rattle.gb_evaluate.proofs.PartLemmas.{back_all, left_counted}
-use Rattle.gb_evaluate.proofs.RowLemmas.{none_of_all, row_fails_here, row_stands, rows_go_on}
+use Rattle.gb_evaluate.proofs.RowLemmas.{none_of_all, row_fails_here, row_exists, rows_go_on}
 use Rattle.std.specs.VecDeque.Iter.{deque_iter_rest}
 use Rattle.gb_declare.specs.Borrowed.{now_of}
 use Rattle.gb_declare.specs.Realised.{action_of, each_of}
@@ -30,7 +30,7 @@ returns-in_err-action-clause-reported g c = λ source number over at is are.
     let fault = c.in_err-action.field-0.0 in
     let p = err_from_is_err_and c.from_residual.result c.from_residual.ensures.1 in
     passed_on tables source (each_of f (now_of c.args.calls.now)) c.from_residual.result p.0 fault p.1 p.2
-    (row_fails_here tables source number at.project (λ (call : Call). call.arguments) f (now_of c.args.calls.now) c.loop-call.found c.loop-call.rest.now c.split_at.result.0.now c.split_at.result.1.now (now_of (deque_iter_rest c.loop-call.call-iterator)) (now_of (deque_iter_rest c.next.new.self)) x c.split_at.ensures.whole (c.split_at.ensures.first ∙ ap length c.as_slice.ensures) next left fault (c.in_err-action.ensures.reported source number there at is (row_stands tables source number at.project (λ (call : Call). call.arguments) f (now_of c.args.calls.now) c.loop-call.found c.loop-call.rest.now c.split_at.result.0.now c.split_at.result.1.now (now_of (deque_iter_rest c.loop-call.call-iterator)) (now_of (deque_iter_rest c.next.new.self)) x c.split_at.ensures.whole (c.split_at.ensures.first ∙ ap length c.as_slice.ensures) next left)))
+    (row_fails_here tables source number at.project (λ (call : Call). call.arguments) f (now_of c.args.calls.now) c.loop-call.found c.loop-call.rest.now c.split_at.result.0.now c.split_at.result.1.now (now_of (deque_iter_rest c.loop-call.call-iterator)) (now_of (deque_iter_rest c.next.new.self)) x c.split_at.ensures.whole (c.split_at.ensures.first ∙ ap length c.as_slice.ensures) next left fault (c.in_err-action.ensures.reported source number there at is (row_exists tables source number at.project (λ (call : Call). call.arguments) f (now_of c.args.calls.now) c.loop-call.found c.loop-call.rest.now c.split_at.result.0.now c.split_at.result.1.now (now_of (deque_iter_rest c.loop-call.call-iterator)) (now_of (deque_iter_rest c.next.new.self)) x c.split_at.ensures.whole (c.split_at.ensures.first ∙ ap length c.as_slice.ensures) next left)))
 
 pub loop-call-preserved : goal.loop-call-preserved
 loop-call-preserved g c = record {
@@ -52,7 +52,7 @@ loop-call-preserved g c = record {
       let next = ap (map (λ (b : Bor Call). b.now)) c.in-Some.ensures.steps in
       let left = c.loop-call.invariant.reported source number over at is are in
       let there = subst (λ p. IsOver tables source (known_names context.projects.now context.tasks.now) context.faults.now p.nodes number) (sym c.loop-call.invariant.kept) over in
-      rows_go_on tables source number at.project (λ (call : Call). call.arguments) f (now_of c.args.calls.now) c.loop-call.found c.loop-call.rest.now c.split_at.result.0.now c.split_at.result.1.now (now_of (deque_iter_rest c.loop-call.call-iterator)) (now_of (deque_iter_rest c.next.new.self)) x c.split_at.ensures.whole (c.split_at.ensures.first ∙ ap length c.as_slice.ensures) next left c.in_ok-action.action c.do_last.new.self c.in_ok-do_last.ensures.ok (c.in_ok-action.ensures.reported source number there at is (row_stands tables source number at.project (λ (call : Call). call.arguments) f (now_of c.args.calls.now) c.loop-call.found c.loop-call.rest.now c.split_at.result.0.now c.split_at.result.1.now (now_of (deque_iter_rest c.loop-call.call-iterator)) (now_of (deque_iter_rest c.next.new.self)) x c.split_at.ensures.whole (c.split_at.ensures.first ∙ ap length c.as_slice.ensures) next left));
+      rows_go_on tables source number at.project (λ (call : Call). call.arguments) f (now_of c.args.calls.now) c.loop-call.found c.loop-call.rest.now c.split_at.result.0.now c.split_at.result.1.now (now_of (deque_iter_rest c.loop-call.call-iterator)) (now_of (deque_iter_rest c.next.new.self)) x c.split_at.ensures.whole (c.split_at.ensures.first ∙ ap length c.as_slice.ensures) next left c.in_ok-action.action c.do_last.new.self c.in_ok-do_last.ensures.ok (c.in_ok-action.ensures.reported source number there at is (row_exists tables source number at.project (λ (call : Call). call.arguments) f (now_of c.args.calls.now) c.loop-call.found c.loop-call.rest.now c.split_at.result.0.now c.split_at.result.1.now (now_of (deque_iter_rest c.loop-call.call-iterator)) (now_of (deque_iter_rest c.next.new.self)) x c.split_at.ensures.whole (c.split_at.ensures.first ∙ ap length c.as_slice.ensures) next left));
 }
 
 pub returns-clause-given : goal.returns-clause-given

@@ -4,7 +4,7 @@ use Rattle.gb_registry.specs.Tables.{tables_of}
 use Rattle.gb_declare.specs.Realised.{truth_of}
 use Rattle.gb_declare.specs.Whole.{spots, whole}
 use Rattle.gb_evaluate.specs.Given.{given_at, truth_at}
-use Rattle.gb_evaluate.proofs.TellLemmas.{first_fails, passed_on, sorted_tells, then_gives}
+use Rattle.gb_evaluate.proofs.ReportLemmas.{first_fails, passed_on, sorted_shows, then_gives}
 use Rattle.gb_evaluate.proofs.asking.passes.Goals as goal
 
 pub returns-in_err-value-clause-reported : goal.returns-in_err-value-clause-reported
@@ -25,4 +25,4 @@ returns-clause-reported g c = λ at source number over.
     let test = c.args.test.now in
     let says = truth_of tables source at (spots tables source) (whole tables source) test (test_named tables.functions test.name) in
     then_gives tables source (given_at tables source entry) says c.in_ok-value.value c.truth_of-truth.result (c.in_ok-value.ensures.reported source number over)
-    (sorted_tells tables source (says c.in_ok-value.value) c.truth_of-truth.result (c.truth_of-truth.ensures source at))
+    (sorted_shows tables source (says c.in_ok-value.value) c.truth_of-truth.result (c.truth_of-truth.ensures source at))

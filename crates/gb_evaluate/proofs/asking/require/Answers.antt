@@ -4,7 +4,7 @@ use Rattle.gb_registry.specs.Tables.{tables_of}
 use Rattle.gb_report.specs.declared.fault.Fault.TheVariants.{NoValue}
 use Rattle.gb_declare.specs.Realised.{Plain, and_then, present}
 use Rattle.gb_evaluate.specs.Given.{given_at, required_at}
-use Rattle.gb_evaluate.proofs.TellLemmas.{first_fails, passed_on}
+use Rattle.gb_evaluate.proofs.ReportLemmas.{first_fails, passed_on}
 use Rattle.gb_evaluate.proofs.asking.require.Goals as goal
 
 pub returns-in_err-value-clause-reported : goal.returns-in_err-value-clause-reported

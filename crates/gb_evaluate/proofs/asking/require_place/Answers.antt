@@ -2,7 +2,7 @@ use Rattle.std.proofs.lemmas.Result.{err_from_is_err_and}
 use Rattle.gb_registry.specs.Tables.{tables_of}
 use Rattle.gb_declare.specs.Realised.{as_place}
 use Rattle.gb_evaluate.specs.Given.{place_at, required_at}
-use Rattle.gb_evaluate.proofs.TellLemmas.{first_fails, passed_on, sorted_tells, then_gives}
+use Rattle.gb_evaluate.proofs.ReportLemmas.{first_fails, passed_on, sorted_shows, then_gives}
 use Rattle.gb_evaluate.proofs.asking.require_place.Goals as goal
 
 pub returns-in_err-value-clause-reported : goal.returns-in_err-value-clause-reported
@@ -23,4 +23,4 @@ returns-clause-reported g c = λ source number over.
     let name = c.args.name.now in
     let entry = number c.args.node.number in
     then_gives tables source (required_at tables source path name entry) (as_place name) c.in_ok-value.value c.place_in.result (c.in_ok-value.ensures.reported source number over)
-    (sorted_tells tables source (as_place name c.in_ok-value.value) c.place_in.result c.place_in.ensures)
+    (sorted_shows tables source (as_place name c.in_ok-value.value) c.place_in.result c.place_in.ensures)

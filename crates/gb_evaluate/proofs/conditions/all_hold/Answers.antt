@@ -1,7 +1,7 @@
 use Rattle.std.proofs.Common.{◌≡◌, ◌+◌, ◌<◌, [], ◌∷◌, ◌++◌, ◌&&◌, Bor, Ok, Err, drop, length, sym, ap, subst, ◌∙◌, arith, refl}
 use Rattle.std.specs.List.{list_all}
 use Rattle.std.proofs.lemmas.Result.{err_from_is_err_and}
-use Rattle.gb_evaluate.proofs.TellLemmas.{first_fails, passed_on}
+use Rattle.gb_evaluate.proofs.ReportLemmas.{first_fails, passed_on}
 use Rattle.gb_evaluate.specs.Over.{IsOver, known_names}
 use Rattle.gb_registry.specs.Tables.{tables_of}
 use Rattle.gb_declare.specs.Borrowed.{now_of}
@@ -11,7 +11,7 @@ use Rattle.gb_provider.specs.declared.expression.Node.{Node}
 use Rattle.gb_script.specs.declared.script.Condition.{Condition}
 use Rattle.gb_evaluate.specs.Evaluated.{all_hold}
 use Rattle.gb_evaluate.specs.Rows.{AreWithin}
-use Rattle.gb_evaluate.proofs.RowLemmas.{fails_here, goes_on, others_of_all, passes_there, stands_for}
+use Rattle.gb_evaluate.proofs.RowLemmas.{fails_here, goes_on, others_of_all, passes_there, represents}
 use Rattle.gb_evaluate.proofs.WalkLemmas.{item_left, none_left, one_less, one_more_holds, walk_ends}
 use Rattle.gb_evaluate.proofs.conditions.all_hold.Goals as goal
 use Rattle.gb_evaluate.proofs.conditions.all_hold.Goals.{then-all, else-all}
@@ -24,7 +24,7 @@ returns-in_err-holds-clause-reported g c = λ source number over at is are.
     let next = item_left (λ (b : Bor Condition). b.now) c.args.conditions.now c.loop-condition.condition-index c.condition-item.result (omega (arith, c.loop-condition-test.true)) c.condition-item.is in
     let left = c.loop-condition.invariant.reported source number over at is are in
     let there = subst (λ p. IsOver tables source (known_names context.projects.now context.tasks.now) context.faults.now p.nodes number) (sym c.loop-condition.invariant.kept) over in
-    let same = stands_for tables source number at.project (λ (condition : Condition). condition.value) f (now_of c.args.conditions.now) left.1.0 c.loop-condition.rest.now c.in-Some.others.now c.in-Some.node.now (now_of (drop c.loop-condition.condition-index c.args.conditions.now)) (now_of (drop (c.loop-condition.condition-index + 1) c.args.conditions.now)) c.condition-item.result.now c.in-Some.ensures.cases.0 next (left.0, left.1.2) in
+    let same = represents tables source number at.project (λ (condition : Condition). condition.value) f (now_of c.args.conditions.now) left.1.0 c.loop-condition.rest.now c.in-Some.others.now c.in-Some.node.now (now_of (drop c.loop-condition.condition-index c.args.conditions.now)) (now_of (drop (c.loop-condition.condition-index + 1) c.args.conditions.now)) c.condition-item.result.now c.in-Some.ensures.cases.0 next (left.0, left.1.2) in
     let fault = c.in_err-holds.field-0.0 in
     let p = err_from_is_err_and c.from_residual.result c.from_residual.ensures.1 in
     passed_on tables source (all_hold tables source at (now_of c.args.conditions.now)) c.from_residual.result p.0 fault p.1 p.2
@@ -48,7 +48,7 @@ loop-condition-preserved g c = record {
       let next = item_left (λ (b : Bor Condition). b.now) c.args.conditions.now c.loop-condition.condition-index c.condition-item.result (omega (arith, c.loop-condition-test.true)) c.condition-item.is in
       let left = c.loop-condition.invariant.reported source number over at is are in
       let there = subst (λ p. IsOver tables source (known_names context.projects.now context.tasks.now) context.faults.now p.nodes number) (sym c.loop-condition.invariant.kept) over in
-      let same = stands_for tables source number at.project (λ (condition : Condition). condition.value) f (now_of c.args.conditions.now) left.1.0 c.loop-condition.rest.now c.in-Some.others.now c.in-Some.node.now (now_of (drop c.loop-condition.condition-index c.args.conditions.now)) (now_of (drop (c.loop-condition.condition-index + 1) c.args.conditions.now)) c.condition-item.result.now c.in-Some.ensures.cases.0 next (left.0, left.1.2) in
+      let same = represents tables source number at.project (λ (condition : Condition). condition.value) f (now_of c.args.conditions.now) left.1.0 c.loop-condition.rest.now c.in-Some.others.now c.in-Some.node.now (now_of (drop c.loop-condition.condition-index c.args.conditions.now)) (now_of (drop (c.loop-condition.condition-index + 1) c.args.conditions.now)) c.condition-item.result.now c.in-Some.ensures.cases.0 next (left.0, left.1.2) in
       let on = goes_on tables source number at.project (λ (condition : Condition). condition.value) f (now_of c.args.conditions.now) left.1.0 c.loop-condition.rest.now c.in-Some.others.now c.in-Some.node.now (now_of (drop c.loop-condition.condition-index c.args.conditions.now)) (now_of (drop (c.loop-condition.condition-index + 1) c.args.conditions.now)) c.condition-item.result.now c.in-Some.ensures.cases.0 next (left.0, left.1.2) c.in_ok-holds.holds (left.1.0 ++ c.in_ok-holds.holds ∷ []) refl
       (passes_there tables source at (number c.in-Some.node.now.number) c.condition-item.result.now same (Ok c.in_ok-holds.holds) (c.in_ok-holds.ensures.reported at source number there)) in
       let both : c.if-all.all ≡ (c.loop-condition.all && c.in_ok-holds.holds) = elim c.if-all.branch [

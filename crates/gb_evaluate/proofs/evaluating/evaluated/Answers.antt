@@ -1,7 +1,7 @@
 use Rattle.std.proofs.Common.{Result, Ok, Err, sym, ap, subst, ◌∙◌}
 use Rattle.std.proofs.lemmas.Result.{err_from_is_err_and}
-use Rattle.gb_evaluate.proofs.TellLemmas.{first_fails, passed_on, then_gives}
-use Rattle.gb_evaluate.specs.Over.{IsOver, Tells, known_names}
+use Rattle.gb_evaluate.proofs.ReportLemmas.{first_fails, passed_on, then_gives}
+use Rattle.gb_evaluate.specs.Over.{IsOver, Reports, known_names}
 use Rattle.gb_plan.specs.declared.task.TaskDeclaration.{TaskDeclaration}
 use Rattle.gb_registry.specs.Tables.{tables_of}
 use Rattle.gb_report.specs.declared.fault.Fault.{Fault}
@@ -42,7 +42,7 @@ returns-in_err-flags-clause-reported g c = λ source number over at is are.
     let task = joined_of c.args.task.now in
     let parts = parts_for tables source number at.project task c.split-parts.result c.split-parts.ensures.counted (subst (λ row. AreFor tables source number at.project row (trees_of task)) (sym c.split-parts.ensures.whole) are) in
     let go_on = λ (flags : Flags). and_then (contents_of tables source at task) (λ contents. Ok (declaration_of at.path task flags contents (needed tables source at task))) in
-    let back = λ (r : Result TaskDeclaration Fault). subst (λ expected. Tells tables source expected r) (sym (in_parts tables source at task)) in
+    let back = λ (r : Result TaskDeclaration Fault). subst (λ expected. Reports tables source expected r) (sym (in_parts tables source at task)) in
     let fault = c.in_err-flags.field-0.0 in
     let p = err_from_is_err_and c.from_residual.result c.from_residual.ensures.1 in
     passed_on tables source (evaluated tables source at (spots tables source) (whole tables source) task) c.from_residual.result p.0 fault p.1 p.2
@@ -56,7 +56,7 @@ returns-in_err-contents-clause-reported g c = λ source number over at is are.
     let task = joined_of c.args.task.now in
     let parts = parts_for tables source number at.project task c.split-parts.result c.split-parts.ensures.counted (subst (λ row. AreFor tables source number at.project row (trees_of task)) (sym c.split-parts.ensures.whole) are) in
     let go_on = λ (flags : Flags). and_then (contents_of tables source at task) (λ contents. Ok (declaration_of at.path task flags contents (needed tables source at task))) in
-    let back = λ (r : Result TaskDeclaration Fault). subst (λ expected. Tells tables source expected r) (sym (in_parts tables source at task)) in
+    let back = λ (r : Result TaskDeclaration Fault). subst (λ expected. Reports tables source expected r) (sym (in_parts tables source at task)) in
     let fault = c.in_err-contents.field-0.0 in
     let p = err_from_is_err_and c.from_residual-in_err-contents.result c.from_residual-in_err-contents.ensures.1 in
     let second = subst (λ p. IsOver tables source names context.faults.now p.nodes number) (sym c.in_ok-flags.ensures.kept) over in
@@ -73,7 +73,7 @@ returns-clause-reported g c = λ source number over at is are.
     let task = joined_of c.args.task.now in
     let parts = parts_for tables source number at.project task c.split-parts.result c.split-parts.ensures.counted (subst (λ row. AreFor tables source number at.project row (trees_of task)) (sym c.split-parts.ensures.whole) are) in
     let go_on = λ (flags : Flags). and_then (contents_of tables source at task) (λ contents. Ok (declaration_of at.path task flags contents (needed tables source at task))) in
-    let back = λ (r : Result TaskDeclaration Fault). subst (λ expected. Tells tables source expected r) (sym (in_parts tables source at task)) in
+    let back = λ (r : Result TaskDeclaration Fault). subst (λ expected. Reports tables source expected r) (sym (in_parts tables source at task)) in
     let second = subst (λ p. IsOver tables source names context.faults.now p.nodes number) (sym c.in_ok-flags.ensures.kept) over in
     let third = subst (λ p. IsOver tables source names context.faults.now p.nodes number) (sym (c.in_ok-contents.ensures.kept ∙ c.in_ok-flags.ensures.kept)) over in
     let needs = c.in-Ok.ensures.reported source number third ∙ needs_there tables source number at task c.split-parts.result parts in

@@ -2,15 +2,15 @@ use Rattle.std.proofs.Common.{◌<◌, Ok, length, map, sym, ap, subst, ◌∙�
 use Rattle.std.specs.List.{flat_map}
 use Rattle.std.proofs.lemmas.List.Elements.{All-append}
 use Rattle.std.proofs.lemmas.Result.{err_from_is_err_and}
-use Rattle.gb_evaluate.proofs.TellLemmas.{passed_on}
+use Rattle.gb_evaluate.proofs.ReportLemmas.{passed_on}
 use Rattle.gb_evaluate.specs.Given.{HasValue}
 use Rattle.gb_evaluate.specs.Over.{IsOver, known_names}
 use Rattle.gb_registry.specs.Tables.{tables_of}
 use Rattle.gb_declare.specs.Whole.{spots, whole}
 use Rattle.gb_provider.specs.declared.expression.Node.{Node}
 use Rattle.gb_evaluate.specs.Rows.{AreWithin, HaveValues}
-use Rattle.gb_evaluate.proofs.PartLemmas.{back_all, front_all, left_counted}
-use Rattle.gb_evaluate.proofs.RowLemmas.{AreLeft, first_of_all, none_of_all, row_fails_here, row_stands, rows_go_on}
+use Rattle.gb_evaluate.proofs.PartLemmas.{back_all, prefix_all, left_counted}
+use Rattle.gb_evaluate.proofs.RowLemmas.{AreLeft, first_of_all, none_of_all, row_fails_here, row_exists, rows_go_on}
 use Rattle.gb_declare.specs.Borrowed.{named_in}
 use Rattle.gb_declare.specs.Joined.{Named}
 use Rattle.gb_declare.specs.Realised.{each_of, files_under}
@@ -32,7 +32,7 @@ returns-in_err-read-clause-reported g c = λ source number over at is are.
     let fault = c.in_err-read.field-0.0 in
     let p = err_from_is_err_and c.from_residual.result c.from_residual.ensures.1 in
     passed_on tables source (each_of f (named_in c.args.files.now)) c.from_residual.result p.0 fault p.1 p.2
-    (row_fails_here tables source number at.project (λ (property : Named InputFiles). property.1.from) f (named_in c.args.files.now) c.loop-name.found.items c.loop-name.rest.now c.split_at.result.0.now c.split_at.result.1.now (map (λ e. (e.0, e.1.now)) c.loop-name.name-iterator) (map (λ e. (e.0, e.1.now)) c.next.new.self) x c.split_at.ensures.whole (c.split_at.ensures.first ∙ ap length c.as_slice.ensures) next left fault (c.in_err-read.ensures.reported source number there at is (row_stands tables source number at.project (λ (property : Named InputFiles). property.1.from) f (named_in c.args.files.now) c.loop-name.found.items c.loop-name.rest.now c.split_at.result.0.now c.split_at.result.1.now (map (λ e. (e.0, e.1.now)) c.loop-name.name-iterator) (map (λ e. (e.0, e.1.now)) c.next.new.self) x c.split_at.ensures.whole (c.split_at.ensures.first ∙ ap length c.as_slice.ensures) next left)))
+    (row_fails_here tables source number at.project (λ (property : Named InputFiles). property.1.from) f (named_in c.args.files.now) c.loop-name.found.items c.loop-name.rest.now c.split_at.result.0.now c.split_at.result.1.now (map (λ e. (e.0, e.1.now)) c.loop-name.name-iterator) (map (λ e. (e.0, e.1.now)) c.next.new.self) x c.split_at.ensures.whole (c.split_at.ensures.first ∙ ap length c.as_slice.ensures) next left fault (c.in_err-read.ensures.reported source number there at is (row_exists tables source number at.project (λ (property : Named InputFiles). property.1.from) f (named_in c.args.files.now) c.loop-name.found.items c.loop-name.rest.now c.split_at.result.0.now c.split_at.result.1.now (map (λ e. (e.0, e.1.now)) c.loop-name.name-iterator) (map (λ e. (e.0, e.1.now)) c.next.new.self) x c.split_at.ensures.whole (c.split_at.ensures.first ∙ ap length c.as_slice.ensures) next left)))
 
 pub loop-name-preserved : goal.loop-name-preserved
 loop-name-preserved g c = record {
@@ -57,7 +57,7 @@ loop-name-preserved g c = record {
       let next = ap (map (λ e. (e.0, e.1.now))) c.in-Some.ensures.steps in
       let left = c.loop-name.invariant.reported source number over at is are in
       let there = subst (λ p. IsOver tables source (known_names context.projects.now context.tasks.now) context.faults.now p.nodes number) (sym c.loop-name.invariant.kept) over in
-      rows_go_on tables source number at.project (λ (property : Named InputFiles). property.1.from) f (named_in c.args.files.now) c.loop-name.found.items c.loop-name.rest.now c.split_at.result.0.now c.split_at.result.1.now (map (λ e. (e.0, e.1.now)) c.loop-name.name-iterator) (map (λ e. (e.0, e.1.now)) c.next.new.self) x c.split_at.ensures.whole (c.split_at.ensures.first ∙ ap length c.as_slice.ensures) next left c.in_ok-read.read c.push.new.self.items c.in_ok-push.ensures.items (c.in_ok-read.ensures.reported source number there at is (row_stands tables source number at.project (λ (property : Named InputFiles). property.1.from) f (named_in c.args.files.now) c.loop-name.found.items c.loop-name.rest.now c.split_at.result.0.now c.split_at.result.1.now (map (λ e. (e.0, e.1.now)) c.loop-name.name-iterator) (map (λ e. (e.0, e.1.now)) c.next.new.self) x c.split_at.ensures.whole (c.split_at.ensures.first ∙ ap length c.as_slice.ensures) next left));
+      rows_go_on tables source number at.project (λ (property : Named InputFiles). property.1.from) f (named_in c.args.files.now) c.loop-name.found.items c.loop-name.rest.now c.split_at.result.0.now c.split_at.result.1.now (map (λ e. (e.0, e.1.now)) c.loop-name.name-iterator) (map (λ e. (e.0, e.1.now)) c.next.new.self) x c.split_at.ensures.whole (c.split_at.ensures.first ∙ ap length c.as_slice.ensures) next left c.in_ok-read.read c.push.new.self.items c.in_ok-push.ensures.items (c.in_ok-read.ensures.reported source number there at is (row_exists tables source number at.project (λ (property : Named InputFiles). property.1.from) f (named_in c.args.files.now) c.loop-name.found.items c.loop-name.rest.now c.split_at.result.0.now c.split_at.result.1.now (map (λ e. (e.0, e.1.now)) c.loop-name.name-iterator) (map (λ e. (e.0, e.1.now)) c.next.new.self) x c.split_at.ensures.whole (c.split_at.ensures.first ∙ ap length c.as_slice.ensures) next left));
 }
 
 pub returns-clause-given : goal.returns-clause-given
@@ -67,7 +67,7 @@ returns-clause-given g c =
 pub property-requires-clause-within : goal.property-requires-clause-within
 property-requires-clause-within g c =
     subst (λ p. AreWithin p.nodes c.split_at.result.0.now) (sym c.loop-name.invariant.kept)
-    (front_all (λ (node : Node). node.number < length c.args.providers.now.nodes) c.split_at.result.0.now c.split_at.result.1.now (subst (AreWithin c.args.providers.now.nodes) (sym c.split_at.ensures.whole) c.loop-name.invariant.within))
+    (prefix_all (λ (node : Node). node.number < length c.args.providers.now.nodes) c.split_at.result.0.now c.split_at.result.1.now (subst (AreWithin c.args.providers.now.nodes) (sym c.split_at.ensures.whole) c.loop-name.invariant.within))
 
 pub property-requires-clause-patterns : goal.property-requires-clause-patterns
 property-requires-clause-patterns g c =

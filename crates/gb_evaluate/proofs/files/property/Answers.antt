@@ -1,6 +1,6 @@
 use Rattle.std.proofs.Common.{Ok, Err, sym, ap, ◌∙◌}
 use Rattle.std.proofs.lemmas.Result.{err_from_is_err_and}
-use Rattle.gb_evaluate.proofs.TellLemmas.{first_fails, passed_on}
+use Rattle.gb_evaluate.proofs.ReportLemmas.{first_fails, passed_on}
 use Rattle.gb_registry.specs.Tables.{tables_of}
 use Rattle.gb_declare.specs.Realised.{and_then, each_of, files_under, place_of}
 use Rattle.gb_declare.specs.Whole.{spots, whole}

@@ -1,6 +1,6 @@
 use Rattle.std.proofs.Common.{[], Ok, Err}
 use Rattle.std.proofs.lemmas.Result.{err_from_is_err_and}
-use Rattle.gb_evaluate.proofs.TellLemmas.{first_fails, passed_on, sorted_tells, then_gives}
+use Rattle.gb_evaluate.proofs.ReportLemmas.{first_fails, passed_on, sorted_shows, then_gives}
 use Rattle.gb_registry.specs.Tables.{tables_of}
 use Rattle.gb_declare.specs.Realised.{built, output_under, place_of}
 use Rattle.gb_declare.specs.Whole.{spots, whole}
@@ -32,5 +32,5 @@ returns-clause-reported g c = λ tree source number over at is are.
     let place = place_of tables source at (spots tables source) (whole tables source) name tree in
     then_gives tables source place (λ place. built tables source at (spots tables source) (whole tables source) (record { name = name; form = form; place = place })) c.in_ok-place.place c.built.result
     (place_there tables source number at c.args.path.now is.0 (number c.args.node.number) tree same name (Ok c.in_ok-place.place) (c.in_ok-place.ensures.reported source number over))
-    (sorted_tells tables source (built tables source at (spots tables source) (whole tables source) (record { name = name; form = form; place = c.in_ok-place.place })) c.built.result
+    (sorted_shows tables source (built tables source at (spots tables source) (whole tables source) (record { name = name; form = form; place = c.in_ok-place.place })) c.built.result
     (built_there tables source at c.args.path.now c.args.build.now is c.in_ok-name.name name form c.in_ok-place.place c.in_ok-name.ensures c.built.result c.built.ensures))

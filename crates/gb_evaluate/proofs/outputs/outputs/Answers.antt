@@ -1,6 +1,6 @@
 use Rattle.std.proofs.Common.{◌<◌, [], ◌∷◌, Ok, length, map, sym, ap, subst, ◌∙◌, arith}
 use Rattle.std.proofs.lemmas.Result.{err_from_is_err_and}
-use Rattle.gb_evaluate.proofs.TellLemmas.{passed_on}
+use Rattle.gb_evaluate.proofs.ReportLemmas.{passed_on}
 use Rattle.gb_evaluate.specs.Over.{IsOver, known_names}
 use Rattle.gb_registry.specs.Tables.{tables_of}
 use Rattle.gb_declare.specs.Borrowed.{outputs_in}
@@ -9,7 +9,7 @@ use Rattle.gb_declare.specs.Realised.{each_of, output_under}
 use Rattle.gb_declare.specs.Whole.{spots, whole}
 use Rattle.gb_provider.specs.declared.expression.Node.{Node}
 use Rattle.gb_evaluate.specs.Rows.{AreWithin}
-use Rattle.gb_evaluate.proofs.RowLemmas.{fails_here, goes_on, others_of_all, stands_for}
+use Rattle.gb_evaluate.proofs.RowLemmas.{fails_here, goes_on, others_of_all, represents}
 use Rattle.gb_evaluate.proofs.WalkLemmas.{walk_ends}
 use Rattle.gb_evaluate.proofs.outputs.outputs.Goals as goal
 
@@ -24,7 +24,7 @@ returns-in_err-output-clause-reported g c = λ source number over at is are.
     let next = ap (map (λ e. (e.0, (e.1.0, e.1.1.now)))) c.in-Some.ensures.steps in
     let left = c.loop-name.invariant.reported source number over at is are in
     let there = subst (λ p. IsOver tables source (known_names context.projects.now context.tasks.now) context.faults.now p.nodes number) (sym c.loop-name.invariant.kept) over in
-    let same = stands_for tables source number at.project (λ (output : Named Made). output.1.1) f (outputs_in c.args.outputs.now) c.loop-name.found.items c.loop-name.rest.now c.in-Some-split_first.others.now c.in-Some-split_first.node.now (map (λ e. (e.0, (e.1.0, e.1.1.now))) c.loop-name.name-iterator) (map (λ e. (e.0, (e.1.0, e.1.1.now))) c.next.new.self) x c.in-Some-split_first.ensures.cases.0 next left in
+    let same = represents tables source number at.project (λ (output : Named Made). output.1.1) f (outputs_in c.args.outputs.now) c.loop-name.found.items c.loop-name.rest.now c.in-Some-split_first.others.now c.in-Some-split_first.node.now (map (λ e. (e.0, (e.1.0, e.1.1.now))) c.loop-name.name-iterator) (map (λ e. (e.0, (e.1.0, e.1.1.now))) c.next.new.self) x c.in-Some-split_first.ensures.cases.0 next left in
     let fault = c.in_err-output.field-0.0 in
     let p = err_from_is_err_and c.from_residual.result c.from_residual.ensures.1 in
     passed_on tables source (each_of f (outputs_in c.args.outputs.now)) c.from_residual.result p.0 fault p.1 p.2
@@ -48,7 +48,7 @@ loop-name-preserved g c = record {
       let next = ap (map (λ e. (e.0, (e.1.0, e.1.1.now)))) c.in-Some.ensures.steps in
       let left = c.loop-name.invariant.reported source number over at is are in
       let there = subst (λ p. IsOver tables source (known_names context.projects.now context.tasks.now) context.faults.now p.nodes number) (sym c.loop-name.invariant.kept) over in
-      let same = stands_for tables source number at.project (λ (output : Named Made). output.1.1) f (outputs_in c.args.outputs.now) c.loop-name.found.items c.loop-name.rest.now c.in-Some-split_first.others.now c.in-Some-split_first.node.now (map (λ e. (e.0, (e.1.0, e.1.1.now))) c.loop-name.name-iterator) (map (λ e. (e.0, (e.1.0, e.1.1.now))) c.next.new.self) x c.in-Some-split_first.ensures.cases.0 next left in
+      let same = represents tables source number at.project (λ (output : Named Made). output.1.1) f (outputs_in c.args.outputs.now) c.loop-name.found.items c.loop-name.rest.now c.in-Some-split_first.others.now c.in-Some-split_first.node.now (map (λ e. (e.0, (e.1.0, e.1.1.now))) c.loop-name.name-iterator) (map (λ e. (e.0, (e.1.0, e.1.1.now))) c.next.new.self) x c.in-Some-split_first.ensures.cases.0 next left in
       goes_on tables source number at.project (λ (output : Named Made). output.1.1) f (outputs_in c.args.outputs.now) c.loop-name.found.items c.loop-name.rest.now c.in-Some-split_first.others.now c.in-Some-split_first.node.now (map (λ e. (e.0, (e.1.0, e.1.1.now))) c.loop-name.name-iterator) (map (λ e. (e.0, (e.1.0, e.1.1.now))) c.next.new.self) x c.in-Some-split_first.ensures.cases.0 next left c.in_ok-output.output c.push.new.self.items c.in_ok-push.ensures.items (c.in_ok-output.ensures.reported tree source number there at is (ap (λ e. e ∷ []) same));
 }
 

@@ -2,7 +2,7 @@ use Rattle.std.proofs.Common.{All, get_or, sym, subst, ◌∙◌, arith}
 use Rattle.std.proofs.lemmas.List.{take_all}
 use Rattle.std.proofs.lemmas.List.Elements.{All-more}
 use Rattle.std.proofs.lemmas.Result.{err_from_is_err_and}
-use Rattle.gb_evaluate.proofs.TellLemmas.{passed_on}
+use Rattle.gb_evaluate.proofs.ReportLemmas.{passed_on}
 use Rattle.gb_evaluate.specs.Given.{HasValue, place_at}
 use Rattle.gb_evaluate.specs.Over.{IsOver, known_names}
 use Rattle.gb_declare.specs.Realised.{each_of}

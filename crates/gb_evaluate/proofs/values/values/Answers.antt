@@ -1,6 +1,6 @@
 use Rattle.std.proofs.Common.{◌<◌, [], ◌∷◌, ◌++◌, Ok, Err, length, map, sym, ap, subst, ◌∙◌, arith}
 use Rattle.std.proofs.lemmas.Result.{err_from_is_err_and}
-use Rattle.gb_evaluate.proofs.TellLemmas.{first_fails, passed_on}
+use Rattle.gb_evaluate.proofs.ReportLemmas.{first_fails, passed_on}
 use Rattle.gb_evaluate.specs.Over.{IsOver, known_names}
 use Rattle.gb_registry.specs.Tables.{tables_of}
 use Rattle.gb_declare.specs.Whole.{spots, whole}
@@ -11,7 +11,7 @@ use Rattle.gb_declare.specs.Joined.{Named}
 use Rattle.gb_declare.specs.Realised.{and_then, each_of, required, value_under}
 use Rattle.gb_script.specs.Tree.{Tree}
 use Rattle.gb_evaluate.specs.Rows.{AreWithin, HaveValues}
-use Rattle.gb_evaluate.proofs.RowLemmas.{all_of_both, fails_here, none_of_all, first_of_all, goes_on, others_of_all, required_there, stands_for}
+use Rattle.gb_evaluate.proofs.RowLemmas.{all_of_both, fails_here, none_of_all, first_of_all, goes_on, others_of_all, required_there, represents}
 use Rattle.gb_evaluate.proofs.WalkLemmas.{walk_ends}
 use Rattle.gb_evaluate.proofs.values.values.Goals as goal
 
@@ -32,7 +32,7 @@ returns-in_err-value-clause-reported g c = λ source number over at is are.
     let next = ap (map (λ e. (e.0, e.1.now))) c.in-Some.ensures.steps in
     let left = c.loop-name.invariant.reported source number over at is are in
     let there = subst (λ p. IsOver tables source (known_names context.projects.now context.tasks.now) context.faults.now p.nodes number) (sym c.loop-name.invariant.kept) over in
-    let same = stands_for tables source number at.project (λ (value : Named Tree). value.1) f (named_in c.args.inputs.now) c.loop-name.found c.loop-name.rest.now c.in-Some-split_first.others.now c.in-Some-split_first.node.now (map (λ e. (e.0, e.1.now)) c.loop-name.name-iterator) (map (λ e. (e.0, e.1.now)) c.next.new.self) x c.in-Some-split_first.ensures.cases.0 next left in
+    let same = represents tables source number at.project (λ (value : Named Tree). value.1) f (named_in c.args.inputs.now) c.loop-name.found c.loop-name.rest.now c.in-Some-split_first.others.now c.in-Some-split_first.node.now (map (λ e. (e.0, e.1.now)) c.loop-name.name-iterator) (map (λ e. (e.0, e.1.now)) c.next.new.self) x c.in-Some-split_first.ensures.cases.0 next left in
     let fault = c.in_err-value.field-0.0 in
     let p = err_from_is_err_and c.from_residual-in_err-value.result c.from_residual-in_err-value.ensures.1 in
     passed_on tables source (each_of f (named_in c.args.inputs.now)) c.from_residual-in_err-value.result p.0 fault p.1 p.2
@@ -63,7 +63,7 @@ loop-name-preserved g c = record {
       let next = ap (map (λ e. (e.0, e.1.now))) c.in-Some.ensures.steps in
       let left = c.loop-name.invariant.reported source number over at is are in
       let there = subst (λ p. IsOver tables source (known_names context.projects.now context.tasks.now) context.faults.now p.nodes number) (sym c.loop-name.invariant.kept) over in
-      let same = stands_for tables source number at.project (λ (value : Named Tree). value.1) f (named_in c.args.inputs.now) c.loop-name.found c.loop-name.rest.now c.in-Some-split_first.others.now c.in-Some-split_first.node.now (map (λ e. (e.0, e.1.now)) c.loop-name.name-iterator) (map (λ e. (e.0, e.1.now)) c.next.new.self) x c.in-Some-split_first.ensures.cases.0 next left in
+      let same = represents tables source number at.project (λ (value : Named Tree). value.1) f (named_in c.args.inputs.now) c.loop-name.found c.loop-name.rest.now c.in-Some-split_first.others.now c.in-Some-split_first.node.now (map (λ e. (e.0, e.1.now)) c.loop-name.name-iterator) (map (λ e. (e.0, e.1.now)) c.next.new.self) x c.in-Some-split_first.ensures.cases.0 next left in
       goes_on tables source number at.project (λ (value : Named Tree). value.1) f (named_in c.args.inputs.now) c.loop-name.found c.loop-name.rest.now c.in-Some-split_first.others.now c.in-Some-split_first.node.now (map (λ e. (e.0, e.1.now)) c.loop-name.name-iterator) (map (λ e. (e.0, e.1.now)) c.next.new.self) x c.in-Some-split_first.ensures.cases.0 next left (name, c.in_ok-value.value) c.push.new.self
       (c.in_ok-push.ensures.ok ∙ ap (λ n. c.loop-name.found ++ (n, c.in_ok-value.value) ∷ []) c.in_ok-called.ensures)
       (ap (λ r. and_then r (λ v. Ok (name, v))) (required_there tables source number at c.args.path.now is (number c.in-Some-split_first.node.now.number) tree same name (Ok c.in_ok-value.value) (c.in_ok-value.ensures.reported source number there)));

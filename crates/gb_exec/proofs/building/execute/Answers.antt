@@ -1,6 +1,6 @@
 use Rattle.std.proofs.Common.{cond, Bool, true, List, [], inl, inr, map, sym, ap, subst, ◌∙◌}
 use Rattle.std.specs.List.{AllZip, flat_map}
-use Rattle.gb_exec.specs.Telling.{AllReported}
+use Rattle.gb_exec.specs.Notifying.{AllReported}
 use Rattle.gb_meaning.specs.Events.{State}
 use Rattle.gb_meaning.specs.Outline.{AreOutlines}
 use Rattle.gb_meaning.specs.Execution.{dry_reports, heard_of}
@@ -17,8 +17,8 @@ use Rattle.gb_meaning.specs.Headline.{HasFailed}
 use Rattle.gb_exec.specs.Failing.{times_blamed}
 use Rattle.gb_exec.specs.Reports.{IsOf}
 use Rattle.gb_exec.proofs.Skipping.{dry_blames, dry_built, dry_of}
-use Rattle.gb_exec.proofs.Hearing.{untold}
-use Rattle.gb_exec.proofs.Asking.{dry_asks, executions_places}
+use Rattle.gb_exec.proofs.Hearing.{unnotified}
+use Rattle.gb_exec.proofs.Asking.{dry_requests, executions_places}
 use Rattle.gb_exec.specs.Asking.{ExecutionsAsk}
 use Rattle.gb_exec.proofs.building.execute.Goals as goal
 
@@ -34,7 +34,7 @@ pub returns-then-options-clause-heard : goal.returns-then-options-clause-heard
 returns-then-options-clause-heard g c =
     let ears = map g.L.TaskListener.ear c.args.listeners.now.items in
     c.reported_is_heard.ensures c.with_reports.result true ears ears c.with_reports.ensures.refused
-    (subst (λ (dry : Bool). AllReported (heard_of dry c.with_reports.result.tasks) true ears ears) (sym c.with_reports.ensures.dry_run) (untold ears))
+    (subst (λ (dry : Bool). AllReported (heard_of dry c.with_reports.result.tasks) true ears ears) (sym c.with_reports.ensures.dry_run) (unnotified ears))
 
 pub returns-then-options-clause-printed : goal.returns-then-options-clause-printed
 returns-then-options-clause-printed g c =
@@ -50,13 +50,13 @@ returns-then-options-clause-device g c =
     (dry_blames c.args.plan.now (F.failures c.args.folder.now))
 
 pub returns-then-options-clause-build : goal.returns-then-options-clause-build
-returns-then-options-clause-build g c = λ tells kinds registry_of remembered clear seen assumed worth.
+returns-then-options-clause-build g c = λ faithful kinds registry_of remembered clear observed assumed worth.
     let F = g.F.Folder in
     let start = c.args.folder.now in
     let old : State = record { contents = F.contents start; remembered = remembered; failures = F.failures start } in
-    subst (λ (rs : List TaskReport). HasBuilt (setting_with kinds registry_of (F.may_leave start)) clear seen c.args.options c.args.plan.now old rs (record { contents = F.contents start; failures = F.failures start }))
+    subst (λ (rs : List TaskReport). HasBuilt (setting_with kinds registry_of (F.may_leave start)) clear observed c.args.options c.args.plan.now old rs (record { contents = F.contents start; failures = F.failures start }))
     (sym (c.with_reports.ensures.tasks ∙ c.in_ok-dry_reports.ensures ∙ ap dry_reports c.as_slice-tasks.ensures))
-    (dry_built kinds registry_of (F.may_leave start) clear seen c.args.options c.args.plan.now old c.if-options.true (λ e. (worth e).standing))
+    (dry_built kinds registry_of (F.may_leave start) clear observed c.args.options c.args.plan.now old c.if-options.true (λ e. (worth e).existing))
 
 pub returns-clause-outline : goal.returns-clause-outline
 returns-clause-outline g c =
@@ -86,38 +86,38 @@ returns-clause-printed g c =
     c.execute_tasks-all_heard.ensures.printed)
 
 pub returns-clause-changes : goal.returns-clause-changes
-returns-clause-changes g c = λ tells.
+returns-clause-changes g c = λ faithful.
     let F = g.F.Folder in
     subst (λ (ps : List Planned). ChangesOnly (is_of_executions ps) (F.contents c.args.folder.now) (F.contents c.execute_tasks-all_heard.new.folder)) c.as_slice-tasks.ensures
-    (c.execute_tasks-all_heard.ensures.changes tells)
+    (c.execute_tasks-all_heard.ensures.changes faithful)
 
-pub returns-then-options-clause-asks : goal.returns-then-options-clause-asks
-returns-then-options-clause-asks g c =
+pub returns-then-options-clause-requests : goal.returns-then-options-clause-requests
+returns-then-options-clause-requests g c =
     let F = g.F.Folder in
-    subst (λ (rs : List TaskReport). ExecutionsAsk F.failures F.may_leave F.asked g.A.Actions.meanings c.args.table.now c.args.options c.args.plan.now c.args.records.now rs c.args.folder.now c.args.folder.now)
+    subst (λ (rs : List TaskReport). ExecutionsAsk F.failures F.may_leave F.allowed g.A.Actions.meanings c.args.table.now c.args.options c.args.plan.now c.args.records.now rs c.args.folder.now c.args.folder.now)
     (sym (c.with_reports.ensures.tasks ∙ c.in_ok-dry_reports.ensures ∙ ap dry_reports c.as_slice-tasks.ensures))
-    (dry_asks F.failures F.may_leave F.asked g.A.Actions.meanings c.args.table.now c.args.options c.args.plan.now c.args.records.now c.args.folder.now c.requires.each)
+    (dry_requests F.failures F.may_leave F.allowed g.A.Actions.meanings c.args.table.now c.args.options c.args.plan.now c.args.records.now c.args.folder.now c.requires.each)
 
-pub returns-clause-asks : goal.returns-clause-asks
-returns-clause-asks g c =
+pub returns-clause-requests : goal.returns-clause-requests
+returns-clause-requests g c =
     let F = g.F.Folder in
     let start = c.args.folder.now in
-    subst (λ (rs : List TaskReport). ExecutionsAsk F.failures F.may_leave F.asked g.A.Actions.meanings c.args.table.now c.args.options c.args.plan.now c.args.records.now rs start c.execute_tasks-all_heard.new.folder) (sym c.with_reports-2.ensures.tasks)
-    (subst (λ (ps : List Planned). ExecutionsAsk F.failures F.may_leave F.asked g.A.Actions.meanings c.args.table.now c.args.options ps c.args.records.now c.execute_tasks-all_heard.new.reports.items start c.execute_tasks-all_heard.new.folder)
-    c.as_slice-tasks.ensures c.execute_tasks-all_heard.ensures.asks)
+    subst (λ (rs : List TaskReport). ExecutionsAsk F.failures F.may_leave F.allowed g.A.Actions.meanings c.args.table.now c.args.options c.args.plan.now c.args.records.now rs start c.execute_tasks-all_heard.new.folder) (sym c.with_reports-2.ensures.tasks)
+    (subst (λ (ps : List Planned). ExecutionsAsk F.failures F.may_leave F.allowed g.A.Actions.meanings c.args.table.now c.args.options ps c.args.records.now c.execute_tasks-all_heard.new.reports.items start c.execute_tasks-all_heard.new.folder)
+    c.as_slice-tasks.ensures c.execute_tasks-all_heard.ensures.requests)
 
 pub returns-clause-count : goal.returns-clause-count
 returns-clause-count g c =
     let F = g.F.Folder in
     let start = c.args.folder.now in
-    (executions_places F.failures F.may_leave F.asked g.A.Actions.meanings c.args.table.now c.args.options c.args.plan.now c.args.records.now c.execute_tasks-all_heard.new.reports.items start c.execute_tasks-all_heard.new.folder
-    (subst (λ (ps : List Planned). ExecutionsAsk F.failures F.may_leave F.asked g.A.Actions.meanings c.args.table.now c.args.options ps c.args.records.now c.execute_tasks-all_heard.new.reports.items start c.execute_tasks-all_heard.new.folder)
-    c.as_slice-tasks.ensures c.execute_tasks-all_heard.ensures.asks)).count
+    (executions_places F.failures F.may_leave F.allowed g.A.Actions.meanings c.args.table.now c.args.options c.args.plan.now c.args.records.now c.execute_tasks-all_heard.new.reports.items start c.execute_tasks-all_heard.new.folder
+    (subst (λ (ps : List Planned). ExecutionsAsk F.failures F.may_leave F.allowed g.A.Actions.meanings c.args.table.now c.args.options ps c.args.records.now c.execute_tasks-all_heard.new.reports.items start c.execute_tasks-all_heard.new.folder)
+    c.as_slice-tasks.ensures c.execute_tasks-all_heard.ensures.requests)).count
 
 pub returns-clause-tearing : goal.returns-clause-tearing
 returns-clause-tearing g c =
     let F = g.F.Folder in
     let start = c.args.folder.now in
-    (executions_places F.failures F.may_leave F.asked g.A.Actions.meanings c.args.table.now c.args.options c.args.plan.now c.args.records.now c.execute_tasks-all_heard.new.reports.items start c.execute_tasks-all_heard.new.folder
-    (subst (λ (ps : List Planned). ExecutionsAsk F.failures F.may_leave F.asked g.A.Actions.meanings c.args.table.now c.args.options ps c.args.records.now c.execute_tasks-all_heard.new.reports.items start c.execute_tasks-all_heard.new.folder)
-    c.as_slice-tasks.ensures c.execute_tasks-all_heard.ensures.asks)).tearing
+    (executions_places F.failures F.may_leave F.allowed g.A.Actions.meanings c.args.table.now c.args.options c.args.plan.now c.args.records.now c.execute_tasks-all_heard.new.reports.items start c.execute_tasks-all_heard.new.folder
+    (subst (λ (ps : List Planned). ExecutionsAsk F.failures F.may_leave F.allowed g.A.Actions.meanings c.args.table.now c.args.options ps c.args.records.now c.execute_tasks-all_heard.new.reports.items start c.execute_tasks-all_heard.new.folder)
+    c.as_slice-tasks.ensures c.execute_tasks-all_heard.ensures.requests)).tearing

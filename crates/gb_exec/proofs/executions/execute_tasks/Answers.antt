@@ -6,7 +6,7 @@ use Rattle.std.proofs.Math.ListN.{get_or-eq_default}
 use Rattle.std.proofs.lemmas.Bool.{cases_order}
 use Rattle.gb_core.specs.Path.{is_task_path}
 use Rattle.gb_folder.specs.Files.{Contents, IsFolder, are_placed, is_own}
-use Rattle.gb_exec.specs.Telling.{AllReported}
+use Rattle.gb_exec.specs.Notifying.{AllReported}
 use Rattle.gb_meaning.specs.Events.{State}
 use Rattle.gb_meaning.specs.Outline.{AreOutlines, moment_by}
 use Rattle.gb_meaning.specs.Execution.{heard_of}
@@ -40,13 +40,13 @@ use Rattle.gb_exec.specs.Failing.{times_blamed}
 use Rattle.gb_exec.specs.Reports.{IsOf}
 use Rattle.gb_exec.proofs.Counting.{failed_more}
 use Rattle.gb_exec.proofs.Ending.{endings_more, none_ended}
-use Rattle.gb_exec.proofs.Hearing.{heard_more, untold}
+use Rattle.gb_exec.proofs.Hearing.{heard_more, unnotified}
 use Rattle.gb_exec.proofs.Knowing.{knows}
 use Rattle.gb_exec.proofs.Outlining.{outlines_more}
 use Rattle.gb_exec.proofs.Printing.{parts_more}
 use Rattle.gb_exec.proofs.Shut.{HasOwnPlaces}
 use Rattle.gb_exec.proofs.Underway.{IsUnderway, begun, built, goes_on, outcome_in}
-use Rattle.gb_exec.proofs.Walking.{at_index, changes_more, drop_at, each_at, left_less, next_path, once_behind, placed_where, take_at, whole_at, zip_more}
+use Rattle.gb_exec.proofs.Walking.{at_index, changes_more, drop_at, each_at, left_less, next_path, once_after, placed_where, take_at, whole_at, zip_more}
 use Rattle.gb_exec.proofs.executions.execute_tasks.Goals as goal
 use Rattle.gb_exec.proofs.executions.execute_tasks.Goals.{then-all_heard, else-all_heard}
 use Rattle.gb_history.proofs.Lists.{AllByRecursion-push}
@@ -84,17 +84,17 @@ loop-path-init g c =
       of_tasks = subst (AllZip IsOf []) (sym none) tt;
       outline = subst (λ (rs : List TaskReport). AreOutlines c.args.build.now.options tasks [] [] rs) (sym none) tt;
       places = tt;
-      heard = subst (λ (rs : List TaskReport). AllReported (heard_of false rs) true ears ears) (sym none) (untold ears);
+      heard = subst (λ (rs : List TaskReport). AllReported (heard_of false rs) true ears ears) (sym none) (unnotified ears);
       printed = subst (λ (rs : List TaskReport). Prints P.contents P.whole (flat_map task_text rs) c.args.printer.now c.args.printer.now) (sym none)
           (prints_nothing P.contents P.whole c.args.printer.now);
-      asks = subst (λ (rs : List TaskReport). ExecutionsAsk F.failures F.may_leave F.asked g.A.Actions.meanings c.args.build.now.table.now c.args.build.now.options [] [] rs start start) (sym none) refl;
+      requests = subst (λ (rs : List TaskReport). ExecutionsAsk F.failures F.may_leave F.allowed g.A.Actions.meanings c.args.build.now.table.now c.args.build.now.options [] [] rs start start) (sym none) refl;
       device = subst (λ (rs : List TaskReport). HasFailed (times_blamed rs) (F.failures start) (F.failures start)) (sym none) (inl (omega arith));
-      changes = λ tells. changes_none (is_of_executions []) (F.contents start) (F.contents start) refl;
-      build = λ tells kinds registry_of remembered clear seen assumed worth.
+      changes = λ faithful. changes_none (is_of_executions []) (F.contents start) (F.contents start) refl;
+      build = λ faithful kinds registry_of remembered clear observed assumed worth.
           let old : State = record { contents = F.contents start; remembered = remembered; failures = F.failures start } in
-          subst (λ (rs : List TaskReport). IsUnderway kinds registry_of (F.may_leave start) clear seen c.args.build.now.options tasks old [] tasks rs
+          subst (λ (rs : List TaskReport). IsUnderway kinds registry_of (F.may_leave start) clear observed c.args.build.now.options tasks old [] tasks rs
           (record { contents = F.contents start; failures = F.failures start })) (sym none)
-          (begun kinds registry_of (F.may_leave start) clear seen c.args.build.now.options tasks old (λ e. (worth e).standing));
+          (begun kinds registry_of (F.may_leave start) clear observed c.args.build.now.options tasks old (λ e. (worth e).existing));
     }
 
 pub take_one-taken-requires-clause-path : goal.take_one-taken-requires-clause-path
@@ -124,9 +124,9 @@ loop-path-preserved g c =
     let is = (at_index tasks i less).1 in
     let along = next_path tasks i planned c.in-Some.path rest is left in
     let of_task = c.take_one-taken.ensures.of_task planned is in
-    let way = executions_places F.failures F.may_leave F.asked g.A.Actions.meanings build.table.now build.options (take i tasks) (take i build.records.now) reports start now inv.asks in
-    let taken = c.take_one-taken.ensures.asks planned is in
-    let count = (execution_places F.failures F.may_leave F.asked g.A.Actions.meanings build.table.now build.options planned.task (slice_index_or build.records.now i None) report.lines now next report.outcome taken).count in
+    let way = executions_places F.failures F.may_leave F.allowed g.A.Actions.meanings build.table.now build.options (take i tasks) (take i build.records.now) reports start now inv.requests in
+    let taken = c.take_one-taken.ensures.requests planned is in
+    let count = (execution_places F.failures F.may_leave F.allowed g.A.Actions.meanings build.table.now build.options planned.task (slice_index_or build.records.now i None) report.lines now next report.outcome taken).count in
     let read = take_more build.records.now i None (omega (arith, c.requires.each, less)) in
     let can = each_at (λ (p : Planned). IsBuildable g.A.Actions.meanings build.table.now p.task) tasks i planned is c.requires.can.tasks in
     let is_path : IsTrue (is_task_path planned.task.path) = subst (λ (p : Path). IsTrue (is_task_path p)) along.0 c.as_str-path.ensures.path in
@@ -171,36 +171,36 @@ loop-path-preserved g c =
       printed = subst (λ (rs : List TaskReport). Prints P.contents P.whole (flat_map task_text rs) c.args.printer.now c.print_task.new.self) (sym items)
           (subst (λ (text : List ℕ). Prints P.contents P.whole text c.args.printer.now c.print_task.new.self) (sym (parts_more reports report))
           (prints_more P.contents P.whole (flat_map task_text reports) (task_text report) c.args.printer.now c.loop-path.printer c.print_task.new.self inv.printed c.print_task.ensures));
-      asks = subst (λ (ps : List Planned). ExecutionsAsk F.failures F.may_leave F.asked g.A.Actions.meanings build.table.now build.options ps (take (i + 1) build.records.now) c.push_reserved.new.reports.items start next) (sym take_is)
-          (subst (λ (last : List (Option Record)). ExecutionsAsk F.failures F.may_leave F.asked g.A.Actions.meanings build.table.now build.options (take i tasks ++ planned ∷ []) last c.push_reserved.new.reports.items start next) (sym read)
-          (subst (λ (rs : List TaskReport). ExecutionsAsk F.failures F.may_leave F.asked g.A.Actions.meanings build.table.now build.options (take i tasks ++ planned ∷ []) (take i build.records.now ++ slice_index_or build.records.now i None ∷ []) rs start next) (sym items)
-          (executions_more F.failures F.may_leave F.asked g.A.Actions.meanings build.table.now build.options (take i tasks) (take i build.records.now) reports planned (slice_index_or build.records.now i None) report start now next inv.asks taken)));
+      requests = subst (λ (ps : List Planned). ExecutionsAsk F.failures F.may_leave F.allowed g.A.Actions.meanings build.table.now build.options ps (take (i + 1) build.records.now) c.push_reserved.new.reports.items start next) (sym take_is)
+          (subst (λ (last : List (Option Record)). ExecutionsAsk F.failures F.may_leave F.allowed g.A.Actions.meanings build.table.now build.options (take i tasks ++ planned ∷ []) last c.push_reserved.new.reports.items start next) (sym read)
+          (subst (λ (rs : List TaskReport). ExecutionsAsk F.failures F.may_leave F.allowed g.A.Actions.meanings build.table.now build.options (take i tasks ++ planned ∷ []) (take i build.records.now ++ slice_index_or build.records.now i None ∷ []) rs start next) (sym items)
+          (executions_more F.failures F.may_leave F.allowed g.A.Actions.meanings build.table.now build.options (take i tasks) (take i build.records.now) reports planned (slice_index_or build.records.now i None) report start now next inv.requests taken)));
       device = subst (λ (rs : List TaskReport). HasFailed (times_blamed rs) (F.failures start) (F.failures next)) (sym items)
           (failed_more reports report (F.failures start) (F.failures now) (F.failures next) inv.device count c.take_one-taken.ensures.blame);
-      changes = λ tells.
+      changes = λ faithful.
           subst (λ (ps : List Planned). ChangesOnly (is_of_executions ps) (F.contents start) (F.contents next)) (sym take_is)
-          (changes_more (take i tasks) planned (F.contents start) (F.contents now) (F.contents next) (inv.changes tells) (c.take_one-taken.ensures.changes tells planned is));
-      build = λ tells kinds registry_of remembered clear seen assumed worth.
+          (changes_more (take i tasks) planned (F.contents start) (F.contents now) (F.contents next) (inv.changes faithful) (c.take_one-taken.ensures.changes faithful planned is));
+      build = λ faithful kinds registry_of remembered clear observed assumed worth.
           let old : State = record { contents = F.contents start; remembered = remembered; failures = F.failures start } in
-          let u = subst (λ (ps : List Planned). IsUnderway kinds registry_of (F.may_leave start) clear seen build.options tasks old (take i tasks) ps reports
-          (record { contents = F.contents now; failures = F.failures now })) (drop_at tasks i planned is) (inv.build tells kinds registry_of remembered clear seen assumed worth) in
-          let changes = c.take_one-taken.ensures.changes tells planned is in
-          subst (λ (ps : List Planned). IsUnderway kinds registry_of (F.may_leave start) clear seen build.options tasks old ps (drop (i + 1) tasks) c.push_reserved.new.reports.items
+          let u = subst (λ (ps : List Planned). IsUnderway kinds registry_of (F.may_leave start) clear observed build.options tasks old (take i tasks) ps reports
+          (record { contents = F.contents now; failures = F.failures now })) (drop_at tasks i planned is) (inv.build faithful kinds registry_of remembered clear observed assumed worth) in
+          let changes = c.take_one-taken.ensures.changes faithful planned is in
+          subst (λ (ps : List Planned). IsUnderway kinds registry_of (F.may_leave start) clear observed build.options tasks old ps (drop (i + 1) tasks) c.push_reserved.new.reports.items
           (record { contents = F.contents next; failures = F.failures next })) (sym take_is)
-          (subst (λ (rs : List TaskReport). IsUnderway kinds registry_of (F.may_leave start) clear seen build.options tasks old (take i tasks ++ planned ∷ []) (drop (i + 1) tasks) rs
+          (subst (λ (rs : List TaskReport). IsUnderway kinds registry_of (F.may_leave start) clear observed build.options tasks old (take i tasks ++ planned ∷ []) (drop (i + 1) tasks) rs
           (record { contents = F.contents next; failures = F.failures next })) (sym items)
-          (goes_on kinds registry_of (F.may_leave start) clear seen build.options tasks old (take i tasks) (drop (i + 1) tasks) planned (whole_at tasks i planned is) reports
+          (goes_on kinds registry_of (F.may_leave start) clear observed build.options tasks old (take i tasks) (drop (i + 1) tasks) planned (whole_at tasks i planned is) reports
           (record { contents = F.contents now; failures = F.failures now }) u report (record { contents = F.contents next; failures = F.failures next }) count
-          (g.met.F.Folder.sound next) (differs_outside planned.task (F.contents now).files (F.contents next).files changes.elsewhere) changes.odd c.requires.can.sound.outputs_apart
-          (F.may_leave now) way.tearing (once_behind (take i tasks) (drop (i + 1) tasks) planned (subst (λ (ps : List Planned). no_repeats (order ps) ≡ true) (whole_at tasks i planned is) c.requires.can.once))
+          (g.met.F.Folder.sound next) (differs_outside planned.task (F.contents now).files (F.contents next).files changes.elsewhere) changes.special c.requires.can.sound.outputs_separate
+          (F.may_leave now) way.tearing (once_after (take i tasks) (drop (i + 1) tasks) planned (subst (λ (ps : List Planned). no_repeats (order ps) ≡ true) (whole_at tasks i planned is) c.requires.can.once))
           (λ given still.
-          c.take_one-taken.ensures.execution tells kinds registry_of u.moment planned is (assumed_later (F.may_leave start) (F.may_leave now) way.tearing assumed) u.folder u.failures still.standing
+          c.take_one-taken.ensures.execution faithful kinds registry_of u.moment planned is (assumed_later (F.may_leave start) (F.may_leave now) way.tearing assumed) u.folder u.failures still.existing
           (subst (λ (os : List (Path × Outcome)). AreEndings tasks os c.loop-path.starts.endings) (sym u.outcomes) inv.endings)
-          (knows c.what_is_read_is_known.ensures kinds tasks build.records.now seen u.seen_now (F.contents start) remembered u.moment.world i planned is (worth given.0) is_path still.same.0
+          (knows c.what_is_read_is_known.ensures kinds tasks build.records.now observed u.observed_now (F.contents start) remembered u.moment.world i planned is (worth given.0) is_path still.same.0
           (subst (λ (folder : Contents). IsFolder folder.files) (sym u.folder) (folder_where (λ place. not (is_own place)) (F.contents now).files (g.met.F.Folder.sound now)))
           (subst (λ (folder : Contents). IsTrue (are_placed folder.files)) (sym u.folder) (placed_where (λ place. not (is_own place)) (F.contents now).files (g.met.F.Folder.placed now)))
           can.not_own u.keeps given.1))
-          (inv.places, is_path, inv.changes tells)));
+          (inv.places, is_path, inv.changes faithful)));
     }
   where
     on_true : (a b : Bool) → a ≡ true → b ≡ (a && b)
@@ -223,7 +223,7 @@ returns-clause-outline g c =
     subst (λ (ps : List Planned). AreOutlines c.args.build.now.options tasks [] ps c.loop-path.reports.items) (take_all i tasks all) inv.outline
 
 pub returns-clause-build : goal.returns-clause-build
-returns-clause-build g c = λ tells kinds registry_of remembered clear seen assumed worth.
+returns-clause-build g c = λ faithful kinds registry_of remembered clear observed assumed worth.
     let F = g.F.Folder in
     let tasks = c.args.build.now.tasks.now in
     let i = c.loop-path.index in
@@ -234,16 +234,16 @@ returns-clause-build g c = λ tells kinds registry_of remembered clear seen assu
     let dropped : length (drop i tasks) ≡ length tasks - i = length-drop i tasks in
     let all : length tasks ≤ i = omega (arith, empty, ap length inv.left, mapped, dropped) in
     let old : State = record { contents = F.contents start; remembered = remembered; failures = F.failures start } in
-    built kinds registry_of (F.may_leave start) clear seen c.args.build.now.options tasks old c.loop-path.reports.items
+    built kinds registry_of (F.may_leave start) clear observed c.args.build.now.options tasks old c.loop-path.reports.items
     (record { contents = F.contents c.loop-path.folder; failures = F.failures c.loop-path.folder }) c.requires.wet
-    (subst (λ (ps : List Planned). IsUnderway kinds registry_of (F.may_leave start) clear seen c.args.build.now.options tasks old ps [] c.loop-path.reports.items
+    (subst (λ (ps : List Planned). IsUnderway kinds registry_of (F.may_leave start) clear observed c.args.build.now.options tasks old ps [] c.loop-path.reports.items
     (record { contents = F.contents c.loop-path.folder; failures = F.failures c.loop-path.folder })) (take_all i tasks all)
-    (subst (λ (ps : List Planned). IsUnderway kinds registry_of (F.may_leave start) clear seen c.args.build.now.options tasks old (take i tasks) ps c.loop-path.reports.items
+    (subst (λ (ps : List Planned). IsUnderway kinds registry_of (F.may_leave start) clear observed c.args.build.now.options tasks old (take i tasks) ps c.loop-path.reports.items
     (record { contents = F.contents c.loop-path.folder; failures = F.failures c.loop-path.folder })) (drop_all i tasks all)
-    (inv.build tells kinds registry_of remembered clear seen assumed worth)))
+    (inv.build faithful kinds registry_of remembered clear observed assumed worth)))
 
-pub returns-clause-asks : goal.returns-clause-asks
-returns-clause-asks g c =
+pub returns-clause-requests : goal.returns-clause-requests
+returns-clause-requests g c =
     let F = g.F.Folder in
     let build = c.args.build.now in
     let tasks = build.tasks.now in
@@ -253,6 +253,6 @@ returns-clause-asks g c =
     let mapped : length (order (drop i tasks)) ≡ length (drop i tasks) = length-map _ _ in
     let dropped : length (drop i tasks) ≡ length tasks - i = length-drop i tasks in
     let all : length tasks ≤ i = omega (arith, empty, ap length inv.left, mapped, dropped) in
-    subst (λ (ps : List Planned). ExecutionsAsk F.failures F.may_leave F.asked g.A.Actions.meanings build.table.now build.options ps build.records.now c.loop-path.reports.items c.args.folder.now c.loop-path.folder) (take_all i tasks all)
-    (subst (λ (read : List (Option Record)). ExecutionsAsk F.failures F.may_leave F.asked g.A.Actions.meanings build.table.now build.options (take i tasks) read c.loop-path.reports.items c.args.folder.now c.loop-path.folder)
-    (take_all i build.records.now (omega (arith, all, c.requires.each))) inv.asks)
+    subst (λ (ps : List Planned). ExecutionsAsk F.failures F.may_leave F.allowed g.A.Actions.meanings build.table.now build.options ps build.records.now c.loop-path.reports.items c.args.folder.now c.loop-path.folder) (take_all i tasks all)
+    (subst (λ (read : List (Option Record)). ExecutionsAsk F.failures F.may_leave F.allowed g.A.Actions.meanings build.table.now build.options (take i tasks) read c.loop-path.reports.items c.args.folder.now c.loop-path.folder)
+    (take_all i build.records.now (omega (arith, all, c.requires.each))) inv.requests)

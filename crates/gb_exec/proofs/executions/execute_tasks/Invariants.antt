@@ -3,7 +3,7 @@ use Rattle.std.specs.List.{AllByRecursion, AllZip, flat_map}
 use Rattle.std.specs.Vec.{vec_capacity}
 use Rattle.std.specs.Vec.Iter.{into_iter_items}
 use Rattle.gb_folder.specs.Files.{Bytes}
-use Rattle.gb_exec.specs.Telling.{AllReported}
+use Rattle.gb_exec.specs.Notifying.{AllReported}
 use Rattle.gb_meaning.specs.Headline.{HasFailed}
 use Rattle.gb_meaning.specs.Kinds.{Kinds}
 use Rattle.gb_meaning.specs.Memory.{Memory}
@@ -46,12 +46,12 @@ invariant-loop-path g l =
       places : AllByRecursion HasOwnPlaces done;
       heard : AllReported (heard_of false l.reports.items) l.all_heard (map ear l.fn.listeners.items) (map ear l.listeners.items);
       printed : Prints P.contents P.whole (flat_map task_text l.reports.items) l.fn.printer l.printer;
-      asks : ExecutionsAsk F.failures F.may_leave F.asked g.A.Actions.meanings l.build.table.now l.build.options done (take l.index l.build.records.now) l.reports.items start l.folder;
+      requests : ExecutionsAsk F.failures F.may_leave F.allowed g.A.Actions.meanings l.build.table.now l.build.options done (take l.index l.build.records.now) l.reports.items start l.folder;
       device : HasFailed (times_blamed l.reports.items) (F.failures start) (F.failures l.folder);
-      changes : IsTrue F.tells → ChangesOnly (is_of_executions done) (F.contents start) (F.contents l.folder);
-      build : IsTrue F.tells → (kinds : Kinds) (registry_of : Registering) (remembered : Memory) (clear : Bool) (seen : List Bytes) → IsAssumed g.A.Actions.meanings l.build.table.now kinds (F.may_leave start)
-          → (IsTrue clear → AreWorth kinds tasks l.build.records.now seen (F.contents start) remembered)
-          → IsUnderway kinds registry_of (F.may_leave start) clear seen l.build.options tasks
+      changes : IsTrue F.faithful → ChangesOnly (is_of_executions done) (F.contents start) (F.contents l.folder);
+      build : IsTrue F.faithful → (kinds : Kinds) (registry_of : Registering) (remembered : Memory) (clear : Bool) (observed : List Bytes) → IsAssumed g.A.Actions.meanings l.build.table.now kinds (F.may_leave start)
+          → (IsTrue clear → AreWorth kinds tasks l.build.records.now observed (F.contents start) remembered)
+          → IsUnderway kinds registry_of (F.may_leave start) clear observed l.build.options tasks
           (record { contents = F.contents start; remembered = remembered; failures = F.failures start }) done (drop l.index tasks) l.reports.items
           (record { contents = F.contents l.folder; failures = F.failures l.folder });
     }

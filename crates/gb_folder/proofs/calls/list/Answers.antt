@@ -8,10 +8,10 @@ returns g c =
     let root = c.args.root.now in
     let said = c.list.ensures in
     g.met.F.Folder.called c.args.folder.now (Lists root (answered c.list.result)) c.list.new.self (record {
-      asked = said.call;
+      allowed = said.call;
       well = lists_well root c.list.result said.under said.ordered said.not_large;
-      count = said.asks.count;
-      tearing = said.asks.tearing;
+      count = said.requests.count;
+      tearing = said.requests.tearing;
       risen = λ is. said.device (row_failed c.list.result is);
-      exact = λ tells. (listed (F.contents c.args.folder.now) root c.list.result said.not_large (said.not_missing tells) (said.not_blocked tells) (said.listed tells) (said.none_odd tells) (said.bad_name tells), said.same tells);
+      exact = λ faithful. (listed (F.contents c.args.folder.now) root c.list.result said.not_large (said.not_missing faithful) (said.not_blocked faithful) (said.listed faithful) (said.none_special faithful) (said.bad_name faithful), said.same faithful);
     })

@@ -8,10 +8,10 @@ returns g c =
     let place = c.args.place.now in
     let said = c.read.ensures in
     g.met.F.Folder.called c.args.folder.now (Reads place c.args.limit (answered c.read.result)) c.read.new.self (record {
-      asked = said.call;
+      allowed = said.call;
       well = reads_well c.args.limit c.read.result said.within said.not_named;
-      count = said.asks.count;
-      tearing = said.asks.tearing;
+      count = said.requests.count;
+      tearing = said.requests.tearing;
       risen = λ is. said.device (row_failed c.read.result is);
-      exact = λ tells. (was_read (F.contents c.args.folder.now) place c.args.limit c.read.result said.not_named (said.missing tells) (said.missing_free tells) (said.blocked tells) said.within (said.found tells) (said.large tells), said.same tells);
+      exact = λ faithful. (was_read (F.contents c.args.folder.now) place c.args.limit c.read.result said.not_named (said.missing faithful) (said.missing_free faithful) (said.blocked faithful) said.within (said.found faithful) (said.large faithful), said.same faithful);
     })

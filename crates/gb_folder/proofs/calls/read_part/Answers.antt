@@ -8,10 +8,10 @@ returns g c =
     let place = c.args.place.now in
     let said = c.read_part.ensures in
     g.met.F.Folder.called c.args.folder.now (ReadsPart place c.args.at c.args.len (answered c.read_part.result)) c.read_part.new.self (record {
-      asked = said.call;
+      allowed = said.call;
       well = reads_part_well c.args.len c.read_part.result said.within said.not_large said.not_named;
-      count = said.asks.count;
-      tearing = said.asks.tearing;
+      count = said.requests.count;
+      tearing = said.requests.tearing;
       risen = λ is. said.device (row_failed c.read_part.result is);
-      exact = λ tells. (part_read (F.contents c.args.folder.now) place c.args.at c.args.len c.read_part.result said.not_large said.not_named (said.missing tells) (said.missing_free tells) (said.blocked tells) (said.found tells), said.same tells);
+      exact = λ faithful. (part_read (F.contents c.args.folder.now) place c.args.at c.args.len c.read_part.result said.not_large said.not_named (said.missing faithful) (said.missing_free faithful) (said.blocked faithful) (said.found faithful), said.same faithful);
     })

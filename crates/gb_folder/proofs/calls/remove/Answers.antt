@@ -9,11 +9,11 @@ returns g c =
     let place = c.args.place.now in
     let said = c.remove.ensures in
     g.met.F.Folder.called old (Removes place c.remove.result) c.remove.new.self (record {
-      asked = said.call;
+      allowed = said.call;
       well = removes_well c.remove.result said.not_large said.not_named;
-      count = said.asks.count;
-      tearing = said.asks.tearing;
+      count = said.requests.count;
+      tearing = said.requests.tearing;
       risen = λ is. said.device (change_failed c.remove.result is);
-      exact = λ tells. removed (F.may_leave old) (F.contents old) place c.remove.result (F.contents c.remove.new.self)
-          said.not_large said.not_named (said.removed tells) (said.stood tells) (said.missing tells) (said.missing_free tells) (said.blocked tells) (said.same tells) (said.torn tells);
+      exact = λ faithful. removed (F.may_leave old) (F.contents old) place c.remove.result (F.contents c.remove.new.self)
+          said.not_large said.not_named (said.removed faithful) (said.existed faithful) (said.missing faithful) (said.missing_free faithful) (said.blocked faithful) (said.same faithful) (said.torn faithful);
     })

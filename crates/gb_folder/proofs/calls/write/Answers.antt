@@ -10,11 +10,11 @@ returns g c =
     let bytes = c.args.bytes.now in
     let said = c.write.ensures in
     g.met.F.Folder.called old (Writes place bytes c.args.limit c.write.result) c.write.new.self (record {
-      asked = said.call;
+      allowed = said.call;
       well = writes_well bytes c.args.limit c.write.result said.within said.large said.not_missing said.not_named;
-      count = said.asks.count;
-      tearing = said.asks.tearing;
+      count = said.requests.count;
+      tearing = said.requests.tearing;
       risen = λ is. said.device (change_failed c.write.result is);
-      exact = λ tells. wrote (F.may_leave old) (F.contents old) place bytes c.args.limit c.write.result (F.contents c.write.new.self) said.within
-          said.large said.not_missing said.not_named (said.written tells) (said.free tells) (said.blocked tells) (said.same tells) (said.torn tells);
+      exact = λ faithful. wrote (F.may_leave old) (F.contents old) place bytes c.args.limit c.write.result (F.contents c.write.new.self) said.within
+          said.large said.not_missing said.not_named (said.written faithful) (said.free faithful) (said.blocked faithful) (said.same faithful) (said.torn faithful);
     })

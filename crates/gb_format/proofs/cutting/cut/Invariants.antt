@@ -8,7 +8,7 @@ use Rattle.gb_format.proofs.cutting.cut.Given as goal
 abbrev pub invariant-parts : goal.invariant-parts
 invariant-parts l = record {
   text : shadow (Utf8 l.rest);
-  left : Left l.fn.text (shown l.items.items) l.apart l.rest;
+  left : Left l.fn.text (shown l.items.items) l.spacing l.rest;
 }
 
 abbrev pub decreases-parts : goal.decreases-parts

@@ -1,5 +1,5 @@
 use Rattle.std.proofs.Common.{◌∙◌}
-use Rattle.gb_format.proofs.Fronts.{seam, past_seam}
+use Rattle.gb_format.proofs.Prefixes.{seam, past_seam}
 use Rattle.gb_format.proofs.cutting.split_before.Goals as goal
 
 pub split_at-requires : goal.split_at-requires

@@ -16,8 +16,8 @@ blanks-preserved c =
       boundary = IsCharBoundary-before_ascii xs (c.blanks.len - 1) (omega (arith, within, some)) (blank_low _ blank);
     }
 
-pub returns-else-is_blank-clause-front : goal.returns-else-is_blank-clause-front
-returns-else-is_blank-clause-front c =
+pub returns-else-is_blank-clause-prefix : goal.returns-else-is_blank-clause-prefix
+returns-else-is_blank-clause-prefix c =
     let xs = c.args.bytes.now in
     let some : 0 < c.blanks.len = search arith in
     let none : is_blank (get_or xs (c.blanks.len - 1) 0) ≡ false = sym c.is_blank.ensures ∙ c.if-is_blank.false in

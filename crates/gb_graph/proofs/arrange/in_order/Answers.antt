@@ -2,10 +2,10 @@ use Rattle.std.proofs.Common.{◌≡◌, Vec, Result, Ok, Err, IfOk, get_or, map
 use Rattle.std.specs.Global.{Global}
 use Rattle.gb_plan.specs.declared.plan.Planned.{Planned}
 use Rattle.gb_graph.specs.Order.{rows}
-use Rattle.gb_graph.specs.Ranked.{AreApart}
+use Rattle.gb_graph.specs.Ranked.{AreDistinct}
 use Rattle.gb_graph.proofs.Arranged.{whole_plan}
 use Rattle.gb_graph.proofs.Bits.{order_known}
-use Rattle.gb_graph.proofs.Numbers.{in_order_apart}
+use Rattle.gb_graph.proofs.Numbers.{in_order_separate}
 use Rattle.gb_graph.proofs.arrange.in_order.Goals as goal
 
 pub tasks_at-requires-clause-known : goal.tasks_at-requires-clause-known
@@ -14,10 +14,10 @@ tasks_at-requires-clause-known c = λ number h.
     let lt = order_known ranks.is_order.in_order number (subst (λ ks. Contains ks number) c.as_slice.ensures.value h) in
     omega (arith, lt, ranks.reported.each)
 
-pub tasks_at-requires-clause-apart : goal.tasks_at-requires-clause-apart
-tasks_at-requires-clause-apart c =
+pub tasks_at-requires-clause-separate : goal.tasks_at-requires-clause-separate
+tasks_at-requires-clause-separate c =
     let ranks = c.requires.ranks in
-    subst AreApart (sym c.as_slice.ensures.value) (in_order_apart _ _ ranks.is_order.in_order)
+    subst AreDistinct (sym c.as_slice.ensures.value) (in_order_separate _ _ ranks.is_order.in_order)
 
 each_ok : {E : Type 0} (P : Planned → Vec Planned Global → Type 0) (Q : Vec Planned Global → Type 0) → ((v : Vec Planned Global) → ((d : Planned) → P d v) → Q v)
     → (r : Result (Vec Planned Global) E) → ((d : Planned) → IfOk r (P d)) → IfOk r Q

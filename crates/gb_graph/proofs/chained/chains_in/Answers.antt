@@ -4,7 +4,7 @@ use Rattle.std.proofs.lemmas.Result.{IfOk-weaker}
 use Rattle.std.specs.Global.{Global}
 use Rattle.gb_graph.specs.Order.{rows, row, InOrder, AreTasks}
 use Rattle.gb_graph.specs.Chains.{IsAfter, bit_in}
-use Rattle.gb_graph.specs.Conflicts.{TellChains}
+use Rattle.gb_graph.specs.Conflicts.{GiveChains}
 use Rattle.gb_graph.proofs.Planned.{lower, chains_reported}
 use Rattle.gb_graph.proofs.chained.chains_in.Goals as goal
 
@@ -39,7 +39,7 @@ returns c =
     subst (λ ns. Contains ns t) (sym c.as_slice-3.ensures.value) (c.in_ok-order.ensures.all t (omega (arith, lt, wide, same))) in
     IfOk-weaker c.chains_of.result
     (λ (found : Vec (Vec ℕ Global) Global). (t b : ℕ) → Contains numbers t → (bit_in (row (rows found.items) t) b ≡ 1) ↔ IsAfter (rows c.as_slice-2.result.now) t b)
-    (λ (found : Vec (Vec ℕ Global) Global). TellChains tasks (rows found.items))
+    (λ (found : Vec (Vec ℕ Global) Global). GiveChains tasks (rows found.items))
     (λ found h. chains_reported tasks c.requires.once (rows after) reported numbers all (rows found.items)
     (subst (λ vs. (t b : ℕ) → Contains numbers t → (bit_in (row (rows found.items) t) b ≡ 1) ↔ IsAfter (rows vs) t b) c.as_slice-2.ensures.value h))
     c.chains_of.ensures.chains

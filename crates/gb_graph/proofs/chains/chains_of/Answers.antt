@@ -7,7 +7,7 @@ use Rattle.std.proofs.lemmas.List.Elements.{Contains-get_or}
 use Rattle.gb_graph.specs.Order.{rows, row}
 use Rattle.gb_graph.specs.Chains.{IsAfter, bit_in}
 use Rattle.gb_graph.proofs.Rows.{rows_row}
-use Rattle.gb_graph.proofs.Bits.{order_known, stands_before, front, written, takes_sound, takes_complete, one_more}
+use Rattle.gb_graph.proofs.Bits.{order_known, exists_before, prefix, written, takes_sound, takes_complete, one_more}
 use Rattle.gb_graph.proofs.chains.chains_of.Goals as goal
 
 pub bounds-after-task : goal.bounds-after-task
@@ -112,9 +112,9 @@ loop-before-preserved c =
     let w2 : take n (r2 ++ drop (length r2) f1) ≡ r2 = written n r2 (drop (length r2) f1) e2 in
     let joined : (i : ℕ) → bit_in r1 i ≡ max (bit_in r0 i) (bit_in other i) = λ i. c.join.ensures.bits i ∙ ap (λ x. max (bit_in x i) (bit_in other i)) c.deref_mut.ensures.value in
     let kept : (i : ℕ) → i ≢ b → bit_in r2 i ≡ bit_in r1 i = λ i d. c.mark.ensures.other i d ∙ ap (λ x. bit_in x i) (c.deref_mut-in-loop-before.ensures.value ∙ w1) in
-    let standing = stands_before c.requires.order k lt b has in
-    let of : (p : ℕ) → bit_in other p ≡ 1 → IsAfter a b p = λ p h. c.loop-task.invariant.sound b p standing (subst (λ x. bit_in x p ≡ 1) (sym oe) h) in
-    let to : (p : ℕ) → IsAfter a b p → bit_in other p ≡ 1 = λ p h. subst (λ x. bit_in x p ≡ 1) oe (c.loop-task.invariant.complete b p standing h) in
+    let existing = exists_before c.requires.order k lt b has in
+    let of : (p : ℕ) → bit_in other p ≡ 1 → IsAfter a b p = λ p h. c.loop-task.invariant.sound b p existing (subst (λ x. bit_in x p ≡ 1) (sym oe) h) in
+    let to : (p : ℕ) → IsAfter a b p → bit_in other p ≡ 1 = λ p h. subst (λ x. bit_in x p ≡ 1) oe (c.loop-task.invariant.complete b p existing h) in
     record {
       most = c.loop-before.invariant.most;
       wide = c.loop-before.invariant.wide;
@@ -166,7 +166,7 @@ loop-task-preserved c =
       ];
       complete = λ u p h g. elim (cases_eq u t) [
         | inl e ↦
-            let f = front (subst (λ v. IsAfter a v p) e g) in
+            let f = prefix (subst (λ v. IsAfter a v p) e g) in
             let q = subst (λ ys. Contains ys f.0) taken f.1 in
             let qe : get_or xs q.0 0 ≡ f.0 = get_or_default xs q.0 0 f.0 q.1 ∙ q.2 in
             let past : q.0 < c.loop-before.before-index = omega (arith, q.1, c.loop-before-test.false) in

@@ -20,7 +20,7 @@ loop-task-preserved c =
       marks = c.loop-task.invariant.marks;
       cursors = c.loop-task.invariant.cursors;
       places = c.in_ok-settle.ensures.places;
-      keeps = settles a c.in_ok-stands.stands.items (rows c.loop-task.waiting.items) (rows c.settle.new.waiting.items) (contains nat_cmp c.loop-task.ready) (contains nat_cmp c.settle.new.ready)
+      keeps = settles a c.in_ok-exists.exists.items (rows c.loop-task.waiting.items) (rows c.settle.new.waiting.items) (contains nat_cmp c.loop-task.ready) (contains nat_cmp c.settle.new.ready)
           c.new-order.result.items (λ u. (t ≤ u) × (u < length c.args.after.now)) (λ u. (t + 1 ≤ u) × (u < length c.args.after.now)) t
           c.loop-task.invariant.keeps (omega arith, c.loop-task-test.true)
           (λ u h. elim (cases_eq u t) [ inl e ↦ inl e | inr n ↦ inr (omega (arith, h.0, n), h.1) ])
@@ -47,7 +47,7 @@ loop-waiter-init c =
     let known = l.invariant.keeps.ready_known t c.in-Some.ensures.member in
     let same : length (rows l.waiting.items) ≡ length l.waiting.items = length-map _ _ in
     let lt : t < length l.waiting.items = omega (arith, known, l.invariant.keeps.places, same) in
-    let k = places_it a l.stands.items (rows l.waiting.items) (contains nat_cmp l.ready) (contains nat_cmp c.pop_first.new.self) l.order.items (λ _. ⊥) t l.invariant.keeps
+    let k = places_it a l.exists.items (rows l.waiting.items) (contains nat_cmp l.ready) (contains nat_cmp c.pop_first.new.self) l.order.items (λ _. ⊥) t l.invariant.keeps
     c.in-Some.ensures.member (λ u e. e) updates.1
     (λ u h. was_there (is_eq (nat_cmp t u)) (contains nat_cmp l.ready u) _ (updates.0 u) h)
     (λ u h. elim (cases_eq u t) [ inl e ↦ inl e | inr n ↦ inr (updates.2 u (other_at t u n) ∙ h) ]) in
@@ -63,9 +63,9 @@ loop-waiter-init c =
       marks = l.invariant.marks;
       cursors = l.invariant.cursors;
       places = l.invariant.places;
-      keeps = subst (λ o. Keeps a (set l.stands.items t true) (rows (set l.waiting.items t c.replace-waiters.new.dest)) (contains nat_cmp c.pop_first.new.self) o (ContainsFrom 0 c.deref-waiter-items.result.now))
+      keeps = subst (λ o. Keeps a (set l.exists.items t true) (rows (set l.waiting.items t c.replace-waiters.new.dest)) (contains nat_cmp c.pop_first.new.self) o (ContainsFrom 0 c.deref-waiter-items.result.now))
           (sym c.in_ok-push-2.ensures.items)
-          (subst (λ w. Keeps a (set l.stands.items t true) w (contains nat_cmp c.pop_first.new.self) (l.order.items ++ t ∷ []) (ContainsFrom 0 c.deref-waiter-items.result.now)) (sym emptied) k2);
+          (subst (λ w. Keeps a (set l.exists.items t true) w (contains nat_cmp c.pop_first.new.self) (l.order.items ++ t ∷ []) (ContainsFrom 0 c.deref-waiter-items.result.now)) (sym emptied) k2);
     }
 
 pub settle-requires-in-loop-waiter-clause-known : goal.settle-requires-in-loop-waiter-clause-known
@@ -86,14 +86,14 @@ loop-waiter-preserved c =
     let xs = c.deref-waiter-items.result.now in
     let lt : i < length xs = c.loop-waiter-test.true in
     let t = get_or xs i 0 in
-    let stands = set c.loop-task-2.stands.items c.in-Some.task true in
+    let exists = set c.loop-task-2.exists.items c.in-Some.task true in
     let settled = subst (λ s. IsSettled a s (rows l.waiting.items) (rows n.waiting.items) (contains nat_cmp l.ready) (contains nat_cmp n.ready) t)
     c.deref-in-loop-waiter.ensures.value c.in_ok-settle-2.ensures.settled in
     record {
       marks = l.invariant.marks;
       cursors = l.invariant.cursors;
       places = c.in_ok-settle-2.ensures.places;
-      keeps = settles a stands (rows l.waiting.items) (rows n.waiting.items) (contains nat_cmp l.ready) (contains nat_cmp n.ready)
+      keeps = settles a exists (rows l.waiting.items) (rows n.waiting.items) (contains nat_cmp l.ready) (contains nat_cmp n.ready)
           c.push-in-Some.new.self.items (ContainsFrom i xs) (ContainsFrom (i + 1) xs) t
           l.invariant.keeps (i, omega arith, lt, get_or_default xs i t 0 lt)
           (λ u h. elim (cases_eq h.0 i) [
@@ -108,15 +108,15 @@ loop-task-2-smaller c =
     let l = c.loop-task-2 in
     let t = c.in-Some.task in
     let known = l.invariant.keeps.ready_known t c.in-Some.ensures.member in
-    let lt : t < length l.stands.items = omega (arith, known, l.invariant.keeps.marks) in
-    fewer l.stands.items t lt (l.invariant.keeps.ready_waits t c.in-Some.ensures.member)
+    let lt : t < length l.exists.items = omega (arith, known, l.invariant.keeps.marks) in
+    fewer l.exists.items t lt (l.invariant.keeps.ready_waits t c.in-Some.ensures.member)
 
 pub loop-task-2-preserved : goal.loop-task-2-preserved
 loop-task-2-preserved c =
     let a = rows c.args.after.now in
     let l = c.loop-task-2 in
     let t = c.in-Some.task in
-    let next = is_next a l.stands.items (rows l.waiting.items) (contains nat_cmp l.ready) (contains nat_cmp c.pop_first.new.self) l.order.items (λ _. ⊥) t l.invariant.keeps
+    let next = is_next a l.exists.items (rows l.waiting.items) (contains nat_cmp l.ready) (contains nat_cmp c.pop_first.new.self) l.order.items (λ _. ⊥) t l.invariant.keeps
     c.in-Some.ensures.member (λ u e. e) (λ u h. not_above t u (c.in-Some.ensures.least u h)) in
     record {
       marks = l.invariant.marks;
@@ -133,7 +133,7 @@ returns c =
     record {
       order = record {
         in_order = l.invariant.in_order;
-        whole = is_whole (rows c.args.after.now) l.stands.items (rows l.waiting.items) (contains nat_cmp l.ready) l.order.items (λ _. ⊥) l.invariant.keeps (λ u e. e)
+        whole = is_whole (rows c.args.after.now) l.exists.items (rows l.waiting.items) (contains nat_cmp l.ready) l.order.items (λ _. ⊥) l.invariant.keeps (λ u e. e)
             (λ u h. none_left c.pop_first.result (c.pop_first.ensures.variant.1 (some_key _ l.ready.keys h)) c.in_default.not-Some);
       };
     }

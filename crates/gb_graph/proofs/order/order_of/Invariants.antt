@@ -12,28 +12,28 @@ invariant-loop l = record {
 
 abbrev pub invariant-loop-task : goal.invariant-loop-task
 invariant-loop-task l = record {
-  marks : vec_len l.stands ≡ length l.after;
+  marks : vec_len l.exists ≡ length l.after;
   cursors : vec_len l.cursors ≡ length l.after;
   places : vec_len l.waiting ≡ length l.after;
-  keeps : Keeps (rows l.after) l.stands.items (rows l.waiting.items) (contains nat_cmp l.ready) l.order.items (λ u. (l.task ≤ u) × (u < length l.after));
+  keeps : Keeps (rows l.after) l.exists.items (rows l.waiting.items) (contains nat_cmp l.ready) l.order.items (λ u. (l.task ≤ u) × (u < length l.after));
 }
 
 abbrev pub invariant-loop-waiter : goal.invariant-loop-waiter
 invariant-loop-waiter l = record {
-  marks : vec_len l.stands ≡ length l.after;
+  marks : vec_len l.exists ≡ length l.after;
   cursors : vec_len l.cursors ≡ length l.after;
   places : vec_len l.waiting ≡ length l.after;
-  keeps : Keeps (rows l.after) l.stands.items (rows l.waiting.items) (contains nat_cmp l.ready) l.order.items (ContainsFrom l.waiter-index l.waiter-items);
+  keeps : Keeps (rows l.after) l.exists.items (rows l.waiting.items) (contains nat_cmp l.ready) l.order.items (ContainsFrom l.waiter-index l.waiter-items);
 }
 
 abbrev pub invariant-loop-task-2 : goal.invariant-loop-task-2
 invariant-loop-task-2 l = record {
-  marks : vec_len l.stands ≡ length l.after;
+  marks : vec_len l.exists ≡ length l.after;
   cursors : vec_len l.cursors ≡ length l.after;
   places : vec_len l.waiting ≡ length l.after;
-  keeps : Keeps (rows l.after) l.stands.items (rows l.waiting.items) (contains nat_cmp l.ready) l.order.items (λ _. ⊥);
+  keeps : Keeps (rows l.after) l.exists.items (rows l.waiting.items) (contains nat_cmp l.ready) l.order.items (λ _. ⊥);
   in_order : InOrder (rows l.after) l.order.items;
 }
 
 abbrev pub decreases-loop-task-2 : goal.decreases-loop-task-2
-decreases-loop-task-2 l = missing l.stands.items
+decreases-loop-task-2 l = missing l.exists.items

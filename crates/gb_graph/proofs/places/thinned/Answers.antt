@@ -1,19 +1,19 @@
 use Rattle.std.proofs.Common.{◌≡◌, [], sym, subst, arith}
 use Rattle.std.specs.Vec.Iter.{into_iter_items}
 use Rattle.gb_graph.proofs.Reached.{nil_of}
-use Rattle.gb_graph.specs.Places.{StandsTwice}
+use Rattle.gb_graph.specs.Places.{OccursTwice}
 use Rattle.gb_graph.proofs.Thinned.{IsSoFar, so_far_left, so_far_kept, all_thinned, all_rising}
 use Rattle.gb_graph.proofs.places.thinned.Goals as goal
 
 pub loop-at-preserved : goal.loop-at-preserved
 loop-at-preserved c =
     so_far_left c.args.row.items c.loop-at.thinned.items (into_iter_items c.next.new.self) (into_iter_items c.loop-at.at-iterator) c.in-Some.at c.in-Some.ensures.steps.0
-    (subst (λ row. StandsTwice row c.in-Some.at) c.as_slice.ensures.value c.if-not-ends_in_two.ensures) c.loop-at.invariant
+    (subst (λ row. OccursTwice row c.in-Some.at) c.as_slice.ensures.value c.if-not-ends_in_two.ensures) c.loop-at.invariant
 
 pub loop-at-preserved-else-not-ends_in_two : goal.loop-at-preserved-else-not-ends_in_two
 loop-at-preserved-else-not-ends_in_two c =
     so_far_left c.args.row.items c.loop-at.thinned.items (into_iter_items c.next.new.self) (into_iter_items c.loop-at.at-iterator) c.in-Some.at c.in-Some.ensures.steps.0
-    (subst (λ row. StandsTwice row c.in-Some.at) c.as_slice.ensures.value c.if-not-ends_in_two.ensures) c.loop-at.invariant
+    (subst (λ row. OccursTwice row c.in-Some.at) c.as_slice.ensures.value c.if-not-ends_in_two.ensures) c.loop-at.invariant
 
 pub loop-at-preserved-in-Continue-1 : goal.loop-at-preserved-in-Continue-1
 loop-at-preserved-in-Continue-1 c =

@@ -4,7 +4,7 @@ use Rattle.std.proofs.Math.Seq.{take-length}
 use Rattle.std.proofs.lemmas.List.{get_or_default, get_or-set_same}
 use Rattle.std.proofs.lemmas.Bool.{cases_eq}
 use Rattle.std.proofs.lemmas.List.Elements.{Contains-get_or}
-use Rattle.gb_graph.specs.Settled.{stands_in}
+use Rattle.gb_graph.specs.Settled.{exists_in}
 use Rattle.gb_graph.proofs.Edges.{take_grows}
 use Rattle.gb_graph.proofs.Keeping.{mark_kept, mark_other}
 use Rattle.gb_graph.proofs.plans.marks_of.Goals as goal
@@ -19,20 +19,20 @@ loop-number-preserved c =
     let numbers = c.args.numbers.now in
     let i = c.loop-number.number-index in
     let t = get_or numbers i 0 in
-    let stands = c.loop-number.marks.items in
+    let exists = c.loop-number.marks.items in
     let known = c.requires t (Contains-get_or numbers i 0 c.loop-number-test.true) in
-    let lt : t < length stands = omega (arith, known, c.loop-number.invariant.each) in
+    let lt : t < length exists = omega (arith, known, c.loop-number.invariant.each) in
     record {
       each = c.loop-number.invariant.each;
       reported = λ k.
           let grows = take_grows numbers i t k c.loop-number-test.true (get_or_default numbers i 0 t c.loop-number-test.true) in (
             λ h. elim (cases_eq k t) [
               | inl e ↦ grows.1 (inr (sym e))
-              | inr apart ↦ grows.1 (inl ((c.loop-number.invariant.reported k).0 (sym (mark_other stands t k apart) ∙ h)))
+              | inr separate ↦ grows.1 (inl ((c.loop-number.invariant.reported k).0 (sym (mark_other exists t k separate) ∙ h)))
             ],
             λ h. elim (grows.0 h) [
-              | inl old ↦ mark_kept stands t k lt ((c.loop-number.invariant.reported k).1 old)
-              | inr e ↦ ap (stands_in (set stands t true)) (sym e) ∙ get_or-set_same stands t true false lt
+              | inl old ↦ mark_kept exists t k lt ((c.loop-number.invariant.reported k).1 old)
+              | inr e ↦ ap (exists_in (set exists t true)) (sym e) ∙ get_or-set_same exists t true false lt
             ],
           );
     }
@@ -44,5 +44,5 @@ returns c =
     let whole : take c.loop-number.number-index numbers ≡ numbers = ap (λ n. take n numbers) (sym e) ∙ take-length numbers in
     record {
       each = omega (arith, c.loop-number.invariant.each);
-      reported = λ k. subst (λ ks. (stands_in c.loop-number.marks.items k ≡ true → Contains ks k) × (Contains ks k → stands_in c.loop-number.marks.items k ≡ true)) whole (c.loop-number.invariant.reported k);
+      reported = λ k. subst (λ ks. (exists_in c.loop-number.marks.items k ≡ true → Contains ks k) × (Contains ks k → exists_in c.loop-number.marks.items k ≡ true)) whole (c.loop-number.invariant.reported k);
     }

@@ -5,7 +5,7 @@ use Rattle.std.proofs.lemmas.List.{get_or_default, get_or-map, get_or-set_other,
 use Rattle.std.proofs.lemmas.List.Elements.{Contains-get_or}
 use Rattle.gb_plan.specs.declared.plan.Planned.{Planned}
 use Rattle.gb_graph.proofs.Edges.{take_grows}
-use Rattle.gb_graph.proofs.Numbers.{apart_take}
+use Rattle.gb_graph.proofs.Numbers.{separate_take}
 use Rattle.gb_graph.proofs.ranked.tasks_at.Goals as goal
 use Rattle.gb_graph.proofs.ranked.tasks_at.Goals.{in-Some+in_ok-push, in_default}
 
@@ -34,13 +34,13 @@ loop-number-preserved c =
     let known : t < length tasks = c.requires.known t (Contains-get_or numbers i 0 lt) in
     let fits : t < length slots = omega (arith, known, c.loop-number.invariant.each) in
     let taken : (d : Planned) → c.take.result ≡ Some (get_or tasks t d) = λ d.
-    c.take.ensures.value ∙ (c.index_mut.ensures.value ∙ (get_or_default slots t _ None fits ∙ c.loop-number.invariant.filled t d known (apart_take numbers i 0 c.requires.apart lt))) in
+    c.take.ensures.value ∙ (c.index_mut.ensures.value ∙ (get_or_default slots t _ None fits ∙ c.loop-number.invariant.filled t d known (separate_take numbers i 0 c.requires.separate lt))) in
     let grows = λ (k : ℕ). take_grows numbers i t k lt (get_or_default numbers i 0 t lt) in
     record {
       each = c.loop-number.invariant.each;
       filled = λ k d within lacks.
-          let apart : k ≢ t = λ e. lacks ((grows k).1 (inr (sym e))) in
-          get_or-set_other slots t k c.take.new.self None apart ∙ c.loop-number.invariant.filled k d within (λ old. lacks ((grows k).1 (inl old)));
+          let separate : k ≢ t = λ e. lacks ((grows k).1 (inr (sym e))) in
+          get_or-set_other slots t k c.take.new.self None separate ∙ c.loop-number.invariant.filled k d within (λ old. lacks ((grows k).1 (inl old)));
       placed = λ d.
           let f : ℕ → Planned = λ k. get_or tasks k d in
           let next : map f (take i numbers) ++ f t ∷ [] ≡ map f (take (i + 1) numbers) =

@@ -15,13 +15,13 @@ mark_all-requires c = record {
 
 pub loop-task-init : goal.loop-task-init
 loop-task-init c =
-    let stands = c.args.stands.now in
+    let exists = c.args.exists.now in
     let words = c.args.words.now in
     record {
-      marks = omega (arith, c.mark_all.auto.stands, c.requires.marks);
+      marks = omega (arith, c.mark_all.auto.exists, c.requires.marks);
       each = omega (arith, c.mark_all.auto.words, c.requires.each);
-      spreads = spreads_begin (rows c.args.table.now) c.args.starts.now c.args.word stands words c.mark_all.new.stands c.mark_all.new.words c.mark_all.new.fresh.items c.requires.closed
-          (subst (λ f. IsMarked stands c.mark_all.new.stands words c.mark_all.new.words f c.mark_all.new.fresh.items c.args.starts.now c.args.word) c.new-fresh.ensures.items c.in_ok-mark_all.ensures);
+      spreads = spreads_begin (rows c.args.table.now) c.args.starts.now c.args.word exists words c.mark_all.new.exists c.mark_all.new.words c.mark_all.new.fresh.items c.requires.closed
+          (subst (λ f. IsMarked exists c.mark_all.new.exists words c.mark_all.new.words f c.mark_all.new.fresh.items c.args.starts.now c.args.word) c.new-fresh.ensures.items c.in_ok-mark_all.ensures);
     }
 
 pub bounds-table-task : goal.bounds-table-task
@@ -60,9 +60,9 @@ loop-task-preserved c =
     let lt : t < length c.args.table.now = let l = reached_known table c.args.starts.now (length c.args.table.now) (λ k j h. let m = c.requires.tasks k j h in omega (arith, m, same)) c.requires.known t from in omega (arith, l) in
     let is : c.deref.result.now ≡ row table t = c.deref.ensures.value ∙ sym (rows_row c.args.table.now t c.index-table-task.result lt c.index-table-task.is) in
     record {
-      marks = omega (arith, c.mark_all-in-Some.auto.stands, old.marks);
+      marks = omega (arith, c.mark_all-in-Some.auto.exists, old.marks);
       each = omega (arith, c.mark_all-in-Some.auto.words, old.each);
-      spreads = spreads_on table c.args.starts.now c.args.word c.args.stands.now c.args.words.now c.loop-task.stands c.mark_all-in-Some.new.stands c.loop-task.words c.mark_all-in-Some.new.words
+      spreads = spreads_on table c.args.starts.now c.args.word c.args.exists.now c.args.words.now c.loop-task.exists c.mark_all-in-Some.new.exists c.loop-task.words c.mark_all-in-Some.new.words
           c.pop.new.self.items c.mark_all-in-Some.new.fresh.items c.loop-task.fresh.items c.deref.result.now t popped is old.spreads c.in_ok-mark_all-2.ensures;
     }
 
@@ -74,4 +74,4 @@ loop-task-smaller c =
 
 pub returns : goal.returns
 returns c =
-    spreads_end (rows c.args.table.now) c.args.starts.now c.args.word c.args.stands.now c.args.words.now c.loop-task.stands c.loop-task.words c.loop-task.fresh.items (nil_of c.loop-task.fresh.items (let e = c.in_default.ensures.cases.0 in omega (arith, e))) c.loop-task.invariant.spreads
+    spreads_end (rows c.args.table.now) c.args.starts.now c.args.word c.args.exists.now c.args.words.now c.loop-task.exists c.loop-task.words c.loop-task.fresh.items (nil_of c.loop-task.fresh.items (let e = c.in_default.ensures.cases.0 in omega (arith, e))) c.loop-task.invariant.spreads

@@ -6,10 +6,10 @@ use Rattle.gb_graph.proofs.reach.spread.Given as goal
 
 abbrev pub invariant-loop-task : goal.invariant-loop-task
 invariant-loop-task l = record {
-  marks : length l.stands ≡ length l.table;
+  marks : length l.exists ≡ length l.table;
   each : length l.words ≡ length l.table;
-  spreads : Spreads (rows l.table) l.starts l.word l.fn.stands l.stands l.fn.words l.words l.fresh.items;
+  spreads : Spreads (rows l.table) l.starts l.word l.fn.exists l.exists l.fn.words l.words l.fresh.items;
 }
 
 abbrev pub decreases-loop-task : goal.decreases-loop-task
-decreases-loop-task l = missing l.stands + vec_len l.fresh
+decreases-loop-task l = missing l.exists + vec_len l.fresh

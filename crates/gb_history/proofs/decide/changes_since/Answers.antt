@@ -7,7 +7,7 @@ use Rattle.gb_history.proofs.decide.changes_since.Goals as goal
 pub loop-at-preserved : goal.loop-at-preserved
 loop-at-preserved c =
     reported_one_more (changes_of c.args.incremental.now) _ _ c.loop-at.at _ _ (omega arith) c.requires c.index-old-at.is
-    c.index-new-at.is _ _ c.loop-at.invariant c.in_ok-tell.ensures
+    c.index-new-at.is _ _ c.loop-at.invariant c.in_ok-report.ensures
 
 pub returns : goal.returns
 returns c =

@@ -8,7 +8,7 @@ use Rattle.gb_history.specs.Record.{Record}
 use Rattle.gb_history.specs.Text.{held_json, FitsEdition, IsHeldIn}
 use Rattle.gb_history.specs.declared.fault.RecordFault.TheVariants.{OutOfMemory}
 use Rattle.gb_history.proofs.Lists.{err_passes, next}
-use Rattle.gb_history.proofs.Rising.{all_inserted, insert_behind, is_sorted-take}
+use Rattle.gb_history.proofs.Rising.{all_inserted, insert_after, is_sorted-take}
 use Rattle.gb_history.proofs.reading.records_from.Goals as goal
 
 -- one more one, above all before it
@@ -17,7 +17,7 @@ one_more : (before after xs : List (List ℕ × Record)) (i : ℕ) (got x : List
 one_more before after xs i got x sorted so_far put here more =
     let rise : is_sorted byte_order (take i xs ++ x ∷ []) ≡ true = subst (λ l. is_sorted byte_order l ≡ true) more (is_sorted-take (suc i) xs sorted) in
     rw add-one (put ∙ ap₂ (λ (b : List (List ℕ × Record)) (e : List ℕ × Record). insert_entry byte_order b e.0 e.1) so_far here
-    ∙ insert_behind (take i xs) x rise ∙ sym more)
+    ∙ insert_after (take i xs) x rise ∙ sym more)
 
 pub loop-item-preserved : goal.loop-item-preserved
 loop-item-preserved c = record {

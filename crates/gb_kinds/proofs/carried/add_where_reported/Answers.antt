@@ -13,4 +13,4 @@ returns-in_ok-insert c = λ other.
     c.in_ok-insert.ensures.updates.0 other
     ∙ or_more c.in_ok-copy.field-0 other before
     ∙ ap (λ w. before || bytes_eq w other) c.in_ok-copy.ensures
-    ∙ ap (λ b. before || b) (sym (and_true (bytes_eq c.args.word.now other) (list_any (contains byte_order c.args.lines.now) (lines_of c.args.reported.now)) (sym c.in_ok-tells_one.ensures ∙ c.if-branch.true)))
+    ∙ ap (λ b. before || b) (sym (and_true (bytes_eq c.args.word.now other) (list_any (contains byte_order c.args.lines.now) (lines_of c.args.reported.now)) (sym c.in_ok-has_line.ensures ∙ c.if-branch.true)))

@@ -5,7 +5,7 @@ use Rattle.std.specs.List.Sorted.{IsStrictlySortedBy}
 use Rattle.std.specs.Ordering.{eq_by_cmp}
 use Rattle.gb_core.specs.Lists.{byte_order}
 use Rattle.gb_action.specs.Files.{file_at}
-use Rattle.gb_action.specs.Outputs.{stands_at}
+use Rattle.gb_action.specs.Outputs.{exists_at}
 use Rattle.gb_action.specs.Shapes.{target}
 use Rattle.gb_kinds.specs.Carried.{file_of_lines, is_line_of, IsEntry}
 use Rattle.gb_kinds.specs.Words.{index_files}
@@ -20,7 +20,7 @@ loop-word-preserved c =
     let rest = c.next.new.self in
     let has = contains byte_order c.args.words.now in
     let gone = contains byte_order c.args.gone.now in
-    let Is = λ (w : List ℕ) (entry : Option (List ℕ)). IsEntry (is_line_of (unwrap_or (stands_at request.outputs target w) []) gone (unwrap_or (file_at (index_files c.args.new.now) w) [])) entry in
+    let Is = λ (w : List ℕ) (entry : Option (List ℕ)). IsEntry (is_line_of (unwrap_or (exists_at request.outputs target w) []) gone (unwrap_or (file_at (index_files c.args.new.now) w) [])) entry in
     let lines = c.in_ok-lines.lines in
     let next : c.loop-word.word-iterator ≡ word ∷ rest = c.in-Some.ensures.steps in
     let distinct = subst (IsStrictlySortedBy byte_order) next c.loop-word.invariant.distinct in
@@ -36,8 +36,8 @@ loop-word-preserved c =
       exactly = λ line.
           has_line lines line
           ∙ c.in_ok-lines.ensures line
-          ∙ ap (λ stood. is_line_of stood gone c.reported_at.result.now line) (c.stood_at-stood.ensures ∙ ap (λ name. unwrap_or (stands_at request.outputs name word) []) c.in_ok-output.ensures)
-          ∙ ap (λ reported. is_line_of (unwrap_or (stands_at request.outputs target word) []) gone reported line) c.reported_at.ensures;
+          ∙ ap (λ existed. is_line_of existed gone c.reported_at.result.now line) (c.existed_at-existed.ensures ∙ ap (λ name. unwrap_or (exists_at request.outputs name word) []) c.in_ok-output.ensures)
+          ∙ ap (λ reported. is_line_of (unwrap_or (exists_at request.outputs target word) []) gone reported line) c.reported_at.ensures;
       joined = refl;
     } in
     record {

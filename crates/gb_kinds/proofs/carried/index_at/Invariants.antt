@@ -6,7 +6,7 @@ use Rattle.std.specs.List.Sorted.{IsStrictlySortedBy}
 use Rattle.std.specs.Ordering.{eq_by_cmp}
 use Rattle.gb_core.specs.Lists.{byte_order}
 use Rattle.gb_action.specs.Files.{file_at}
-use Rattle.gb_action.specs.Outputs.{stands_at}
+use Rattle.gb_action.specs.Outputs.{exists_at}
 use Rattle.gb_action.specs.Shapes.{target}
 use Rattle.gb_kinds.specs.Carried.{is_line_of, IsEntry}
 use Rattle.gb_kinds.specs.Words.{index_files}
@@ -18,7 +18,7 @@ invariant-loop-word l = record {
   distinct : IsStrictlySortedBy byte_order l.word-iterator;
   within : (word : List ℕ) → list_any (eq_by_cmp byte_order word) l.word-iterator ≡ true → contains byte_order l.words word ≡ true;
   entries : (word : List ℕ) → contains byte_order l.words word ≡ true → list_any (eq_by_cmp byte_order word) l.word-iterator ≡ false
-      → IsEntry (is_line_of (unwrap_or (stands_at l.request.outputs target word) []) (contains byte_order l.gone) (unwrap_or (file_at (index_files l.new) word) [])) (file_at (index_files l.index) word);
+      → IsEntry (is_line_of (unwrap_or (exists_at l.request.outputs target word) []) (contains byte_order l.gone) (unwrap_or (file_at (index_files l.new) word) [])) (file_at (index_files l.index) word);
   left : (word : List ℕ) → list_any (eq_by_cmp byte_order word) l.word-iterator ≡ true → file_at (index_files l.index) word ≡ None;
   others : (word : List ℕ) → contains byte_order l.words word ≡ false → file_at (index_files l.index) word ≡ None;
 }

@@ -10,8 +10,8 @@ returns-clause-ordered c = ordered c.insert.new.self.entries c.in_ok-insert.ensu
 
 pub returns-clause-paths : goal.returns-clause-paths
 returns-clause-paths c = λ other.
-    let stood = unwrap_or (option_map items (get byte_order c.args.index.now c.args.word.now)) [] in
-    let first : c.unwrap_or-lines.result.items ≡ stood = ap items (c.unwrap_or-lines.ensures ∙ ap (λ o. unwrap_or o c.new.result) c.remove.ensures.value) ∙ or_nothing (get byte_order c.args.index.now c.args.word.now) c.new.result c.new.ensures.items in
-    let longer : c.push.new.self.items ≡ (stood ++ c.args.path.now) ++ 10 ∷ [] = c.in_ok-push.ensures.items ∙ ap (λ l. l ++ 10 ∷ []) (c.in_ok-extend_from_slice.ensures.items ∙ ap (λ l. l ++ c.as_bytes.result.now) first ∙ ap (λ l. stood ++ l) (c.as_bytes.ensures.value ∙ c.as_str.ensures.text)) in
+    let existed = unwrap_or (option_map items (get byte_order c.args.index.now c.args.word.now)) [] in
+    let first : c.unwrap_or-lines.result.items ≡ existed = ap items (c.unwrap_or-lines.ensures ∙ ap (λ o. unwrap_or o c.new.result) c.remove.ensures.value) ∙ or_nothing (get byte_order c.args.index.now c.args.word.now) c.new.result c.new.ensures.items in
+    let longer : c.push.new.self.items ≡ (existed ++ c.args.path.now) ++ 10 ∷ [] = c.in_ok-push.ensures.items ∙ ap (λ l. l ++ 10 ∷ []) (c.in_ok-extend_from_slice.ensures.items ∙ ap (λ l. l ++ c.as_bytes.result.now) first ∙ ap (λ l. existed ++ l) (c.as_bytes.ensures.value ∙ c.as_str.ensures.text)) in
     line_added c.args.word.now c.args.path.now c.args.index.now c.remove.new.self c.insert.new.self c.in_ok-copy.field-0 c.push.new.self c.in_ok-copy.ensures
-    c.remove.ensures.updates.0 c.in_ok-insert.ensures.updates.0 (longer ∙ append_assoc stood c.args.path.now (10 ∷ [])) other
+    c.remove.ensures.updates.0 c.in_ok-insert.ensures.updates.0 (longer ∙ append_assoc existed c.args.path.now (10 ∷ [])) other

@@ -11,5 +11,5 @@ returns-in-Err-clause-blamed g c = λ place e.
     (c.completed.ensures.blame place (c.in-Err.is ∙ ap Err (device c.in-Err.fault place (sym c.reported.ensures ∙ err_is _ _ _ refl e)))).0
 
 pub returns-in-Err-clause-err : goal.returns-in-Err-clause-err
-returns-in-Err-clause-err g c = λ tells all.
-    reported_machine _ _ c.in-Err.fault c.reported.result c.reported.ensures (c.in-Err.ensures.err tells all)
+returns-in-Err-clause-err g c = λ faithful all.
+    reported_machine _ _ c.in-Err.fault c.reported.result c.reported.ensures (c.in-Err.ensures.err faithful all)

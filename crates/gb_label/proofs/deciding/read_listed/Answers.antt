@@ -6,15 +6,15 @@ use Rattle.gb_plan.specs.declared.task.Output.{Output}
 use Rattle.gb_label.proofs.Growth.{cannot_print, err_as, none_reported}
 use Rattle.gb_label.proofs.deciding.read_listed.Goals as goal
 
-pub returns-clause-none_odd : goal.returns-clause-none_odd
-returns-clause-none_odd g c = λ tells.
+pub returns-clause-none_special : goal.returns-clause-none_special
+returns-clause-none_special g c = λ faithful.
     on_ok_weaker c.read_outputs.result
     (none_reported (g.F.Folder.contents c.args.folder.now) c.args.task.now.outputs
     (ap (list_any (λ (output : Output). is_own output.place)) (sym c.as_slice.ensures) ∙ sym c.has_own.ensures ∙ c.if-has_own.false))
-    (c.read_outputs.ensures.fit tells)
+    (c.read_outputs.ensures.fit faithful)
 
 pub returns-clause-err : goal.returns-clause-err
-returns-clause-err g c = λ tells.
-    err_as c.read_outputs.result (c.read_outputs.ensures.err tells) (λ fault cannot.
+returns-clause-err g c = λ faithful.
+    err_as c.read_outputs.result (c.read_outputs.ensures.err faithful) (λ fault cannot.
     cannot_print c.args.task.now (g.F.Folder.contents c.args.folder.now) _ _ fault
     (ap (list_any (λ (output : Output). is_own output.place)) (sym c.as_slice.ensures) ∙ sym c.has_own.ensures ∙ c.if-has_own.false) cannot)

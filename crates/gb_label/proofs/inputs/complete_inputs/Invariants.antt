@@ -1,9 +1,9 @@
 use Rattle.std.proofs.Common.{◌≡◌, IsTrue, length, map, take}
 use Rattle.std.specs.List.{AllByRecursion, AllZip}
-use Rattle.gb_folder.specs.Calls.{Asks, no_change}
+use Rattle.gb_folder.specs.Calls.{Requests, no_change}
 use Rattle.gb_label.specs.ReadingAnswered.{IsInputAnswered, IsInputRead}
 use Rattle.gb_label.specs.Reading.{digests_in}
-use Rattle.gb_label.proofs.Readings.{Stands, tree_made}
+use Rattle.gb_label.proofs.Readings.{Persists, tree_made}
 use Rattle.gb_label.proofs.inputs.complete_inputs.Given as goal
 
 abbrev pub invariant-loop-reading : goal.invariant-loop-reading
@@ -14,12 +14,12 @@ invariant-loop-reading g l =
     record {
       can_next : (goal.iterator-loop-reading g).can_next l.reading-iterator;
       is_finite : (goal.iterator-loop-reading g).is_finite l.reading-iterator;
-      asks : Asks g.F.Folder.failures g.F.Folder.may_leave g.F.Folder.asked no_change l.fn.folder l.folder;
-      same : IsTrue g.F.Folder.tells → contents l.folder ≡ contents l.fn.folder;
+      requests : Requests g.F.Folder.failures g.F.Folder.may_leave g.F.Folder.allowed no_change l.fn.folder l.folder;
+      same : IsTrue g.F.Folder.faithful → contents l.folder ≡ contents l.fn.folder;
       named : map (λ tree. tree.0) l.trees ≡ map (λ reading. reading.0) done;
       digests : l.prints.items ≡ digests_in l.trees;
-      answered : (first : _) → Asks g.F.Folder.failures g.F.Folder.may_leave g.F.Folder.asked no_change first l.fn.folder
-          → AllZip (IsInputAnswered g.F.Folder.failures g.F.Folder.may_leave g.F.Folder.asked first l.fn.folder) l.task.files l.fn.readings.items
-          → AllZip (IsInputRead g.F.Folder.failures g.F.Folder.may_leave g.F.Folder.asked first l.folder) (take (length l.yielded) l.task.files) l.trees;
-      trees : IsTrue g.F.Folder.tells → AllByRecursion (Stands old) l.fn.readings.items → l.trees ≡ map (tree_made old) done;
+      answered : (first : _) → Requests g.F.Folder.failures g.F.Folder.may_leave g.F.Folder.allowed no_change first l.fn.folder
+          → AllZip (IsInputAnswered g.F.Folder.failures g.F.Folder.may_leave g.F.Folder.allowed first l.fn.folder) l.task.files l.fn.readings.items
+          → AllZip (IsInputRead g.F.Folder.failures g.F.Folder.may_leave g.F.Folder.allowed first l.folder) (take (length l.yielded) l.task.files) l.trees;
+      trees : IsTrue g.F.Folder.faithful → AllByRecursion (Persists old) l.fn.readings.items → l.trees ≡ map (tree_made old) done;
     }

@@ -4,7 +4,7 @@ use Rattle.std.proofs.lemmas.List.{take_all}
 use Rattle.std.specs.List.{AllByRecursion, AllZip}
 use Rattle.gb_core.specs.Lists.{first_of}
 use Rattle.gb_core.specs.Place.{is_under}
-use Rattle.gb_folder.proofs.Asked.{asks_nothing, asks_then}
+use Rattle.gb_folder.proofs.Asked.{requests_nothing, requests_then}
 use Rattle.gb_folder.specs.Files.{Contents}
 use Rattle.gb_history.specs.Record.{Prints}
 use Rattle.gb_history.proofs.Lists.{map_twice}
@@ -13,16 +13,16 @@ use Rattle.gb_plan.specs.declared.task.FileProperty.{FileProperty}
 use Rattle.gb_store.proofs.Machine.{at_err, handed_on, machine_before}
 use Rattle.gb_tree.proofs.Answering.{all_zip_more}
 use Rattle.gb_tree.proofs.Holding.{all_wider}
-use Rattle.gb_tree.proofs.Seen.{each_more}
+use Rattle.gb_tree.proofs.Observed.{each_more}
 use Rattle.gb_tree.specs.Prints.{digests_of}
 use Rattle.gb_tree.specs.Property.{is_under_any}
-use Rattle.gb_tree.specs.declared.kept.SeenFile.{SeenFile}
+use Rattle.gb_tree.specs.declared.kept.ScannedFile.{ScannedFile}
 use Rattle.gb_meaning.specs.Tree.{tree_faults, tree_of, input_faults}
 use Rattle.gb_label.specs.ReadingAnswered.{IsInputAnswered}
-use Rattle.gb_label.specs.Reading.{CannotRead, IsPropertySeen, Read, is_input_of}
+use Rattle.gb_label.specs.Reading.{CannotRead, IsPropertyObserved, Read, is_input_of}
 use Rattle.gb_label.proofs.ReadingAnswering.{input_longer}
 use Rattle.gb_label.proofs.Loops.{any_of_one, one_more, name_more, first_of_all}
-use Rattle.gb_label.proofs.Readings.{prints_more, seen_more}
+use Rattle.gb_label.proofs.Readings.{prints_more, observed_more}
 use Rattle.gb_label.proofs.inputs.read_inputs.Goals as goal
 
 pub returns-in_err-read_one-clause-blamed : goal.returns-in_err-read_one-clause-blamed
@@ -37,7 +37,7 @@ returns-in_err-read_one-clause-blamed g c = λ place device.
     (c.read_one.ensures.blamed place (handed_on c.from_residual.result c.read_one.result p.0 c.in_err-read_one.field-0.0 place p.1 p.2 c.in_err-read_one.was device))
 
 pub returns-in_err-read_one-clause-err : goal.returns-in_err-read_one-clause-err
-returns-in_err-read_one-clause-err g c = λ tells.
+returns-in_err-read_one-clause-err g c = λ faithful.
     let p = err_from_is_err_and c.from_residual.result c.from_residual.ensures.1 in
     let old = g.F.Folder.contents c.args.folder.now in
     let files = c.args.task.now.files in
@@ -46,10 +46,10 @@ returns-in_err-read_one-clause-err g c = λ tells.
     let less = subst (λ (fs : List FileProperty). index < length fs) c.as_slice-property-items.ensures c.loop-property-test.true in
     let is = subst (λ (fs : List FileProperty). item ≡ get_or fs index item) c.as_slice-property-items.ensures c.property-item.is in
     let IsFault : Fault → Type 0 = CannotRead (g.F.Folder.failures c.args.folder.now) (g.F.Folder.failures c.read_one.new.folder) (input_faults c.args.task.now old) in
-    at_err (λ r. IfErr r IsFault) c.from_residual.result p.0 c.in_err-read_one.field-0.0 p.1 p.2 (elim (c.in_err-read_one.ensures.err tells) [
-      | inl machine ↦ inl (machine_before _ _ _ _ c.loop-property.invariant.asks.count c.read_one.ensures.asks.count machine)
-      | inr first ↦ inr (first_of_all (λ property. tree_faults property old) files index item _ less is (c.loop-property.invariant.fit tells)
-          (ap (λ folder. first_of (tree_faults item folder)) (sym (c.loop-property.invariant.same tells)) ∙ first))
+    at_err (λ r. IfErr r IsFault) c.from_residual.result p.0 c.in_err-read_one.field-0.0 p.1 p.2 (elim (c.in_err-read_one.ensures.err faithful) [
+      | inl machine ↦ inl (machine_before _ _ _ _ c.loop-property.invariant.requests.count c.read_one.ensures.requests.count machine)
+      | inr first ↦ inr (first_of_all (λ property. tree_faults property old) files index item _ less is (c.loop-property.invariant.fit faithful)
+          (ap (λ folder. first_of (tree_faults item folder)) (sym (c.loop-property.invariant.same faithful)) ∙ first))
     ])
 
 pub loop-property-preserved : goal.loop-property-preserved
@@ -69,30 +69,30 @@ loop-property-preserved g c =
     let x : Read = c.in_ok-read_one.field-0 in
     let reported : FileProperty → Prints = λ property. (property.name, digests_of (tree_of property old.files)) in
     record {
-      asks = asks_then so_far.asks c.read_one.ensures.asks;
-      same = λ tells. c.read_one.ensures.same tells ∙ so_far.same tells;
+      requests = requests_then so_far.requests c.read_one.ensures.requests;
+      same = λ faithful. c.read_one.ensures.same faithful ∙ so_far.same faithful;
       named = name_more (λ (reading : Read). reading.0) (λ (property : FileProperty). property.name) readings next x files index item less is so_far.named added one.named;
       within =
-          each_more (λ (reading : Read). AllByRecursion (λ seen. IsTrue (is_input_of task seen.place)) reading.1) readings next x added so_far.within
-          (all_wider (λ (seen : SeenFile). IsTrue (is_under_any item.roots seen.place)) (λ (seen : SeenFile). IsTrue (is_input_of task seen.place)) x.1
-          (λ seen under. any_of_one (is_under seen.place) (λ property. property.roots) files index item less is under) one.within);
+          each_more (λ (reading : Read). AllByRecursion (λ observed. IsTrue (is_input_of task observed.place)) reading.1) readings next x added so_far.within
+          (all_wider (λ (observed : ScannedFile). IsTrue (is_under_any item.roots observed.place)) (λ (observed : ScannedFile). IsTrue (is_input_of task observed.place)) x.1
+          (λ observed under. any_of_one (is_under observed.place) (λ property. property.roots) files index item less is under) one.within);
       answered =
           let F = g.F.Folder in
           let before = c.args.folder.now in
           let now = c.read_one.new.folder in
-          let Answered : FileProperty → Read → Type 0 = IsInputAnswered F.failures F.may_leave F.asked before now in
-          seen_more Answered files readings next index item x less is added
-          (all_zip_more (IsInputAnswered F.failures F.may_leave F.asked before c.loop-property.folder) Answered (input_longer (asks_nothing before) c.read_one.ensures.asks)
+          let Answered : FileProperty → Read → Type 0 = IsInputAnswered F.failures F.may_leave F.allowed before now in
+          observed_more Answered files readings next index item x less is added
+          (all_zip_more (IsInputAnswered F.failures F.may_leave F.allowed before c.loop-property.folder) Answered (input_longer (requests_nothing before) c.read_one.ensures.requests)
           (take index files) readings so_far.answered)
-          (input_longer so_far.asks (asks_nothing now) item x one.answered);
-      prints = λ tells.
-          prints_more reported readings next x files index item less is added one.named (one.digests tells ∙ ap (λ folder. digests_of (tree_of item folder.files)) (so_far.same tells)) (so_far.prints tells);
-      seen = λ tells.
-          seen_more (IsPropertySeen old.files) files readings next index item x less is added (so_far.seen tells)
-          (subst (λ (now : Contents). IsPropertySeen now.files item x) (so_far.same tells) (one.seen tells));
-      fit = λ tells.
+          (input_longer so_far.requests (requests_nothing now) item x one.answered);
+      prints = λ faithful.
+          prints_more reported readings next x files index item less is added one.named (one.digests faithful ∙ ap (λ folder. digests_of (tree_of item folder.files)) (so_far.same faithful)) (so_far.prints faithful);
+      observed = λ faithful.
+          observed_more (IsPropertyObserved old.files) files readings next index item x less is added (so_far.observed faithful)
+          (subst (λ (now : Contents). IsPropertyObserved now.files item x) (so_far.same faithful) (one.observed faithful));
+      fit = λ faithful.
           one_more (λ property. tree_faults property old) files index item less is
-          ∙ ap (λ xs. xs ++ tree_faults item old) (so_far.fit tells) ∙ (ap (tree_faults item) (sym (so_far.same tells)) ∙ one.fit tells);
+          ∙ ap (λ xs. xs ++ tree_faults item old) (so_far.fit faithful) ∙ (ap (tree_faults item) (sym (so_far.same faithful)) ∙ one.fit faithful);
     }
 
 pub returns-clause-read : goal.returns-clause-read
@@ -106,22 +106,22 @@ returns-clause-read g c =
     }
 
 pub returns-clause-prints : goal.returns-clause-prints
-returns-clause-prints g c = λ tells.
+returns-clause-prints g c = λ faithful.
     let old = g.F.Folder.contents c.args.folder.now in
     let files = c.args.task.now.files in
     let index = c.loop-property.property-index in
     let long : length files ≤ index = omega (arith, c.loop-property-test.false, ap length c.as_slice-property-items.ensures) in
-    c.loop-property.invariant.prints tells
+    c.loop-property.invariant.prints faithful
     ∙ ap (map (λ (property : FileProperty). (property.name, digests_of (tree_of property old.files)))) (take_all index files long)
     ∙ map_twice (λ (property : FileProperty). (property.name, tree_of property old.files)) (λ tree. (tree.0, digests_of tree.1)) files
 
-pub returns-clause-seen : goal.returns-clause-seen
-returns-clause-seen g c = λ tells.
+pub returns-clause-observed : goal.returns-clause-observed
+returns-clause-observed g c = λ faithful.
     let old = g.F.Folder.contents c.args.folder.now in
     let files = c.args.task.now.files in
     let index = c.loop-property.property-index in
     let long : length files ≤ index = omega (arith, c.loop-property-test.false, ap length c.as_slice-property-items.ensures) in
-    subst (λ (fs : List FileProperty). AllZip (IsPropertySeen old.files) fs c.loop-property.readings.items) (take_all index files long) (c.loop-property.invariant.seen tells)
+    subst (λ (fs : List FileProperty). AllZip (IsPropertyObserved old.files) fs c.loop-property.readings.items) (take_all index files long) (c.loop-property.invariant.observed faithful)
 
 pub returns-clause-answered : goal.returns-clause-answered
 returns-clause-answered g c =
@@ -129,5 +129,5 @@ returns-clause-answered g c =
     let files = c.args.task.now.files in
     let index = c.loop-property.property-index in
     let long : length files ≤ index = omega (arith, c.loop-property-test.false, ap length c.as_slice-property-items.ensures) in
-    subst (λ (fs : List FileProperty). AllZip (IsInputAnswered F.failures F.may_leave F.asked c.args.folder.now c.loop-property.folder) fs c.loop-property.readings.items)
+    subst (λ (fs : List FileProperty). AllZip (IsInputAnswered F.failures F.may_leave F.allowed c.args.folder.now c.loop-property.folder) fs c.loop-property.readings.items)
     (take_all index files long) c.loop-property.invariant.answered

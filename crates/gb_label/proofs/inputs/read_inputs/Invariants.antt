@@ -1,10 +1,10 @@
 use Rattle.std.proofs.Common.{◌≡◌, [], take, map, IsTrue}
 use Rattle.std.specs.List.{AllZip, flat_map}
-use Rattle.gb_folder.specs.Calls.{Asks, no_change}
+use Rattle.gb_folder.specs.Calls.{Requests, no_change}
 use Rattle.gb_tree.specs.Prints.{digests_of}
 use Rattle.gb_meaning.specs.Tree.{tree_faults, tree_of}
 use Rattle.gb_label.specs.ReadingAnswered.{IsInputAnswered}
-use Rattle.gb_label.specs.Reading.{AreWithin, IsPropertySeen, is_input_of, prints_read}
+use Rattle.gb_label.specs.Reading.{AreWithin, IsPropertyObserved, is_input_of, prints_read}
 use Rattle.gb_label.proofs.inputs.read_inputs.Given as goal
 
 abbrev pub invariant-loop-property : goal.invariant-loop-property
@@ -13,12 +13,12 @@ invariant-loop-property g l =
     let old = contents l.fn.folder in
     let done = take l.property-index l.task.files in
     record {
-      asks : Asks g.F.Folder.failures g.F.Folder.may_leave g.F.Folder.asked no_change l.fn.folder l.folder;
-      same : IsTrue g.F.Folder.tells → contents l.folder ≡ old;
+      requests : Requests g.F.Folder.failures g.F.Folder.may_leave g.F.Folder.allowed no_change l.fn.folder l.folder;
+      same : IsTrue g.F.Folder.faithful → contents l.folder ≡ old;
       named : map (λ reading. reading.0) l.readings.items ≡ map (λ property. property.name) done;
       within : AreWithin (is_input_of l.task) l.readings.items;
-      answered : AllZip (IsInputAnswered g.F.Folder.failures g.F.Folder.may_leave g.F.Folder.asked l.fn.folder l.folder) done l.readings.items;
-      prints : IsTrue g.F.Folder.tells → prints_read l.readings.items ≡ map (λ property. (property.name, digests_of (tree_of property old.files))) done;
-      seen : IsTrue g.F.Folder.tells → AllZip (IsPropertySeen old.files) done l.readings.items;
-      fit : IsTrue g.F.Folder.tells → flat_map (λ property. tree_faults property old) done ≡ [];
+      answered : AllZip (IsInputAnswered g.F.Folder.failures g.F.Folder.may_leave g.F.Folder.allowed l.fn.folder l.folder) done l.readings.items;
+      prints : IsTrue g.F.Folder.faithful → prints_read l.readings.items ≡ map (λ property. (property.name, digests_of (tree_of property old.files))) done;
+      observed : IsTrue g.F.Folder.faithful → AllZip (IsPropertyObserved old.files) done l.readings.items;
+      fit : IsTrue g.F.Folder.faithful → flat_map (λ property. tree_faults property old) done ≡ [];
     }

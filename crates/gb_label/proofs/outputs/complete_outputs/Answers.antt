@@ -8,7 +8,7 @@ use Rattle.std.specs.Iterator.Adapters.{zip_second}
 use Rattle.std.specs.List.{AllByRecursion, AllZip, zip}
 use Rattle.gb_action.specs.declared.output.Form.{Form}
 use Rattle.gb_action.specs.declared.output.OutputFiles.{OutputFiles}
-use Rattle.gb_folder.proofs.Asked.{asks_nothing, asks_then}
+use Rattle.gb_folder.proofs.Asked.{requests_nothing, requests_then}
 use Rattle.gb_folder.specs.Files.{Contents}
 use Rattle.gb_history.specs.Record.{Prints}
 use Rattle.gb_plan.specs.Task.{is_output_of}
@@ -18,12 +18,12 @@ use Rattle.gb_store.proofs.Machine.{at_err, handed_on, machine_before}
 use Rattle.gb_store.specs.Faults.{IsOfMachine}
 use Rattle.gb_tree.proofs.Answering.{all_zip_more}
 use Rattle.gb_tree.specs.Prints.{digests_of}
-use Rattle.gb_tree.specs.Reading.{entries_seen}
+use Rattle.gb_tree.specs.Reading.{entries_observed}
 use Rattle.gb_tree.specs.Tree.{contents_at}
 use Rattle.gb_label.specs.ReadingAnswered.{IsOutputAnswered, IsOutputRead}
 use Rattle.gb_label.specs.Reading.{Read}
 use Rattle.gb_label.proofs.ReadingAnswering.{files_read_longer, firsts_made, output_completed, pairs_all}
-use Rattle.gb_label.proofs.Readings.{Stands, among_within, form_of, gathered_more, mapped_more, output_is, output_made, outputs_made, pair_is, pairs_formed, pairs_named, pairs_stand, pairs_within, seen_more}
+use Rattle.gb_label.proofs.Readings.{Persists, among_within, form_of, gathered_more, mapped_more, output_is, output_made, outputs_made, pair_is, pairs_formed, pairs_named, pairs_exist, pairs_within, observed_more}
 use Rattle.gb_label.proofs.outputs.complete_outputs.Goals as goal
 
 pub returns-in_err-files-clause-blamed : goal.returns-in_err-files-clause-blamed
@@ -37,11 +37,11 @@ returns-in_err-files-clause-blamed g c = λ place device.
     let road = YieldsList-at c.into_iter-output-iterator.ensures.into_iter_gives (YieldsList-from_zip (YieldsList-at c.zip-output-items.ensures.first (YieldsList-from_slice outputs (c.iter.ensures.rest ∙ c.as_slice.ensures))) (YieldsList-from_vec {s = zip_second c.zip-output-items.result} readings gives.0 (gives.1 ∙ c.args.readings.ok.0))) in
     let execution = YieldsList-turn road c.loop-output.yielded c.loop-output.output-iterator c.loop-output.yielded_by c.next.result c.next.new.self _ c.in-Some.is c.next.ensures.steps in
     among_within (is_output_of c.args.task.now) x.1.1
-    (all_at (λ (pair : Output × Read). AllByRecursion (λ seen. IsTrue (is_output_of c.args.task.now seen.place)) pair.1.1) pairs (length c.loop-output.yielded) x execution.0 execution.1 (pairs_within (is_output_of c.args.task.now) outputs readings c.requires.within)) place
+    (all_at (λ (pair : Output × Read). AllByRecursion (λ observed. IsTrue (is_output_of c.args.task.now observed.place)) pair.1.1) pairs (length c.loop-output.yielded) x execution.0 execution.1 (pairs_within (is_output_of c.args.task.now) outputs readings c.requires.within)) place
     (c.complete_one.ensures.blamed place (handed_on c.from_residual.result c.complete_one.result p.0 c.in_err-files.field-0.0 place p.1 p.2 c.in_err-files.was device))
 
 pub returns-in_err-files-clause-err : goal.returns-in_err-files-clause-err
-returns-in_err-files-clause-err g c = λ tells seen.
+returns-in_err-files-clause-err g c = λ faithful observed.
     let p = err_from_is_err_and c.from_residual.result c.from_residual.ensures.1 in
     let failures = g.F.Folder.failures in
     let old = (g.F.Folder.contents c.args.folder.now).files in
@@ -52,10 +52,10 @@ returns-in_err-files-clause-err g c = λ tells seen.
     let gives = c.zip-output-items.ensures.second in
     let road = YieldsList-at c.into_iter-output-iterator.ensures.into_iter_gives (YieldsList-from_zip (YieldsList-at c.zip-output-items.ensures.first (YieldsList-from_slice outputs (c.iter.ensures.rest ∙ c.as_slice.ensures))) (YieldsList-from_vec {s = zip_second c.zip-output-items.result} readings gives.0 (gives.1 ∙ c.args.readings.ok.0))) in
     let execution = YieldsList-turn road c.loop-output.yielded c.loop-output.output-iterator c.loop-output.yielded_by c.next.result c.next.new.self _ c.in-Some.is c.next.ensures.steps in
-    let stands = all_at (λ (pair : Output × Read). Stands old pair.1) pairs (length c.loop-output.yielded) x execution.0 execution.1 (pairs_stand old outputs readings seen) in
+    let exists = all_at (λ (pair : Output × Read). Persists old pair.1) pairs (length c.loop-output.yielded) x execution.0 execution.1 (pairs_exist old outputs readings observed) in
     at_err (λ r. IfErr r (IsOfMachine (failures c.args.folder.now) (failures c.complete_one.new.folder))) c.from_residual.result p.0 c.in_err-files.field-0.0 p.1 p.2
-    (machine_before _ _ _ _ c.loop-output.invariant.asks.count c.complete_one.ensures.asks.count
-    (c.in_err-files.ensures.err tells (subst (λ (now : Contents). Stands now.files x.1) (sym (c.loop-output.invariant.same tells)) stands)))
+    (machine_before _ _ _ _ c.loop-output.invariant.requests.count c.complete_one.ensures.requests.count
+    (c.in_err-files.ensures.err faithful (subst (λ (now : Contents). Persists now.files x.1) (sym (c.loop-output.invariant.same faithful)) exists)))
 
 pub loop-output-preserved : goal.loop-output-preserved
 loop-output-preserved g c =
@@ -73,7 +73,7 @@ loop-output-preserved g c =
     let found : Prints = c.in_ok-files.found in
     let made : OutputFiles = c.in_ok-files.files in
     let one = c.in_ok-files.ensures in
-    let seen = c.loop-output.seen in
+    let observed = c.loop-output.observed in
     let more = c.in_ok-push-2.ensures.ok in
     let named = all_at (λ (pair : Output × Read). pair.1.0 ≡ pair.0.name) pairs n x execution.0 execution.1 (pairs_named outputs readings c.requires.named) in
     let Shown : Type 0 = List ℕ × Form in
@@ -81,33 +81,33 @@ loop-output-preserved g c =
     record {
       can_next = so_far.can_next;
       is_finite = so_far.is_finite;
-      asks = asks_then so_far.asks c.complete_one.ensures.asks;
-      same = λ tells. c.complete_one.ensures.same tells ∙ so_far.same tells;
+      requests = requests_then so_far.requests c.complete_one.ensures.requests;
+      same = λ faithful. c.complete_one.ensures.same faithful ∙ so_far.same faithful;
       formed =
-          gathered_more form_of (map reported seen) (map reported c.push-in-loop-output.new.self) (reported made) pairs n x execution.0 execution.1
-          (ap (map reported) more ∙ map-append reported seen (made ∷ []))
+          gathered_more form_of (map reported observed) (map reported c.push-in-loop-output.new.self) (reported made) pairs n x execution.0 execution.1
+          (ap (map reported) more ∙ map-append reported observed (made ∷ []))
           (pair_is (reported made) x.0.name x.0.form one.named one.formed) so_far.formed
           ∙ ap (λ k. map form_of (take k pairs)) next;
       digests =
-          mapped_more (λ (output : OutputFiles). let p : Prints = (output.name, digests_of output.files) in p) seen c.push-in-loop-output.new.self made c.loop-output.prints.items c.push.new.self.items found so_far.digests c.in_ok-push.ensures.items more
+          mapped_more (λ (output : OutputFiles). let p : Prints = (output.name, digests_of output.files) in p) observed c.push-in-loop-output.new.self made c.loop-output.prints.items c.push.new.self.items found so_far.digests c.in_ok-push.ensures.items more
           (one.digests ∙ ap (λ (name : List ℕ). let p : Prints = (name, digests_of made.files) in p) (named ∙ sym one.named));
-      answered = λ first asks were.
+      answered = λ first requests were.
           let F = g.F.Folder in
           let now = c.complete_one.new.folder in
-          let Done : Output × Read → OutputFiles → Type 0 = λ pair files. IsOutputRead F.failures F.may_leave F.asked first now pair.0 files in
-          let SoFar : Output × Read → OutputFiles → Type 0 = λ pair files. IsOutputRead F.failures F.may_leave F.asked first c.loop-output.folder pair.0 files in
-          let Answered : Output → Read → Type 0 = IsOutputAnswered F.failures F.may_leave F.asked first c.args.folder.now in
+          let Done : Output × Read → OutputFiles → Type 0 = λ pair files. IsOutputRead F.failures F.may_leave F.allowed first now pair.0 files in
+          let SoFar : Output × Read → OutputFiles → Type 0 = λ pair files. IsOutputRead F.failures F.may_leave F.allowed first c.loop-output.folder pair.0 files in
+          let Answered : Output → Read → Type 0 = IsOutputAnswered F.failures F.may_leave F.allowed first c.args.folder.now in
           let was = all_at (λ (pair : Output × Read). Answered pair.0 pair.1) pairs n x execution.0 execution.1 (pairs_all Answered outputs readings were) in
           subst (λ (k : ℕ). AllZip Done (take k pairs) c.push-in-loop-output.new.self) next
-          (seen_more Done pairs seen c.push-in-loop-output.new.self n x made execution.0 execution.1 more
-          (all_zip_more SoFar Done (λ pair. files_read_longer (asks_nothing first) c.complete_one.ensures.asks pair.0) (take n pairs) seen (so_far.answered first asks were))
-          (output_completed so_far.asks c.complete_one.ensures.asks x.0 x.1 made (one.answered first (asks_then asks so_far.asks)) was));
-      files = λ tells all.
-          let stands = all_at (λ (pair : Output × Read). Stands old pair.1) pairs n x execution.0 execution.1 all in
-          gathered_more (output_made old) seen c.push-in-loop-output.new.self made pairs n x execution.0 execution.1 more
-          (output_is made x.0.name x.0.form (contents_at old (entries_seen x.1.1)) one.named one.formed
-          (one.files tells (subst (λ (now : Contents). Stands now.files x.1) (sym (so_far.same tells)) stands) ∙ ap (λ now. contents_at now.files (entries_seen x.1.1)) (so_far.same tells)))
-          (so_far.files tells all)
+          (observed_more Done pairs observed c.push-in-loop-output.new.self n x made execution.0 execution.1 more
+          (all_zip_more SoFar Done (λ pair. files_read_longer (requests_nothing first) c.complete_one.ensures.requests pair.0) (take n pairs) observed (so_far.answered first requests were))
+          (output_completed so_far.requests c.complete_one.ensures.requests x.0 x.1 made (one.answered first (requests_then requests so_far.requests)) was));
+      files = λ faithful all.
+          let exists = all_at (λ (pair : Output × Read). Persists old pair.1) pairs n x execution.0 execution.1 all in
+          gathered_more (output_made old) observed c.push-in-loop-output.new.self made pairs n x execution.0 execution.1 more
+          (output_is made x.0.name x.0.form (contents_at old (entries_observed x.1.1)) one.named one.formed
+          (one.files faithful (subst (λ (now : Contents). Persists now.files x.1) (sym (so_far.same faithful)) exists) ∙ ap (λ now. contents_at now.files (entries_observed x.1.1)) (so_far.same faithful)))
+          (so_far.files faithful all)
           ∙ ap (λ k. map (output_made old) (take k pairs)) next;
     }
 
@@ -122,7 +122,7 @@ returns-clause-formed g c =
     c.loop-output.invariant.formed ∙ ap (map form_of) (take_all (length c.loop-output.yielded) pairs (omega (arith, end.1))) ∙ pairs_formed outputs readings c.requires.named
 
 pub returns-clause-files : goal.returns-clause-files
-returns-clause-files g c = λ tells seen.
+returns-clause-files g c = λ faithful observed.
     let old = (g.F.Folder.contents c.args.folder.now).files in
     let outputs = c.args.task.now.outputs in
     let readings = c.args.readings.items in
@@ -130,12 +130,12 @@ returns-clause-files g c = λ tells seen.
     let gives = c.zip-output-items.ensures.second in
     let road = YieldsList-at c.into_iter-output-iterator.ensures.into_iter_gives (YieldsList-from_zip (YieldsList-at c.zip-output-items.ensures.first (YieldsList-from_slice outputs (c.iter.ensures.rest ∙ c.as_slice.ensures))) (YieldsList-from_vec {s = zip_second c.zip-output-items.result} readings gives.0 (gives.1 ∙ c.args.readings.ok.0))) in
     let end = YieldsList-end road c.loop-output.yielded c.loop-output.output-iterator c.loop-output.yielded_by c.next.result c.next.new.self c.in-None.is c.next.ensures.steps in
-    c.loop-output.invariant.files tells (pairs_stand old outputs readings seen)
+    c.loop-output.invariant.files faithful (pairs_exist old outputs readings observed)
     ∙ ap (map (output_made old)) (take_all (length c.loop-output.yielded) pairs (omega (arith, end.1)))
-    ∙ outputs_made old outputs readings seen
+    ∙ outputs_made old outputs readings observed
 
 pub returns-clause-answered : goal.returns-clause-answered
-returns-clause-answered g c = λ first asks were.
+returns-clause-answered g c = λ first requests were.
     let F = g.F.Folder in
     let outputs = c.args.task.now.outputs in
     let readings = c.args.readings.items in
@@ -143,7 +143,7 @@ returns-clause-answered g c = λ first asks were.
     let gives = c.zip-output-items.ensures.second in
     let road = YieldsList-at c.into_iter-output-iterator.ensures.into_iter_gives (YieldsList-from_zip (YieldsList-at c.zip-output-items.ensures.first (YieldsList-from_slice outputs (c.iter.ensures.rest ∙ c.as_slice.ensures))) (YieldsList-from_vec {s = zip_second c.zip-output-items.result} readings gives.0 (gives.1 ∙ c.args.readings.ok.0))) in
     let end = YieldsList-end road c.loop-output.yielded c.loop-output.output-iterator c.loop-output.yielded_by c.next.result c.next.new.self c.in-None.is c.next.ensures.steps in
-    let Done : Output → OutputFiles → Type 0 = IsOutputRead F.failures F.may_leave F.asked first c.loop-output.folder in
-    firsts_made (IsOutputAnswered F.failures F.may_leave F.asked first c.args.folder.now) Done outputs readings c.loop-output.seen were
-    (subst (λ (ps : List (Output × Read)). AllZip (λ pair files. Done pair.0 files) ps c.loop-output.seen)
-    (take_all (length c.loop-output.yielded) pairs (omega (arith, end.1))) (c.loop-output.invariant.answered first asks were))
+    let Done : Output → OutputFiles → Type 0 = IsOutputRead F.failures F.may_leave F.allowed first c.loop-output.folder in
+    firsts_made (IsOutputAnswered F.failures F.may_leave F.allowed first c.args.folder.now) Done outputs readings c.loop-output.observed were
+    (subst (λ (ps : List (Output × Read)). AllZip (λ pair files. Done pair.0 files) ps c.loop-output.observed)
+    (take_all (length c.loop-output.yielded) pairs (omega (arith, end.1))) (c.loop-output.invariant.answered first requests were))

@@ -4,7 +4,7 @@ use Rattle.std.proofs.lemmas.List.{take_all}
 use Rattle.std.specs.List.{AllByRecursion, AllZip, flat_map}
 use Rattle.gb_core.specs.Lists.{first_of}
 use Rattle.gb_core.specs.Place.{is_under}
-use Rattle.gb_folder.proofs.Asked.{asks_nothing, asks_then}
+use Rattle.gb_folder.proofs.Asked.{requests_nothing, requests_then}
 use Rattle.gb_folder.specs.Files.{Contents}
 use Rattle.gb_history.specs.Record.{Prints}
 use Rattle.gb_history.proofs.Lists.{map_twice}
@@ -15,15 +15,15 @@ use Rattle.gb_store.proofs.Machine.{at_err, handed_on, machine_before}
 use Rattle.gb_store.proofs.Loops.{any_here}
 use Rattle.gb_tree.proofs.Answering.{all_zip_more}
 use Rattle.gb_tree.proofs.Holding.{all_wider}
-use Rattle.gb_tree.proofs.Seen.{each_more}
+use Rattle.gb_tree.proofs.Observed.{each_more}
 use Rattle.gb_tree.specs.Prints.{digests_of}
 use Rattle.gb_tree.specs.Tree.{files_from}
-use Rattle.gb_tree.specs.declared.kept.SeenFile.{SeenFile}
+use Rattle.gb_tree.specs.declared.kept.ScannedFile.{ScannedFile}
 use Rattle.gb_label.specs.ReadingAnswered.{IsOutputAnswered}
-use Rattle.gb_label.specs.Reading.{CannotRead, IsOutputSeen, Read, print_faults, recorded_of}
+use Rattle.gb_label.specs.Reading.{CannotRead, IsOutputObserved, Read, print_faults, recorded_of}
 use Rattle.gb_label.proofs.ReadingAnswering.{output_longer}
 use Rattle.gb_label.proofs.Loops.{one_more, name_more, first_of_all}
-use Rattle.gb_label.proofs.Readings.{prints_more, seen_more}
+use Rattle.gb_label.proofs.Readings.{prints_more, observed_more}
 use Rattle.gb_label.proofs.outputs.read_outputs.Goals as goal
 
 pub returns-in_err-read_one-clause-blamed : goal.returns-in_err-read_one-clause-blamed
@@ -38,7 +38,7 @@ returns-in_err-read_one-clause-blamed g c = λ place device.
     (c.read_one.ensures.blamed place (handed_on c.from_residual.result c.read_one.result p.0 c.in_err-read_one.field-0.0 place p.1 p.2 c.in_err-read_one.was device))
 
 pub returns-in_err-read_one-clause-err : goal.returns-in_err-read_one-clause-err
-returns-in_err-read_one-clause-err g c = λ tells.
+returns-in_err-read_one-clause-err g c = λ faithful.
     let p = err_from_is_err_and c.from_residual.result c.from_residual.ensures.1 in
     let old = g.F.Folder.contents c.args.folder.now in
     let outputs = c.args.task.now.outputs in
@@ -47,10 +47,10 @@ returns-in_err-read_one-clause-err g c = λ tells.
     let less = subst (λ (os : List Output). index < length os) c.as_slice-output-items.ensures c.loop-output-test.true in
     let is = subst (λ (os : List Output). item ≡ get_or os index item) c.as_slice-output-items.ensures c.output-item.is in
     let IsFault : Fault → Type 0 = CannotRead (g.F.Folder.failures c.args.folder.now) (g.F.Folder.failures c.read_one.new.folder) (flat_map (print_faults old) c.args.task.now.outputs) in
-    at_err (λ r. IfErr r IsFault) c.from_residual.result p.0 c.in_err-read_one.field-0.0 p.1 p.2 (elim (c.in_err-read_one.ensures.err tells) [
-      | inl machine ↦ inl (machine_before _ _ _ _ c.loop-output.invariant.asks.count c.read_one.ensures.asks.count machine)
-      | inr first ↦ inr (first_of_all (print_faults old) outputs index item _ less is (c.loop-output.invariant.fit tells)
-          (ap (λ folder. first_of (print_faults folder item)) (sym (c.loop-output.invariant.same tells)) ∙ first))
+    at_err (λ r. IfErr r IsFault) c.from_residual.result p.0 c.in_err-read_one.field-0.0 p.1 p.2 (elim (c.in_err-read_one.ensures.err faithful) [
+      | inl machine ↦ inl (machine_before _ _ _ _ c.loop-output.invariant.requests.count c.read_one.ensures.requests.count machine)
+      | inr first ↦ inr (first_of_all (print_faults old) outputs index item _ less is (c.loop-output.invariant.fit faithful)
+          (ap (λ folder. first_of (print_faults folder item)) (sym (c.loop-output.invariant.same faithful)) ∙ first))
     ])
 
 pub loop-output-preserved : goal.loop-output-preserved
@@ -70,30 +70,30 @@ loop-output-preserved g c =
     let x : Read = c.in_ok-read_one.field-0 in
     let reported : Output → Prints = λ output. (recorded_of old.files output).prints in
     record {
-      asks = asks_then so_far.asks c.read_one.ensures.asks;
-      same = λ tells. c.read_one.ensures.same tells ∙ so_far.same tells;
+      requests = requests_then so_far.requests c.read_one.ensures.requests;
+      same = λ faithful. c.read_one.ensures.same faithful ∙ so_far.same faithful;
       named = name_more (λ (reading : Read). reading.0) (λ (output : Output). output.name) readings next x outputs index item less is so_far.named added one.named;
       within =
-          each_more (λ (reading : Read). AllByRecursion (λ seen. IsTrue (is_output_of task seen.place)) reading.1) readings next x added so_far.within
-          (all_wider (λ (seen : SeenFile). IsTrue (is_under seen.place item.place)) (λ (seen : SeenFile). IsTrue (is_output_of task seen.place)) x.1
-          (λ seen under. any_here (λ (output : Output). is_under seen.place output.place) outputs index item less is under) one.within);
+          each_more (λ (reading : Read). AllByRecursion (λ observed. IsTrue (is_output_of task observed.place)) reading.1) readings next x added so_far.within
+          (all_wider (λ (observed : ScannedFile). IsTrue (is_under observed.place item.place)) (λ (observed : ScannedFile). IsTrue (is_output_of task observed.place)) x.1
+          (λ observed under. any_here (λ (output : Output). is_under observed.place output.place) outputs index item less is under) one.within);
       answered =
           let F = g.F.Folder in
           let before = c.args.folder.now in
           let now = c.read_one.new.folder in
-          let Answered : Output → Read → Type 0 = IsOutputAnswered F.failures F.may_leave F.asked before now in
-          seen_more Answered outputs readings next index item x less is added
-          (all_zip_more (IsOutputAnswered F.failures F.may_leave F.asked before c.loop-output.folder) Answered (output_longer (asks_nothing before) c.read_one.ensures.asks)
+          let Answered : Output → Read → Type 0 = IsOutputAnswered F.failures F.may_leave F.allowed before now in
+          observed_more Answered outputs readings next index item x less is added
+          (all_zip_more (IsOutputAnswered F.failures F.may_leave F.allowed before c.loop-output.folder) Answered (output_longer (requests_nothing before) c.read_one.ensures.requests)
           (take index outputs) readings so_far.answered)
-          (output_longer so_far.asks (asks_nothing now) item x one.answered);
-      prints = λ tells.
-          prints_more reported readings next x outputs index item less is added one.named (one.digests tells ∙ ap (λ folder. digests_of (files_from folder.files item.place)) (so_far.same tells)) (so_far.prints tells);
-      seen = λ tells.
-          seen_more (IsOutputSeen old.files) outputs readings next index item x less is added (so_far.seen tells)
-          (subst (λ (now : Contents). IsOutputSeen now.files item x) (so_far.same tells) (one.seen tells));
-      fit = λ tells.
+          (output_longer so_far.requests (requests_nothing now) item x one.answered);
+      prints = λ faithful.
+          prints_more reported readings next x outputs index item less is added one.named (one.digests faithful ∙ ap (λ folder. digests_of (files_from folder.files item.place)) (so_far.same faithful)) (so_far.prints faithful);
+      observed = λ faithful.
+          observed_more (IsOutputObserved old.files) outputs readings next index item x less is added (so_far.observed faithful)
+          (subst (λ (now : Contents). IsOutputObserved now.files item x) (so_far.same faithful) (one.observed faithful));
+      fit = λ faithful.
           one_more (print_faults old) outputs index item less is
-          ∙ ap (λ xs. xs ++ print_faults old item) (so_far.fit tells) ∙ (ap (λ folder. print_faults folder item) (sym (so_far.same tells)) ∙ one.fit tells);
+          ∙ ap (λ xs. xs ++ print_faults old item) (so_far.fit faithful) ∙ (ap (λ folder. print_faults folder item) (sym (so_far.same faithful)) ∙ one.fit faithful);
     }
 
 pub returns-clause-read : goal.returns-clause-read
@@ -107,22 +107,22 @@ returns-clause-read g c =
     }
 
 pub returns-clause-prints : goal.returns-clause-prints
-returns-clause-prints g c = λ tells.
+returns-clause-prints g c = λ faithful.
     let old = g.F.Folder.contents c.args.folder.now in
     let outputs = c.args.task.now.outputs in
     let index = c.loop-output.output-index in
     let long : length outputs ≤ index = omega (arith, c.loop-output-test.false, ap length c.as_slice-output-items.ensures) in
-    c.loop-output.invariant.prints tells
+    c.loop-output.invariant.prints faithful
     ∙ ap (map (λ (output : Output). (recorded_of old.files output).prints)) (take_all index outputs long)
     ∙ map_twice (recorded_of old.files) (λ made. made.prints) outputs
 
-pub returns-clause-seen : goal.returns-clause-seen
-returns-clause-seen g c = λ tells.
+pub returns-clause-observed : goal.returns-clause-observed
+returns-clause-observed g c = λ faithful.
     let old = g.F.Folder.contents c.args.folder.now in
     let outputs = c.args.task.now.outputs in
     let index = c.loop-output.output-index in
     let long : length outputs ≤ index = omega (arith, c.loop-output-test.false, ap length c.as_slice-output-items.ensures) in
-    subst (λ (os : List Output). AllZip (IsOutputSeen old.files) os c.loop-output.readings.items) (take_all index outputs long) (c.loop-output.invariant.seen tells)
+    subst (λ (os : List Output). AllZip (IsOutputObserved old.files) os c.loop-output.readings.items) (take_all index outputs long) (c.loop-output.invariant.observed faithful)
 
 pub returns-clause-answered : goal.returns-clause-answered
 returns-clause-answered g c =
@@ -130,5 +130,5 @@ returns-clause-answered g c =
     let outputs = c.args.task.now.outputs in
     let index = c.loop-output.output-index in
     let long : length outputs ≤ index = omega (arith, c.loop-output-test.false, ap length c.as_slice-output-items.ensures) in
-    subst (λ (os : List Output). AllZip (IsOutputAnswered F.failures F.may_leave F.asked c.args.folder.now c.loop-output.folder) os c.loop-output.readings.items)
+    subst (λ (os : List Output). AllZip (IsOutputAnswered F.failures F.may_leave F.allowed c.args.folder.now c.loop-output.folder) os c.loop-output.readings.items)
     (take_all index outputs long) c.loop-output.invariant.answered

@@ -1,9 +1,9 @@
 use Rattle.std.proofs.Common.{◌≡◌, [], take, map, IsTrue}
 use Rattle.std.specs.List.{AllZip, flat_map}
-use Rattle.gb_folder.specs.Calls.{Asks, no_change}
+use Rattle.gb_folder.specs.Calls.{Requests, no_change}
 use Rattle.gb_plan.specs.Task.{is_output_of}
 use Rattle.gb_label.specs.ReadingAnswered.{IsOutputAnswered}
-use Rattle.gb_label.specs.Reading.{AreWithin, IsOutputSeen, print_faults, prints_read, recorded_of}
+use Rattle.gb_label.specs.Reading.{AreWithin, IsOutputObserved, print_faults, prints_read, recorded_of}
 use Rattle.gb_label.proofs.outputs.read_outputs.Given as goal
 
 abbrev pub invariant-loop-output : goal.invariant-loop-output
@@ -12,12 +12,12 @@ invariant-loop-output g l =
     let old = contents l.fn.folder in
     let done = take l.output-index l.task.outputs in
     record {
-      asks : Asks g.F.Folder.failures g.F.Folder.may_leave g.F.Folder.asked no_change l.fn.folder l.folder;
-      same : IsTrue g.F.Folder.tells → contents l.folder ≡ old;
+      requests : Requests g.F.Folder.failures g.F.Folder.may_leave g.F.Folder.allowed no_change l.fn.folder l.folder;
+      same : IsTrue g.F.Folder.faithful → contents l.folder ≡ old;
       named : map (λ reading. reading.0) l.readings.items ≡ map (λ output. output.name) done;
       within : AreWithin (is_output_of l.task) l.readings.items;
-      answered : AllZip (IsOutputAnswered g.F.Folder.failures g.F.Folder.may_leave g.F.Folder.asked l.fn.folder l.folder) done l.readings.items;
-      prints : IsTrue g.F.Folder.tells → prints_read l.readings.items ≡ map (λ output. (recorded_of old.files output).prints) done;
-      seen : IsTrue g.F.Folder.tells → AllZip (IsOutputSeen old.files) done l.readings.items;
-      fit : IsTrue g.F.Folder.tells → flat_map (print_faults old) done ≡ [];
+      answered : AllZip (IsOutputAnswered g.F.Folder.failures g.F.Folder.may_leave g.F.Folder.allowed l.fn.folder l.folder) done l.readings.items;
+      prints : IsTrue g.F.Folder.faithful → prints_read l.readings.items ≡ map (λ output. (recorded_of old.files output).prints) done;
+      observed : IsTrue g.F.Folder.faithful → AllZip (IsOutputObserved old.files) done l.readings.items;
+      fit : IsTrue g.F.Folder.faithful → flat_map (print_faults old) done ≡ [];
     }

@@ -1,5 +1,5 @@
 use Rattle.std.proofs.Common.{List, option_copied, subst}
-use Rattle.gb_folder.proofs.Asked.{asks_nothing}
+use Rattle.gb_folder.proofs.Asked.{requests_nothing}
 use Rattle.gb_label.proofs.ReadingAnswering.{inputs_longer}
 use Rattle.gb_label.specs.Reading.{Read}
 use Rattle.gb_label.specs.Answered.{WasDecided, WasLookedAt}
@@ -19,9 +19,9 @@ returns-in_ok-found-in-Goes-clause-answered g c =
     let inputs = c.in-Goes.inputs.items in
     let found = c.in_ok-found-in-Goes.found in (
       (subst (MayBe task) c.in-Goes.is c.in_ok-looked_at.ensures.may_be).2,
-      inputs_longer (asks_nothing old) c.decided.ensures.asks task inputs
-          (subst (λ (look : Look). WasLookedAt F.failures F.may_leave F.asked old mid task look) c.in-Goes.is c.in_ok-looked_at.ensures.answered),
-      decided_longer c.looked_at.ensures.asks (asks_nothing new) c.args.options task last inputs found.decision found.outputs.items
-          (subst (λ (seen : List Read). WasDecided F.failures F.may_leave F.asked mid new c.args.options task last seen found.decision found.outputs.items)
+      inputs_longer (requests_nothing old) c.decided.ensures.requests task inputs
+          (subst (λ (look : Look). WasLookedAt F.failures F.may_leave F.allowed old mid task look) c.in-Goes.is c.in_ok-looked_at.ensures.answered),
+      decided_longer c.looked_at.ensures.requests (requests_nothing new) c.args.options task last inputs found.decision found.outputs.items
+          (subst (λ (observed : List Read). WasDecided F.failures F.may_leave F.allowed mid new c.args.options task last observed found.decision found.outputs.items)
           c.as_slice-in-Goes.ensures.value c.in_ok-found-in-Goes.ensures.answered),
     )

@@ -2,7 +2,7 @@ use Rattle.std.proofs.Common.{rules, ◌≡◌, ◌+◌, inr, Bool, true, false,
 use Rattle.std.proofs.lemmas.List.{at_drop_all, at_drop_more}
 use Rattle.std.proofs.lemmas.Bool.{ne_eqb}
 use Rattle.gb_lines.specs.Lines.{unescaped}
-use Rattle.gb_lines.proofs.Escapes.{pending, prefixed, opens, closes, stuck, stands, ends, open_end}
+use Rattle.gb_lines.proofs.Escapes.{pending, prefixed, opens, closes, stuck, exists, ends, open_end}
 use Rattle.gb_lines.proofs.line.unescaped.Goals as goal
 use Rattle.gb_lines.proofs.line.unescaped.Goals.{then-is_escape+in-Some+in_ok-push, else-is_escape+then-byte-eq92, else-is_escape+else-byte-eq92+in_ok-push-2}
 
@@ -15,7 +15,7 @@ loop-byte-preserved c =
     elim c.if-is_escape.branch [
       | then-is_escape+in-Some+in_ok-push w ↦ rw (w.bytes-is, w.is_escape-is, w.in_ok-push.ensures.items) (closes _ _ _ _ _ _ here (sym w.escape.ensures ∙ w.in-Some.is) (so_far true w.if-is_escape.true))
       | else-is_escape+then-byte-eq92 w ↦ rw (w.bytes-is, w.is_escape-is) (opens _ _ _ _ _ here w.if-byte-eq92.true (so_far false w.if-is_escape.false))
-      | else-is_escape+else-byte-eq92+in_ok-push-2 w ↦ rw (w.bytes-is, w.is_escape-is, w.if-is_escape.false, w.in_ok-push-2.ensures.items) (stands _ _ _ _ _ here (ne_eqb _ _ w.if-byte-eq92.false) (so_far false w.if-is_escape.false))
+      | else-is_escape+else-byte-eq92+in_ok-push-2 w ↦ rw (w.bytes-is, w.is_escape-is, w.if-is_escape.false, w.in_ok-push-2.ensures.items) (exists _ _ _ _ _ here (ne_eqb _ _ w.if-byte-eq92.false) (so_far false w.if-is_escape.false))
     ]
 
 pub returns-in_default : goal.returns-in_default

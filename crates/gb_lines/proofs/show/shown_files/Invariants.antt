@@ -8,7 +8,7 @@ abbrev pub invariant-loop-place : goal.invariant-loop-place
 invariant-loop-place g l =
     let files = (g.F.Folder.contents l.fn.folder).files in
     record {
-      same : IsTrue g.F.Folder.tells → g.F.Folder.contents l.folder ≡ g.F.Folder.contents l.fn.folder;
-      shown : IsTrue g.F.Folder.tells → l.text.items ++ flat_map (λ p. shown_at p (file_at files p)) (drop l.place-index l.place-items)
+      same : IsTrue g.F.Folder.faithful → g.F.Folder.contents l.folder ≡ g.F.Folder.contents l.fn.folder;
+      shown : IsTrue g.F.Folder.faithful → l.text.items ++ flat_map (λ p. shown_at p (file_at files p)) (drop l.place-index l.place-items)
           ≡ flat_map (λ p. shown_at p (file_at files p)) l.place-items;
     }

@@ -4,6 +4,6 @@ use Rattle.gb_markdown.proofs.line.is_rule.Given as goal
 
 abbrev pub invariant-loop-byte : goal.invariant-loop-byte
 invariant-loop-byte l = record {
-  within : l.seen ≤ l.byte-index;
-  value : is_rule l.sign l.seen (drop l.byte-index l.line) ≡ is_rule l.sign 0 l.line;
+  within : l.earlier ≤ l.byte-index;
+  value : is_rule l.sign l.earlier (drop l.byte-index l.line) ≡ is_rule l.sign 0 l.line;
 }

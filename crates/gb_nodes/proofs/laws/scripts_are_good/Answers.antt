@@ -1,4 +1,4 @@
-use Rattle.gb_nodes.proofs.StandingLemmas.{scripts_are_good}
+use Rattle.gb_nodes.proofs.InTableLemmas.{scripts_are_good}
 use Rattle.gb_nodes.proofs.laws.scripts_are_good.Goals as goal
 
 pub returns : goal.returns

@@ -2,25 +2,25 @@ use Rattle.std.proofs.Common.{◌≡◌, ◌++◌, ℕ, List, [], ◌∷◌, Opt
 use Rattle.std.proofs.Common.{append_assoc, refl, sym, ap, ◌∙◌}
 use Rattle.std.specs.Option.{option_copied}
 use Rattle.gb_action.specs.Files.{Tree}
-use Rattle.gb_with.specs.Renamed.{behind, onto}
+use Rattle.gb_with.specs.Renamed.{following, onto}
 use Rattle.gb_pages.specs.Layouts.{all_laid_out, laid_out_between}
 use Rattle.gb_pages.proofs.site_pages.all_laid_out.Goals as goal
 
 taken : (made : Tree) (new : List ℕ × List ℕ) (rest : Result Tree (List ℕ))
-    → behind (made ++ new ∷ []) rest ≡ behind made (onto (Ok new) rest)
+    → following (made ++ new ∷ []) rest ≡ following made (onto (Ok new) rest)
 taken made new (Err text) = refl
 taken made new (Ok files) = ap Ok (append_assoc made (new ∷ []) files)
 
 step : (at layout : List ℕ) (texts : Tree) (before : Option (List ℕ)) (file : List ℕ × List ℕ) (others : Tree)
     (new : List ℕ × List ℕ) (made more rest : Tree) (all : Result Tree (List ℕ)) → rest ≡ file ∷ others
     → laid_out_between at layout texts before file.0 file.1 others ≡ Ok new → more ≡ made ++ new ∷ []
-    → behind made (all_laid_out at layout texts before rest) ≡ all
-    → behind more (all_laid_out at layout texts (Some file.0) others) ≡ all
+    → following made (all_laid_out at layout texts before rest) ≡ all
+    → following more (all_laid_out at layout texts (Some file.0) others) ≡ all
 step at layout texts before file others new made more rest all split one pushed held =
-    ap (λ m. behind m (all_laid_out at layout texts (Some file.0) others)) pushed
+    ap (λ m. following m (all_laid_out at layout texts (Some file.0) others)) pushed
     ∙ taken made new (all_laid_out at layout texts (Some file.0) others)
-    ∙ ap (λ o. behind made (onto o (all_laid_out at layout texts (Some file.0) others))) (sym one)
-    ∙ sym (ap (λ r. behind made (all_laid_out at layout texts before r)) split)
+    ∙ ap (λ o. following made (onto o (all_laid_out at layout texts (Some file.0) others))) (sym one)
+    ∙ sym (ap (λ r. following made (all_laid_out at layout texts before r)) split)
     ∙ held
 
 pub loop-path-preserved : goal.loop-path-preserved

@@ -2,7 +2,7 @@ use Rattle.std.proofs.Common.{◌≡◌, ◌+◌, ◌&&◌, ℕ, cond, Some, byt
 use Rattle.std.specs.List.{AllByRecursion, AllZip, zip}
 use Rattle.std.proofs.lemmas.List.{map-append, take_all}
 use Rattle.gb_folder.specs.Files.{Contents}
-use Rattle.gb_folder.proofs.Asked.{asks_then}
+use Rattle.gb_folder.proofs.Asked.{requests_then}
 use Rattle.gb_history.specs.Record.{Record}
 use Rattle.gb_history.proofs.Lists.{AllByRecursion-push}
 use Rattle.gb_plan.specs.Graph.{order}
@@ -17,8 +17,8 @@ use Rattle.gb_predict.specs.Least.{AreLost}
 use Rattle.gb_predict.specs.Marks.{AreMarkedAfter, culprit, lack, mark}
 use Rattle.gb_predict.proofs.Lost.{lost_more}
 use Rattle.gb_predict.specs.declared.coming.Prediction.{Prediction}
-use Rattle.gb_predict.proofs.Marking.{all_pairs, marked_more, path_more, related_more, zip_front}
-use Rattle.gb_predict.proofs.Telling.{all_related, prediction_wider}
+use Rattle.gb_predict.proofs.Marking.{all_pairs, marked_more, path_more, related_more, zip_prefix}
+use Rattle.gb_predict.proofs.Predicting.{all_related, prediction_wider}
 use Rattle.gb_predict.proofs.predict.predict.Goals as goal
 
 pub prediction-requires-clause-ready : goal.prediction-requires-clause-ready
@@ -59,15 +59,15 @@ loop-at-preserved g c =
     let more = c.in_ok-push.ensures.items in
     let here =
     subst (λ (ones : List Prediction). one.after ≡ mark (zip plan ones) planned.task one.coming) c.as_slice-in-loop-at.ensures.value
-    c.in_ok-one.ensures.marked ∙ ap (λ pairs. mark pairs planned.task one.coming) (sym (zip_front plan reported at inv.count)) in
+    c.in_ok-one.ensures.marked ∙ ap (λ pairs. mark pairs planned.task one.coming) (sym (zip_prefix plan reported at inv.count)) in
     let lacks = subst (λ (ones : List Prediction). one.needs ≡ lack planned.task ones) c.as_slice-in-loop-at.ensures.value c.in_ok-one.ensures.needs in
     let noted : (other : List ℕ) → number_at c.note.new.lost other ≡ cond (is_some (culprit one) && bytes_eq one.path other) (Some (length reported)) (number_at c.loop-at.lost other) = λ other.
     c.in_ok-note.ensures other
     ∙ ap (λ (path : List ℕ). cond (is_some (culprit one) && bytes_eq path other) (Some at) (number_at c.loop-at.lost other)) (sym c.in_ok-one.ensures.path)
     ∙ ap (λ n. cond (is_some (culprit one) && bytes_eq one.path other) (Some n) (number_at c.loop-at.lost other)) (sym inv.count) in
     record {
-      asks = asks_then inv.asks c.prediction.ensures.asks;
-      same = λ tells. c.prediction.ensures.same tells ∙ inv.same tells;
+      requests = requests_then inv.requests c.prediction.ensures.requests;
+      same = λ faithful. c.prediction.ensures.same faithful ∙ inv.same faithful;
       count = ap length more ∙ length-append reported (one ∷ []) ∙ ap (λ n. n + 1) inv.count;
       paths =
           path_more (λ (p : Planned). p.task.path) plan (map (λ (f : Prediction). f.path) reported) _ at planned c.loop-at-test.true c.index-plan-at.is inv.paths
@@ -77,17 +77,17 @@ loop-at-preserved g c =
           subst (λ (l : List Prediction). AreMarkedAfter [] (zip (take (at + 1) plan) l)) (sym more)
           (marked_more plan reported at planned one c.loop-at-test.true inv.count c.index-plan-at.is inv.marked here lacks);
       lost = subst (λ (l : List Prediction). AreLost l c.note.new.lost) (sym more) (lost_more reported one c.loop-at.lost c.note.new.lost inv.lost noted);
-      prediction = λ tells kinds agrees.
+      prediction = λ faithful kinds agrees.
           let Is : ℕ → Planned × Option Record → Prediction → Type 0 = λ until pair f. IsPredictedOf kinds c.args.options pair.0.task old pair.1 begun until f.coming in
           subst (AllZip (Is new) (take (at + 1) (zip plan records))) (sym more)
           (related_more (Is new) plan records reported at planned last one c.loop-at-test.true (omega (arith, c.loop-at-test.true, c.requires.each)) c.index-plan-at.is c.index-records-at.is
           (all_related (Is mid) (Is new)
-          (λ pair f is. prediction_wider kinds c.args.options pair.0.task old pair.1 begun begun mid new f.coming (omega arith) inv.asks.count c.prediction.ensures.asks.count is)
-          (take at (zip plan records)) reported (inv.prediction tells kinds agrees))
-          (prediction_wider kinds c.args.options planned.task old last begun mid new new one.coming inv.asks.count c.prediction.ensures.asks.count (omega arith)
+          (λ pair f is. prediction_wider kinds c.args.options pair.0.task old pair.1 begun begun mid new f.coming (omega arith) inv.requests.count c.prediction.ensures.requests.count is)
+          (take at (zip plan records)) reported (inv.prediction faithful kinds agrees))
+          (prediction_wider kinds c.args.options planned.task old last begun mid new new one.coming inv.requests.count c.prediction.ensures.requests.count (omega arith)
           (subst (λ (read : Option Record). IsPredictedOf kinds c.args.options planned.task old read mid new one.coming) c.as_ref-last.ensures.value
-          (subst (λ (folder : Contents). IsPredictedOf kinds c.args.options planned.task folder (option_copied c.as_ref-last.result) mid new one.coming) (inv.same tells)
-          (c.in_ok-one.ensures.prediction tells kinds agrees)))));
+          (subst (λ (folder : Contents). IsPredictedOf kinds c.args.options planned.task folder (option_copied c.as_ref-last.result) mid new one.coming) (inv.same faithful)
+          (c.in_ok-one.ensures.prediction faithful kinds agrees)))));
     }
 
 pub returns-clause-paths : goal.returns-clause-paths
@@ -98,7 +98,7 @@ returns-clause-marked g c =
     subst (λ (plan : List Planned). AreMarkedAfter [] (zip plan c.loop-at.reported.items)) (take_all c.loop-at.at c.args.plan.now c.loop-at-test.false) c.loop-at.invariant.marked
 
 pub returns-clause-prediction : goal.returns-clause-prediction
-returns-clause-prediction g c = λ tells kinds agrees.
+returns-clause-prediction g c = λ faithful kinds agrees.
     let F = g.F.Folder in
     subst (λ (pairs : List (Planned × Option Record)). AllZip (λ pair (f : Prediction). IsPredictedOf kinds c.args.options pair.0.task (F.contents c.args.folder.now) pair.1 (F.failures c.args.folder.now) (F.failures c.loop-at.folder) f.coming) pairs c.loop-at.reported.items)
-    (all_pairs c.args.plan.now c.args.records.now c.loop-at.at c.loop-at-test.false) (c.loop-at.invariant.prediction tells kinds agrees)
+    (all_pairs c.args.plan.now c.args.records.now c.loop-at.at c.loop-at-test.false) (c.loop-at.invariant.prediction faithful kinds agrees)

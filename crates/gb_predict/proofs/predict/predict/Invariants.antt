@@ -1,6 +1,6 @@
 use Rattle.std.proofs.Common.{◌≡◌, [], IsTrue, length, map, take}
 use Rattle.std.specs.List.{AllByRecursion, AllZip, zip}
-use Rattle.gb_folder.specs.Calls.{Asks, no_change}
+use Rattle.gb_folder.specs.Calls.{Requests, no_change}
 use Rattle.gb_meaning.specs.Headline.{Agrees}
 use Rattle.gb_meaning.specs.Kinds.{Kinds}
 use Rattle.gb_plan.specs.Graph.{order}
@@ -14,14 +14,14 @@ abbrev pub invariant-loop-at : goal.invariant-loop-at
 invariant-loop-at g l =
     let F = g.F.Folder in
     record {
-      asks : Asks F.failures F.may_leave F.asked no_change l.fn.folder l.folder;
-      same : IsTrue F.tells → F.contents l.folder ≡ F.contents l.fn.folder;
+      requests : Requests F.failures F.may_leave F.allowed no_change l.fn.folder l.folder;
+      same : IsTrue F.faithful → F.contents l.folder ≡ F.contents l.fn.folder;
       count : length l.reported.items ≡ l.at;
       paths : map (λ (one : Prediction). one.path) l.reported.items ≡ order (take l.at l.plan);
       reasoned : AllByRecursion (λ (one : Prediction). IsReasoned one.coming) l.reported.items;
       lost : AreLost l.reported.items l.lost;
       marked : AreMarkedAfter [] (zip (take l.at l.plan) l.reported.items);
-      prediction : IsTrue F.tells → (kinds : Kinds) → Agrees g.A.Actions.meanings l.table kinds
+      prediction : IsTrue F.faithful → (kinds : Kinds) → Agrees g.A.Actions.meanings l.table kinds
           → AllZip (λ pair (one : Prediction). IsPredictedOf kinds l.options pair.0.task (F.contents l.fn.folder) pair.1 (F.failures l.fn.folder) (F.failures l.folder) one.coming)
           (take l.at (zip l.plan l.records)) l.reported.items;
     }

@@ -1,6 +1,6 @@
 use Rattle.std.proofs.Common.{◌≡◌, drop}
 use Rattle.std.specs.List.{list_all}
-use Rattle.gb_registry.specs.Seen.{said_in}
+use Rattle.gb_registry.specs.SoFar.{said_in}
 use Rattle.gb_project.specs.Named.{is_named}
 use Rattle.gb_project.proofs.named.read_names.Given as goal
 

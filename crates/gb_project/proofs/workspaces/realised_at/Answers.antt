@@ -1,7 +1,7 @@
 use Rattle.std.proofs.Common.{inr, sym, ap, refl, ◌∙◌, arith, Err}
 use Rattle.gb_registry.specs.Tables.{tables_of}
 use Rattle.gb_declare.specs.Realised.{Plain}
-use Rattle.gb_project.proofs.WorkspaceLemmas.{at_fault, entry_is, entry_kept, entry_tells, entry_within, fault_within, row_count, row_within}
+use Rattle.gb_project.proofs.WorkspaceLemmas.{at_fault, entry_is, entry_kept, entry_shows, entry_within, fault_within, row_count, row_within}
 use Rattle.gb_project.proofs.workspaces.realised_at.Goals as goal
 
 pub index-requires : goal.index-requires
@@ -56,7 +56,7 @@ evaluated_entry-requires-clause-patterns g c =
 pub returns-clause-reported : goal.returns-clause-reported
 returns-clause-reported g c =
     let tables = tables_of g.T.Transforms.meanings g.A.Actions.meanings c.args.tables.now in
-    entry_tells tables c.args.registry.now c.args.providers.now.nodes c.args.declared.now c.requires.kept c.args.path.now c.args.index c.requires.index c.in-Some-index.entry
+    entry_shows tables c.args.registry.now c.args.providers.now.nodes c.args.declared.now c.requires.kept c.args.path.now c.args.index c.requires.index c.in-Some-index.entry
     (entry_kept tables c.args.registry.now c.args.providers.now.nodes c.args.declared.now c.requires.kept c.args.path.now c.args.index c.requires.index
     c.index.result.now c.index-2.result.now c.in-Some-index.entry c.index.ensures c.in_default.is c.index-2.ensures c.in-Some-index.is)
     c.projects.result.now c.paths.result.now c.as_slice.result.now c.evaluated_entry.result c.projects.ensures (c.paths.ensures ∙ c.tasks.ensures.tasks) c.as_slice.ensures.value c.evaluated_entry.ensures.reported

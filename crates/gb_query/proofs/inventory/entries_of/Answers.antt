@@ -1,6 +1,6 @@
 use Rattle.std.proofs.Common.{subst, ◌∙◌}
 use Rattle.gb_folder.specs.Files.{Contents}
-use Rattle.gb_folder.proofs.Asked.{asks_then}
+use Rattle.gb_folder.proofs.Asked.{requests_then}
 use Rattle.gb_records.proofs.Calls.{read_more}
 use Rattle.gb_query.specs.Inventory.{IsEntryOf}
 use Rattle.gb_query.proofs.inventory.entries_of.Goals as goal
@@ -12,13 +12,13 @@ loop-place-preserved g c =
     let place = c.place-item.result in
     let entry = c.in_ok-entry_of.field-0 in
     record {
-      asks = asks_then c.loop-place.invariant.asks c.entry_of.ensures.asks;
-      same = λ tells. c.entry_of.ensures.same tells ∙ c.loop-place.invariant.same tells;
-      entries = λ tells.
+      requests = requests_then c.loop-place.invariant.requests c.entry_of.ensures.requests;
+      same = λ faithful. c.entry_of.ensures.same faithful ∙ c.loop-place.invariant.same faithful;
+      entries = λ faithful.
           read_more (IsEntryOf (F.contents c.args.folder.now).files registered) c.args.places.now c.loop-place.place-index place c.loop-place.entries.items _ entry
           c.loop-place-test.true
           c.place-item.is
-          (c.loop-place.invariant.entries tells)
-          (subst (λ (folder : Contents). IsEntryOf folder.files registered place entry) (c.loop-place.invariant.same tells) (c.in_ok-entry_of.ensures.entry tells))
+          (c.loop-place.invariant.entries faithful)
+          (subst (λ (folder : Contents). IsEntryOf folder.files registered place entry) (c.loop-place.invariant.same faithful) (c.in_ok-entry_of.ensures.entry faithful))
           c.in_ok-push.ensures.items;
     }

@@ -1,7 +1,7 @@
 use Rattle.std.proofs.Common.{◌≡◌, take}
 use Rattle.std.specs.Prelude.{IsTrue}
 use Rattle.std.specs.List.{AllZip}
-use Rattle.gb_folder.specs.Calls.{Asks, no_change}
+use Rattle.gb_folder.specs.Calls.{Requests, no_change}
 use Rattle.gb_query.specs.Inventory.{IsEntryOf}
 use Rattle.gb_query.proofs.inventory.entries_of.Given as goal
 
@@ -9,7 +9,7 @@ abbrev pub invariant-loop-place : goal.invariant-loop-place
 invariant-loop-place g l =
     let F = g.F.Folder in
     record {
-      asks : Asks F.failures F.may_leave F.asked no_change l.fn.folder l.folder;
-      same : IsTrue F.tells → F.contents l.folder ≡ F.contents l.fn.folder;
-      entries : IsTrue F.tells → AllZip (IsEntryOf (F.contents l.fn.folder).files l.registered) (take l.place-index l.places) l.entries.items;
+      requests : Requests F.failures F.may_leave F.allowed no_change l.fn.folder l.folder;
+      same : IsTrue F.faithful → F.contents l.folder ≡ F.contents l.fn.folder;
+      entries : IsTrue F.faithful → AllZip (IsEntryOf (F.contents l.fn.folder).files l.registered) (take l.place-index l.places) l.entries.items;
     }

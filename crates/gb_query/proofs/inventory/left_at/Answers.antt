@@ -1,7 +1,7 @@
 use Rattle.std.proofs.Common.{◌≡◌, ◌++◌, List, [], append-nil, append_assoc, ap, arith, refl, subst, sym, ◌∙◌}
 use Rattle.std.proofs.lemmas.List.{drop_all}
 use Rattle.gb_folder.specs.Files.{Contents, Place}
-use Rattle.gb_folder.proofs.Asked.{asks_then}
+use Rattle.gb_folder.proofs.Asked.{requests_then}
 use Rattle.gb_plan.specs.Task.{Path}
 use Rattle.gb_query.specs.Inventory.{AreLeftAt, IsLeftAt}
 use Rattle.gb_store.proofs.Machine.{machine_before}
@@ -19,20 +19,20 @@ loop-place-preserved g c =
     let before = c.loop-place.left.items in
     let files = (F.contents c.args.folder.now).files in
     record {
-      asks = asks_then c.loop-place.invariant.asks c.push_left.ensures.asks;
-      same = λ tells. c.push_left.ensures.same tells ∙ c.loop-place.invariant.same tells;
-      left = λ tells more rest.
-          let added = c.in_ok-push_left.ensures.left tells in
+      requests = requests_then c.loop-place.invariant.requests c.push_left.ensures.requests;
+      same = λ faithful. c.push_left.ensures.same faithful ∙ c.loop-place.invariant.same faithful;
+      left = λ faithful more rest.
+          let added = c.in_ok-push_left.ensures.left faithful in
           let row = added.0 in
-          let here : IsLeftAt files registered place row = subst (λ (folder : Contents). IsLeftAt folder.files registered place row) (c.loop-place.invariant.same tells) added.1 in
+          let here : IsLeftAt files registered place row = subst (λ (folder : Contents). IsLeftAt folder.files registered place row) (c.loop-place.invariant.same faithful) added.1 in
           subst (λ (found : List Path). AreLeftAt files registered places found) (sym (ap (λ (found : List Path). found ++ more) added.2 ∙ append_assoc before row more))
-          (c.loop-place.invariant.left tells (row ++ more)
+          (c.loop-place.invariant.left faithful (row ++ more)
           (subst (λ (left : List Place). AreLeftAt files registered left (row ++ more)) (sym (rest_from places index place c.loop-place-test.true c.place-item.is))
           (row, more, here, rest, refl)));
     }
 
 pub returns-clause-left : goal.returns-clause-left
-returns-clause-left g c = λ tells.
+returns-clause-left g c = λ faithful.
     let F = g.F.Folder in
     let files = (F.contents c.args.folder.now).files in
     let registered = c.args.registered.now in
@@ -40,11 +40,11 @@ returns-clause-left g c = λ tells.
     let left = c.loop-place.left.items in
     let all = drop_all c.loop-place.place-index places (omega (arith, c.loop-place-test.false)) in
     subst (λ (found : List Path). AreLeftAt files registered places found) (append-nil left)
-    (c.loop-place.invariant.left tells [] (subst (λ (rest : List Place). AreLeftAt files registered rest []) (sym all) refl))
+    (c.loop-place.invariant.left faithful [] (subst (λ (rest : List Place). AreLeftAt files registered rest []) (sym all) refl))
 
 pub returns-in_err-push_left-clause-err : goal.returns-in_err-push_left-clause-err
 returns-in_err-push_left-clause-err g c =
     let failures = g.F.Folder.failures in
     let fault = c.in_err-push_left.field-0.0 in
     handed (IsOfMachine (failures c.args.folder.now) (failures c.push_left.new.folder)) c.from_residual.result fault c.from_residual.ensures.1
-    (machine_before _ _ _ fault c.loop-place.invariant.asks.count c.push_left.ensures.asks.count c.in_err-push_left.ensures.err)
+    (machine_before _ _ _ fault c.loop-place.invariant.requests.count c.push_left.ensures.requests.count c.in_err-push_left.ensures.err)

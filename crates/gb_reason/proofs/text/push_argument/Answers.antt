@@ -15,8 +15,8 @@ returns c =
     let was = codes " was " in
     let reported = difference_text c.args.was.now c.args.is.now in
     let of = codes " of " in
-    let behind = number ++ (of ++ (kind ++ was)) in
-    let named : List ℕ = codes "argument " ++ behind in
+    let following = number ++ (of ++ (kind ++ was)) in
+    let named : List ℕ = codes "argument " ++ following in
     let grouped = append_assoc (number ++ of) kind was ∙ append_assoc number of (kind ++ was) in
     on_ok_as c.push_difference.result c.push_difference.ensures (λ is.
     is ∙ ap (λ (l : List ℕ). l ++ reported) c.in_ok-write.ensures.bytes ∙ append_assoc text named reported

@@ -14,10 +14,10 @@ shown_more (d ∷ cs) c = append_assoc (encode_utf8 (shown_character d)) _ _ ∙
 
 pub returns : goal.returns
 returns c =
-    let front = YieldsList-end (YieldsList-from_take {s = c.into_iter-character-iterator.result} 80 (YieldsList-from_chars c.args.reported.now (subst IsUtf8 c.as_str.ensures c.as_str.utf8) cc) cc)
+    let prefix = YieldsList-end (YieldsList-from_take {s = c.into_iter-character-iterator.result} 80 (YieldsList-from_chars c.args.reported.now (subst IsUtf8 c.as_str.ensures c.as_str.utf8) cc) cc)
     c.loop-character.yielded c.loop-character.character-iterator c.loop-character.yielded_by c.next.result c.next.new.self c.in-None.is c.next.ensures.steps in
     c.loop-character.invariant
-    ∙ ap (λ (cs : List ℕ). string_bytes c.args.text.now ++ encode_utf8_all (map shown_character cs)) (sym (map-id c.loop-character.yielded) ∙ front.0)
+    ∙ ap (λ (cs : List ℕ). string_bytes c.args.text.now ++ encode_utf8_all (map shown_character cs)) (sym (map-id c.loop-character.yielded) ∙ prefix.0)
 
 pub loop-character-preserved : goal.loop-character-preserved
 loop-character-preserved c =

@@ -11,27 +11,27 @@ use Rattle.gb_records.specs.declared.fault.Unwritten.{Unwritten}
 use Rattle.gb_records.proofs.Called.{DeletionLed, deletion_called, deletion_hindered, deletion_none}
 use Rattle.gb_store.proofs.Machine.{at_err}
 use Rattle.std.proofs.lemmas.Result.{err_from_is_err_and}
-use Rattle.gb_records.specs.Standing.{ComesToNothing, StandsWithout, taken_out}
-use Rattle.gb_records.proofs.Standing.{not_there}
-use Rattle.gb_records.proofs.Calls.{LeftAt, out_of, nothing_of, gone, stands_out}
+use Rattle.gb_records.specs.Holding.{ComesToNothing, HoldsWithout, taken_out}
+use Rattle.gb_records.proofs.Holding.{not_there}
+use Rattle.gb_records.proofs.Calls.{LeftAt, out_of, nothing_of, gone, exists_out}
 use Rattle.gb_records.proofs.Asked.{taken_as}
 use Rattle.gb_records.proofs.keeping.delete_record.Goals as goal
 
-pub returns-then-not-was_read-clause-stands : goal.returns-then-not-was_read-clause-stands
-returns-then-not-was_read-clause-stands g c = λ tells seen memory stood none.
-    not_there (g.F.Folder.contents c.args.folder.now).files memory c.args.path.now c.as_str-path.ensures.path stood (none c.if-not-was_read.true)
+pub returns-then-not-was_read-clause-exists : goal.returns-then-not-was_read-clause-exists
+returns-then-not-was_read-clause-exists g c = λ faithful observed memory existed none.
+    not_there (g.F.Folder.contents c.args.folder.now).files memory c.args.path.now c.as_str-path.ensures.path existed (none c.if-not-was_read.true)
 
 pub returns-in-Ok-clause-out : goal.returns-in-Ok-clause-out
-returns-in-Ok-clause-out g c = λ tells.
+returns-in-Ok-clause-out g c = λ faithful.
     let old = g.F.Folder.contents c.args.folder.now in
-    c.in-Ok.ensures.removed tells ∙ ap (λ p. record old { files = without old.files p }) c.in_ok-place.ensures.place
+    c.in-Ok.ensures.removed faithful ∙ ap (λ p. record old { files = without old.files p }) c.in_ok-place.ensures.place
     ∙ ap (λ b. taken_out b c.args.path.now old) (sym c.if-not-was_read.false)
 
-pub returns-in-Ok-clause-stands : goal.returns-in-Ok-clause-stands
-returns-in-Ok-clause-stands g c = λ tells seen memory stood none.
+pub returns-in-Ok-clause-exists : goal.returns-in-Ok-clause-exists
+returns-in-Ok-clause-exists g c = λ faithful observed memory existed none.
     let old = g.F.Folder.contents c.args.folder.now in
     gone c.args.path.now old (g.F.Folder.contents c.remove.new.self) memory c.in_ok-place.ensures.path
-    (c.in-Ok.ensures.removed tells ∙ ap (λ p. record old { files = without old.files p }) c.in_ok-place.ensures.place) stood
+    (c.in-Ok.ensures.removed faithful ∙ ap (λ p. record old { files = without old.files p }) c.in_ok-place.ensures.place) existed
 
 pub returns : goal.returns
 returns g c =
@@ -42,43 +42,43 @@ returns g c =
     let fault = c.in-Err.fault in
     let at : c.in_ok-place.place ≡ record_place path = c.in_ok-place.ensures.place in
     let sound = g.met.F.Folder.sound c.args.folder.now in
-    let asked = c.remove.ensures in
+    let allowed = c.remove.ensures in
     let said = c.remove.ensures in
     let called : IsCalled F.device c.args.folder.now (Removes c.in_ok-place.place c.remove.result) c.remove.new.self =
     g.met.F.Folder.called c.args.folder.now (Removes c.in_ok-place.place c.remove.result) c.remove.new.self (record {
-      asked = said.call;
+      allowed = said.call;
       well = removes_well c.remove.result said.not_large said.not_named;
-      count = said.asks.count;
-      tearing = said.asks.tearing;
+      count = said.requests.count;
+      tearing = said.requests.tearing;
       risen = λ is. said.device (change_failed c.remove.result is);
-      exact = λ tells. removed (F.may_leave c.args.folder.now) (F.contents c.args.folder.now) c.in_ok-place.place c.remove.result (F.contents c.remove.new.self)
-          said.not_large said.not_named (said.removed tells) (said.stood tells) (said.missing tells) (said.missing_free tells) (said.blocked tells) (said.same tells) (said.torn tells);
+      exact = λ faithful. removed (F.may_leave c.args.folder.now) (F.contents c.args.folder.now) c.in_ok-place.place c.remove.result (F.contents c.remove.new.self)
+          said.not_large said.not_named (said.removed faithful) (said.existed faithful) (said.missing faithful) (said.missing_free faithful) (said.blocked faithful) (said.same faithful) (said.torn faithful);
     }) in
     record {
       calls = deletion_called F.device path c.args.was_read c.in_ok-place.place c.args.folder.now c.remove.new.self c.remove.result c.unless_missing.result c.if-not-was_read.false at called
           (c.unless_missing.ensures ∙ ap deletion_ending (sym c.in-Err.is));
-      asks = taken_as c.in_ok-place.place (record_place path) at asked.asks;
+      requests = taken_as c.in_ok-place.place (record_place path) at allowed.requests;
       unread = λ e. absurd (true≢false (sym c.if-not-was_read.false ∙ e));
-      out = λ tells.
+      out = λ faithful.
           subst (λ r. OnOk r (new ≡ taken_out c.args.was_read path old)) (sym c.unless_missing.ensures)
           (subst (λ b. OnOk (removed_by fault) (new ≡ taken_out b path old)) (sym c.if-not-was_read.false)
-          (out_of path old new fault sound (c.in-Err.ensures.same tells)
-          (λ e. subst (λ p. file_at old.files p ≡ None) at (asked.missing tells (c.in-Err.is ∙ ap Err e)))));
-      err = λ tells.
+          (out_of path old new fault sound (c.in-Err.ensures.same faithful)
+          (λ e. subst (λ p. file_at old.files p ≡ None) at (allowed.missing faithful (c.in-Err.is ∙ ap Err e)))));
+      err = λ faithful.
           subst (λ r. IfErr r (λ reported. ComesToNothing (F.may_leave c.args.folder.now) path None (F.failures c.args.folder.now) (F.failures c.remove.new.self) old reported new)) (sym c.unless_missing.ensures)
-          (nothing_of (F.may_leave c.args.folder.now) path _ _ old new fault (c.in-Err.ensures.same tells) (λ e. asked.device (c.in-Err.is ∙ ap Err e))
-          (λ e. subst (λ p. LeftAt (F.may_leave c.args.folder.now) p None old new) at (asked.torn tells (c.in-Err.is ∙ ap Err e)))
-          (λ e. subst (λ p. is_blocked old.files p ≡ true) at (asked.blocked tells (c.in-Err.is ∙ ap Err e)))
-          (λ e. asked.not_large (c.in-Err.is ∙ ap Err e)) (λ e. asked.not_named (c.in-Err.is ∙ ap Err e)));
-      stands = λ tells seen memory stood none.
-          subst (λ r. StandsWithout path memory r new.files) (sym c.unless_missing.ensures)
-          (stands_out (F.may_leave c.args.folder.now) path old new fault memory c.in_ok-place.ensures.path sound (c.in-Err.ensures.same tells)
-          (λ e. subst (λ p. file_at old.files p ≡ None) at (asked.missing tells (c.in-Err.is ∙ ap Err e)))
-          (λ e. subst (λ p. LeftAt (F.may_leave c.args.folder.now) p None old new) at (asked.torn tells (c.in-Err.is ∙ ap Err e))) seen stood);
+          (nothing_of (F.may_leave c.args.folder.now) path _ _ old new fault (c.in-Err.ensures.same faithful) (λ e. allowed.device (c.in-Err.is ∙ ap Err e))
+          (λ e. subst (λ p. LeftAt (F.may_leave c.args.folder.now) p None old new) at (allowed.torn faithful (c.in-Err.is ∙ ap Err e)))
+          (λ e. subst (λ p. is_blocked old.files p ≡ true) at (allowed.blocked faithful (c.in-Err.is ∙ ap Err e)))
+          (λ e. allowed.not_large (c.in-Err.is ∙ ap Err e)) (λ e. allowed.not_named (c.in-Err.is ∙ ap Err e)));
+      exists = λ faithful observed memory existed none.
+          subst (λ r. HoldsWithout path memory r new.files) (sym c.unless_missing.ensures)
+          (exists_out (F.may_leave c.args.folder.now) path old new fault memory c.in_ok-place.ensures.path sound (c.in-Err.ensures.same faithful)
+          (λ e. subst (λ p. file_at old.files p ≡ None) at (allowed.missing faithful (c.in-Err.is ∙ ap Err e)))
+          (λ e. subst (λ p. LeftAt (F.may_leave c.args.folder.now) p None old new) at (allowed.torn faithful (c.in-Err.is ∙ ap Err e))) observed existed);
     }
 
-pub returns-in-Ok-clause-asks : goal.returns-in-Ok-clause-asks
-returns-in-Ok-clause-asks g c = taken_as c.in_ok-place.place (record_place c.args.path.now) c.in_ok-place.ensures.place c.remove.ensures.asks
+pub returns-in-Ok-clause-requests : goal.returns-in-Ok-clause-requests
+returns-in-Ok-clause-requests g c = taken_as c.in_ok-place.place (record_place c.args.path.now) c.in_ok-place.ensures.place c.remove.ensures.requests
 
 pub returns-in-Ok-clause-calls : goal.returns-in-Ok-clause-calls
 returns-in-Ok-clause-calls g c =
@@ -86,13 +86,13 @@ returns-in-Ok-clause-calls g c =
     let said = c.remove.ensures in
     let called : IsCalled F.device c.args.folder.now (Removes c.in_ok-place.place c.remove.result) c.remove.new.self =
     g.met.F.Folder.called c.args.folder.now (Removes c.in_ok-place.place c.remove.result) c.remove.new.self (record {
-      asked = said.call;
+      allowed = said.call;
       well = removes_well c.remove.result said.not_large said.not_named;
-      count = said.asks.count;
-      tearing = said.asks.tearing;
+      count = said.requests.count;
+      tearing = said.requests.tearing;
       risen = λ is. said.device (change_failed c.remove.result is);
-      exact = λ tells. removed (F.may_leave c.args.folder.now) (F.contents c.args.folder.now) c.in_ok-place.place c.remove.result (F.contents c.remove.new.self)
-          said.not_large said.not_named (said.removed tells) (said.stood tells) (said.missing tells) (said.missing_free tells) (said.blocked tells) (said.same tells) (said.torn tells);
+      exact = λ faithful. removed (F.may_leave c.args.folder.now) (F.contents c.args.folder.now) c.in_ok-place.place c.remove.result (F.contents c.remove.new.self)
+          said.not_large said.not_named (said.removed faithful) (said.existed faithful) (said.missing faithful) (said.missing_free faithful) (said.blocked faithful) (said.same faithful) (said.torn faithful);
     }) in
     deletion_called F.device c.args.path.now c.args.was_read c.in_ok-place.place c.args.folder.now c.remove.new.self c.remove.result (Ok tt) c.if-not-was_read.false c.in_ok-place.ensures.place called
     (ap deletion_ending (sym c.in-Ok.is))

@@ -16,13 +16,13 @@ use Rattle.gb_store.proofs.Machine.{at_err}
 use Rattle.std.proofs.lemmas.Result.{err_from_is_err_and}
 use Rattle.std.proofs.lemmas.Bool.{lt-ltb}
 use Rattle.gb_folder.specs.Each.{Ended}
-use Rattle.gb_records.specs.Standing.{StandsWith}
-use Rattle.gb_records.proofs.Calls.{LeftAt, put, stands_in, text_said}
+use Rattle.gb_records.specs.Holding.{HoldsWith}
+use Rattle.gb_records.proofs.Calls.{LeftAt, put, exists_in, text_said}
 use Rattle.gb_records.proofs.Asked.{put_as}
 use Rattle.gb_records.proofs.keeping.store_record.Goals as goal
 
-pub returns-in-Ok-clause-stands : goal.returns-in-Ok-clause-stands
-returns-in-Ok-clause-stands g c = λ tells seen memory entry stood of.
+pub returns-in-Ok-clause-exists : goal.returns-in-Ok-clause-exists
+returns-in-Ok-clause-exists g c = λ faithful observed memory entry existed of.
     let old = g.F.Folder.contents c.args.folder.now in
     let path = c.args.path.now in
     let run = c.args.run.now in
@@ -31,11 +31,11 @@ returns-in-Ok-clause-stands g c = λ tells seen memory entry stood of.
     let short : length (record_text path run) ≤ max_record = omega arith in
     let reported : IsText path run (record_text path run) = text_said path run c.in_ok-text.ensures.utf8 c.in_ok-text.ensures.held short in
     put path old (g.F.Folder.contents c.write.new.self) memory entry run c.in_ok-place.ensures.path
-    (c.in-Ok.ensures.written tells ∙ ap (λ p. record old { files = with_file old.files p c.as_slice.result.now }) c.in_ok-place.ensures.place
-    ∙ ap (λ t. record old { files = with_file old.files (record_place path) t }) text) reported of stood
+    (c.in-Ok.ensures.written faithful ∙ ap (λ p. record old { files = with_file old.files p c.as_slice.result.now }) c.in_ok-place.ensures.place
+    ∙ ap (λ t. record old { files = with_file old.files (record_place path) t }) text) reported of existed
 
-pub returns-clause-stands : goal.returns-clause-stands
-returns-clause-stands g c = λ tells seen memory entry stood of.
+pub returns-clause-exists : goal.returns-clause-exists
+returns-clause-exists g c = λ faithful observed memory entry existed of.
     let F = g.F.Folder in
     let old = F.contents c.args.folder.now in
     let new = F.contents c.write.new.self in
@@ -46,19 +46,19 @@ returns-clause-stands g c = λ tells seen memory entry stood of.
     let short : length (record_text path run) ≤ max_record = omega arith in
     let reported : IsText path run (record_text path run) = text_said path run c.in_ok-text.ensures.utf8 c.in_ok-text.ensures.held short in
     let torn = λ (e : c.in-Err.fault ≡ folders.Device). subst (λ t. LeftAt (F.may_leave c.args.folder.now) (record_place path) (Some t) old new) text
-    (subst (λ p. LeftAt (F.may_leave c.args.folder.now) p (Some c.as_slice.result.now) old new) c.in_ok-place.ensures.place (c.write.ensures.torn tells (c.in-Err.is ∙ ap Err e))) in
-    subst (λ r. StandsWith path entry memory (Err r) new.files) (sym c.unwritten_by.ensures)
-    (stands_in (F.may_leave c.args.folder.now) path old new c.in-Err.fault memory entry run c.in_ok-place.ensures.path (c.in-Err.ensures.same tells) torn seen reported of stood)
+    (subst (λ p. LeftAt (F.may_leave c.args.folder.now) p (Some c.as_slice.result.now) old new) c.in_ok-place.ensures.place (c.write.ensures.torn faithful (c.in-Err.is ∙ ap Err e))) in
+    subst (λ r. HoldsWith path entry memory (Err r) new.files) (sym c.unwritten_by.ensures)
+    (exists_in (F.may_leave c.args.folder.now) path old new c.in-Err.fault memory entry run c.in_ok-place.ensures.path (c.in-Err.ensures.same faithful) torn observed reported of existed)
 
-pub returns-in-Ok-clause-asks : goal.returns-in-Ok-clause-asks
-returns-in-Ok-clause-asks g c =
+pub returns-in-Ok-clause-requests : goal.returns-in-Ok-clause-requests
+returns-in-Ok-clause-requests g c =
     put_as c.in_ok-place.place (record_place c.args.path.now) c.as_slice.result.now (record_text c.args.path.now c.args.run.now)
-    c.in_ok-place.ensures.place (c.as_slice.ensures.value ∙ c.in_ok-text.ensures.text) c.write.ensures.asks
+    c.in_ok-place.ensures.place (c.as_slice.ensures.value ∙ c.in_ok-text.ensures.text) c.write.ensures.requests
 
-pub returns-clause-asks : goal.returns-clause-asks
-returns-clause-asks g c =
+pub returns-clause-requests : goal.returns-clause-requests
+returns-clause-requests g c =
     put_as c.in_ok-place.place (record_place c.args.path.now) c.as_slice.result.now (record_text c.args.path.now c.args.run.now)
-    c.in_ok-place.ensures.place (c.as_slice.ensures.value ∙ c.in_ok-text.ensures.text) c.write.ensures.asks
+    c.in_ok-place.ensures.place (c.as_slice.ensures.value ∙ c.in_ok-text.ensures.text) c.write.ensures.requests
 
 pub returns-in-Ok-clause-calls : goal.returns-in-Ok-clause-calls
 returns-in-Ok-clause-calls g c =
@@ -72,13 +72,13 @@ returns-in-Ok-clause-calls g c =
     let text = record_text path c.args.run.now in
     let called : IsCalled F.device old (Writes place bytes max_record c.write.result) new =
     g.met.F.Folder.called old (Writes place bytes max_record c.write.result) new (record {
-      asked = said.call;
+      allowed = said.call;
       well = writes_well bytes max_record c.write.result said.within said.large said.not_missing said.not_named;
-      count = said.asks.count;
-      tearing = said.asks.tearing;
+      count = said.requests.count;
+      tearing = said.requests.tearing;
       risen = λ is. said.device (change_failed c.write.result is);
-      exact = λ tells. wrote (F.may_leave old) (F.contents old) place bytes max_record c.write.result (F.contents new) said.within
-          said.large said.not_missing said.not_named (said.written tells) (said.free tells) (said.blocked tells) (said.same tells) (said.torn tells);
+      exact = λ faithful. wrote (F.may_leave old) (F.contents old) place bytes max_record c.write.result (F.contents new) said.within
+          said.large said.not_missing said.not_named (said.written faithful) (said.free faithful) (said.blocked faithful) (said.same faithful) (said.torn faithful);
     }) in
     storing_called F.device path c.args.run.now place bytes old new c.write.result (Ok tt)
     c.in_ok-place.ensures.place (c.as_slice.ensures.value ∙ c.in_ok-text.ensures.text) called (ap storing_ending (sym c.in-Ok.is))
@@ -95,13 +95,13 @@ returns-clause-calls g c =
     let text = record_text path c.args.run.now in
     let called : IsCalled F.device old (Writes place bytes max_record c.write.result) new =
     g.met.F.Folder.called old (Writes place bytes max_record c.write.result) new (record {
-      asked = said.call;
+      allowed = said.call;
       well = writes_well bytes max_record c.write.result said.within said.large said.not_missing said.not_named;
-      count = said.asks.count;
-      tearing = said.asks.tearing;
+      count = said.requests.count;
+      tearing = said.requests.tearing;
       risen = λ is. said.device (change_failed c.write.result is);
-      exact = λ tells. wrote (F.may_leave old) (F.contents old) place bytes max_record c.write.result (F.contents new) said.within
-          said.large said.not_missing said.not_named (said.written tells) (said.free tells) (said.blocked tells) (said.same tells) (said.torn tells);
+      exact = λ faithful. wrote (F.may_leave old) (F.contents old) place bytes max_record c.write.result (F.contents new) said.within
+          said.large said.not_missing said.not_named (said.written faithful) (said.free faithful) (said.blocked faithful) (said.same faithful) (said.torn faithful);
     }) in
     storing_called F.device path c.args.run.now place bytes old new c.write.result (Err c.unwritten_by.result)
     c.in_ok-place.ensures.place (c.as_slice.ensures.value ∙ c.in_ok-text.ensures.text) called (ap Err c.unwritten_by.ensures ∙ ap storing_ending (sym c.in-Err.is))

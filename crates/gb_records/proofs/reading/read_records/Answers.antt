@@ -2,7 +2,7 @@ use Rattle.std.proofs.Common.{subst, ◌∙◌}
 use Rattle.std.proofs.lemmas.Result.{err_from_is_err_and}
 use Rattle.gb_folder.specs.Files.{Contents}
 use Rattle.gb_records.proofs.Calls.{read_more}
-use Rattle.gb_folder.proofs.Asked.{asks_then, asks_nothing}
+use Rattle.gb_folder.proofs.Asked.{requests_then, requests_nothing}
 use Rattle.gb_store.specs.Changes.{is_at}
 use Rattle.gb_store.proofs.Machine.{handed_on}
 use Rattle.gb_store.proofs.Loops.{any_here}
@@ -18,22 +18,22 @@ pub loop-path-preserved : goal.loop-path-preserved
 loop-path-preserved g c =
     let F = g.F.Folder in
     record {
-      asks = asks_then c.loop-path.invariant.asks c.read_at.ensures.asks;
-      same = λ tells. c.read_at.ensures.same tells ∙ c.loop-path.invariant.same tells;
+      requests = requests_then c.loop-path.invariant.requests c.read_at.ensures.requests;
+      same = λ faithful. c.read_at.ensures.same faithful ∙ c.loop-path.invariant.same faithful;
       answered =
-          read_more (WasAnswered F.failures F.may_leave F.asked c.args.folder.now c.read_at.new.folder) c.args.paths.now c.loop-path.path-index c.path-item.result c.loop-path.records.items _ c.in_ok-read_at.field-0
+          read_more (WasAnswered F.failures F.may_leave F.allowed c.args.folder.now c.read_at.new.folder) c.args.paths.now c.loop-path.path-index c.path-item.result c.loop-path.records.items _ c.in_ok-read_at.field-0
           c.loop-path-test.true
           c.path-item.is
-          (all_answered_longer c.args.folder.now c.args.folder.now c.loop-path.folder c.read_at.new.folder (asks_nothing c.args.folder.now) c.read_at.ensures.asks _ _ c.loop-path.invariant.answered)
-          (answered_longer c.args.folder.now c.loop-path.folder c.read_at.new.folder c.read_at.new.folder c.loop-path.invariant.asks (asks_nothing c.read_at.new.folder) c.path-item.result c.in_ok-read_at.field-0
+          (all_answered_longer c.args.folder.now c.args.folder.now c.loop-path.folder c.read_at.new.folder (requests_nothing c.args.folder.now) c.read_at.ensures.requests _ _ c.loop-path.invariant.answered)
+          (answered_longer c.args.folder.now c.loop-path.folder c.read_at.new.folder c.read_at.new.folder c.loop-path.invariant.requests (requests_nothing c.read_at.new.folder) c.path-item.result c.in_ok-read_at.field-0
           c.in_ok-read_at.ensures.answered)
           c.in_ok-push.ensures.items;
-      read = λ tells.
+      read = λ faithful.
           read_more (IsReadAt (F.contents c.args.folder.now).files) c.args.paths.now c.loop-path.path-index c.path-item.result c.loop-path.records.items _ c.in_ok-read_at.field-0
           c.loop-path-test.true
           c.path-item.is
-          (c.loop-path.invariant.read tells)
-          (subst (λ (folder : Contents). IsReadAt folder.files c.path-item.result c.in_ok-read_at.field-0) (c.loop-path.invariant.same tells) (c.in_ok-read_at.ensures.read tells))
+          (c.loop-path.invariant.read faithful)
+          (subst (λ (folder : Contents). IsReadAt folder.files c.path-item.result c.in_ok-read_at.field-0) (c.loop-path.invariant.same faithful) (c.in_ok-read_at.ensures.read faithful))
           c.in_ok-push.ensures.items;
     }
 
@@ -46,5 +46,5 @@ returns-in_err-read_at-clause-blamed g c = λ place device.
 pub returns-clause-answered : goal.returns-clause-answered
 returns-clause-answered g c =
     let F = g.F.Folder in
-    subst (λ paths. AllZip (WasAnswered F.failures F.may_leave F.asked c.args.folder.now c.loop-path.folder) paths c.loop-path.records.items)
+    subst (λ paths. AllZip (WasAnswered F.failures F.may_leave F.allowed c.args.folder.now c.loop-path.folder) paths c.loop-path.records.items)
     (take_all c.loop-path.path-index c.args.paths.now c.loop-path-test.false) c.loop-path.invariant.answered

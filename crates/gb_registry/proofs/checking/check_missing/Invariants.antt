@@ -1,7 +1,7 @@
 use Rattle.std.proofs.Common.{◌≡◌, drop}
 use Rattle.std.specs.List.{flat_map}
 use Rattle.gb_registry.specs.Configure.{script_missing}
-use Rattle.gb_registry.specs.Seen.{scripts_in}
+use Rattle.gb_registry.specs.SoFar.{scripts_in}
 use Rattle.gb_registry.proofs.checking.check_missing.Given as goal
 
 abbrev pub invariant-loop-scripted : goal.invariant-loop-scripted

@@ -1,5 +1,5 @@
 use Rattle.std.proofs.Common.{◌≡◌, drop}
-use Rattle.gb_registry.specs.Seen.{script_after, script_faults}
+use Rattle.gb_registry.specs.SoFar.{script_after, script_faults}
 use Rattle.gb_registry.specs.Tables.{tables_of}
 use Rattle.gb_registry.proofs.checking.check_script.Given as goal
 
@@ -10,6 +10,6 @@ invariant-loop-statement g l =
     let left = drop l.statement-index l.statements in
     record {
       all : l.statements ≡ l.scripted.script;
-      seen : script_after project l.fn.seen l.statements ≡ script_after project l.seen left;
-      faults : script_faults tables project l.fn.seen l.statements ≡ script_faults tables project l.seen left;
+      so_far : script_after project l.fn.so_far l.statements ≡ script_after project l.so_far left;
+      faults : script_faults tables project l.fn.so_far l.statements ≡ script_faults tables project l.so_far left;
     }

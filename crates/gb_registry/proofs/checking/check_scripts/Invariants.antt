@@ -1,5 +1,5 @@
 use Rattle.std.proofs.Common.{◌≡◌, drop}
-use Rattle.gb_registry.specs.Seen.{scripts_after, scripts_faults, scripts_in}
+use Rattle.gb_registry.specs.SoFar.{scripts_after, scripts_faults, scripts_in}
 use Rattle.gb_registry.specs.Tables.{tables_of}
 use Rattle.gb_registry.proofs.checking.check_scripts.Given as goal
 
@@ -8,6 +8,6 @@ invariant-loop-scripted g l =
     let tables = tables_of g.T.Transforms.meanings g.A.Actions.meanings l.tables in
     let left = scripts_in (drop l.scripted-index l.scripts) in
     record {
-      seen : scripts_after l.fn.seen (scripts_in l.scripts) ≡ scripts_after l.seen left;
-      faults : scripts_faults tables l.fn.seen (scripts_in l.scripts) ≡ scripts_faults tables l.seen left;
+      so_far : scripts_after l.fn.so_far (scripts_in l.scripts) ≡ scripts_after l.so_far left;
+      faults : scripts_faults tables l.fn.so_far (scripts_in l.scripts) ≡ scripts_faults tables l.so_far left;
     }

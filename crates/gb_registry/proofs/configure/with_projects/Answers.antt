@@ -2,7 +2,7 @@ use Rattle.std.proofs.Common.{◌≡◌, ◌+◌, ◌<◌, ◌∷◌, ◌++◌, 
 use Rattle.std.specs.Prelude.{zip}
 use Rattle.std.specs.Vec.Iter.{into_iter_items}
 use Rattle.std.proofs.lemmas.List.{append-nil}
-use Rattle.gb_registry.specs.Seen.{scripts_in}
+use Rattle.gb_registry.specs.SoFar.{scripts_in}
 use Rattle.gb_registry.proofs.Placed.{folder_at, none_left, placed_more, zip_none}
 use Rattle.gb_registry.proofs.configure.with_projects.Goals as goal
 

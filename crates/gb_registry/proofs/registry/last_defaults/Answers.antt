@@ -3,7 +3,7 @@ use Rattle.std.specs.Prelude.{fold, option_copied, bytes_eq}
 use Rattle.std.proofs.lemmas.List.Sums.{fold-append}
 use Rattle.gb_registry.specs.Projects.{root_path}
 use Rattle.gb_registry.specs.Said.{script_of}
-use Rattle.gb_registry.specs.Seen.{said_in}
+use Rattle.gb_registry.specs.SoFar.{said_in}
 use Rattle.gb_registry.specs.Select.{defaults_after, texts_or_none}
 use Rattle.gb_registry.proofs.Own.{script_next}
 use Rattle.gb_registry.proofs.registry.last_defaults.Goals as goal

@@ -2,7 +2,7 @@ use Rattle.std.proofs.Common.{◌≡◌, drop}
 use Rattle.std.specs.Prelude.{fold, option_copied}
 use Rattle.gb_registry.specs.Projects.{root_path}
 use Rattle.gb_registry.specs.Said.{script_of}
-use Rattle.gb_registry.specs.Seen.{said_in}
+use Rattle.gb_registry.specs.SoFar.{said_in}
 use Rattle.gb_registry.specs.Select.{default_tasks, defaults_after, texts_or_none}
 use Rattle.gb_registry.proofs.registry.last_defaults.Given as goal
 

@@ -2,8 +2,8 @@ use Rattle.std.proofs.Common.{[], sym, ap, subst, ◌∙◌}
 use Rattle.std.specs.Prelude.{zip}
 use Rattle.gb_registry.specs.New.{AreNew}
 use Rattle.gb_registry.specs.Projects.{project_paths}
-use Rattle.gb_registry.specs.Seen.{scripts_in}
-use Rattle.gb_registry.proofs.Apart.{are_new}
+use Rattle.gb_registry.specs.SoFar.{scripts_in}
+use Rattle.gb_registry.proofs.Separate.{are_new}
 use Rattle.gb_registry.proofs.registry.read_all.Goals as goal
 
 pub checked-requires : goal.checked-requires

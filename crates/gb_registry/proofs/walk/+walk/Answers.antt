@@ -7,7 +7,7 @@ look_at_all-look_along-requires g t c κs within =
     let size = element_size c.args.elements.now c.loop-element.element-index c.element-item.result c.loop-element-test.true c.element-item.is in
     (omega (arith, size, c.decreases), within)
 
-pub look_behind-look_by-requires : goal.look_behind-look_by-requires
-look_behind-look_by-requires g t c κs within =
+pub look_after-look_by-requires : goal.look_after-look_by-requires
+look_after-look_by-requires g t c κs within =
     let size = step_size c.args.steps.now c.loop-step.step-index c.step-item.result c.loop-step-test.true c.step-item.is in
     (omega (arith, size, c.decreases), within)

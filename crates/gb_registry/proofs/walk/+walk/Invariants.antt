@@ -13,8 +13,8 @@ decreases-look_at g l = 4 * root_size (root_of l.source.now) + 3
 abbrev pub decreases-look_at_all : goal.decreases-look_at_all
 decreases-look_at_all g l = 4 * trees_size (trees_of l.elements.now) + 1
 
-abbrev pub decreases-look_behind : goal.decreases-look_behind
-decreases-look_behind g l = 4 * links_size (links_of (map link_of l.steps.now)) + 3
+abbrev pub decreases-look_after : goal.decreases-look_after
+decreases-look_after g l = 4 * links_size (links_of (map link_of l.steps.now)) + 3
 
 abbrev pub decreases-look_by : goal.decreases-look_by
 decreases-look_by g l = 4 * link_size (link_of l.step.now) + 2
@@ -24,7 +24,7 @@ invariant-look_at_all-loop-element g l =
     found_in_all (g.L.Look.at_root l.look) (g.L.Look.at_link l.look) (trees_of l.elements)
     ≡ found_in_all (g.L.Look.at_root l.look) (g.L.Look.at_link l.look) (trees_of (drop l.element-index l.elements))
 
-abbrev pub invariant-look_behind-loop-step : goal.invariant-look_behind-loop-step
-invariant-look_behind-loop-step g l =
+abbrev pub invariant-look_after-loop-step : goal.invariant-look_after-loop-step
+invariant-look_after-loop-step g l =
     found_along (g.L.Look.at_root l.look) (g.L.Look.at_link l.look) (links_of (map link_of l.steps))
     ≡ found_along (g.L.Look.at_root l.look) (g.L.Look.at_link l.look) (links_of (map link_of (drop l.step-index l.steps)))

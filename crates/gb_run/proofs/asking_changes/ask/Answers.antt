@@ -11,12 +11,12 @@ use Rattle.gb_run.proofs.Agreed.{agreed_makes, agreed_prints}
 use Rattle.gb_run.proofs.asking_changes.ask.Goals as goal
 
 -- a right answer is one to the same request
-answered : (m n : Making) (p q : Printing) (asked now : Request) (r : Result Reply ActionFault) (reply : Reply) → Answers m p asked r → r ≡ Ok reply → asked ≡ now → n ≡ m → q ≡ p → Answers n q now (Ok reply)
-answered m n p q asked now r reply answers is same makes prints =
+answered : (m n : Making) (p q : Printing) (allowed now : Request) (r : Result Reply ActionFault) (reply : Reply) → Answers m p allowed r → r ≡ Ok reply → allowed ≡ now → n ≡ m → q ≡ p → Answers n q now (Ok reply)
+answered m n p q allowed now r reply answers is same makes prints =
     subst (λ (x : Making). Answers x q now (Ok reply)) (sym makes)
     (subst (λ (x : Printing). Answers m x now (Ok reply)) (sym prints)
     (subst (λ (x : Request). Answers m p x (Ok reply)) same
-    (subst (λ (x : Result Reply ActionFault). Answers m p asked x) is answers)))
+    (subst (λ (x : Result Reply ActionFault). Answers m p allowed x) is answers)))
 
 pub returns-in-Ok-run_action-clause-answered : goal.returns-in-Ok-run_action-clause-answered
 returns-in-Ok-run_action-clause-answered g c = λ kinds agrees.
@@ -40,7 +40,7 @@ returns-in-Err-ActionFailed-clause-err g c = inr (
       let makes = makes_of meanings c.in-Ok.stored.now in
       let found = ap (λ (name : List ℕ). find byte_order name c.args.table.now) (sym c.as_str.ensures.text) ∙ c.in-Ok.ensures in
       ap (λ f. f c.args.action.now.args c.args.task.now.values request.files) (agreed_makes meanings kinds c.args.table.now c.args.task.now c.args.action.now c.in-Ok.stored.now c.requires.ready found agrees)
-      ∙ ap (λ values. makes c.args.action.now.args values request.files) (sym c.requires.asked.values)
+      ∙ ap (λ values. makes c.args.action.now.args values request.files) (sym c.requires.allowed.values)
       ∙ ap (λ args. makes args request.values request.files) (sym c.in_ok-request.ensures)
       ∙ c.run_action.ensures.failed c.in-Err-ActionFailed.text (c.in-Err-ActionFailed.is ∙ ap Err c.in-Err-ActionFailed.field-0-is),
 )

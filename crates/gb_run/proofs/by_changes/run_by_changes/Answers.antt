@@ -9,7 +9,7 @@ use Rattle.std.specs.Result.{result_err}
 use Rattle.gb_folder.specs.Calls.{Call, changes_at}
 use Rattle.gb_folder.specs.Device.{Leads, device_of}
 use Rattle.gb_folder.specs.Files.{Files, are_placed}
-use Rattle.gb_folder.proofs.Leading.{answered_all, asks_of, count_of, leads_as}
+use Rattle.gb_folder.proofs.Leading.{answered_all, requests_of, count_of, leads_as}
 use Rattle.gb_report.specs.declared.fault.Fault.{Fault}
 use Rattle.gb_report.specs.declared.fault.Fault.TheVariants as faults
 use Rattle.gb_action.specs.Files.{Trees}
@@ -70,7 +70,7 @@ returns-in_err-parts-clause-calls g c =
     at_err IsDone c.from_residual.result p.0 faults.OutOfMemory p.1 p.2 ([], refl, tt, λ kinds agrees. inl (refl, c.requires.no_lines, refl))
 
 pub returns-in_err-parts-clause-err : goal.returns-in_err-parts-clause-err
-returns-in_err-parts-clause-err g c = λ tells.
+returns-in_err-parts-clause-err g c = λ faithful.
     let F = g.F.Folder in
     let folder = c.args.folder.now in
     let task = c.args.task.now in
@@ -90,8 +90,8 @@ returns-clause-named g c = subst (λ r. IfOk r (λ made. map (λ prints. prints.
 pub returns-clause-made : goal.returns-clause-made
 returns-clause-made g c =
     let Made : Type 0 = Vec (List ℕ × List (List ℕ × List ℕ)) Global in
-    subst (λ (r : Result Made Fault). IfOk r (λ made. (kinds : Kinds) → Agrees g.A.Actions.meanings c.args.table.now kinds → (old : Trees) (standing : Files) → IsTrue (is_sorted byte_order standing) → IsTrue (are_placed standing)
-    → GoesOn kinds c.args.task.now old c.args.files c.args.changes c.args.outputs standing → (held : Files)
+    subst (λ (r : Result Made Fault). IfOk r (λ made. (kinds : Kinds) → Agrees g.A.Actions.meanings c.args.table.now kinds → (old : Trees) (existing : Files) → IsTrue (is_sorted byte_order existing) → IsTrue (are_placed existing)
+    → GoesOn kinds c.args.task.now old c.args.files c.args.changes c.args.outputs existing → (held : Files)
     × (made_of kinds c.args.task.now.actions c.args.task.now.values c.args.files c.args.task.now.outputs ≡ Ok held) × (made.items ≡ prints_at c.args.task.now.outputs held))) (sym c.ended.ensures)
     (if_made _ c.do_parts-done.result c.in_ok-parts.field-0.made c.in_ok-parts.ensures.made)
 
@@ -113,21 +113,21 @@ returns-clause-calls g c =
           c.as_slice.ensures.value (c.in_ok-parts.ensures.work kinds agrees) led.3 c.requires.no_lines led.4),
     )
 
-pub returns-clause-asks : goal.returns-clause-asks
+pub returns-clause-requests : goal.returns-clause-requests
 unfolding changes_at
-returns-clause-asks g c =
+returns-clause-requests g c =
     let F = g.F.Folder in
-    let device = device_of F.failures F.may_leave F.asked F.tells F.contents in
+    let device = device_of F.failures F.may_leave F.allowed F.faithful F.contents in
     let led = c.do_parts-done.ensures in
     let at = is_output_of c.args.task.now in
     let places = subst (λ (parts : List Part). AllByRecursion (AreStepsAt at) parts) (sym c.as_slice.ensures.value) c.in_ok-parts.ensures.places in
-    asks_of device (changes_at at) _ _ led.0 (permitted_parts (changes_at at) c.as_slice.result.now led.0 led.1 c.do_parts-done.result places led.3)
+    requests_of device (changes_at at) _ _ led.0 (permitted_parts (changes_at at) c.as_slice.result.now led.0 led.1 c.do_parts-done.result places led.3)
     (leads_as F.device device g.met.F.Folder.said c.args.folder.now c.do_parts-done.new.folder led.0 led.2)
 
 pub returns-clause-blame : goal.returns-clause-blame
 returns-clause-blame g c = λ place is.
     let F = g.F.Folder in
-    let device = device_of F.failures F.may_leave F.asked F.tells F.contents in
+    let device = device_of F.failures F.may_leave F.allowed F.faithful F.contents in
     let led = c.do_parts-done.ensures in
     blamed_parts_for device c.as_slice.result.now led.0 led.1 c.do_parts-done.result _ _ led.3
     (leads_as F.device device g.met.F.Folder.said c.args.folder.now c.do_parts-done.new.folder led.0 led.2) place
@@ -143,20 +143,20 @@ returns-clause-blamed g c = λ place is.
 
 pub returns-clause-changes : goal.returns-clause-changes
 unfolding changes_at
-returns-clause-changes g c = λ tells.
+returns-clause-changes g c = λ faithful.
     let F = g.F.Folder in
-    let device = device_of F.failures F.may_leave F.asked F.tells F.contents in
+    let device = device_of F.failures F.may_leave F.allowed F.faithful F.contents in
     let led = c.do_parts-done.ensures in
     let at = is_output_of c.args.task.now in
     let places = subst (λ (parts : List Part). AllByRecursion (AreStepsAt at) parts) (sym c.as_slice.ensures.value) c.in_ok-parts.ensures.places in
     changes_of at (F.may_leave c.args.folder.now) _ _ led.0 (permitted_parts (changes_at at) c.as_slice.result.now led.0 led.1 c.do_parts-done.result places led.3)
-    (answered_all device tells g.met.F.Folder.sound c.args.folder.now c.do_parts-done.new.folder led.0
+    (answered_all device faithful g.met.F.Folder.sound c.args.folder.now c.do_parts-done.new.folder led.0
     (leads_as F.device device g.met.F.Folder.said c.args.folder.now c.do_parts-done.new.folder led.0 led.2))
 
 pub returns-clause-ok : goal.returns-clause-ok
-returns-clause-ok g c = λ tells.
+returns-clause-ok g c = λ faithful.
     let F = g.F.Folder in
-    let device = device_of F.failures F.may_leave F.asked F.tells F.contents in
+    let device = device_of F.failures F.may_leave F.allowed F.faithful F.contents in
     let task = c.args.task.now in
     let old = c.args.folder.now in
     let new = c.do_parts-done.new.folder in
@@ -173,13 +173,13 @@ returns-clause-ok g c = λ tells.
     (subst (λ (ls : List Text). Ends (course_of kinds task c.args.files c.args.changes (rest_of task start)) (ByChanges start) (F.may_leave old) (F.failures old) (F.failures new) done (result_err made) ls (F.contents new).files) (sym (parts_so c.args.lines.now led.1 lines c.requires.no_lines led.4))
     (done_work_ends kinds task c.args.files c.args.changes c.args.outputs before start goes_on (all_fitting g.A.Actions.meanings kinds c.args.table.now task task.actions g.A.Actions.own_output agrees c.requires.ready)
     (g.met.F.Folder.sound old) (g.met.F.Folder.placed old) (F.may_leave old) (F.failures old) (F.failures new) (count_of device old new led.0 leads) _ led.1 (F.contents old) (F.contents new) led.0 done (c.in_ok-parts.ensures.work kinds agrees) refl
-    (subst (λ (ps : List Part). DoesParts (map part_held ps) led.0 led.1 done) c.as_slice.ensures.value led.3) (answered_all device tells g.met.F.Folder.sound old new led.0 leads)
+    (subst (λ (ps : List Part). DoesParts (map part_held ps) led.0 led.1 done) c.as_slice.ensures.value led.3) (answered_all device faithful g.met.F.Folder.sound old new led.0 leads)
     (λ place is. blamed_parts_for device c.as_slice.result.now led.0 led.1 done _ _ led.3 leads place is))))))
 
 pub returns-clause-err : goal.returns-clause-err
-returns-clause-err g c = λ tells.
+returns-clause-err g c = λ faithful.
     let F = g.F.Folder in
-    let device = device_of F.failures F.may_leave F.asked F.tells F.contents in
+    let device = device_of F.failures F.may_leave F.allowed F.faithful F.contents in
     let task = c.args.task.now in
     let old = c.args.folder.now in
     let new = c.do_parts-done.new.folder in
@@ -198,5 +198,5 @@ returns-clause-err g c = λ tells.
     (subst (λ (ls : List Text). Ends (course_of kinds task c.args.files c.args.changes (rest_of task start)) (ByChanges start) (F.may_leave old) (F.failures old) (F.failures new) done (result_err made) ls (F.contents new).files) (sym (parts_so c.args.lines.now led.1 lines c.requires.no_lines led.4))
     (done_work_ends kinds task c.args.files c.args.changes c.args.outputs before start goes_on (all_fitting g.A.Actions.meanings kinds c.args.table.now task task.actions g.A.Actions.own_output agrees c.requires.ready)
     (g.met.F.Folder.sound old) (g.met.F.Folder.placed old) (F.may_leave old) (F.failures old) (F.failures new) (count_of device old new led.0 leads) _ led.1 (F.contents old) (F.contents new) led.0 done (c.in_ok-parts.ensures.work kinds agrees) refl
-    (subst (λ (ps : List Part). DoesParts (map part_held ps) led.0 led.1 done) c.as_slice.ensures.value led.3) (answered_all device tells g.met.F.Folder.sound old new led.0 leads)
+    (subst (λ (ps : List Part). DoesParts (map part_held ps) led.0 led.1 done) c.as_slice.ensures.value led.3) (answered_all device faithful g.met.F.Folder.sound old new led.0 leads)
     (λ place is. blamed_parts_for device c.as_slice.result.now led.0 led.1 done _ _ led.3 leads place is))))))

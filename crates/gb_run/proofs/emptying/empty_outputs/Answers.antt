@@ -12,7 +12,7 @@ use Rattle.gb_store.proofs.Emptied.{emptied}
 use Rattle.gb_store.proofs.Machine.{among_all, changes_chain, changes_none}
 use Rattle.gb_meaning.proofs.Lemmas.Truth.{each_of_all}
 use Rattle.gb_run.specs.Emptying.{Listing, is_at_output, places_at}
-use Rattle.gb_folder.proofs.Asked.{asks_reading, asks_then, takes_where}
+use Rattle.gb_folder.proofs.Asked.{requests_reading, requests_then, takes_where}
 use Rattle.gb_store.specs.Changes.{is_among}
 use Rattle.gb_run.proofs.emptying.empty_outputs.Goals as goal
 
@@ -24,37 +24,37 @@ returns-clause-blamed g c = λ place is.
     among_all (is_output_of c.args.task.now) c.as_slice-2.result.now place listed (c.remove_all.ensures.blamed place is)
 
 pub returns-clause-changes : goal.returns-clause-changes
-returns-clause-changes g c = λ tells.
+returns-clause-changes g c = λ faithful.
     let listed : list_all (is_at_output c.args.task.now.outputs) c.as_slice-2.result.now ≡ true =
     ap (list_all (is_at_output c.args.task.now.outputs)) c.as_slice-2.ensures.value
     ∙ ap (λ (outputs : List Output). list_all (is_at_output outputs) c.in_ok-places.places.items) (sym c.as_slice.ensures) ∙ c.in_ok-places.ensures.under in
-    changes_chain (is_output_of c.args.task.now) _ _ _ (changes_none (is_output_of c.args.task.now) _ _ (c.listed_outputs.ensures.same tells))
-    (c.remove_all.ensures.changes tells (is_output_of c.args.task.now) (each_of_all (is_output_of c.args.task.now) c.as_slice-2.result.now listed))
+    changes_chain (is_output_of c.args.task.now) _ _ _ (changes_none (is_output_of c.args.task.now) _ _ (c.listed_outputs.ensures.same faithful))
+    (c.remove_all.ensures.changes faithful (is_output_of c.args.task.now) (each_of_all (is_output_of c.args.task.now) c.as_slice-2.result.now listed))
 
 pub returns-clause-ok : goal.returns-clause-ok
-returns-clause-ok g c = λ tells.
+returns-clause-ok g c = λ faithful.
     let F = g.F.Folder in
     let task = c.args.task.now in
     let old = F.contents c.args.folder.now in
     let listed : c.as_slice-2.result.now ≡ places_at task.outputs old.files =
-    c.as_slice-2.ensures.value ∙ c.in_ok-places.ensures.listed tells ∙ ap (λ (outputs : List Output). places_at outputs old.files) c.as_slice.ensures in
+    c.as_slice-2.ensures.value ∙ c.in_ok-places.ensures.listed faithful ∙ ap (λ (outputs : List Output). places_at outputs old.files) c.as_slice.ensures in
     on_ok_weaker c.remove_all.result (λ is.
     ap (λ (folder : Contents). folder.files) is
     ∙ ap (λ (places : List (List ℕ)). fold without (F.contents c.listed_outputs.new.folder).files places) listed
-    ∙ ap (λ (folder : Contents). fold without folder.files (places_at task.outputs old.files)) (c.listed_outputs.ensures.same tells)
-    ∙ emptied (λ (output : Output). output.place) task.outputs old.files (g.met.F.Folder.sound c.args.folder.now)) (c.remove_all.ensures.ok tells)
+    ∙ ap (λ (folder : Contents). fold without folder.files (places_at task.outputs old.files)) (c.listed_outputs.ensures.same faithful)
+    ∙ emptied (λ (output : Output). output.place) task.outputs old.files (g.met.F.Folder.sound c.args.folder.now)) (c.remove_all.ensures.ok faithful)
 
-pub returns-in_err-places-clause-asks : goal.returns-in_err-places-clause-asks
-returns-in_err-places-clause-asks g c = asks_reading c.listed_outputs.ensures.asks
+pub returns-in_err-places-clause-requests : goal.returns-in_err-places-clause-requests
+returns-in_err-places-clause-requests g c = requests_reading c.listed_outputs.ensures.requests
 
-pub returns-clause-asks : goal.returns-clause-asks
-returns-clause-asks g c =
+pub returns-clause-requests : goal.returns-clause-requests
+returns-clause-requests g c =
     let listed : list_all (is_at_output c.args.task.now.outputs) c.as_slice-2.result.now ≡ true =
     ap (list_all (is_at_output c.args.task.now.outputs)) c.as_slice-2.ensures.value
     ∙ ap (λ (outputs : List Output). list_all (is_at_output outputs) c.in_ok-places.places.items) (sym c.as_slice.ensures) ∙ c.in_ok-places.ensures.under in
-    asks_then (asks_reading c.listed_outputs.ensures.asks)
+    requests_then (requests_reading c.listed_outputs.ensures.requests)
     (takes_where (is_among c.as_slice-2.result.now) (is_output_of c.args.task.now)
-    (λ place is. among_all (is_output_of c.args.task.now) c.as_slice-2.result.now place listed is) c.remove_all.ensures.asks)
+    (λ place is. among_all (is_output_of c.args.task.now) c.as_slice-2.result.now place listed is) c.remove_all.ensures.requests)
 
 pub returns-in_err-places-clause-calls : goal.returns-in_err-places-clause-calls
 returns-in_err-places-clause-calls g c =

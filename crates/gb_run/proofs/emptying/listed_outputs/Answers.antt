@@ -11,10 +11,10 @@ use Rattle.std.proofs.lemmas.Bool.{and_from, and_parts}
 use Rattle.std.proofs.lemmas.List.Folds.{list_all-append}
 use Rattle.std.proofs.lemmas.List.Sums.{list_all-from_AllPass}
 use Rattle.std.specs.List.{filter, list_all}
-use Rattle.gb_folder.proofs.Asked.{asks_then}
+use Rattle.gb_folder.proofs.Asked.{requests_then}
 use Rattle.gb_core.specs.Place.{is_under}
 use Rattle.gb_core.specs.Lists.{first_of}
-use Rattle.gb_folder.specs.Files.{Contents, is_odd_under, places_under}
+use Rattle.gb_folder.specs.Files.{Contents, is_special_under, places_under}
 use Rattle.gb_plan.specs.declared.task.Output.{Output}
 use Rattle.gb_report.specs.declared.fault.Fault.{Fault}
 use Rattle.gb_report.specs.declared.fault.Fault.TheVariants as faults
@@ -25,35 +25,35 @@ use Rattle.gb_store.proofs.Loops.{any_here, step_here}
 use Rattle.gb_meaning.specs.Tree.{reported_of_tree}
 use Rattle.gb_run.specs.Work.{ending}
 use Rattle.gb_run.proofs.Listed.{listing_failed, listing_lost, listing_more}
-use Rattle.gb_run.specs.Emptying.{Listing, is_at_output, odd_faults, places_at}
+use Rattle.gb_run.specs.Emptying.{Listing, is_at_output, special_faults, places_at}
 use Rattle.gb_run.proofs.emptying.listed_outputs.Goals as goal
 
 -- the faults at an output and at others, by whether there is an unsupported entry at it
-odd_by : (output : Output) (outputs : List Output) (folder : Contents) (is : Bool) → is_odd_under folder output.place ≡ is
-    → odd_faults (output ∷ outputs) folder ≡ cond is (faults.BadFileName output.place ∷ odd_faults outputs folder) (odd_faults outputs folder)
-odd_by output outputs folder is same =
-    ap (λ b. map reported_of_tree (map trees.BadFileName (cond b (output.place ∷ filter (is_odd_under folder) (map (λ (o : Output). o.place) outputs)) (filter (is_odd_under folder) (map (λ (o : Output). o.place) outputs))))) same
+special_by : (output : Output) (outputs : List Output) (folder : Contents) (is : Bool) → is_special_under folder output.place ≡ is
+    → special_faults (output ∷ outputs) folder ≡ cond is (faults.BadFileName output.place ∷ special_faults outputs folder) (special_faults outputs folder)
+special_by output outputs folder is same =
+    ap (λ b. map reported_of_tree (map trees.BadFileName (cond b (output.place ∷ filter (is_special_under folder) (map (λ (o : Output). o.place) outputs)) (filter (is_special_under folder) (map (λ (o : Output). o.place) outputs))))) same
     ∙ by_test is
   where
-    by_test : (b : Bool) → map reported_of_tree (map trees.BadFileName (cond b (output.place ∷ filter (is_odd_under folder) (map (λ (o : Output). o.place) outputs)) (filter (is_odd_under folder) (map (λ (o : Output). o.place) outputs))))
-        ≡ cond b (faults.BadFileName output.place ∷ odd_faults outputs folder) (odd_faults outputs folder)
+    by_test : (b : Bool) → map reported_of_tree (map trees.BadFileName (cond b (output.place ∷ filter (is_special_under folder) (map (λ (o : Output). o.place) outputs)) (filter (is_special_under folder) (map (λ (o : Output). o.place) outputs))))
+        ≡ cond b (faults.BadFileName output.place ∷ special_faults outputs folder) (special_faults outputs folder)
     by_test true = refl
     by_test false = refl
 
-pub returns-in_err-listed-clause-odd : goal.returns-in_err-listed-clause-odd
-returns-in_err-listed-clause-odd g c = λ tells.
+pub returns-in_err-listed-clause-special : goal.returns-in_err-listed-clause-special
+returns-in_err-listed-clause-special g c = λ faithful.
     let p = err_from_is_err_and c.from_residual.result c.from_residual.ensures.1 in
     let old = g.F.Folder.contents c.args.folder.now in
     let outputs = c.args.outputs.now in
     let IsFault : Fault → Type 0 = λ fault. IsOfMachine (g.F.Folder.failures c.args.folder.now) (g.F.Folder.failures c.listed_at.new.folder) fault
-    ⊎ (first_of (odd_faults outputs old) ≡ Some fault) in
-    at_err (λ r. IfErr r IsFault) c.from_residual.result p.0 c.in_err-listed.field-0.0 p.1 p.2 (elim (c.in_err-listed.ensures.odd tells) [
-      | inl machine ↦ inl (machine_before _ _ _ _ c.loop-output.invariant.asks.count c.listed_at.ensures.asks.count machine)
-      | inr odd ↦ inr (
-          ap first_of (sym (c.loop-output.invariant.odd tells)
-          ∙ step_here (λ os. odd_faults os old) outputs c.loop-output.output-index c.output-item.result c.loop-output-test.true c.output-item.is
-          ∙ odd_by c.output-item.result (drop (c.loop-output.output-index + 1) outputs) old true (ap (λ folder. is_odd_under folder c.output-item.result.place) (sym (c.loop-output.invariant.same tells)) ∙ odd.0))
-          ∙ ap Some (sym odd.1))
+    ⊎ (first_of (special_faults outputs old) ≡ Some fault) in
+    at_err (λ r. IfErr r IsFault) c.from_residual.result p.0 c.in_err-listed.field-0.0 p.1 p.2 (elim (c.in_err-listed.ensures.special faithful) [
+      | inl machine ↦ inl (machine_before _ _ _ _ c.loop-output.invariant.requests.count c.listed_at.ensures.requests.count machine)
+      | inr special ↦ inr (
+          ap first_of (sym (c.loop-output.invariant.special faithful)
+          ∙ step_here (λ os. special_faults os old) outputs c.loop-output.output-index c.output-item.result c.loop-output-test.true c.output-item.is
+          ∙ special_by c.output-item.result (drop (c.loop-output.output-index + 1) outputs) old true (ap (λ folder. is_special_under folder c.output-item.result.place) (sym (c.loop-output.invariant.same faithful)) ∙ special.0))
+          ∙ ap Some (sym special.1))
     ])
 
 -- what is under an output is at the outputs
@@ -80,23 +80,23 @@ loop-output-preserved g c =
           subst (λ (places : List (List ℕ)). EachLed Listing F.device (take (i + 1) outputs) c.args.folder.now places (Ok tt) c.listed_at.new.folder) (sym items)
           (each_more Listing F.device outputs i output c.loop-output-test.true c.output-item.is _ _ _ c.loop-output.places.items c.in_ok-listed.listed.items so_far.led
           (listing_more F.device output _ _ c.in_ok-listed.listed c.in_ok-listed.ensures.call));
-      asks = asks_then so_far.asks c.listed_at.ensures.asks;
+      requests = requests_then so_far.requests c.listed_at.ensures.requests;
       under =
           ap (list_all (is_at_output outputs)) items ∙ list_all-append (is_at_output outputs) c.loop-output.places.items c.in_ok-listed.listed.items
           ∙ and_from _ _ so_far.under under;
-      same = λ tells. c.listed_at.ensures.same tells ∙ so_far.same tells;
-      listed = λ tells.
-          let here : c.in_ok-listed.listed.items ≡ places_under old.files output.place = c.in_ok-listed.ensures.listed tells ∙ ap (λ (folder : Contents). places_under folder.files output.place) (so_far.same tells) in
+      same = λ faithful. c.listed_at.ensures.same faithful ∙ so_far.same faithful;
+      listed = λ faithful.
+          let here : c.in_ok-listed.listed.items ≡ places_under old.files output.place = c.in_ok-listed.ensures.listed faithful ∙ ap (λ (folder : Contents). places_under folder.files output.place) (so_far.same faithful) in
           let rest = places_at (drop (i + 1) outputs) old.files in
           ap (λ (found : List (List ℕ)). found ++ rest) (items ∙ ap (λ (more : List (List ℕ)). c.loop-output.places.items ++ more) here)
           ∙ append_assoc c.loop-output.places.items (places_under old.files output.place) rest
           ∙ ap (λ (more : List (List ℕ)). c.loop-output.places.items ++ more) (sym (step_here (λ os. places_at os old.files) outputs i output c.loop-output-test.true c.output-item.is))
-          ∙ so_far.listed tells;
-      odd = λ tells.
-          let none : is_odd_under old output.place ≡ false = ap (λ folder. is_odd_under folder output.place) (sym (so_far.same tells)) ∙ c.in_ok-listed.ensures.none_odd tells in
-          sym (odd_by output (drop (i + 1) outputs) old false none)
-          ∙ sym (step_here (λ os. odd_faults os old) outputs i output c.loop-output-test.true c.output-item.is)
-          ∙ so_far.odd tells;
+          ∙ so_far.listed faithful;
+      special = λ faithful.
+          let none : is_special_under old output.place ≡ false = ap (λ folder. is_special_under folder output.place) (sym (so_far.same faithful)) ∙ c.in_ok-listed.ensures.none_special faithful in
+          sym (special_by output (drop (i + 1) outputs) old false none)
+          ∙ sym (step_here (λ os. special_faults os old) outputs i output c.loop-output-test.true c.output-item.is)
+          ∙ so_far.special faithful;
     }
 
 abbrev ListedBy : {F : Type 0} → Device F → List Output → F → Result (Vec (List ℕ) Global) Fault → F → Type 0

@@ -1,8 +1,8 @@
 use Rattle.std.proofs.Common.{◌≡◌, ◌++◌, IsTrue, Ok, drop, take}
 use Rattle.gb_folder.proofs.EachOf.{EachLed}
 use Rattle.std.specs.List.{list_all}
-use Rattle.gb_folder.specs.Calls.{Asks, no_change}
-use Rattle.gb_run.specs.Emptying.{Listing, is_at_output, odd_faults, places_at}
+use Rattle.gb_folder.specs.Calls.{Requests, no_change}
+use Rattle.gb_run.specs.Emptying.{Listing, is_at_output, special_faults, places_at}
 use Rattle.gb_run.proofs.emptying.listed_outputs.Given as goal
 
 abbrev pub invariant-loop-output : goal.invariant-loop-output
@@ -10,9 +10,9 @@ invariant-loop-output g l =
     let old = g.F.Folder.contents l.fn.folder in
     record {
       led : EachLed Listing g.F.Folder.device (take l.output-index l.outputs) l.fn.folder l.places.items (Ok tt) l.folder;
-      asks : Asks g.F.Folder.failures g.F.Folder.may_leave g.F.Folder.asked no_change l.fn.folder l.folder;
+      requests : Requests g.F.Folder.failures g.F.Folder.may_leave g.F.Folder.allowed no_change l.fn.folder l.folder;
       under : IsTrue (list_all (is_at_output l.outputs) l.places.items);
-      same : IsTrue g.F.Folder.tells → g.F.Folder.contents l.folder ≡ old;
-      listed : IsTrue g.F.Folder.tells → l.places.items ++ places_at (drop l.output-index l.outputs) old.files ≡ places_at l.outputs old.files;
-      odd : IsTrue g.F.Folder.tells → odd_faults (drop l.output-index l.outputs) old ≡ odd_faults l.outputs old;
+      same : IsTrue g.F.Folder.faithful → g.F.Folder.contents l.folder ≡ old;
+      listed : IsTrue g.F.Folder.faithful → l.places.items ++ places_at (drop l.output-index l.outputs) old.files ≡ places_at l.outputs old.files;
+      special : IsTrue g.F.Folder.faithful → special_faults (drop l.output-index l.outputs) old ≡ special_faults l.outputs old;
     }

@@ -7,7 +7,7 @@ use Rattle.std.specs.Result.{result_err}
 use Rattle.gb_folder.specs.Calls.{Call, changes_at}
 use Rattle.gb_folder.specs.Device.{Leads, device_of}
 use Rattle.gb_folder.specs.Files.{Files}
-use Rattle.gb_folder.proofs.Leading.{answered_all, asks_of, count_of, leads_as}
+use Rattle.gb_folder.proofs.Leading.{answered_all, requests_of, count_of, leads_as}
 use Rattle.gb_report.specs.declared.fault.Fault.{Fault}
 use Rattle.gb_report.specs.declared.fault.Fault.TheVariants as faults
 use Rattle.gb_plan.specs.Task.{Text, is_output_of}
@@ -54,7 +54,7 @@ returns-in_err-parts-clause-calls g c =
     at_err IsDone c.from_residual.result p.0 faults.OutOfMemory p.1 p.2 ([], refl, tt, λ kinds agrees. inl (refl, c.requires.no_lines, refl))
 
 pub returns-in_err-parts-clause-err : goal.returns-in_err-parts-clause-err
-returns-in_err-parts-clause-err g c = λ tells.
+returns-in_err-parts-clause-err g c = λ faithful.
     let F = g.F.Folder in
     let folder = c.args.folder.now in
     let p = err_from_is_err_and c.from_residual.result c.from_residual.ensures.1 in
@@ -94,21 +94,21 @@ returns-clause-calls g c =
           c.as_slice.ensures.value (c.in_ok-parts.ensures.work kinds agrees) led.3 c.requires.no_lines led.4),
     )
 
-pub returns-clause-asks : goal.returns-clause-asks
+pub returns-clause-requests : goal.returns-clause-requests
 unfolding changes_at
-returns-clause-asks g c =
+returns-clause-requests g c =
     let F = g.F.Folder in
-    let device = device_of F.failures F.may_leave F.asked F.tells F.contents in
+    let device = device_of F.failures F.may_leave F.allowed F.faithful F.contents in
     let led = c.do_parts-done.ensures in
     let at = is_output_of c.args.task.now in
     let places = subst (λ (parts : List Part). AllByRecursion (AreStepsAt at) parts) (sym c.as_slice.ensures.value) c.in_ok-parts.ensures.places in
-    asks_of device (changes_at at) _ _ led.0 (permitted_parts (changes_at at) c.as_slice.result.now led.0 led.1 c.do_parts-done.result places led.3)
+    requests_of device (changes_at at) _ _ led.0 (permitted_parts (changes_at at) c.as_slice.result.now led.0 led.1 c.do_parts-done.result places led.3)
     (leads_as F.device device g.met.F.Folder.said c.args.folder.now c.do_parts-done.new.folder led.0 led.2)
 
 pub returns-clause-blame : goal.returns-clause-blame
 returns-clause-blame g c = λ place is.
     let F = g.F.Folder in
-    let device = device_of F.failures F.may_leave F.asked F.tells F.contents in
+    let device = device_of F.failures F.may_leave F.allowed F.faithful F.contents in
     let led = c.do_parts-done.ensures in
     blamed_parts_for device c.as_slice.result.now led.0 led.1 c.do_parts-done.result _ _ led.3
     (leads_as F.device device g.met.F.Folder.said c.args.folder.now c.do_parts-done.new.folder led.0 led.2) place
@@ -124,20 +124,20 @@ returns-clause-blamed g c = λ place is.
 
 pub returns-clause-changes : goal.returns-clause-changes
 unfolding changes_at
-returns-clause-changes g c = λ tells.
+returns-clause-changes g c = λ faithful.
     let F = g.F.Folder in
-    let device = device_of F.failures F.may_leave F.asked F.tells F.contents in
+    let device = device_of F.failures F.may_leave F.allowed F.faithful F.contents in
     let led = c.do_parts-done.ensures in
     let at = is_output_of c.args.task.now in
     let places = subst (λ (parts : List Part). AllByRecursion (AreStepsAt at) parts) (sym c.as_slice.ensures.value) c.in_ok-parts.ensures.places in
     changes_of at (F.may_leave c.args.folder.now) _ _ led.0 (permitted_parts (changes_at at) c.as_slice.result.now led.0 led.1 c.do_parts-done.result places led.3)
-    (answered_all device tells g.met.F.Folder.sound c.args.folder.now c.do_parts-done.new.folder led.0
+    (answered_all device faithful g.met.F.Folder.sound c.args.folder.now c.do_parts-done.new.folder led.0
     (leads_as F.device device g.met.F.Folder.said c.args.folder.now c.do_parts-done.new.folder led.0 led.2))
 
 pub returns-clause-ok : goal.returns-clause-ok
-returns-clause-ok g c = λ tells.
+returns-clause-ok g c = λ faithful.
     let F = g.F.Folder in
-    let device = device_of F.failures F.may_leave F.asked F.tells F.contents in
+    let device = device_of F.failures F.may_leave F.allowed F.faithful F.contents in
     let old = c.args.folder.now in
     let new = c.do_parts-done.new.folder in
     let lines = c.do_parts-done.new.lines in
@@ -150,12 +150,12 @@ returns-clause-ok g c = λ tells.
     ended_well (course_of kinds c.args.task.now c.args.files c.args.changes (F.contents old).files) InFull (F.may_leave old) (F.failures old) (F.failures new) lines (F.contents new).files done made
     (ran kinds c.args.task.now c.args.files c.args.changes (F.may_leave old) (F.failures old) (F.failures new) (F.contents old) (F.contents new) led.0 c.in_ok-parts.field-0.parts.items c.as_slice.result.now (result_err made)
     c.args.lines.now led.1 lines done c.as_slice.ensures.value (c.in_ok-parts.ensures.work kinds agrees) (g.met.F.Folder.sound old).in_order (count_of device old new led.0 leads)
-    (λ place is. blamed_parts_for device c.as_slice.result.now led.0 led.1 done _ _ led.3 leads place is) led.3 (answered_all device tells g.met.F.Folder.sound old new led.0 leads) c.requires.no_lines led.4)))
+    (λ place is. blamed_parts_for device c.as_slice.result.now led.0 led.1 done _ _ led.3 leads place is) led.3 (answered_all device faithful g.met.F.Folder.sound old new led.0 leads) c.requires.no_lines led.4)))
 
 pub returns-clause-err : goal.returns-clause-err
-returns-clause-err g c = λ tells.
+returns-clause-err g c = λ faithful.
     let F = g.F.Folder in
-    let device = device_of F.failures F.may_leave F.asked F.tells F.contents in
+    let device = device_of F.failures F.may_leave F.allowed F.faithful F.contents in
     let old = c.args.folder.now in
     let new = c.do_parts-done.new.folder in
     let lines = c.do_parts-done.new.lines in
@@ -168,4 +168,4 @@ returns-clause-err g c = λ tells.
     ended_badly (course_of kinds c.args.task.now c.args.files c.args.changes (F.contents old).files) InFull (F.may_leave old) (F.failures old) (F.failures new) lines (F.contents new).files done made
     (ran kinds c.args.task.now c.args.files c.args.changes (F.may_leave old) (F.failures old) (F.failures new) (F.contents old) (F.contents new) led.0 c.in_ok-parts.field-0.parts.items c.as_slice.result.now (result_err made)
     c.args.lines.now led.1 lines done c.as_slice.ensures.value (c.in_ok-parts.ensures.work kinds agrees) (g.met.F.Folder.sound old).in_order (count_of device old new led.0 leads)
-    (λ place is. blamed_parts_for device c.as_slice.result.now led.0 led.1 done _ _ led.3 leads place is) led.3 (answered_all device tells g.met.F.Folder.sound old new led.0 leads) c.requires.no_lines led.4)))
+    (λ place is. blamed_parts_for device c.as_slice.result.now led.0 led.1 done _ _ led.3 leads place is) led.3 (answered_all device faithful g.met.F.Folder.sound old new led.0 leads) c.requires.no_lines led.4)))

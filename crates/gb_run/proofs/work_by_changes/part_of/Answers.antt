@@ -86,6 +86,6 @@ pub returns-else-is_writer-clause-makes : goal.returns-else-is_writer-clause-mak
 returns-else-is_writer-clause-makes g c =
     let ready = c.requires.ready in
     let task = c.args.task.now in
-    on_ok_weaker c.part_of_reader.result (λ _. λ kinds agrees standing sorted good turn is.
+    on_ok_weaker c.part_of_reader.result (λ _. λ kinds agrees existing sorted good turn is.
     absurd (true≢false (sym (fits_writer kinds task task.actions c.args.action.now [] turn.fitting turn.writes).0
     ∙ found_writes g.A.Actions.meanings kinds c.args.table.now task c.args.action.now ready c.is_writer.result agrees (c.is_writer.ensures ready.stored ready.found) ∙ c.if-is_writer.false))) c.part_of_reader.ensures.full

@@ -30,7 +30,7 @@ use Rattle.gb_run.specs.declared.work.Work.{Work}
 use Rattle.gb_run.proofs.Endings.{none_left}
 use Rattle.gb_run.proofs.Fitting.{all_fitting}
 use Rattle.gb_run.proofs.Owned.{digests_owned}
-use Rattle.gb_run.proofs.Telling.{IsTelling, tells_all, tells_more, tells_none}
+use Rattle.gb_run.proofs.Reporting.{IsReporting, reports_all, reports_more, reports_none}
 use Rattle.gb_run.proofs.WorkingBy.{IsWorkingBy, works_all, works_more, works_none, works_until}
 use Rattle.gb_run.proofs.work_by_changes.work_by_changes.Goals as goal
 
@@ -44,21 +44,21 @@ all_last P (y ∷ xs) x all last = (all.0, all_last P xs x all.1 last)
 pub loop-action-init : goal.loop-action-init
 loop-action-init g c = record {
   full = search rules;
-  seen = search rules;
+  observed = search rules;
   ready = search rules;
   able = search rules;
   places = search rules;
   works = λ kinds agrees. works_none (increment_of kinds c.args.task.now c.args.files c.args.changes c.args.outputs) _ _ (search rules) c.new-parts.ensures.items;
-  makes = λ kinds agrees old standing sorted good goes_on.
-      tells_none kinds c.args.task.now c.args.files c.args.changes standing _ _ (search rules)
+  makes = λ kinds agrees old existing sorted good goes_on.
+      reports_none kinds c.args.task.now c.args.files c.args.changes existing _ _ (search rules)
       (c.in_ok-digests.ensures ∙ ap (λ (outputs : List Output). put_over [] (at_places (digests_at outputs c.as_slice-2.result.now))) c.as_slice.ensures
-      ∙ digests_owned c.args.task.now standing c.args.outputs c.as_slice-2.result.now sorted good goes_on.not_own goes_on.stands (c.as_slice-2.ensures.value ∙ c.requires.prints));
+      ∙ digests_owned c.args.task.now existing c.args.outputs c.as_slice-2.result.now sorted good goes_on.not_own goes_on.exists (c.as_slice-2.ensures.value ∙ c.requires.prints));
 }
 
 -- what holds of the current request holds of the run
-same_run : (P : Increment → Type 0) (kinds : Kinds) (task : _) (files trees : Trees) (lists changes : List Changes) (seen outputs : List OutputFiles) → files ≡ trees → lists ≡ changes → seen ≡ outputs
-    → P (increment_of kinds task files lists seen) → P (increment_of kinds task trees changes outputs)
-same_run P kinds task files trees lists changes seen outputs a b c is =
+same_run : (P : Increment → Type 0) (kinds : Kinds) (task : _) (files trees : Trees) (lists changes : List Changes) (observed outputs : List OutputFiles) → files ≡ trees → lists ≡ changes → observed ≡ outputs
+    → P (increment_of kinds task files lists observed) → P (increment_of kinds task trees changes outputs)
+same_run P kinds task files trees lists changes observed outputs a b c is =
     subst (λ (fs : Trees). P (increment_of kinds task fs changes outputs)) a
     (subst (λ (ls : List Changes). P (increment_of kinds task files ls outputs)) b
     (subst (λ (ss : List OutputFiles). P (increment_of kinds task files lists ss)) c is))
@@ -75,7 +75,7 @@ loop-action-preserved g c =
       full =
           subst (λ (files : Trees). IsFullRequest task files c.args.changes now.working.request) old.invariant.full.files
           (subst (λ (lists : List Changes). IsFullRequest task old.working.request.files lists now.working.request) old.invariant.full.lists c.in-Ok.ensures.full);
-      seen = c.in-Ok.ensures.seen ∙ old.invariant.seen;
+      observed = c.in-Ok.ensures.observed ∙ old.invariant.observed;
       ready = (subst (λ (actions : List Action). AllByRecursion (IsReadyAction g.A.Actions.meanings c.args.table.now task) actions) next old.invariant.ready).1;
       able = (subst (λ (actions : List Action). AllByRecursion (CanGoOn g.A.Actions.meanings c.args.table.now) actions) next old.invariant.able).1;
       places = subst (λ (parts : List Part). AllByRecursion (AreStepsAt (is_output_of task)) parts) (sym c.in_ok-push-in-Ok.ensures.items) (all_last (AreStepsAt (is_output_of task)) old.parts.items c.in-Ok.part old.invariant.places c.in-Ok.ensures.places);
@@ -85,23 +85,23 @@ loop-action-preserved g c =
           (works_more run action left old.parts.items
           (subst (λ (actions : List Action). IsWorkingBy run actions old.parts.items) next (old.invariant.works kinds agrees))
           c.in-Ok.part
-          (same_run (λ r. IsPart r action (part_held c.in-Ok.part)) kinds task old.working.request.files c.args.files old.working.request.changes.lists c.args.changes old.working.seen c.args.outputs
-          old.invariant.full.files old.invariant.full.lists old.invariant.seen (c.in-Ok.ensures.ok kinds agrees)));
-      makes = λ kinds agrees before standing sorted good goes_on.
-          tells_more kinds task c.args.files c.args.changes standing c.args.outputs before goes_on
+          (same_run (λ r. IsPart r action (part_held c.in-Ok.part)) kinds task old.working.request.files c.args.files old.working.request.changes.lists c.args.changes old.working.observed c.args.outputs
+          old.invariant.full.files old.invariant.full.lists old.invariant.observed (c.in-Ok.ensures.ok kinds agrees)));
+      makes = λ kinds agrees before existing sorted good goes_on.
+          reports_more kinds task c.args.files c.args.changes existing c.args.outputs before goes_on
           (all_fitting g.A.Actions.meanings kinds c.args.table.now task task.actions g.A.Actions.own_output agrees c.requires.ready)
           action left old.working.digests
-          (subst (λ (actions : List Action). IsTelling kinds task c.args.files c.args.changes standing actions old.working.digests) next (old.invariant.makes kinds agrees before standing sorted good goes_on))
+          (subst (λ (actions : List Action). IsReporting kinds task c.args.files c.args.changes existing actions old.working.digests) next (old.invariant.makes kinds agrees before existing sorted good goes_on))
           now.working.digests
           (λ fits quiet.
           subst (λ (trees : Trees). (made_by kinds task action trees ≡ Ok []) × (now.working.digests ≡ old.working.digests)) old.invariant.full.files
           (c.in-Ok.ensures.kept kinds agrees fits quiet))
           (λ turn is.
           subst (λ (trees : Trees). Makes kinds task action trees now.working.digests) old.invariant.full.files
-          (c.in-Ok.ensures.makes kinds agrees standing sorted good
-          (subst (λ (trees : Trees). IsItsExecution kinds task action trees old.working.request.changes.lists old.working.seen standing) (sym old.invariant.full.files)
-          (subst (λ (lists : List Changes). IsItsExecution kinds task action c.args.files lists old.working.seen standing) (sym old.invariant.full.lists)
-          (subst (λ (seen : List OutputFiles). IsItsExecution kinds task action c.args.files c.args.changes seen standing) (sym old.invariant.seen) turn))) is));
+          (c.in-Ok.ensures.makes kinds agrees existing sorted good
+          (subst (λ (trees : Trees). IsItsExecution kinds task action trees old.working.request.changes.lists old.working.observed existing) (sym old.invariant.full.files)
+          (subst (λ (lists : List Changes). IsItsExecution kinds task action c.args.files lists old.working.observed existing) (sym old.invariant.full.lists)
+          (subst (λ (observed : List OutputFiles). IsItsExecution kinds task action c.args.files c.args.changes observed existing) (sym old.invariant.observed) turn))) is));
     }
 
 -- what holds of a value together with another
@@ -149,8 +149,8 @@ returns-in-Err-clause-work g c =
       | inl memory ↦ absurd (own memory)
       | inr fails ↦
           works_until run action left old.parts.items (subst (λ (actions : List Action). IsWorkingBy run actions old.parts.items) next (old.invariant.works kinds agrees)) fault
-          (same_run (λ r. FailsWith r action fault) kinds task old.working.request.files c.args.files old.working.request.changes.lists c.args.changes old.working.seen c.args.outputs
-          old.invariant.full.files old.invariant.full.lists old.invariant.seen (fails kinds agrees))
+          (same_run (λ r. FailsWith r action fault) kinds task old.working.request.files c.args.files old.working.request.changes.lists c.args.changes old.working.observed c.args.outputs
+          old.invariant.full.files old.invariant.full.lists old.invariant.observed (fails kinds agrees))
     ]))
 
 pub returns-clause-work : goal.returns-clause-work
@@ -164,11 +164,11 @@ pub returns-clause-named : goal.returns-clause-named
 returns-clause-named g c = c.in_ok-made.ensures.named ∙ ap (λ (outputs : List Output). map (λ (output : Output). output.name) outputs) c.as_slice-3.ensures
 
 pub returns-clause-made : goal.returns-clause-made
-returns-clause-made g c = λ kinds agrees before standing sorted good goes_on.
+returns-clause-made g c = λ kinds agrees before existing sorted good goes_on.
     let task = c.args.task.now in
     let old = c.loop-action in
-    let all = tells_all kinds task c.args.files c.args.changes standing c.args.outputs before goes_on
+    let all = reports_all kinds task c.args.files c.args.changes existing c.args.outputs before goes_on
     (all_fitting g.A.Actions.meanings kinds c.args.table.now task task.actions g.A.Actions.own_output agrees c.requires.ready) old.working.digests
-    (subst (λ (actions : List Action). IsTelling kinds task c.args.files c.args.changes standing actions old.working.digests)
-    (none_left (deque_iter_rest old.action-iterator) c.in-None.ensures.steps.0) (old.invariant.makes kinds agrees before standing sorted good goes_on)) in
+    (subst (λ (actions : List Action). IsReporting kinds task c.args.files c.args.changes existing actions old.working.digests)
+    (none_left (deque_iter_rest old.action-iterator) c.in-None.ensures.steps.0) (old.invariant.makes kinds agrees before existing sorted good goes_on)) in
     (all.0, all.1, c.in_ok-made.ensures.prints all.0 all.2 ∙ ap (λ (outputs : List Output). prints_at outputs all.0) c.as_slice-3.ensures)

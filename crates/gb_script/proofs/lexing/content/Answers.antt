@@ -16,6 +16,6 @@ runs-preserved c =
     let low : c.in-Some.found < 128 = escape_low c.plain_run.result.1.now _ _ (sym c.in-Some.ensures.exact) in
     record {
       text = search rules;
-      so_far = goes_on _ _ c.runs.rest.now c.plain_run.result.0.now c.plain_run.result.1.now c.in-Some.behind.now c.in-Some.found _ c.runs.invariant.so_far c.plain_run.ensures.run c.plain_run.ensures.rest (c.in_ok-push.ensures.bytes ∙ rw (c.in_ok-push.ensures.ascii low, c.in_ok-push_str.ensures.bytes) refl) (sym c.begins.ensures ∙ c.if-begins.false) (sym c.in-Some.ensures.exact);
+      so_far = goes_on _ _ c.runs.rest.now c.plain_run.result.0.now c.plain_run.result.1.now c.in-Some.following.now c.in-Some.found _ c.runs.invariant.so_far c.plain_run.ensures.run c.plain_run.ensures.rest (c.in_ok-push.ensures.bytes ∙ rw (c.in_ok-push.ensures.ascii low, c.in_ok-push_str.ensures.bytes) refl) (sym c.begins.ensures ∙ c.if-begins.false) (sym c.in-Some.ensures.exact);
       shorter = omega (arith, c.in-Some.ensures.shorter, c.plain_run.ensures.shorter, c.runs.invariant.shorter);
     }

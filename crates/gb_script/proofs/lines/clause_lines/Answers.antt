@@ -3,7 +3,7 @@ use Rattle.std.proofs.lemmas.Result.{err_from_is_err_and}
 use Rattle.gb_script.specs.Lexing.{begins}
 use Rattle.gb_script.specs.Reading.{no_matter}
 use Rattle.gb_script.specs.Readers.{in_block}
-use Rattle.gb_script.specs.Telling.{line_left}
+use Rattle.gb_script.specs.Reporting.{line_left}
 use Rattle.gb_script.specs.LineReaders.{clause_line_at}
 use Rattle.gb_script.proofs.Loop.{goes_on, ends, is_done, begins_some, one_longer}
 use Rattle.gb_script.proofs.lines.clause_lines.Goals as goal

@@ -2,7 +2,7 @@ use Rattle.std.proofs.Common.{◌≡◌, ◌+◌, ◌-◌, ◌<◌, suc, true, l
 use Rattle.std.proofs.lemmas.Result.{err_from_is_err_and}
 use Rattle.gb_script.specs.Lexing.{begins}
 use Rattle.gb_script.specs.Reading.{is_any, no_matter}
-use Rattle.gb_script.specs.Telling.{line_left}
+use Rattle.gb_script.specs.Reporting.{line_left}
 use Rattle.gb_script.specs.LineReaders.{statement_lines_at, script_lines_at}
 use Rattle.gb_script.proofs.Loop.{goes_on, ends, is_done, begins_some, one_longer}
 use Rattle.gb_script.proofs.lines.script_lines.Goals as goal

@@ -3,7 +3,7 @@ use Rattle.gb_script.specs.declared.token.Sign.TheVariants.{Comma, Dot}
 use Rattle.gb_script.specs.View.{link_of}
 use Rattle.gb_script.specs.Reading.{is_sign, no_matter, past_at, many_at, list_at}
 use Rattle.gb_script.specs.Readers.{link_at, inside_at, tree_at}
-use Rattle.gb_script.proofs.Loop.{with_front}
+use Rattle.gb_script.proofs.Loop.{with_prefix}
 use Rattle.gb_script.proofs.values.+reader.Given as goal
 
 abbrev pub decreases-elements : goal.decreases-elements
@@ -41,7 +41,7 @@ decreases-or_else l = 8 * l.room
 
 abbrev pub invariant-expressions-others : goal.invariant-expressions-others
 invariant-expressions-others l = record {
-  so_far : with_front l.expressions.items (many_at (is_sign Comma) no_matter (λ s. past_at (is_sign Comma) (tree_at l.room)) (length l.initial.rest + 1 - length l.expressions.items) tt l.rest) ≡ list_at (tree_at l.room) l.tokens;
+  so_far : with_prefix l.expressions.items (many_at (is_sign Comma) no_matter (λ s. past_at (is_sign Comma) (tree_at l.room)) (length l.initial.rest + 1 - length l.expressions.items) tt l.rest) ≡ list_at (tree_at l.room) l.tokens;
   shorter : length l.rest < length l.tokens;
   enough : length l.rest + length l.expressions.items ≤ length l.initial.rest + 1;
 }
@@ -51,7 +51,7 @@ decreases-expressions-others l = length l.rest
 
 abbrev pub invariant-steps-steps : goal.invariant-steps-steps
 invariant-steps-steps l = record {
-  so_far : with_front (map link_of l.steps.items) (many_at (is_sign Dot) no_matter (λ s. link_at l.room (inside_at l.room)) (64 - length l.steps.items) tt l.rest) ≡ many_at (is_sign Dot) no_matter (λ s. link_at l.room (inside_at l.room)) 64 tt l.tokens;
+  so_far : with_prefix (map link_of l.steps.items) (many_at (is_sign Dot) no_matter (λ s. link_at l.room (inside_at l.room)) (64 - length l.steps.items) tt l.rest) ≡ many_at (is_sign Dot) no_matter (λ s. link_at l.room (inside_at l.room)) 64 tt l.tokens;
   shorter : length l.rest ≤ length l.tokens;
   limit : length l.steps.items ≤ 64;
 }

@@ -12,12 +12,12 @@ returns-in-Ok-clause-call g c =
     let said = c.list.ensures in
     let called : IsCalled F.device c.args.folder.now (Lists root (answered c.list.result)) c.list.new.self =
     g.met.F.Folder.called c.args.folder.now (Lists root (answered c.list.result)) c.list.new.self (record {
-      asked = said.call;
+      allowed = said.call;
       well = lists_well root c.list.result said.under said.ordered said.not_large;
-      count = said.asks.count;
-      tearing = said.asks.tearing;
+      count = said.requests.count;
+      tearing = said.requests.tearing;
       risen = λ is. said.device (row_failed c.list.result is);
-      exact = λ tells. (listed (F.contents c.args.folder.now) root c.list.result said.not_large (said.not_missing tells) (said.not_blocked tells) (said.listed tells) (said.none_odd tells) (said.bad_name tells), said.same tells);
+      exact = λ faithful. (listed (F.contents c.args.folder.now) root c.list.result said.not_large (said.not_missing faithful) (said.not_blocked faithful) (said.listed faithful) (said.none_special faithful) (said.bad_name faithful), said.same faithful);
     }) in
     (answered c.list.result, called, listed_well root c.list.result c.in-Ok.places c.in-Ok.is)
 
@@ -28,11 +28,11 @@ returns-in-Err-clause-call g c =
     let said = c.list.ensures in
     let called : IsCalled F.device c.args.folder.now (Lists root (answered c.list.result)) c.list.new.self =
     g.met.F.Folder.called c.args.folder.now (Lists root (answered c.list.result)) c.list.new.self (record {
-      asked = said.call;
+      allowed = said.call;
       well = lists_well root c.list.result said.under said.ordered said.not_large;
-      count = said.asks.count;
-      tearing = said.asks.tearing;
+      count = said.requests.count;
+      tearing = said.requests.tearing;
       risen = λ is. said.device (row_failed c.list.result is);
-      exact = λ tells. (listed (F.contents c.args.folder.now) root c.list.result said.not_large (said.not_missing tells) (said.not_blocked tells) (said.listed tells) (said.none_odd tells) (said.bad_name tells), said.same tells);
+      exact = λ faithful. (listed (F.contents c.args.folder.now) root c.list.result said.not_large (said.not_missing faithful) (said.not_blocked faithful) (said.listed faithful) (said.none_special faithful) (said.bad_name faithful), said.same faithful);
     }) in
     (answered c.list.result, called, listed_badly root c.list.result c.in-Err.fault _ c.in-Err.is c.fault_at.ensures)

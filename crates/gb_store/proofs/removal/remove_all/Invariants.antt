@@ -1,6 +1,6 @@
 use Rattle.std.proofs.Common.{◌≡◌, [], IsTrue, Ok, take}
 use Rattle.gb_folder.proofs.EachOf.{EachLed}
-use Rattle.gb_folder.specs.Calls.{Asks, takes_at}
+use Rattle.gb_folder.specs.Calls.{Requests, takes_at}
 use Rattle.gb_store.specs.Changes.{is_among, without_all}
 use Rattle.gb_store.specs.Removals.{Removal}
 use Rattle.gb_store.proofs.removal.remove_all.Given as goal
@@ -10,6 +10,6 @@ invariant-loop-place g l =
     let contents = g.F.Folder.contents in
     record {
       led : EachLed Removal g.F.Folder.device (take l.place-index l.places) l.fn.folder [] (Ok tt) l.folder;
-      asks : Asks g.F.Folder.failures g.F.Folder.may_leave g.F.Folder.asked (takes_at (is_among l.places)) l.fn.folder l.folder;
-      removed : IsTrue g.F.Folder.tells → contents l.folder ≡ without_all (contents l.fn.folder) (take l.place-index l.places);
+      requests : Requests g.F.Folder.failures g.F.Folder.may_leave g.F.Folder.allowed (takes_at (is_among l.places)) l.fn.folder l.folder;
+      removed : IsTrue g.F.Folder.faithful → contents l.folder ≡ without_all (contents l.fn.folder) (take l.place-index l.places);
     }

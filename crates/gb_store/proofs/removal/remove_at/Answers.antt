@@ -23,18 +23,18 @@ returns-in-Ok-clause-call g c =
     let said = c.remove.ensures in
     let called : IsCalled F.device c.args.folder.now (Removes place c.remove.result) c.remove.new.self =
     g.met.F.Folder.called c.args.folder.now (Removes place c.remove.result) c.remove.new.self (record {
-      asked = said.call;
+      allowed = said.call;
       well = removes_well c.remove.result said.not_large said.not_named;
-      count = said.asks.count;
-      tearing = said.asks.tearing;
+      count = said.requests.count;
+      tearing = said.requests.tearing;
       risen = λ is. said.device (change_failed c.remove.result is);
-      exact = λ tells. removed (F.may_leave c.args.folder.now) (F.contents c.args.folder.now) place c.remove.result (F.contents c.remove.new.self)
-          said.not_large said.not_named (said.removed tells) (said.stood tells) (said.missing tells) (said.missing_free tells) (said.blocked tells) (said.same tells) (said.torn tells);
+      exact = λ faithful. removed (F.may_leave c.args.folder.now) (F.contents c.args.folder.now) place c.remove.result (F.contents c.remove.new.self)
+          said.not_large said.not_named (said.removed faithful) (said.existed faithful) (said.missing faithful) (said.missing_free faithful) (said.blocked faithful) (said.same faithful) (said.torn faithful);
     }) in
     inr (c.remove.result, called, ap (removal_ending place) (sym c.in-Ok.is))
 
 pub returns-in-Ok-clause-changes : goal.returns-in-Ok-clause-changes
-returns-in-Ok-clause-changes g c = λ tells test holds. changes_without test _ _ c.args.place.now (c.in-Ok.ensures.removed tells) holds
+returns-in-Ok-clause-changes g c = λ faithful test holds. changes_without test _ _ c.args.place.now (c.in-Ok.ensures.removed faithful) holds
 
 -- where there is no file, the folder is the same without one
 none_left : (old new : Contents) (place : Place) → IsFolder old.files → new ≡ old → file_at old.files place ≡ None → new ≡ without_all old (place ∷ [])
@@ -57,18 +57,18 @@ returns-in-Err g c =
     let place = c.args.place.now in
     let fault = c.in-Err.fault in
     let sound = g.met.F.Folder.sound c.args.folder.now in
-    let asked = c.remove.ensures in
+    let allowed = c.remove.ensures in
     let as_reported : reported_at c.in_ok-at.at fault ≡ reported_at place fault = ap (λ p. reported_at p fault) c.in_ok-at.ensures in
     let said = c.remove.ensures in
     let called : IsCalled F.device c.args.folder.now (Removes place c.remove.result) c.remove.new.self =
     g.met.F.Folder.called c.args.folder.now (Removes place c.remove.result) c.remove.new.self (record {
-      asked = said.call;
+      allowed = said.call;
       well = removes_well c.remove.result said.not_large said.not_named;
-      count = said.asks.count;
-      tearing = said.asks.tearing;
+      count = said.requests.count;
+      tearing = said.requests.tearing;
       risen = λ is. said.device (change_failed c.remove.result is);
-      exact = λ tells. removed (F.may_leave c.args.folder.now) (F.contents c.args.folder.now) place c.remove.result (F.contents c.remove.new.self)
-          said.not_large said.not_named (said.removed tells) (said.stood tells) (said.missing tells) (said.missing_free tells) (said.blocked tells) (said.same tells) (said.torn tells);
+      exact = λ faithful. removed (F.may_leave c.args.folder.now) (F.contents c.args.folder.now) place c.remove.result (F.contents c.remove.new.self)
+          said.not_large said.not_named (said.removed faithful) (said.existed faithful) (said.missing faithful) (said.missing_free faithful) (said.blocked faithful) (said.same faithful) (said.torn faithful);
     }) in
     record {
       call = inr (
@@ -76,28 +76,28 @@ returns-in-Err g c =
         called,
         c.unless_absent.ensures ∙ ap (λ p. unless_absent p fault) c.in_ok-at.ensures ∙ ap (removal_ending place) (sym c.in-Err.is),
       );
-      asks = asked.asks;
+      requests = allowed.requests;
       blame = λ at is.
           let reported = IfErr-at_err _ is (at_place c.in_ok-at.at fault c.unless_absent.result c.unless_absent.ensures) in
-          asked.device (c.in-Err.is ∙ ap Err (blames_device place fault _ (inr (reported.2 ∙ as_reported)) at refl));
+          allowed.device (c.in-Err.is ∙ ap Err (blames_device place fault _ (inr (reported.2 ∙ as_reported)) at refl));
       blamed = λ at is.
           let reported = IfErr-at_err _ is (at_place c.in_ok-at.at fault c.unless_absent.result c.unless_absent.ensures) in
           (bytes_decides at place).1 (sym (reported_place place at fault (sym (reported.2 ∙ as_reported))));
-      ok = λ tells. on_ok_weaker c.unless_absent.result (λ absent.
+      ok = λ faithful. on_ok_weaker c.unless_absent.result (λ absent.
           elim absent [
-            | inl missing ↦ none_left old new place sound (c.in-Err.ensures.same tells (λ e. cc)) (asked.missing tells (c.in-Err.is ∙ ap Err missing))
-            | inr blocked ↦ none_left old new place sound (c.in-Err.ensures.same tells (λ e. cc)) (blocked_none old.files place sound (asked.blocked tells (c.in-Err.is ∙ ap Err blocked)))
+            | inl missing ↦ none_left old new place sound (c.in-Err.ensures.same faithful (λ e. cc)) (allowed.missing faithful (c.in-Err.is ∙ ap Err missing))
+            | inr blocked ↦ none_left old new place sound (c.in-Err.ensures.same faithful (λ e. cc)) (blocked_none old.files place sound (allowed.blocked faithful (c.in-Err.is ∙ ap Err blocked)))
           ]) (at_ok c.in_ok-at.at fault c.unless_absent.result c.unless_absent.ensures);
-      err = λ tells. IfErr-weaker c.unless_absent.result _ _ (λ reported h.
-          of_machine _ _ place fault reported (inr (h.2 ∙ as_reported)) (λ d. asked.device (c.in-Err.is ∙ ap Err d))
-          (λ a b. other_fault fault h.0 h.1 (λ e. asked.not_large (c.in-Err.is ∙ ap Err e)) (λ e. asked.not_named (c.in-Err.is ∙ ap Err e)) a b)) (at_place c.in_ok-at.at fault c.unless_absent.result c.unless_absent.ensures);
-      hindered = λ tells. IfErr-weaker c.unless_absent.result _ _ (λ reported h.
+      err = λ faithful. IfErr-weaker c.unless_absent.result _ _ (λ reported h.
+          of_machine _ _ place fault reported (inr (h.2 ∙ as_reported)) (λ d. allowed.device (c.in-Err.is ∙ ap Err d))
+          (λ a b. other_fault fault h.0 h.1 (λ e. allowed.not_large (c.in-Err.is ∙ ap Err e)) (λ e. allowed.not_named (c.in-Err.is ∙ ap Err e)) a b)) (at_place c.in_ok-at.at fault c.unless_absent.result c.unless_absent.ensures);
+      hindered = λ faithful. IfErr-weaker c.unless_absent.result _ _ (λ reported h.
           subst (λ t. IsHindered (F.may_leave c.args.folder.now) place None old t new) (sym (h.2 ∙ as_reported))
-          (hindered_by (F.may_leave c.args.folder.now) place None old new fault h.0 h.1 (λ e. asked.not_large (c.in-Err.is ∙ ap Err e)) (λ e. asked.not_named (c.in-Err.is ∙ ap Err e))
-          (c.in-Err.ensures.same tells) (λ d. asked.torn tells (c.in-Err.is ∙ ap Err d)))) (at_place c.in_ok-at.at fault c.unless_absent.result c.unless_absent.ensures);
-      changes = λ tells test holds.
+          (hindered_by (F.may_leave c.args.folder.now) place None old new fault h.0 h.1 (λ e. allowed.not_large (c.in-Err.is ∙ ap Err e)) (λ e. allowed.not_named (c.in-Err.is ∙ ap Err e))
+          (c.in-Err.ensures.same faithful) (λ d. allowed.torn faithful (c.in-Err.is ∙ ap Err d)))) (at_place c.in_ok-at.at fault c.unless_absent.result c.unless_absent.ensures);
+      changes = λ faithful test holds.
           elim (is_device fault) [
-            | inl device ↦ let torn = asked.torn tells (c.in-Err.is ∙ ap Err device) in changes_left test old new place torn.0 torn.2 holds
-            | inr not_device ↦ changes_none test old new (c.in-Err.ensures.same tells not_device)
+            | inl device ↦ let torn = allowed.torn faithful (c.in-Err.is ∙ ap Err device) in changes_left test old new place torn.0 torn.2 holds
+            | inr not_device ↦ changes_none test old new (c.in-Err.ensures.same faithful not_device)
           ];
     }

@@ -9,7 +9,7 @@ pub returns-clause-outcome : goal.returns-clause-outcome
 returns-clause-outcome g c = (c.go_on-ended.result, c.outcome_of.ensures)
 
 pub returns-clause-execution : goal.returns-clause-execution
-returns-clause-execution g c = λ tells kinds registry_of plan moment given at read stood due.
+returns-clause-execution g c = λ faithful kinds registry_of plan moment given at read existed due.
     let F = g.F.Folder in
     let task = c.args.task.now in
     let start = c.args.folder.now in
@@ -17,7 +17,7 @@ returns-clause-execution g c = λ tells kinds registry_of plan moment given at r
     let acts : not c.is_empty-has_actions.result ≡ not (is_empty task.actions) = search rules in
     subst (λ (report : TaskReport). HasExecuted (setting_with kinds registry_of (F.may_leave start)) c.args.options plan task moment report (F.contents start) (F.failures now) (F.contents now))
     (sym (same_report _ _ _ _ _ _ _ _ c.requires.path c.outcome_of.ensures acts refl))
-    (c.go_on-ended.ensures.execution tells kinds registry_of plan moment given at read stood due)
+    (c.go_on-ended.ensures.execution faithful kinds registry_of plan moment given at read existed due)
 
 pub returns-clause-ran : goal.returns-clause-ran
 returns-clause-ran g c = λ first before inputs outputs. (c.go_on-ended.result, c.outcome_of.ensures, c.go_on-ended.ensures.ran first before inputs outputs)

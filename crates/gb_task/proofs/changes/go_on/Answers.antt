@@ -5,19 +5,19 @@ use Rattle.gb_meaning.specs.Label.{Moment}
 use Rattle.gb_meaning.specs.Tree.{trees_of}
 use Rattle.gb_report.specs.declared.fault.Fault.{Fault}
 use Rattle.gb_store.proofs.Machine.{at_err}
-use Rattle.gb_label.specs.Reading.{seen_of}
+use Rattle.gb_label.specs.Reading.{observed_of}
 use Rattle.gb_task.specs.Recheck.{IsAsBefore, IsRecheck}
 use Rattle.gb_task.specs.Current.{WasReadRecheck}
 use Rattle.gb_task.specs.Executing.{HasExecuted, report_of, setting_with}
 use Rattle.gb_task.proofs.ByChanges.{reading_failed}
 use Rattle.gb_task.proofs.Later.{comes_later, due_since, turned_before}
 use Rattle.gb_task.proofs.Recorded.{assumed_later}
-use Rattle.gb_folder.proofs.Asked.{asks_then}
+use Rattle.gb_folder.proofs.Asked.{requests_then}
 use Rattle.gb_task.proofs.Ran.{all_answered}
 use Rattle.gb_task.proofs.changes.go_on.Goals as goal
 
 pub returns-in_err-inputs-clause-execution : goal.returns-in_err-inputs-clause-execution
-returns-in_err-inputs-clause-execution g c = λ tells kinds registry_of plan moment given at read stood goes.
+returns-in_err-inputs-clause-execution g c = λ faithful kinds registry_of plan moment given at read existed goes.
     let F = g.F.Folder in
     let task = c.args.task.now in
     let start = c.args.folder.now in
@@ -25,41 +25,41 @@ returns-in_err-inputs-clause-execution g c = λ tells kinds registry_of plan mom
     let p = err_from_is_err_and c.from_residual.result c.from_residual.ensures.1 in
     at_err (λ (r : Result (Unit {0}) Fault). HasExecuted (setting_with kinds registry_of (F.may_leave start)) c.args.options plan task moment (report_of task r c.args.lines.now) (F.contents start) (F.failures now) (F.contents now))
     c.from_residual.result p.0 c.in_err-inputs.field-0.0 p.1 p.2
-    (reading_failed kinds registry_of (F.may_leave start) c.args.options plan task true moment (F.contents start) (F.failures start) _ c.requires.buildable.not_own c.requires.apart at
+    (reading_failed kinds registry_of (F.may_leave start) c.args.options plan task true moment (F.contents start) (F.failures start) _ c.requires.buildable.not_own c.requires.separate at
     (due_since kinds c.args.options task moment.world c.args.last.now goes)
-    c.in_err-inputs.field-0.0 c.args.lines.now (F.failures now) (F.contents now) c.requires.no_lines (c.recheck_task.ensures.same tells) (c.in_err-inputs.ensures.err tells read stood)
+    c.in_err-inputs.field-0.0 c.args.lines.now (F.failures now) (F.contents now) c.requires.no_lines (c.recheck_task.ensures.same faithful) (c.in_err-inputs.ensures.err faithful read existed)
     (λ place e. c.recheck_task.ensures.blamed place (c.in_err-inputs.was ∙ ap Err e)))
 
 pub returns-in-ByChanges-clause-execution : goal.returns-in-ByChanges-clause-execution
-returns-in-ByChanges-clause-execution g c = λ tells kinds registry_of plan moment given at read stood goes.
+returns-in-ByChanges-clause-execution g c = λ faithful kinds registry_of plan moment given at read existed goes.
     let F = g.F.Folder in
     let task = c.args.task.now in
     let start = c.args.folder.now in
     let then = c.recheck_task.new.folder in
     let now = c.go_by.new.folder in
-    let same : F.contents then ≡ F.contents start = c.recheck_task.ensures.same tells in
+    let same : F.contents then ≡ F.contents start = c.recheck_task.ensures.same faithful in
     let later : Moment = record { world = moment.world; outcomes = moment.outcomes; failures = F.failures then } in
     let came = comes_later task true (F.contents start) (F.failures start) moment (F.contents then) (F.failures then) same at in
-    let before = subst (IsAsBefore kinds c.args.options task (F.contents start).files moment.world) c.in-ByChanges.is (c.in_ok-inputs.ensures.as_before tells kinds moment.world at.folder read stood goes) in
+    let before = subst (IsAsBefore kinds c.args.options task (F.contents start).files moment.world) c.in-ByChanges.is (c.in_ok-inputs.ensures.as_before faithful kinds moment.world at.folder read existed goes) in
     let report = report_of task c.go_by.result c.go_by.new.lines in
-    turned_before kinds registry_of (F.may_leave start) (F.may_leave then) c.recheck_task.ensures.asks.tearing c.args.options plan task moment (F.failures then)
-    (subst (λ (n : ℕ). n ≤ F.failures then) (sym at.failures) c.recheck_task.ensures.asks.count) report (F.contents start) (F.failures now) (F.contents now) c.go_by.ensures.count
+    turned_before kinds registry_of (F.may_leave start) (F.may_leave then) c.recheck_task.ensures.requests.tearing c.args.options plan task moment (F.failures then)
+    (subst (λ (n : ℕ). n ≤ F.failures then) (sym at.failures) c.recheck_task.ensures.requests.count) report (F.contents start) (F.failures now) (F.contents now) c.go_by.ensures.count
     (subst (λ (folder : Contents). HasExecuted (setting_with kinds registry_of (F.may_leave then)) c.args.options plan task later report folder (F.failures now) (F.contents now)) same
-    (c.go_by.ensures.execution tells kinds registry_of c.args.options plan later (assumed_later _ _ c.recheck_task.ensures.asks.tearing given) came
+    (c.go_by.ensures.execution faithful kinds registry_of c.args.options plan later (assumed_later _ _ c.recheck_task.ensures.requests.tearing given) came
     (before.0 ∙ ap (λ (folder : Contents). trees_of task folder.files) (sym same))
-    (before.1 ∙ ap (λ (folder : Contents). map (seen_of folder.files) task.outputs) (sym same)) before.2))
+    (before.1 ∙ ap (λ (folder : Contents). map (observed_of folder.files) task.outputs) (sym same)) before.2))
 
 pub returns-in-InFull-clause-execution : goal.returns-in-InFull-clause-execution
-returns-in-InFull-clause-execution g c = λ tells kinds registry_of plan moment given at read stood goes.
+returns-in-InFull-clause-execution g c = λ faithful kinds registry_of plan moment given at read existed goes.
     let F = g.F.Folder in
     absurd
     (subst (IsAsBefore kinds c.args.options c.args.task.now (F.contents c.args.folder.now).files moment.world) c.in-InFull.is
-    (c.in_ok-inputs.ensures.as_before tells kinds moment.world at.folder read stood goes))
+    (c.in_ok-inputs.ensures.as_before faithful kinds moment.world at.folder read existed goes))
 
 pub returns-in_err-inputs-clause-ran : goal.returns-in_err-inputs-clause-ran
 returns-in_err-inputs-clause-ran g c = λ first before inputs outputs.
     let p = err_from_is_err_and c.from_residual.result c.from_residual.ensures.1 in
-    inl (asks_then before c.recheck_task.ensures.asks, c.requires.no_lines, p.0, p.1)
+    inl (requests_then before c.recheck_task.ensures.requests, c.requires.no_lines, p.0, p.1)
 
 pub returns-in-ByChanges-clause-ran : goal.returns-in-ByChanges-clause-ran
 returns-in-ByChanges-clause-ran g c = λ first before inputs outputs.
@@ -67,18 +67,18 @@ returns-in-ByChanges-clause-ran g c = λ first before inputs outputs.
     let task = c.args.task.now in
     let then = c.recheck_task.new.folder in
     let is_recheck = subst (IsRecheck c.args.options task c.args.last.now) c.in-ByChanges.is c.in_ok-inputs.ensures.recheck in
-    let was = subst (WasReadRecheck F.failures F.may_leave F.asked first then task) c.in-ByChanges.is (c.in_ok-inputs.ensures.answered first before inputs outputs) in
+    let was = subst (WasReadRecheck F.failures F.may_leave F.allowed first then task) c.in-ByChanges.is (c.in_ok-inputs.ensures.answered first before inputs outputs) in
     let ran = c.go_by.ensures.ran in
     inr (inr (
       c.in-ByChanges.inputs.trees,
       c.in-ByChanges.changes,
-      c.in-ByChanges.outputs.seen,
+      c.in-ByChanges.outputs.observed,
       then,
-      record { asks = asks_then before c.recheck_task.ensures.asks; inputs = was.0; named = is_recheck.0.named },
+      record { requests = requests_then before c.recheck_task.ensures.requests; inputs = was.0; named = is_recheck.0.named },
       record { outputs = was.1; formed = is_recheck.1.formed; decided = is_recheck.2 },
       (
         ran.0,
-        all_answered F.failures F.may_leave F.asked F.tells F.contents F.device g.met.F.Folder.said ran.0 then c.go_by.new.folder ran.1,
+        all_answered F.failures F.may_leave F.allowed F.faithful F.contents F.device g.met.F.Folder.said ran.0 then c.go_by.new.folder ran.1,
         ran.2,
       ),
     ))
@@ -88,16 +88,16 @@ returns-in-InFull-clause-ran g c = λ first before inputs outputs.
     let F = g.F.Folder in
     let task = c.args.task.now in
     let then = c.recheck_task.new.folder in
-    let was = subst (WasReadRecheck F.failures F.may_leave F.asked first then task) c.in-InFull.is (c.in_ok-inputs.ensures.answered first before inputs outputs) in
+    let was = subst (WasReadRecheck F.failures F.may_leave F.allowed first then task) c.in-InFull.is (c.in_ok-inputs.ensures.answered first before inputs outputs) in
     let is_recheck = subst (IsRecheck c.args.options task c.args.last.now) c.in-InFull.is c.in_ok-inputs.ensures.recheck in
     let ran = c.run_on.ensures.ran in
     inr (inl (
       c.in-InFull.inputs.trees,
       then,
-      record { asks = asks_then before c.recheck_task.ensures.asks; inputs = was; named = is_recheck.named },
+      record { requests = requests_then before c.recheck_task.ensures.requests; inputs = was; named = is_recheck.named },
       (
         ran.0,
-        all_answered F.failures F.may_leave F.asked F.tells F.contents F.device g.met.F.Folder.said ran.0 then c.run_on.new.folder ran.1,
+        all_answered F.failures F.may_leave F.allowed F.faithful F.contents F.device g.met.F.Folder.said ran.0 then c.run_on.new.folder ran.1,
         ran.2,
       ),
     ))

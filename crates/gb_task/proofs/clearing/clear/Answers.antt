@@ -7,18 +7,18 @@ use Rattle.gb_task.specs.Clearing.{HasCleared}
 use Rattle.gb_task.specs.Keeping.{IsForgotten}
 use Rattle.gb_task.specs.Executing.{is_of_execution}
 use Rattle.gb_task.proofs.Cleared.{cleared_by, outputs_in_execution, record_in_execution, records_stay}
-use Rattle.gb_folder.proofs.Asked.{asks_then}
+use Rattle.gb_folder.proofs.Asked.{requests_then}
 use Rattle.gb_task.proofs.Places.{outputs_taken, record_taken}
 use Rattle.gb_task.specs.Stages.{Clears}
 use Rattle.gb_task.proofs.Stages.{StageLed, cleared, kept}
 use Rattle.gb_task.proofs.clearing.clear.Goals as goal
 
 pub returns-in_err-forget-clause-changes : goal.returns-in_err-forget-clause-changes
-returns-in_err-forget-clause-changes g c = λ tells.
-    record_in_execution c.args.task.now (g.F.Folder.contents c.args.folder.now) (g.F.Folder.contents c.forget.new.folder) (c.forget.ensures.changes tells)
+returns-in_err-forget-clause-changes g c = λ faithful.
+    record_in_execution c.args.task.now (g.F.Folder.contents c.args.folder.now) (g.F.Folder.contents c.forget.new.folder) (c.forget.ensures.changes faithful)
 
 pub returns-in_err-forget-clause-cleared : goal.returns-in_err-forget-clause-cleared
-returns-in_err-forget-clause-cleared g c = λ tells seen memory stood none.
+returns-in_err-forget-clause-cleared g c = λ faithful observed memory existed none.
     let F = g.F.Folder in
     let task = c.args.task.now in
     let start = c.args.folder.now in
@@ -28,21 +28,21 @@ returns-in_err-forget-clause-cleared g c = λ tells seen memory stood none.
     at_err (λ r. HasCleared task c.args.was_read memory (F.may_leave start) (F.failures start) (F.contents start) r (F.failures now) (F.contents now)) c.from_residual.result p.0 c.in_err-forget.field-0.0 p.1 p.2
     (inl (record {
       read = c.in_err-forget.ensures.read;
-      why = c.in_err-forget.ensures.err tells;
-      changes = c.forget.ensures.changes tells;
-      records = subst (λ (r : Result (Unit {0}) Fault). IsForgotten task.path memory r new.files) c.in_err-forget.was (c.forget.ensures.stands tells seen memory stood none);
+      why = c.in_err-forget.ensures.err faithful;
+      changes = c.forget.ensures.changes faithful;
+      records = subst (λ (r : Result (Unit {0}) Fault). IsForgotten task.path memory r new.files) c.in_err-forget.was (c.forget.ensures.exists faithful observed memory existed none);
     }))
 
 pub returns-clause-changes : goal.returns-clause-changes
-returns-clause-changes g c = λ tells.
+returns-clause-changes g c = λ faithful.
     let F = g.F.Folder in
     let task = c.args.task.now in
     changes_chain (is_of_execution task) (F.contents c.args.folder.now) (F.contents c.forget.new.folder) (F.contents c.empty_outputs.new.folder)
-    (record_in_execution task (F.contents c.args.folder.now) (F.contents c.forget.new.folder) (c.forget.ensures.changes tells))
-    (outputs_in_execution task (F.contents c.forget.new.folder) (F.contents c.empty_outputs.new.folder) (c.empty_outputs.ensures.changes tells))
+    (record_in_execution task (F.contents c.args.folder.now) (F.contents c.forget.new.folder) (c.forget.ensures.changes faithful))
+    (outputs_in_execution task (F.contents c.forget.new.folder) (F.contents c.empty_outputs.new.folder) (c.empty_outputs.ensures.changes faithful))
 
 pub returns-clause-cleared : goal.returns-clause-cleared
-returns-clause-cleared g c = λ tells seen memory stood none.
+returns-clause-cleared g c = λ faithful observed memory existed none.
     let F = g.F.Folder in
     let task = c.args.task.now in
     let start = c.args.folder.now in
@@ -50,16 +50,16 @@ returns-clause-cleared g c = λ tells seen memory stood none.
     let now = c.empty_outputs.new.folder in
     let taken : Contents = F.contents then in
     cleared_by task c.args.was_read memory (F.may_leave start) (F.may_leave then) (F.failures start) (F.failures then) (F.failures now) (F.contents start) (F.contents then) (F.contents now)
-    c.empty_outputs.result c.forget.ensures.asks.tearing c.forget.ensures.asks.count c.empty_outputs.ensures.asks.count (g.met.F.Folder.sound then) (c.forget.ensures.changes tells)
-    (c.empty_outputs.ensures.ok tells) (c.empty_outputs.ensures.err tells)
-    (records_stay task c.requires.not_own (F.contents then) (F.contents now) _ (c.empty_outputs.ensures.changes tells)
-    (subst (λ (r : Result (Unit {0}) Fault). IsForgotten task.path memory r taken.files) c.in_ok-forget.was (c.forget.ensures.stands tells seen memory stood none)))
+    c.empty_outputs.result c.forget.ensures.requests.tearing c.forget.ensures.requests.count c.empty_outputs.ensures.requests.count (g.met.F.Folder.sound then) (c.forget.ensures.changes faithful)
+    (c.empty_outputs.ensures.ok faithful) (c.empty_outputs.ensures.err faithful)
+    (records_stay task c.requires.not_own (F.contents then) (F.contents now) _ (c.empty_outputs.ensures.changes faithful)
+    (subst (λ (r : Result (Unit {0}) Fault). IsForgotten task.path memory r taken.files) c.in_ok-forget.was (c.forget.ensures.exists faithful observed memory existed none)))
 
-pub returns-in_err-forget-clause-asks : goal.returns-in_err-forget-clause-asks
-returns-in_err-forget-clause-asks g c = record_taken c.args.task.now c.forget.ensures.asks
+pub returns-in_err-forget-clause-requests : goal.returns-in_err-forget-clause-requests
+returns-in_err-forget-clause-requests g c = record_taken c.args.task.now c.forget.ensures.requests
 
-pub returns-clause-asks : goal.returns-clause-asks
-returns-clause-asks g c = asks_then (record_taken c.args.task.now c.forget.ensures.asks) (outputs_taken c.args.task.now c.empty_outputs.ensures.asks)
+pub returns-clause-requests : goal.returns-clause-requests
+returns-clause-requests g c = requests_then (record_taken c.args.task.now c.forget.ensures.requests) (outputs_taken c.args.task.now c.empty_outputs.ensures.requests)
 
 pub returns-in_err-forget-clause-calls : goal.returns-in_err-forget-clause-calls
 returns-in_err-forget-clause-calls g c =

@@ -1,13 +1,13 @@
 use Rattle.std.specs.Prelude.{option_copied}
 use Rattle.std.proofs.Common.{◌≡◌, ◌≤◌, ℕ, Bool, List, sym, subst, ◌∙◌}
 use Rattle.gb_folder.specs.Files.{Contents}
-use Rattle.gb_label.specs.Preparing.{IsSeenFor}
+use Rattle.gb_label.specs.Preparing.{IsObservedFor}
 use Rattle.gb_meaning.specs.Label.{Moment}
 use Rattle.gb_task.specs.Executing.{BeginsAt, HasExecuted, setting_with}
-use Rattle.gb_task.proofs.ByOutcome.{cleared_asks, ran_asks, reported_asks}
+use Rattle.gb_task.proofs.ByOutcome.{cleared_requests, ran_requests, reported_requests}
 use Rattle.gb_task.proofs.Answering.{cleared_answers, run_answers, reported_answers}
 use Rattle.gb_task.proofs.Later.{cleared_started, comes_later, copied_some, run_started, reported_turned, turned_before}
-use Rattle.gb_task.proofs.Recorded.{assumed_later, seen_later}
+use Rattle.gb_task.proofs.Recorded.{assumed_later, observed_later}
 use Rattle.gb_plan.specs.Task.{Text}
 use Rattle.gb_task.specs.Stages.{Clears}
 use Rattle.gb_task.proofs.Ran.{all_answered}
@@ -28,29 +28,29 @@ pub returns-in-Due-clause-answer : goal.returns-in-Due-clause-answer
 returns-in-Due-clause-answer g c = run_answers c.args.options c.args.task.now c.run.result c.run.ensures.outcome
 
 pub returns-in-Reported-clause-execution : goal.returns-in-Reported-clause-execution
-returns-in-Reported-clause-execution g c = λ tells kinds registry_of plan moment given at needed known.
+returns-in-Reported-clause-execution g c = λ faithful kinds registry_of plan moment given at needed known.
     let F = g.F.Folder in
     let start = c.args.folder.now in
     let now = c.settle.new.folder in
     reported_turned kinds registry_of (F.may_leave start) c.args.options plan c.args.task.now _ moment c.in-Reported.report (F.contents start) (F.failures start) (F.failures now) (F.contents now) at
-    (c.settle.ensures.same tells) (c.in-Reported.ensures.settled tells kinds registry_of plan moment at.folder at.failures needed known)
+    (c.settle.ensures.same faithful) (c.in-Reported.ensures.settled faithful kinds registry_of plan moment at.folder at.failures needed known)
 
 pub returns-in-Sourceless-clause-execution : goal.returns-in-Sourceless-clause-execution
-returns-in-Sourceless-clause-execution g c = λ tells kinds registry_of plan moment given at needed known.
+returns-in-Sourceless-clause-execution g c = λ faithful kinds registry_of plan moment given at needed known.
     let F = g.F.Folder in
     let task = c.args.task.now in
     let start = c.args.folder.now in
     let then = c.settle.new.folder in
     let now = c.execute_without_source.new.folder in
-    let same : F.contents then ≡ F.contents start = c.settle.ensures.same tells in
+    let same : F.contents then ≡ F.contents start = c.settle.ensures.same faithful in
     let came = comes_later task c.is_some.result (F.contents start) (F.failures start) moment (F.contents then) (F.failures then) same
     (subst (λ (b : Bool). BeginsAt task b (F.contents start) (F.failures start) moment) (copied_some c.args.last ∙ sym c.is_some.ensures) at) in
     let later : Moment = record { world = moment.world; outcomes = moment.outcomes; failures = F.failures then } in
-    turned_before kinds registry_of (F.may_leave start) (F.may_leave then) c.settle.ensures.asks.tearing c.args.options plan task moment (F.failures then)
-    (subst (λ (n : ℕ). n ≤ F.failures then) (sym at.failures) c.settle.ensures.asks.count) c.execute_without_source.result (F.contents start) (F.failures now) (F.contents now) c.execute_without_source.ensures.asks.count
+    turned_before kinds registry_of (F.may_leave start) (F.may_leave then) c.settle.ensures.requests.tearing c.args.options plan task moment (F.failures then)
+    (subst (λ (n : ℕ). n ≤ F.failures then) (sym at.failures) c.settle.ensures.requests.count) c.execute_without_source.result (F.contents start) (F.failures now) (F.contents now) c.execute_without_source.ensures.requests.count
     (subst (λ (folder : Contents). HasExecuted (setting_with kinds registry_of (F.may_leave then)) c.args.options plan task later c.execute_without_source.result folder (F.failures now) (F.contents now)) same
-    (c.execute_without_source.ensures.execution tells kinds registry_of c.args.options plan later (seen_later _ _ c.settle.ensures.asks.tearing given.tears) came
-    (c.in-Sourceless.ensures.settled tells kinds registry_of plan moment at.folder at.failures needed known)))
+    (c.execute_without_source.ensures.execution faithful kinds registry_of c.args.options plan later (observed_later _ _ c.settle.ensures.requests.tearing given.tears) came
+    (c.in-Sourceless.ensures.settled faithful kinds registry_of plan moment at.folder at.failures needed known)))
 
 pub run-requires-clause-due : goal.run-requires-clause-due
 run-requires-clause-due g c = c.in-Due.ensures.of_task.1
@@ -59,21 +59,21 @@ pub run-requires-clause-read : goal.run-requires-clause-read
 run-requires-clause-read g c = c.in-Due.ensures.of_task.2
 
 pub returns-in-Due-clause-execution : goal.returns-in-Due-clause-execution
-returns-in-Due-clause-execution g c = λ tells kinds registry_of plan moment given at needed known.
+returns-in-Due-clause-execution g c = λ faithful kinds registry_of plan moment given at needed known.
     let F = g.F.Folder in
     let task = c.args.task.now in
     let start = c.args.folder.now in
     let then = c.settle.new.folder in
     let now = c.run.new.folder in
-    let same : F.contents then ≡ F.contents start = c.settle.ensures.same tells in
+    let same : F.contents then ≡ F.contents start = c.settle.ensures.same faithful in
     let came = comes_later task _ (F.contents start) (F.failures start) moment (F.contents then) (F.failures then) same at in
     let later : Moment = record { world = moment.world; outcomes = moment.outcomes; failures = F.failures then } in
-    let due = c.in-Due.ensures.settled tells kinds registry_of plan moment at.folder at.failures needed known in
-    turned_before kinds registry_of (F.may_leave start) (F.may_leave then) c.settle.ensures.asks.tearing c.args.options plan task moment (F.failures then)
-    (subst (λ (n : ℕ). n ≤ F.failures then) (sym at.failures) c.settle.ensures.asks.count) c.run.result (F.contents start) (F.failures now) (F.contents now) c.run.ensures.count
+    let due = c.in-Due.ensures.settled faithful kinds registry_of plan moment at.folder at.failures needed known in
+    turned_before kinds registry_of (F.may_leave start) (F.may_leave then) c.settle.ensures.requests.tearing c.args.options plan task moment (F.failures then)
+    (subst (λ (n : ℕ). n ≤ F.failures then) (sym at.failures) c.settle.ensures.requests.count) c.run.result (F.contents start) (F.failures now) (F.contents now) c.run.ensures.count
     (subst (λ (folder : Contents). HasExecuted (setting_with kinds registry_of (F.may_leave then)) c.args.options plan task later c.run.result folder (F.failures now) (F.contents now)) same
-    (c.run.ensures.execution tells kinds registry_of plan later (assumed_later _ _ c.settle.ensures.asks.tearing given) came due.0 due.1 due.2
-    (subst (λ (folder : Contents). IsSeenFor task folder.files c.in-Due.seen c.in-Due.decision) (sym same) due.3) known))
+    (c.run.ensures.execution faithful kinds registry_of plan later (assumed_later _ _ c.settle.ensures.requests.tearing given) came due.0 due.1 due.2
+    (subst (λ (folder : Contents). IsObservedFor task folder.files c.in-Due.observed c.in-Due.decision) (sym same) due.3) known))
 
 pub returns-in-Reported-clause-started : goal.returns-in-Reported-clause-started
 returns-in-Reported-clause-started g c = c.in-Reported.ensures.of_task.4
@@ -84,34 +84,34 @@ returns-in-Sourceless-clause-started g c = cleared_started c.execute_without_sou
 pub returns-in-Due-clause-started : goal.returns-in-Due-clause-started
 returns-in-Due-clause-started g c = run_started c.run.result.outcome c.run.ensures.outcome
 
-pub returns-in-Reported-clause-asks : goal.returns-in-Reported-clause-asks
-returns-in-Reported-clause-asks g c =
+pub returns-in-Reported-clause-requests : goal.returns-in-Reported-clause-requests
+returns-in-Reported-clause-requests g c =
     let F = g.F.Folder in
     let report = c.in-Reported.report in
-    reported_asks F.failures F.may_leave F.asked g.A.Actions.meanings c.args.table.now c.args.options c.args.task.now (option_copied c.args.last) report.lines c.args.folder.now c.settle.new.folder
-    report.outcome c.in-Reported.ensures.of_task.2 c.in-Reported.ensures.of_task.4 c.in-Reported.ensures.of_task.5 c.in-Reported.ensures.of_task.6 c.settle.ensures.asks c.in-Reported.ensures.answered
+    reported_requests F.failures F.may_leave F.allowed g.A.Actions.meanings c.args.table.now c.args.options c.args.task.now (option_copied c.args.last) report.lines c.args.folder.now c.settle.new.folder
+    report.outcome c.in-Reported.ensures.of_task.2 c.in-Reported.ensures.of_task.4 c.in-Reported.ensures.of_task.5 c.in-Reported.ensures.of_task.6 c.settle.ensures.requests c.in-Reported.ensures.answered
 
-pub returns-in-Sourceless-clause-asks : goal.returns-in-Sourceless-clause-asks
-returns-in-Sourceless-clause-asks g c =
+pub returns-in-Sourceless-clause-requests : goal.returns-in-Sourceless-clause-requests
+returns-in-Sourceless-clause-requests g c =
     let F = g.F.Folder in
     let task = c.args.task.now in
     let done = c.execute_without_source in
     let led = done.ensures.calls in
-    cleared_asks F.failures F.may_leave F.asked g.A.Actions.meanings c.args.table.now c.args.options task (option_copied c.args.last) done.result.lines c.args.folder.now done.new.folder
+    cleared_requests F.failures F.may_leave F.allowed g.A.Actions.meanings c.args.table.now c.args.options task (option_copied c.args.last) done.result.lines c.args.folder.now done.new.folder
     done.result.outcome led.1 led.4 (
       c.settle.new.folder,
-      c.settle.ensures.asks,
+      c.settle.ensures.requests,
       c.in-Sourceless.ensures.answered,
       (
         led.0,
-        all_answered F.failures F.may_leave F.asked F.tells F.contents F.device g.met.F.Folder.said led.0 c.settle.new.folder done.new.folder led.2,
+        all_answered F.failures F.may_leave F.allowed F.faithful F.contents F.device g.met.F.Folder.said led.0 c.settle.new.folder done.new.folder led.2,
         subst (λ (b : Bool). Clears task b led.0 done.result.lines led.1) (c.is_some.ensures ∙ sym (copied_some c.args.last))
             (subst (λ (ls : List Text). Clears task c.is_some.result led.0 ls led.1) (sym done.ensures.lines) led.3),
       ),
     )
 
-pub returns-in-Due-clause-asks : goal.returns-in-Due-clause-asks
-returns-in-Due-clause-asks g c =
+pub returns-in-Due-clause-requests : goal.returns-in-Due-clause-requests
+returns-in-Due-clause-requests g c =
     let F = g.F.Folder in
-    ran_asks F.failures F.may_leave F.asked g.A.Actions.meanings c.args.table.now c.args.options c.args.task.now (option_copied c.args.last) c.run.result.lines c.args.folder.now c.run.new.folder c.run.result.outcome
-    (c.run.ensures.ran c.args.folder.now c.settle.ensures.asks c.in-Due.ensures.answered.0 c.in-Due.ensures.answered.1)
+    ran_requests F.failures F.may_leave F.allowed g.A.Actions.meanings c.args.table.now c.args.options c.args.task.now (option_copied c.args.last) c.run.result.lines c.args.folder.now c.run.new.folder c.run.result.outcome
+    (c.run.ensures.ran c.args.folder.now c.settle.ensures.requests c.in-Due.ensures.answered.0 c.in-Due.ensures.answered.1)

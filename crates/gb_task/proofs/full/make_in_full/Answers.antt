@@ -21,7 +21,7 @@ use Rattle.gb_task.specs.Stages.{HasMade, WritesGiven}
 use Rattle.gb_task.proofs.full.make_in_full.Goals as goal
 
 pub returns-in_err-outputs-clause-err : goal.returns-in_err-outputs-clause-err
-returns-in_err-outputs-clause-err g c = λ tells.
+returns-in_err-outputs-clause-err g c = λ faithful.
     let F = g.F.Folder in
     let start = c.args.folder.now in
     let now = c.run_in_full.new.folder in
@@ -30,7 +30,7 @@ returns-in_err-outputs-clause-err g c = λ tells.
     → Fails (course_of kinds c.args.task.now c.args.trees c.args.changes (F.contents start).files) InFull (F.may_leave start) (F.failures start) fault c.run_in_full.new.lines (F.failures now) (F.contents now).files in
     at_err (λ r. IfErr r IsFault) c.from_residual-in_err-outputs.result p.0 faults.OutOfMemory p.1 p.2 (λ kinds agrees.
     cut_at_end (course_of kinds c.args.task.now c.args.trees c.args.changes (F.contents start).files) InFull (F.may_leave start) (F.failures start) (F.failures now) c.run_in_full.new.lines (F.contents now).files
-    (c.in_ok-made.ensures.ok tells kinds agrees) refl)
+    (c.in_ok-made.ensures.ok faithful kinds agrees) refl)
 
 pub record_of-requires-clause-inputs : goal.record_of-requires-clause-inputs
 record_of-requires-clause-inputs g c = named_digests c.args.prints.items c.args.trees _ c.requires.digests c.requires.named
@@ -41,7 +41,7 @@ record_of-requires-clause-outputs g c =
     ∙ names_with c.args.task.now.outputs c.in_ok-made.made.items c.in_ok-made.ensures.named
 
 pub returns-in_err-record_of-clause-err : goal.returns-in_err-record_of-clause-err
-returns-in_err-record_of-clause-err g c = λ tells.
+returns-in_err-record_of-clause-err g c = λ faithful.
     let F = g.F.Folder in
     let start = c.args.folder.now in
     let now = c.run_in_full.new.folder in
@@ -50,7 +50,7 @@ returns-in_err-record_of-clause-err g c = λ tells.
     → Fails (course_of kinds c.args.task.now c.args.trees c.args.changes (F.contents start).files) InFull (F.may_leave start) (F.failures start) fault c.run_in_full.new.lines (F.failures now) (F.contents now).files in
     at_err (λ r. IfErr r IsFault) c.from_residual-in_err-record_of.result p.0 faults.OutOfMemory p.1 p.2 (λ kinds agrees.
     cut_at_end (course_of kinds c.args.task.now c.args.trees c.args.changes (F.contents start).files) InFull (F.may_leave start) (F.failures start) (F.failures now) c.run_in_full.new.lines (F.contents now).files
-    (c.in_ok-made.ensures.ok tells kinds agrees) refl)
+    (c.in_ok-made.ensures.ok faithful kinds agrees) refl)
 
 pub returns-clause-made : goal.returns-clause-made
 returns-clause-made g c = λ kinds agrees.
@@ -59,14 +59,14 @@ returns-clause-made g c = λ kinds agrees.
     c.in_ok-record_of.ensures c.requires.digests c.in_ok-outputs.ensures made.0 made.1 made.2
 
 pub returns-in_err-made-clause-err : goal.returns-in_err-made-clause-err
-returns-in_err-made-clause-err g c = λ tells.
+returns-in_err-made-clause-err g c = λ faithful.
     let F = g.F.Folder in
     let start = c.args.folder.now in
     let now = c.run_in_full.new.folder in
     let p = err_from_is_err_and c.from_residual.result c.from_residual.ensures.1 in
     let IsFault : Fault → Type 0 = λ fault. (kinds : Kinds) → Agrees g.A.Actions.meanings c.args.table.now kinds
     → Fails (course_of kinds c.args.task.now c.args.trees c.args.changes (F.contents start).files) InFull (F.may_leave start) (F.failures start) fault c.run_in_full.new.lines (F.failures now) (F.contents now).files in
-    at_err (λ r. IfErr r IsFault) c.from_residual.result p.0 c.in_err-made.field-0.0 p.1 p.2 (c.in_err-made.ensures.err tells)
+    at_err (λ r. IfErr r IsFault) c.from_residual.result p.0 c.in_err-made.field-0.0 p.1 p.2 (c.in_err-made.ensures.err faithful)
 
 pub returns-in_err-made-clause-calls : goal.returns-in_err-made-clause-calls
 returns-in_err-made-clause-calls g c =

@@ -10,7 +10,7 @@ use Rattle.gb_records.specs.Said.{IsSaidOf}
 use Rattle.gb_report.specs.declared.fault.Fault.{Fault}
 use Rattle.gb_report.specs.declared.fault.Fault.TheVariants as faults
 use Rattle.gb_run.specs.Course.{EndsWell, course_of}
-use Rattle.gb_run.proofs.Stood.{made_stands}
+use Rattle.gb_run.proofs.Existed.{made_exists}
 use Rattle.gb_store.specs.Changes.{ChangesOnly}
 use Rattle.gb_store.proofs.Machine.{at_err, changes_chain}
 use Rattle.gb_label.specs.Reading.{digests_in}
@@ -22,7 +22,7 @@ use Rattle.gb_task.proofs.Added.{all_of}
 use Rattle.gb_task.proofs.Cleared.{outputs_in_execution, record_in_execution}
 use Rattle.gb_task.proofs.Given.{as_many, none_read}
 use Rattle.gb_task.proofs.Parts.{outside_same}
-use Rattle.gb_task.proofs.Recorded.{record_stands, seen_later}
+use Rattle.gb_task.proofs.Recorded.{record_exists, observed_later}
 use Rattle.gb_task.proofs.Whole.{clearing_failed, reading_failed, remembering, running_failed}
 use Rattle.gb_task.specs.Stages.{FullRun, IsOfFullRun, WritesAll, WritesGiven}
 use Rattle.gb_task.proofs.Stages.{StageLed, full_early, full_on, full_uncleared, made, unmade}
@@ -33,75 +33,75 @@ all_added-requires g c =
     as_many c.args.task.now.files c.args.inputs.trees c.args.inputs.prints.items c.requires.digests c.requires.named ∙ ap length (sym c.as_slice.ensures.value)
 
 pub returns-in_err-changes-clause-execution : goal.returns-in_err-changes-clause-execution
-returns-in_err-changes-clause-execution g c = λ tells kinds registry_of options plan moment given at are_trees due.
+returns-in_err-changes-clause-execution g c = λ faithful kinds registry_of options plan moment given at are_trees due.
     let F = g.F.Folder in
     let task = c.args.task.now in
     let start = c.args.folder.now in
     let p = err_from_is_err_and c.from_residual.result c.from_residual.ensures.1 in
     at_err (λ (r : Result (Unit {0}) Fault). HasExecuted (setting_with kinds registry_of (F.may_leave start)) options plan task moment (report_of task r c.args.lines.now) (F.contents start) (F.failures start) (F.contents start))
     c.from_residual.result p.0 faults.OutOfMemory p.1 p.2
-    (reading_failed kinds registry_of (F.may_leave start) options plan task c.args.was_read moment (F.contents start) (F.failures start) c.requires.buildable.not_own c.requires.apart at due
+    (reading_failed kinds registry_of (F.may_leave start) options plan task c.args.was_read moment (F.contents start) (F.failures start) c.requires.buildable.not_own c.requires.separate at due
     faults.OutOfMemory c.args.lines.now (F.failures start) (F.contents start) c.requires.no_lines refl (inl refl) (λ place e. absurd (let d = e in (cc))))
 
 pub returns-in_err-clear-clause-execution : goal.returns-in_err-clear-clause-execution
-returns-in_err-clear-clause-execution g c = λ tells kinds registry_of options plan moment given at are_trees due.
+returns-in_err-clear-clause-execution g c = λ faithful kinds registry_of options plan moment given at are_trees due.
     let F = g.F.Folder in
     let task = c.args.task.now in
     let start = c.args.folder.now in
     let now = c.clear.new.folder in
     let memory = moment.world.memory in
-    let cleared = c.clear.ensures.cleared tells given.tears memory at.records (none_read (recalled memory task.path) c.args.was_read at.read) in
+    let cleared = c.clear.ensures.cleared faithful given.tears memory at.records (none_read (recalled memory task.path) c.args.was_read at.read) in
     let p = err_from_is_err_and c.from_residual-in_err-clear.result c.from_residual-in_err-clear.ensures.1 in
     at_err (λ (r : Result (Unit {0}) Fault). HasExecuted (setting_with kinds registry_of (F.may_leave start)) options plan task moment (report_of task r c.args.lines.now) (F.contents start) (F.failures now) (F.contents now))
     c.from_residual-in_err-clear.result p.0 c.in_err-clear.field-0.0 p.1 p.2
-    (clearing_failed kinds registry_of (F.may_leave start) options plan task c.args.was_read moment (F.contents start) (F.failures start) c.requires.buildable.not_own c.requires.apart at due
+    (clearing_failed kinds registry_of (F.may_leave start) options plan task c.args.was_read moment (F.contents start) (F.failures start) c.requires.buildable.not_own c.requires.separate at due
     (F.may_leave start) c.in_err-clear.field-0.0 c.args.lines.now (F.failures start) (F.failures now) (F.contents start) (F.contents now) c.requires.no_lines refl
-    (search rules) (omega arith) c.clear.ensures.asks.count
+    (search rules) (omega arith) c.clear.ensures.requests.count
     (subst (λ (r : Result (Unit {0}) Fault). HasCleared task c.args.was_read memory (F.may_leave start) (F.failures start) (F.contents start) r (F.failures now) (F.contents now)) c.in_err-clear.was cleared)
-    (c.clear.ensures.changes tells)
+    (c.clear.ensures.changes faithful)
     (λ place e. c.clear.ensures.blamed place (c.in_err-clear.was ∙ ap Err e)))
 
 pub returns-in_err-run-clause-changes : goal.returns-in_err-run-clause-changes
-returns-in_err-run-clause-changes g c = λ tells.
+returns-in_err-run-clause-changes g c = λ faithful.
     let F = g.F.Folder in
     let task = c.args.task.now in
     changes_chain (is_of_execution task) (F.contents c.args.folder.now) (F.contents c.clear.new.folder) (F.contents c.make_in_full.new.folder)
-    (c.clear.ensures.changes tells)
-    (outputs_in_execution task (F.contents c.clear.new.folder) (F.contents c.make_in_full.new.folder) (c.make_in_full.ensures.changes tells))
+    (c.clear.ensures.changes faithful)
+    (outputs_in_execution task (F.contents c.clear.new.folder) (F.contents c.make_in_full.new.folder) (c.make_in_full.ensures.changes faithful))
 
 pub returns-in_err-run-clause-execution : goal.returns-in_err-run-clause-execution
-returns-in_err-run-clause-execution g c = λ tells kinds registry_of options plan moment given at are_trees due.
+returns-in_err-run-clause-execution g c = λ faithful kinds registry_of options plan moment given at are_trees due.
     let F = g.F.Folder in
     let task = c.args.task.now in
     let start = c.args.folder.now in
     let then = c.clear.new.folder in
     let now = c.make_in_full.new.folder in
     let memory = moment.world.memory in
-    let cleared = c.clear.ensures.cleared tells given.tears memory at.records (none_read (recalled memory task.path) c.args.was_read at.read) in
+    let cleared = c.clear.ensures.cleared faithful given.tears memory at.records (none_read (recalled memory task.path) c.args.was_read at.read) in
     let is_cleared : IsCleared task memory (F.contents start) (F.contents then) =
     subst (λ (r : Result (Unit {0}) Fault). HasCleared task c.args.was_read memory (F.may_leave start) (F.failures start) (F.contents start) r (F.failures then) (F.contents then)) c.in_ok-clear.was cleared in
     let p = err_from_is_err_and c.from_residual-in_err-run.result c.from_residual-in_err-run.ensures.1 in
     at_err (λ (r : Result (Unit {0}) Fault). HasExecuted (setting_with kinds registry_of (F.may_leave start)) options plan task moment (report_of task r c.make_in_full.new.lines) (F.contents start) (F.failures now) (F.contents now))
     c.from_residual-in_err-run.result p.0 c.in_err-run.field-0.0 p.1 p.2
-    (running_failed kinds registry_of (F.may_leave start) options plan task c.args.was_read moment (F.contents start) (F.failures start) c.requires.buildable.not_own c.requires.apart at due
+    (running_failed kinds registry_of (F.may_leave start) options plan task c.args.was_read moment (F.contents start) (F.failures start) c.requires.buildable.not_own c.requires.separate at due
     (F.may_leave then) c.make_in_full.new.lines (F.failures then) (F.contents then) (F.contents now) c.args.inputs.trees c.in_ok-changes.changes
-    c.clear.ensures.asks.tearing c.clear.ensures.asks.count is_cleared
-    are_trees (c.in_ok-changes.ensures c.args.inputs.trees (c.as_slice.ensures.value ∙ c.requires.digests) ∙ ap (added_of task.files) are_trees ∙ all_of (F.contents start).files task.files) (c.make_in_full.ensures.changes tells)
-    (returns-in_err-run-clause-changes g c tells) c.in_err-run.field-0.0 (F.failures now) c.make_in_full.ensures.asks.count
-    (λ place e. c.make_in_full.ensures.blamed place (c.in_err-run.was ∙ ap Err e)) (c.in_err-run.ensures.err tells kinds given.agrees))
+    c.clear.ensures.requests.tearing c.clear.ensures.requests.count is_cleared
+    are_trees (c.in_ok-changes.ensures c.args.inputs.trees (c.as_slice.ensures.value ∙ c.requires.digests) ∙ ap (added_of task.files) are_trees ∙ all_of (F.contents start).files task.files) (c.make_in_full.ensures.changes faithful)
+    (returns-in_err-run-clause-changes g c faithful) c.in_err-run.field-0.0 (F.failures now) c.make_in_full.ensures.requests.count
+    (λ place e. c.make_in_full.ensures.blamed place (c.in_err-run.was ∙ ap Err e)) (c.in_err-run.ensures.err faithful kinds given.agrees))
 
 pub returns-clause-changes : goal.returns-clause-changes
-returns-clause-changes g c = λ tells.
+returns-clause-changes g c = λ faithful.
     let F = g.F.Folder in
     let task = c.args.task.now in
     changes_chain (is_of_execution task) (F.contents c.args.folder.now) (F.contents c.make_in_full.new.folder) (F.contents c.remember.new.folder)
     (changes_chain (is_of_execution task) (F.contents c.args.folder.now) (F.contents c.clear.new.folder) (F.contents c.make_in_full.new.folder)
-    (c.clear.ensures.changes tells)
-    (outputs_in_execution task (F.contents c.clear.new.folder) (F.contents c.make_in_full.new.folder) (c.make_in_full.ensures.changes tells)))
-    (record_in_execution task (F.contents c.make_in_full.new.folder) (F.contents c.remember.new.folder) (c.remember.ensures.changes tells))
+    (c.clear.ensures.changes faithful)
+    (outputs_in_execution task (F.contents c.clear.new.folder) (F.contents c.make_in_full.new.folder) (c.make_in_full.ensures.changes faithful)))
+    (record_in_execution task (F.contents c.make_in_full.new.folder) (F.contents c.remember.new.folder) (c.remember.ensures.changes faithful))
 
 pub returns-clause-execution : goal.returns-clause-execution
-returns-clause-execution g c = λ tells kinds registry_of options plan moment given at are_trees due.
+returns-clause-execution g c = λ faithful kinds registry_of options plan moment given at are_trees due.
     let F = g.F.Folder in
     let task = c.args.task.now in
     let start = c.args.folder.now in
@@ -109,33 +109,33 @@ returns-clause-execution g c = λ tells kinds registry_of options plan moment gi
     let ran = c.make_in_full.new.folder in
     let now = c.remember.new.folder in
     let memory = moment.world.memory in
-    let cleared = c.clear.ensures.cleared tells given.tears memory at.records (none_read (recalled memory task.path) c.args.was_read at.read) in
+    let cleared = c.clear.ensures.cleared faithful given.tears memory at.records (none_read (recalled memory task.path) c.args.was_read at.read) in
     let is_cleared : IsCleared task memory (F.contents start) (F.contents then) =
     subst (λ (r : Result (Unit {0}) Fault). HasCleared task c.args.was_read memory (F.may_leave start) (F.failures start) (F.contents start) r (F.failures then) (F.contents then)) c.in_ok-clear.was cleared in
     let changed : ChangesOnly (is_of_execution task) (F.contents start) (F.contents ran) =
     changes_chain (is_of_execution task) (F.contents start) (F.contents then) (F.contents ran)
-    (c.clear.ensures.changes tells)
-    (outputs_in_execution task (F.contents then) (F.contents ran) (c.make_in_full.ensures.changes tells)) in
+    (c.clear.ensures.changes faithful)
+    (outputs_in_execution task (F.contents then) (F.contents ran) (c.make_in_full.ensures.changes faithful)) in
     let reported = c.in_ok-changes.ensures c.args.inputs.trees (c.as_slice.ensures.value ∙ c.requires.digests) ∙ ap (added_of task.files) are_trees ∙ all_of (F.contents start).files task.files in
-    let ended = c.in_ok-run.ensures.ok tells kinds given.agrees in
-    let stands : c.in_ok-run.run' ≡ run_now task c.args.inputs.prints.items (F.contents ran).files =
-    record_stands kinds task c.args.inputs.trees c.args.inputs.prints.items (F.contents ran).files c.in_ok-run.run' (c.in_ok-run.ensures.made kinds given.agrees) c.requires.digests
-    (λ held makes. made_stands kinds task c.args.inputs.trees c.in_ok-changes.changes is_cleared.taken.files c.make_in_full.new.lines (F.contents ran).files held is_cleared.is_folder.in_order
+    let ended = c.in_ok-run.ensures.ok faithful kinds given.agrees in
+    let exists : c.in_ok-run.run' ≡ run_now task c.args.inputs.prints.items (F.contents ran).files =
+    record_exists kinds task c.args.inputs.trees c.args.inputs.prints.items (F.contents ran).files c.in_ok-run.run' (c.in_ok-run.ensures.made kinds given.agrees) c.requires.digests
+    (λ held makes. made_exists kinds task c.args.inputs.trees c.in_ok-changes.changes is_cleared.taken.files c.make_in_full.new.lines (F.contents ran).files held is_cleared.is_folder.in_order
     (subst (λ (rest : Files). EndsWell (course_of kinds task c.args.inputs.trees c.in_ok-changes.changes rest) c.make_in_full.new.lines (F.contents ran).files) is_cleared.emptied ended) makes) in
-    remembering kinds registry_of (F.may_leave start) options plan task c.args.was_read moment (F.contents start) (F.failures start) c.requires.buildable.not_own c.requires.apart at due
+    remembering kinds registry_of (F.may_leave start) options plan task c.args.was_read moment (F.contents start) (F.failures start) c.requires.buildable.not_own c.requires.separate at due
     (F.may_leave then) c.make_in_full.new.lines (F.failures then) (F.contents then) (F.contents ran) c.args.inputs.trees c.in_ok-changes.changes
-    c.clear.ensures.asks.tearing c.clear.ensures.asks.count is_cleared
-    are_trees reported (c.make_in_full.ensures.changes tells) changed
+    c.clear.ensures.requests.tearing c.clear.ensures.requests.count is_cleared
+    are_trees reported (c.make_in_full.ensures.changes faithful) changed
     ended c.args.inputs.prints.items (F.failures ran) (F.failures now) (F.contents now)
     (c.requires.digests ∙ ap digests_in are_trees)
-    c.make_in_full.ensures.asks.count c.remember.ensures.asks.count
-    (changes_chain (is_of_execution task) (F.contents start) (F.contents ran) (F.contents now) changed (record_in_execution task (F.contents ran) (F.contents now) (c.remember.ensures.changes tells)))
-    (ap (λ (folder : Contents). folder.files) (outside_same task.path (F.contents ran) (F.contents now) (c.remember.ensures.changes tells)))
+    c.make_in_full.ensures.requests.count c.remember.ensures.requests.count
+    (changes_chain (is_of_execution task) (F.contents start) (F.contents ran) (F.contents now) changed (record_in_execution task (F.contents ran) (F.contents now) (c.remember.ensures.changes faithful)))
+    (ap (λ (folder : Contents). folder.files) (outside_same task.path (F.contents ran) (F.contents now) (c.remember.ensures.changes faithful)))
     c.remember.result
-    (subst (λ (run : Record). IfErr c.remember.result (IsUnwritten task.path (Some (record_text task.path run)) (F.contents ran).files (F.failures ran) (F.failures now))) stands (c.remember.ensures.err tells))
+    (subst (λ (run : Record). IfErr c.remember.result (IsUnwritten task.path (Some (record_text task.path run)) (F.contents ran).files (F.failures ran) (F.failures now))) exists (c.remember.ensures.err faithful))
     c.remember.ensures.outputs
-    (λ m entry stood of. c.remember.ensures.stands tells (seen_later _ _ (SameTearing-chain _ _ _ c.clear.ensures.asks.tearing c.make_in_full.ensures.asks.tearing) given.tears) m entry stood
-    (subst (λ (run : Record). IsSaidOf run entry) (sym stands) of))
+    (λ m entry existed of. c.remember.ensures.exists faithful (observed_later _ _ (SameTearing-chain _ _ _ c.clear.ensures.requests.tearing c.make_in_full.ensures.requests.tearing) given.tears) m entry existed
+    (subst (λ (run : Record). IsSaidOf run entry) (sym exists) of))
 
 pub returns-in_err-changes-clause-ran : goal.returns-in_err-changes-clause-ran
 returns-in_err-changes-clause-ran g c =

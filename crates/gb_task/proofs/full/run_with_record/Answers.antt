@@ -10,12 +10,12 @@ use Rattle.gb_task.specs.Executing.{HasExecuted, report_of, setting_with}
 use Rattle.gb_task.proofs.Later.{comes_later, turned_before}
 use Rattle.gb_task.proofs.Recorded.{assumed_later}
 use Rattle.gb_task.proofs.Whole.{reading_failed}
-use Rattle.gb_folder.proofs.Asked.{asks_then}
+use Rattle.gb_folder.proofs.Asked.{requests_then}
 use Rattle.gb_task.proofs.Ran.{all_answered}
 use Rattle.gb_task.proofs.full.run_with_record.Goals as goal
 
 pub returns-in_err-inputs-clause-execution : goal.returns-in_err-inputs-clause-execution
-returns-in_err-inputs-clause-execution g c = λ tells kinds registry_of options plan moment given at read due.
+returns-in_err-inputs-clause-execution g c = λ faithful kinds registry_of options plan moment given at read due.
     let F = g.F.Folder in
     let task = c.args.task.now in
     let start = c.args.folder.now in
@@ -23,30 +23,30 @@ returns-in_err-inputs-clause-execution g c = λ tells kinds registry_of options 
     let p = err_from_is_err_and c.from_residual.result c.from_residual.ensures.1 in
     at_err (λ (r : Result (Unit {0}) Fault). HasExecuted (setting_with kinds registry_of (F.may_leave start)) options plan task moment (report_of task r c.args.lines.now) (F.contents start) (F.failures now) (F.contents now))
     c.from_residual.result p.0 c.in_err-inputs.field-0.0 p.1 p.2
-    (reading_failed kinds registry_of (F.may_leave start) options plan task c.args.was_read moment (F.contents start) (F.failures start) c.requires.buildable.not_own c.requires.apart at due
-    c.in_err-inputs.field-0.0 c.args.lines.now (F.failures now) (F.contents now) c.requires.no_lines (c.complete_inputs.ensures.same tells) (c.in_err-inputs.ensures.err tells read)
+    (reading_failed kinds registry_of (F.may_leave start) options plan task c.args.was_read moment (F.contents start) (F.failures start) c.requires.buildable.not_own c.requires.separate at due
+    c.in_err-inputs.field-0.0 c.args.lines.now (F.failures now) (F.contents now) c.requires.no_lines (c.complete_inputs.ensures.same faithful) (c.in_err-inputs.ensures.err faithful read)
     (λ place e. ap (λ b. b || is_output_of task place) (c.complete_inputs.ensures.blamed place (c.in_err-inputs.was ∙ ap Err e))))
 
 pub returns-clause-execution : goal.returns-clause-execution
-returns-clause-execution g c = λ tells kinds registry_of options plan moment given at read due.
+returns-clause-execution g c = λ faithful kinds registry_of options plan moment given at read due.
     let F = g.F.Folder in
     let task = c.args.task.now in
     let start = c.args.folder.now in
     let then = c.complete_inputs.new.folder in
     let now = c.run_on.new.folder in
-    let same : F.contents then ≡ F.contents start = c.complete_inputs.ensures.same tells in
+    let same : F.contents then ≡ F.contents start = c.complete_inputs.ensures.same faithful in
     let later : Moment = record { world = moment.world; outcomes = moment.outcomes; failures = F.failures then } in
     let came = comes_later task c.args.was_read (F.contents start) (F.failures start) moment (F.contents then) (F.failures then) same at in
-    turned_before kinds registry_of (F.may_leave start) (F.may_leave then) c.complete_inputs.ensures.asks.tearing options plan task moment (F.failures then)
-    (subst (λ (n : ℕ). n ≤ F.failures then) (sym at.failures) c.complete_inputs.ensures.asks.count) (report_of task c.run_on.result c.run_on.new.lines) (F.contents start) (F.failures now) (F.contents now) c.run_on.ensures.count
+    turned_before kinds registry_of (F.may_leave start) (F.may_leave then) c.complete_inputs.ensures.requests.tearing options plan task moment (F.failures then)
+    (subst (λ (n : ℕ). n ≤ F.failures then) (sym at.failures) c.complete_inputs.ensures.requests.count) (report_of task c.run_on.result c.run_on.new.lines) (F.contents start) (F.failures now) (F.contents now) c.run_on.ensures.count
     (subst (λ (folder : Contents). HasExecuted (setting_with kinds registry_of (F.may_leave then)) options plan task later (report_of task c.run_on.result c.run_on.new.lines) folder (F.failures now) (F.contents now)) same
-    (c.run_on.ensures.execution tells kinds registry_of options plan later (assumed_later _ _ c.complete_inputs.ensures.asks.tearing given) came
-    (c.in_ok-inputs.ensures.trees tells read ∙ ap (λ (folder : Contents). trees_of task folder.files) (sym same)) due))
+    (c.run_on.ensures.execution faithful kinds registry_of options plan later (assumed_later _ _ c.complete_inputs.ensures.requests.tearing given) came
+    (c.in_ok-inputs.ensures.trees faithful read ∙ ap (λ (folder : Contents). trees_of task folder.files) (sym same)) due))
 
 pub returns-in_err-inputs-clause-ran : goal.returns-in_err-inputs-clause-ran
 returns-in_err-inputs-clause-ran g c = λ first before inputs.
     let p = err_from_is_err_and c.from_residual.result c.from_residual.ensures.1 in
-    inl (asks_then before c.complete_inputs.ensures.asks, c.requires.no_lines, p.0, p.1)
+    inl (requests_then before c.complete_inputs.ensures.requests, c.requires.no_lines, p.0, p.1)
 
 pub returns-clause-ran : goal.returns-clause-ran
 returns-clause-ran g c = λ first before inputs.
@@ -56,13 +56,13 @@ returns-clause-ran g c = λ first before inputs.
       c.in_ok-inputs.inputs.trees,
       c.complete_inputs.new.folder,
       record {
-        asks = asks_then before c.complete_inputs.ensures.asks;
+        requests = requests_then before c.complete_inputs.ensures.requests;
         inputs = c.in_ok-inputs.ensures.answered first before inputs;
         named = c.in_ok-inputs.ensures.named;
       },
       (
         ran.0,
-        all_answered F.failures F.may_leave F.asked F.tells F.contents F.device g.met.F.Folder.said ran.0 c.complete_inputs.new.folder c.run_on.new.folder ran.1,
+        all_answered F.failures F.may_leave F.allowed F.faithful F.contents F.device g.met.F.Folder.said ran.0 c.complete_inputs.new.folder c.run_on.new.folder ran.1,
         ran.2,
       ),
     )

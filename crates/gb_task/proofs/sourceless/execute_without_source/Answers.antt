@@ -12,18 +12,18 @@ pub returns-clause-outcome : goal.returns-clause-outcome
 returns-clause-outcome g c = (c.clear-cleared.result, c.outcome_of.ensures)
 
 pub returns-clause-execution : goal.returns-clause-execution
-returns-clause-execution g c = λ tells kinds registry_of options plan moment seen at case.
+returns-clause-execution g c = λ faithful kinds registry_of options plan moment observed at case.
     let F = g.F.Folder in
     let task = c.args.task.now in
     let start = c.args.folder.now in
     let now = c.clear-cleared.new.folder in
-    let asked = c.clear-cleared.ensures in
+    let allowed = c.clear-cleared.ensures in
     let acts : not c.is_empty-has_actions.result ≡ not (is_empty task.actions) = search rules in
     subst (λ (report : TaskReport). HasExecuted (setting_with kinds registry_of (F.may_leave start)) options plan task moment report (F.contents start) (F.failures now) (F.contents now))
     (sym (same_report _ _ _ _ _ _ _ _ c.requires.path c.outcome_of.ensures acts c.new.ensures))
     (cleared_execution kinds registry_of (F.may_leave start) options plan task c.args.was_read moment (F.contents start) (F.failures start) c.requires.not_own at case
-    (F.failures start) (F.failures now) (F.contents now) (omega arith) asked.asks.count (asked.changes tells) c.clear-cleared.result asked.blamed
-    (asked.cleared tells seen moment.world.memory at.records (none_read (recalled moment.world.memory task.path) c.args.was_read at.read)))
+    (F.failures start) (F.failures now) (F.contents now) (omega arith) allowed.requests.count (allowed.changes faithful) c.clear-cleared.result allowed.blamed
+    (allowed.cleared faithful observed moment.world.memory at.records (none_read (recalled moment.world.memory task.path) c.args.was_read at.read)))
 
 pub returns-clause-calls : goal.returns-clause-calls
 returns-clause-calls g c =

@@ -27,11 +27,11 @@ loop-at-preserved c =
       reported =
           ap (λ changes. changes ++ changes_between (drop (old.at + n.0) before) (drop (old.to + n.1) after)) c.in_ok-order.ensures.reported
           ∙ append_assoc old.changes (reported (byte_order a.0 b.0) a b) (changes_between (drop (old.at + n.0) before) (drop (old.to + n.1) after))
-          ∙ ap (λ changes. old.changes ++ changes) turn.tells
+          ∙ ap (λ changes. old.changes ++ changes) turn.faithful
           ∙ old.invariant.reported;
     }
 
-all_reported : (c : goal.In_ok-tell_added) → c.tell_added.new.changes ≡ changes_between c.args.old.now.1 c.args.new.now.1
+all_reported : (c : goal.In_ok-report_added) → c.report_added.new.changes ≡ changes_between c.args.old.now.1 c.args.new.now.1
 all_reported c =
     let before = c.as_slice-before.result.now in
     let after = c.as_slice-after.result.now in
@@ -42,8 +42,8 @@ all_reported c =
       | then-loop-at-test+else-to-after w ↦ inr w.if-to-after.false
       | else-loop-at-test w ↦ inl w.loop-at-test.false
     ] in
-    c.in_ok-tell_added.ensures
-    ∙ ap (λ changes. changes ++ added) c.in_ok-tell_removed.ensures
+    c.in_ok-report_added.ensures
+    ∙ ap (λ changes. changes ++ added) c.in_ok-report_removed.ensures
     ∙ append_assoc old.changes removed added
     ∙ ap (λ changes. old.changes ++ changes) (rest_reported before after old.at old.to over old.invariant.before old.invariant.after)
     ∙ old.invariant.reported
@@ -54,8 +54,8 @@ pub returns-clause-changes : goal.returns-clause-changes
 returns-clause-changes c = all_reported c
 
 pub returns-clause-exact : goal.returns-clause-exact
-returns-clause-exact c = λ before after is_before is_after apart.
+returns-clause-exact c = λ before after is_before is_after separate.
     all_reported c
     ∙ ap (λ tree. changes_between tree c.args.new.now.1) is_before
     ∙ ap (λ tree. changes_between (digests_of before) tree) is_after
-    ∙ same_changes before after apart
+    ∙ same_changes before after separate

@@ -1,9 +1,9 @@
 use Rattle.std.proofs.Common.{◌≡◌, IsTrue, length, map, take}
 use Rattle.std.specs.List.{AllByRecursion}
-use Rattle.gb_folder.specs.Calls.{Asks, no_change}
-use Rattle.gb_tree.specs.Answered.{IsTreeRead, WereSeen}
+use Rattle.gb_folder.specs.Calls.{Requests, no_change}
+use Rattle.gb_tree.specs.Answered.{IsTreeRead, WereObserved}
 use Rattle.gb_tree.specs.Prints.{digests_of}
-use Rattle.gb_tree.specs.Reading.{IsSeenIn, entries_seen}
+use Rattle.gb_tree.specs.Reading.{IsObservedIn, entries_observed}
 use Rattle.gb_tree.specs.Tree.{contents_at}
 use Rattle.gb_tree.proofs.completing.complete_all.Given as goal
 
@@ -11,16 +11,16 @@ abbrev pub invariant-loop-one : goal.invariant-loop-one
 invariant-loop-one g l =
     let contents = g.F.Folder.contents in
     let old = (contents l.fn.folder).files in
-    let done = take (length l.yielded) l.fn.seen.items in
+    let done = take (length l.yielded) l.fn.observed.items in
     record {
       can_next : (goal.iterator-loop-one g).can_next l.one-iterator;
       is_finite : (goal.iterator-loop-one g).is_finite l.one-iterator;
-      asks : Asks g.F.Folder.failures g.F.Folder.may_leave g.F.Folder.asked no_change l.fn.folder l.folder;
-      same : IsTrue g.F.Folder.tells → contents l.folder ≡ contents l.fn.folder;
+      requests : Requests g.F.Folder.failures g.F.Folder.may_leave g.F.Folder.allowed no_change l.fn.folder l.folder;
+      same : IsTrue g.F.Folder.faithful → contents l.folder ≡ contents l.fn.folder;
       digests : l.digests.items ≡ digests_of l.files;
       paths : map (λ file. file.0) l.files ≡ map (λ file. file.path) done;
-      answered : (first : _) → Asks g.F.Folder.failures g.F.Folder.may_leave g.F.Folder.asked no_change first l.fn.folder
-          → WereSeen g.F.Folder.failures g.F.Folder.may_leave g.F.Folder.asked first l.fn.folder l.fn.seen.items
-          → IsTreeRead g.F.Folder.failures g.F.Folder.may_leave g.F.Folder.asked first l.folder (entries_seen done) l.files;
-      read : IsTrue g.F.Folder.tells → AllByRecursion (IsSeenIn old) l.fn.seen.items → l.files ≡ contents_at old (entries_seen done);
+      answered : (first : _) → Requests g.F.Folder.failures g.F.Folder.may_leave g.F.Folder.allowed no_change first l.fn.folder
+          → WereObserved g.F.Folder.failures g.F.Folder.may_leave g.F.Folder.allowed first l.fn.folder l.fn.observed.items
+          → IsTreeRead g.F.Folder.failures g.F.Folder.may_leave g.F.Folder.allowed first l.folder (entries_observed done) l.files;
+      read : IsTrue g.F.Folder.faithful → AllByRecursion (IsObservedIn old) l.fn.observed.items → l.files ≡ contents_at old (entries_observed done);
     }

@@ -11,7 +11,7 @@ use Rattle.gb_tree.specs.Rising.{IsFrom, IsRising}
 use Rattle.gb_tree.specs.Tree.{Entries}
 use Rattle.gb_tree.proofs.Doubles.{from_here, rising_drop, strictly_sorted}
 use Rattle.gb_tree.proofs.Loops.{step_here}
-use Rattle.gb_tree.proofs.Refused.{front_first, none_first}
+use Rattle.gb_tree.proofs.Refused.{prefix_first, none_first}
 use Rattle.gb_tree.proofs.entries.check_doubled.Goals as goal
 
 pub first_under-requires-clause-rising : goal.first_under-requires-clause-rising
@@ -40,7 +40,7 @@ returns-in-Some-clause-err c =
     inr (
       other,
       sym c.loop-index.invariant.doubled ∙ step_here (λ es. first_of (doubled (paths_of es))) entries i e c.loop-index-test.true c.index-entries-index.is
-          ∙ front_first (filter (λ other. is_under other e.0) (paths_of rest)) (doubled (paths_of rest)) other first,
+          ∙ prefix_first (filter (λ other. is_under other e.0) (paths_of rest)) (doubled (paths_of rest)) other first,
       ap (λ name. faults.DuplicateInput name c.in_ok-copy-2.field-0) c.in_ok-copy.ensures ∙ ap (faults.DuplicateInput c.args.name.now) c.in_ok-copy-2.ensures,
     )
 

@@ -36,11 +36,11 @@ returns-in_err-entries-clause-blame g c =
     let p = err_from_is_err_and c.from_residual-in_err-entries.result c.from_residual-in_err-entries.ensures.1 in
     let starts = c.as_slice-2.result.now in
     let roots = c.args.roots.now in
-    blamed_before (λ at. IsTrue (is_under_any (places_of starts) at)) (λ at. IsTrue (is_under_any roots at)) _ _ _ _ c.in_err-entries.field-0.0 p.0 (omega arith) c.in_err-entries.ensures.asks.count p.1 p.2
+    blamed_before (λ at. IsTrue (is_under_any (places_of starts) at)) (λ at. IsTrue (is_under_any roots at)) _ _ _ _ c.in_err-entries.field-0.0 p.0 (omega arith) c.in_err-entries.ensures.requests.count p.1 p.2
     (of_roots c.args.include.now roots starts (these c.args.include.now c.args.roots.now c.as_slice.result.now c.as_slice-2.result.now c.in_ok-starts.starts.items c.as_slice-2.ensures.value c.in_ok-starts.ensures.starts (c.as_slice.ensures.value ∙ c.in_ok-roots.ensures))) c.in_err-entries.ensures.blame
 
 pub returns-in_err-entries-clause-err : goal.returns-in_err-entries-clause-err
-returns-in_err-entries-clause-err g c = λ tells.
+returns-in_err-entries-clause-err g c = λ faithful.
     let p = err_from_is_err_and c.from_residual-in_err-entries.result c.from_residual-in_err-entries.ensures.1 in
     let failures = g.F.Folder.failures in
     let old = g.F.Folder.contents c.args.folder.now in
@@ -49,10 +49,10 @@ returns-in_err-entries-clause-err g c = λ tells.
     let include = c.args.include.now in
     let exclude = c.args.exclude.now in
     at_err (λ r. IfErr r (λ fault. IsRefused (failures c.args.folder.now) (failures c.found_few.new.folder) (entry_faults name c.args.naming roots include exclude old) fault)) c.from_residual-in_err-entries.result p.0 c.in_err-entries.field-0.0 p.1 p.2
-    (found_refused name c.args.naming roots include exclude old c.as_slice-2.result.now (these c.args.include.now c.args.roots.now c.as_slice.result.now c.as_slice-2.result.now c.in_ok-starts.starts.items c.as_slice-2.ensures.value c.in_ok-starts.ensures.starts (c.as_slice.ensures.value ∙ c.in_ok-roots.ensures)) _ _ _ (c.in_err-entries.ensures.err tells))
+    (found_refused name c.args.naming roots include exclude old c.as_slice-2.result.now (these c.args.include.now c.args.roots.now c.as_slice.result.now c.as_slice-2.result.now c.in_ok-starts.starts.items c.as_slice-2.ensures.value c.in_ok-starts.ensures.starts (c.as_slice.ensures.value ∙ c.in_ok-roots.ensures)) _ _ _ (c.in_err-entries.ensures.err faithful))
 
 pub returns-in_err-check_doubled-clause-err : goal.returns-in_err-check_doubled-clause-err
-returns-in_err-check_doubled-clause-err g c = λ tells.
+returns-in_err-check_doubled-clause-err g c = λ faithful.
     let p = err_from_is_err_and c.from_residual-in_err-check_doubled.result c.from_residual-in_err-check_doubled.ensures.1 in
     let failures = g.F.Folder.failures in
     let old = g.F.Folder.contents c.args.folder.now in
@@ -68,7 +68,7 @@ returns-in_err-check_doubled-clause-err g c = λ tells.
       | inl none ↦ inl (inl none)
       | inr found ↦ inr (doubled_first name c.args.naming roots include exclude old starts same sorted found.0 _
           (only_doubled name c.args.naming roots include exclude old starts same c.in_ok-entries.entries.items sorted
-          (c.in_ok-entries.ensures.none_odd tells) (c.in_ok-entries.ensures.found tells) c.in_ok-entries.ensures.few (c.as_slice-3.ensures.value ∙ c.sort.ensures.sorted))
+          (c.in_ok-entries.ensures.none_special faithful) (c.in_ok-entries.ensures.found faithful) c.in_ok-entries.ensures.few (c.as_slice-3.ensures.value ∙ c.sort.ensures.sorted))
           found.1 found.2)
     ])
 
@@ -90,17 +90,17 @@ returns-clause-listed g c =
     let same = these c.args.include.now c.args.roots.now c.as_slice.result.now c.as_slice-2.result.now c.in_ok-starts.starts.items c.as_slice-2.ensures.value c.in_ok-starts.ensures.starts (c.as_slice.ensures.value ∙ c.in_ok-roots.ensures) in
     record {
       listings = reported.0;
-      listed = subst (λ (starts : List (Place × Place)). AllZip (IsStartListed g.F.Folder.failures g.F.Folder.may_leave g.F.Folder.asked c.args.folder.now c.found_few.new.folder) starts reported.0) same reported.1;
+      listed = subst (λ (starts : List (Place × Place)). AllZip (IsStartListed g.F.Folder.failures g.F.Folder.may_leave g.F.Folder.allowed c.args.folder.now c.found_few.new.folder) starts reported.0) same reported.1;
       are = c.sort.ensures.sorted ∙ ap in_order (reported.2 ∙ ap (λ (starts : List (Place × Place)). listed_in naming include exclude (zip starts reported.0)) same);
     }
 
 pub returns-clause-entries : goal.returns-clause-entries
-returns-clause-entries g c = λ tells.
-    c.sort.ensures.sorted ∙ ap in_order (c.in_ok-entries.ensures.found tells)
+returns-clause-entries g c = λ faithful.
+    c.sort.ensures.sorted ∙ ap in_order (c.in_ok-entries.ensures.found faithful)
     ∙ in_their_order c.args.name.now c.args.naming c.args.roots.now c.args.include.now c.args.exclude.now (g.F.Folder.contents c.args.folder.now) c.as_slice-2.result.now (these c.args.include.now c.args.roots.now c.as_slice.result.now c.as_slice-2.result.now c.in_ok-starts.starts.items c.as_slice-2.ensures.value c.in_ok-starts.ensures.starts (c.as_slice.ensures.value ∙ c.in_ok-roots.ensures))
 
 pub returns-clause-fit : goal.returns-clause-fit
-returns-clause-fit g c = λ tells.
+returns-clause-fit g c = λ faithful.
     only_doubled c.args.name.now c.args.naming c.args.roots.now c.args.include.now c.args.exclude.now (g.F.Folder.contents c.args.folder.now) c.as_slice-2.result.now (these c.args.include.now c.args.roots.now c.as_slice.result.now c.as_slice-2.result.now c.in_ok-starts.starts.items c.as_slice-2.ensures.value c.in_ok-starts.ensures.starts (c.as_slice.ensures.value ∙ c.in_ok-roots.ensures))
-    c.in_ok-entries.entries.items c.as_slice-3.result.now (c.in_ok-entries.ensures.none_odd tells) (c.in_ok-entries.ensures.found tells) c.in_ok-entries.ensures.few (c.as_slice-3.ensures.value ∙ c.sort.ensures.sorted)
+    c.in_ok-entries.entries.items c.as_slice-3.result.now (c.in_ok-entries.ensures.none_special faithful) (c.in_ok-entries.ensures.found faithful) c.in_ok-entries.ensures.few (c.as_slice-3.ensures.value ∙ c.sort.ensures.sorted)
     ∙ ap (map (faults.DuplicateInput c.args.name.now)) c.in_ok-check_doubled.ensures.fit

@@ -14,11 +14,11 @@ returns-in-Some c =
     let later = c.args.later.now in
     let path = c.args.path.now in
     let n = c.count_before-index.result in
-    let front = c.as_str.ensures.value ∙ c.in_ok-front.ensures in
+    let prefix = c.as_str.ensures.value ∙ c.in_ok-prefix.ensures in
     let there =
     chosen_there path later _ n c.in-Some.field-0.now
-    (subst (λ (text : List ℕ). AllByRecursion (λ entry. is_lt (byte_order entry.0 text) ≡ true) (take n later)) front c.count_before-index.ensures.before)
-    (subst (λ (text : List ℕ). IsFrom text (drop n later)) front c.count_before-index.ensures.from)
+    (subst (λ (text : List ℕ). AllByRecursion (λ entry. is_lt (byte_order entry.0 text) ≡ true) (take n later)) prefix c.count_before-index.ensures.before)
+    (subst (λ (text : List ℕ). IsFrom text (drop n later)) prefix c.count_before-index.ensures.from)
     c.requires (take_rest later n) (sym c.first.ensures.value ∙ ap option_copied c.in-Some.is) in
     sym (there ∙ ap (λ b. cond b (Some c.in-Some.field-0.now.0) None) (sym c.is_beneath.ensures ∙ c.if-is_beneath.true))
 
@@ -27,9 +27,9 @@ returns c =
     let later = c.args.later.now in
     let path = c.args.path.now in
     let n = c.count_before-index.result in
-    let front = c.as_str.ensures.value ∙ c.in_ok-front.ensures in
-    let before = subst (λ (text : List ℕ). AllByRecursion (λ entry. is_lt (byte_order entry.0 text) ≡ true) (take n later)) front c.count_before-index.ensures.before in
-    let from = subst (λ (text : List ℕ). IsFrom text (drop n later)) front c.count_before-index.ensures.from in
+    let prefix = c.as_str.ensures.value ∙ c.in_ok-prefix.ensures in
+    let before = subst (λ (text : List ℕ). AllByRecursion (λ entry. is_lt (byte_order entry.0 text) ≡ true) (take n later)) prefix c.count_before-index.ensures.before in
+    let from = subst (λ (text : List ℕ). IsFrom text (drop n later)) prefix c.count_before-index.ensures.from in
     elim c.in_default.branch [
       | in_default-via-in-Some+else-is_beneath w ↦
           let there = chosen_there path later _ n w.in-Some.field-0.now before from c.requires (take_rest later n) (sym c.first.ensures.value ∙ ap option_copied w.in-Some.is) in

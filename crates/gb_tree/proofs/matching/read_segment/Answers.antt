@@ -28,7 +28,7 @@ loop-item-preserved c =
     c.is_double_star.result c.fits_here.result c.over.result c.over.new.self.entered c.over.new.self.waiting
     (omega (arith, turn.0, c.requires, old.invariant.count, old.invariant.size)) (omega (arith, turn.0, old.invariant.count)) at
     c.is_double_star.ensures
-    (c.fits_here.ensures ∙ ap (λ b. b && fits_read segment_matches (option_copied c.args.read) c.in-Some.item.now) c.is_open-here.ensures) c.over.ensures.stands c.over.ensures.entered c.over.ensures.waiting in
+    (c.fits_here.ensures ∙ ap (λ b. b && fits_read segment_matches (option_copied c.args.read) c.in-Some.item.now) c.is_open-here.ensures) c.over.ensures.exists c.over.ensures.entered c.over.ensures.waiting in
     record {
       count = omega (arith, old.invariant.count, length_push old.yielded c.in-Some.item);
       size = length-set old.states old.index c.over.result ∙ old.invariant.size;

@@ -3,7 +3,7 @@ use Rattle.std.proofs.lemmas.List.{drop-drop}
 use Rattle.gb_core.specs.Place.{is_rel_path}
 use Rattle.gb_tree.specs.Tree.{path_from}
 use Rattle.gb_tree.proofs.Rest.{rest_is_path}
-use Rattle.gb_tree.proofs.Under.{under_parts, after_root, has_front}
+use Rattle.gb_tree.proofs.Under.{under_parts, after_root, has_prefix}
 use Rattle.gb_tree.proofs.path.text_from.Goals as goal
 
 pub past_slash-requires : goal.past_slash-requires
@@ -26,5 +26,5 @@ returns-in-Some-clause-good c =
 
 pub returns-in-None : goal.returns-in-None
 returns-in-None c =
-    let front = has_front c.args.place.now c.args.root.now (under_parts c.args.place.now c.args.root.now c.requires.under) in
-    absurd (c.in-None.ensures.cases front.0 front.1)
+    let prefix = has_prefix c.args.place.now c.args.root.now (under_parts c.args.place.now c.args.root.now c.requires.under) in
+    absurd (c.in-None.ensures.cases prefix.0 prefix.1)

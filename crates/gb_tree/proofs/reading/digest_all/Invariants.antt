@@ -3,7 +3,7 @@ use Rattle.gb_core.specs.Lists.{first_of}
 use Rattle.gb_tree.specs.Prints.{digests_of}
 use Rattle.gb_tree.specs.Property.{paths_of}
 use Rattle.gb_tree.specs.Tree.{contents_at, too_large}
-use Rattle.gb_folder.specs.Calls.{Asks, no_change}
+use Rattle.gb_folder.specs.Calls.{Requests, no_change}
 use Rattle.gb_tree.proofs.reading.digest_all.Given as goal
 
 abbrev pub invariant-loop-path : goal.invariant-loop-path
@@ -11,9 +11,9 @@ invariant-loop-path g l =
     let contents = g.F.Folder.contents in
     let old = (contents l.fn.folder).files in
     record {
-      asks : Asks g.F.Folder.failures g.F.Folder.may_leave g.F.Folder.asked no_change l.fn.folder l.folder;
-      same : IsTrue g.F.Folder.tells → contents l.folder ≡ contents l.fn.folder;
+      requests : Requests g.F.Folder.failures g.F.Folder.may_leave g.F.Folder.allowed no_change l.fn.folder l.folder;
+      same : IsTrue g.F.Folder.faithful → contents l.folder ≡ contents l.fn.folder;
       paths : map (λ entry. entry.0) l.digests.items ≡ paths_of (take l.path-index l.entries);
-      digested : IsTrue g.F.Folder.tells → l.digests.items ≡ digests_of (contents_at old (take l.path-index l.entries));
-      large : IsTrue g.F.Folder.tells → first_of (too_large old (drop l.path-index l.entries)) ≡ first_of (too_large old l.entries);
+      digested : IsTrue g.F.Folder.faithful → l.digests.items ≡ digests_of (contents_at old (take l.path-index l.entries));
+      large : IsTrue g.F.Folder.faithful → first_of (too_large old (drop l.path-index l.entries)) ≡ first_of (too_large old l.entries);
     }

@@ -5,23 +5,23 @@ use Rattle.sha2.specs.Sha256.{sha256}
 use Rattle.gb_tree.specs.declared.fault.TreeFault.TheVariants as faults
 use Rattle.gb_tree.specs.Tree.{bytes_at}
 use Rattle.gb_tree.proofs.Pieces.{same_piece, one_more, last_piece, whole_digest, within_file, nothing_after, something_after, not_large, is_too_large, is_none, is_some}
-use Rattle.gb_folder.proofs.Asked.{asks_then}
+use Rattle.gb_folder.proofs.Asked.{requests_then}
 use Rattle.gb_tree.proofs.reading.digest_file.Goals as goal
 
 pub returns-then-len-lt-PIECE-clause-digest : goal.returns-then-len-lt-PIECE-clause-digest
-returns-then-len-lt-PIECE-clause-digest g c = λ tells.
+returns-then-len-lt-PIECE-clause-digest g c = λ faithful.
     let bytes = bytes_at (g.F.Folder.contents c.args.folder.now).files c.args.place.now in
     let old = c.loop-index in
     let at = old.index * 65536 in
-    whole_digest at bytes c.as_slice.result.now _ (c.finalize.ensures _ (c.update.ensures (take at bytes) (old.invariant.held tells)))
-    (c.as_slice.ensures.value ∙ same_piece _ _ c.args.place.now at 65536 _ (old.invariant.same tells) (c.in_ok-piece.ensures.read tells)) (omega (arith, c.as_slice.ensures.len, c.len.ensures, c.if-len-lt-PIECE.true))
+    whole_digest at bytes c.as_slice.result.now _ (c.finalize.ensures _ (c.update.ensures (take at bytes) (old.invariant.held faithful)))
+    (c.as_slice.ensures.value ∙ same_piece _ _ c.args.place.now at 65536 _ (old.invariant.same faithful) (c.in_ok-piece.ensures.read faithful)) (omega (arith, c.as_slice.ensures.len, c.len.ensures, c.if-len-lt-PIECE.true))
 
 pub returns-then-len-lt-PIECE-clause-small : goal.returns-then-len-lt-PIECE-clause-small
-returns-then-len-lt-PIECE-clause-small g c = λ tells.
+returns-then-len-lt-PIECE-clause-small g c = λ faithful.
     let bytes = bytes_at (g.F.Folder.contents c.args.folder.now).files c.args.place.now in
     let old = c.loop-index in
     let at = old.index * 65536 in
-    let end = last_piece at bytes c.in_ok-piece.piece.items (same_piece _ _ c.args.place.now at 65536 _ (old.invariant.same tells) (c.in_ok-piece.ensures.read tells)) (omega (arith, c.len.ensures, c.if-len-lt-PIECE.true)) in
+    let end = last_piece at bytes c.in_ok-piece.piece.items (same_piece _ _ c.args.place.now at 65536 _ (old.invariant.same faithful) (c.in_ok-piece.ensures.read faithful)) (omega (arith, c.len.ensures, c.if-len-lt-PIECE.true)) in
     not_large bytes (omega (arith, end, c.loop-index-test.true))
 
 pub loop-index-preserved : goal.loop-index-preserved
@@ -31,36 +31,36 @@ loop-index-preserved g c =
     let at = old.index * 65536 in
     let next : at + 65536 ≡ (old.index + 1) * 65536 = omega arith in
     record {
-      asks = asks_then old.invariant.asks c.in_ok-piece.ensures.asks;
-      same = λ tells. c.in_ok-piece.ensures.same tells ∙ old.invariant.same tells;
+      requests = requests_then old.invariant.requests c.in_ok-piece.ensures.requests;
+      same = λ faithful. c.in_ok-piece.ensures.same faithful ∙ old.invariant.same faithful;
       most = omega (arith, c.loop-index-test.true);
-      more = λ tells.
-          let far = within_file at bytes c.in_ok-piece.piece.items (old.invariant.more tells) (same_piece _ _ c.args.place.now at 65536 _ (old.invariant.same tells) (c.in_ok-piece.ensures.read tells)) (omega (arith, c.len.ensures, c.if-len-lt-PIECE.false)) in
+      more = λ faithful.
+          let far = within_file at bytes c.in_ok-piece.piece.items (old.invariant.more faithful) (same_piece _ _ c.args.place.now at 65536 _ (old.invariant.same faithful) (c.in_ok-piece.ensures.read faithful)) (omega (arith, c.len.ensures, c.if-len-lt-PIECE.false)) in
           omega (arith, far);
-      held = λ tells.
-          let is = c.as_slice.ensures.value ∙ same_piece _ _ c.args.place.now at 65536 _ (old.invariant.same tells) (c.in_ok-piece.ensures.read tells) in
+      held = λ faithful.
+          let is = c.as_slice.ensures.value ∙ same_piece _ _ c.args.place.now at 65536 _ (old.invariant.same faithful) (c.in_ok-piece.ensures.read faithful) in
           subst (λ (n : ℕ). Holds256 c.update.new.self (take n bytes)) next
-          (subst (λ (held : List ℕ). Holds256 c.update.new.self held) (one_more at bytes c.as_slice.result.now is) (c.update.ensures (take at bytes) (old.invariant.held tells)));
+          (subst (λ (held : List ℕ). Holds256 c.update.new.self held) (one_more at bytes c.as_slice.result.now is) (c.update.ensures (take at bytes) (old.invariant.held faithful)));
     }
 
 pub returns-then-is_empty-clause-digest : goal.returns-then-is_empty-clause-digest
-returns-then-is_empty-clause-digest g c = λ tells.
+returns-then-is_empty-clause-digest g c = λ faithful.
     let bytes = bytes_at (g.F.Folder.contents c.args.folder.now).files c.args.place.now in
     let old = c.loop-index in
     let at : old.index * 65536 ≡ 8388608 = omega (arith, old.invariant.most, c.loop-index-test.false) in
-    let is = c.as_slice-2.ensures.value ∙ same_piece _ _ c.args.place.now 8388608 1 _ (old.invariant.same tells) (c.in_ok-more.ensures.read tells) in
+    let is = c.as_slice-2.ensures.value ∙ same_piece _ _ c.args.place.now 8388608 1 _ (old.invariant.same faithful) (c.in_ok-more.ensures.read faithful) in
     let end = nothing_after 8388608 bytes c.as_slice-2.result.now is (is_none _ c.if-is_empty.ensures) in
-    c.finalize-then-is_empty.ensures (take (old.index * 65536) bytes) (old.invariant.held tells)
+    c.finalize-then-is_empty.ensures (take (old.index * 65536) bytes) (old.invariant.held faithful)
     ∙ ap sha256 (take_all (old.index * 65536) bytes (omega (arith, at, end)))
 
 pub returns-then-is_empty-clause-small : goal.returns-then-is_empty-clause-small
-returns-then-is_empty-clause-small g c = λ tells.
+returns-then-is_empty-clause-small g c = λ faithful.
     let bytes = bytes_at (g.F.Folder.contents c.args.folder.now).files c.args.place.now in
-    let is = c.as_slice-2.ensures.value ∙ same_piece _ _ c.args.place.now 8388608 1 _ (c.loop-index.invariant.same tells) (c.in_ok-more.ensures.read tells) in
+    let is = c.as_slice-2.ensures.value ∙ same_piece _ _ c.args.place.now 8388608 1 _ (c.loop-index.invariant.same faithful) (c.in_ok-more.ensures.read faithful) in
     not_large bytes (nothing_after 8388608 bytes c.as_slice-2.result.now is (is_none _ c.if-is_empty.ensures))
 
 pub returns-clause-err : goal.returns-clause-err
-returns-clause-err g c = λ tells stands.
+returns-clause-err g c = λ faithful exists.
     let bytes = bytes_at (g.F.Folder.contents c.args.folder.now).files c.args.place.now in
-    let is = c.as_slice-2.ensures.value ∙ same_piece _ _ c.args.place.now 8388608 1 _ (c.loop-index.invariant.same tells) (c.in_ok-more.ensures.read tells) in
+    let is = c.as_slice-2.ensures.value ∙ same_piece _ _ c.args.place.now 8388608 1 _ (c.loop-index.invariant.same faithful) (c.in_ok-more.ensures.read faithful) in
     inr (is_too_large bytes (something_after 8388608 bytes c.as_slice-2.result.now is (is_some _ c.if-is_empty.ensures)), ap faults.TooLarge c.in_ok-copy.ensures)

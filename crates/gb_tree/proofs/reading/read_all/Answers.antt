@@ -5,7 +5,7 @@ use Rattle.std.specs.FinMap.Entries.{put}
 use Rattle.gb_core.specs.Lists.{byte_order, first_of}
 use Rattle.gb_tree.specs.declared.fault.TreeFault.TheVariants as faults
 use Rattle.gb_tree.specs.Tree.{bytes_at, is_among, is_large, too_large}
-use Rattle.gb_folder.proofs.Asked.{asks_then}
+use Rattle.gb_folder.proofs.Asked.{requests_then}
 use Rattle.gb_tree.proofs.Blame.{at_entry, blamed_before}
 use Rattle.gb_tree.proofs.Loops.{step_here}
 use Rattle.gb_tree.proofs.InOrder.{file_more}
@@ -22,18 +22,18 @@ loop-path-preserved g c =
     let within = c.loop-path-test.true in
     let is = c.loop-path-item.is in
     record {
-      asks = asks_then old.invariant.asks c.read_file.ensures.asks;
-      same = λ tells. c.read_file.ensures.same tells ∙ old.invariant.same tells;
-      read = λ tells.
+      requests = requests_then old.invariant.requests c.read_file.ensures.requests;
+      same = λ faithful. c.read_file.ensures.same faithful ∙ old.invariant.same faithful;
+      read = λ faithful.
           c.in_ok-insert.ensures.ok
           ∙ ap (λ path. put byte_order path c.in_ok-bytes.bytes old.files) c.in_ok-copy.ensures
-          ∙ ap (λ bytes. put byte_order e.0 bytes old.files) (c.in_ok-bytes.ensures.read tells ∙ ap (λ now. bytes_at now.files e.1) (old.invariant.same tells))
-          ∙ ap (put byte_order e.0 (bytes_at files e.1)) (old.invariant.read tells)
+          ∙ ap (λ bytes. put byte_order e.0 bytes old.files) (c.in_ok-bytes.ensures.read faithful ∙ ap (λ now. bytes_at now.files e.1) (old.invariant.same faithful))
+          ∙ ap (put byte_order e.0 (bytes_at files e.1)) (old.invariant.read faithful)
           ∙ file_more files entries i e within is c.requires;
-      large = λ tells.
-          let small = ap (λ now. is_large now.files e.1) (sym (old.invariant.same tells)) ∙ c.in_ok-bytes.ensures.small tells in
+      large = λ faithful.
+          let small = ap (λ now. is_large now.files e.1) (sym (old.invariant.same faithful)) ∙ c.in_ok-bytes.ensures.small faithful in
           sym (step_here (λ es. first_of (too_large files es)) entries i e within is ∙ ap (λ b. first_of (map (λ (f : List ℕ × List ℕ). faults.TooLarge f.1) (cond b (e ∷ filter (λ f. is_large files f.1) (drop (i + 1) entries)) (filter (λ f. is_large files f.1) (drop (i + 1) entries))))) small)
-          ∙ old.invariant.large tells;
+          ∙ old.invariant.large faithful;
     }
 
 pub returns-in_err-bytes-clause-blame : goal.returns-in_err-bytes-clause-blame
@@ -41,5 +41,5 @@ returns-in_err-bytes-clause-blame g c =
     let p = err_from_is_err_and c.from_residual.result c.from_residual.ensures.1 in
     let entries = c.args.entries.now in
     let entry = c.loop-path-item.result in
-    blamed_before (λ at. at ≡ entry.1) (λ at. IsTrue (is_among entries at)) _ _ _ _ c.in_err-bytes.field-0.0 p.0 c.loop-path.invariant.asks.count c.in_err-bytes.ensures.asks.count p.1 p.2
+    blamed_before (λ at. at ≡ entry.1) (λ at. IsTrue (is_among entries at)) _ _ _ _ c.in_err-bytes.field-0.0 p.0 c.loop-path.invariant.requests.count c.in_err-bytes.ensures.requests.count p.1 p.2
     (at_entry entries c.loop-path.path-index entry c.loop-path-test.true c.loop-path-item.is) c.in_err-bytes.ensures.blame

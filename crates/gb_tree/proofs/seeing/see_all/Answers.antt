@@ -3,30 +3,30 @@ use Rattle.std.proofs.lemmas.List.{take_all}
 use Rattle.std.specs.List.{filter}
 use Rattle.std.specs.Prelude.{IsSome}
 use Rattle.gb_core.specs.Lists.{first_of}
-use Rattle.gb_folder.proofs.Asked.{asks_nothing, asks_then}
+use Rattle.gb_folder.proofs.Asked.{requests_nothing, requests_then}
 use Rattle.gb_folder.specs.Files.{Contents, Place, file_at}
-use Rattle.gb_tree.specs.Answered.{WasSeen}
-use Rattle.gb_tree.specs.Reading.{IsReading, IsSeenIn, is_digest_of}
+use Rattle.gb_tree.specs.Answered.{WasObserved}
+use Rattle.gb_tree.specs.Reading.{IsReading, IsObservedIn, is_digest_of}
 use Rattle.gb_tree.specs.Tree.{is_among, is_large, too_large}
 use Rattle.gb_tree.specs.Waiting.{file_in, waiting_files}
 use Rattle.gb_tree.specs.declared.fault.TreeFault.TheVariants as faults
-use Rattle.gb_tree.specs.declared.kept.SeenFile.{SeenFile}
-use Rattle.gb_tree.proofs.Answering.{all_seen_longer, seen_longer}
+use Rattle.gb_tree.specs.declared.kept.ScannedFile.{ScannedFile}
+use Rattle.gb_tree.proofs.Answering.{all_observed_longer, observed_longer}
 use Rattle.gb_tree.proofs.Blame.{at_entry, blamed_before}
 use Rattle.gb_tree.proofs.Loops.{step_here}
 use Rattle.gb_tree.proofs.Refused.{machine_before}
-use Rattle.gb_tree.proofs.Seen.{all_at, each_more, placed_more, seen_sorted, test_more}
+use Rattle.gb_tree.proofs.Observed.{all_at, each_more, placed_more, observed_sorted, test_more}
 use Rattle.gb_tree.proofs.seeing.see_all.Goals as goal
 
 pub returns-in-Err-clause-blame : goal.returns-in-Err-clause-blame
 returns-in-Err-clause-blame g c =
     let entries = c.args.entries.now in
     let entry = c.loop-path-item.result in
-    blamed_before (λ at. at ≡ entry.1) (λ at. IsTrue (is_among entries at)) _ _ _ _ c.in-Err.fault _ c.loop-path.invariant.asks.count c.in-Err.ensures.asks.count refl refl
+    blamed_before (λ at. at ≡ entry.1) (λ at. IsTrue (is_among entries at)) _ _ _ _ c.in-Err.fault _ c.loop-path.invariant.requests.count c.in-Err.ensures.requests.count refl refl
     (at_entry entries c.loop-path.path-index entry c.loop-path-test.true c.loop-path-item.is) c.in-Err.ensures.blame
 
 pub returns-in-Err-clause-err : goal.returns-in-Err-clause-err
-returns-in-Err-clause-err g c = λ tells stands.
+returns-in-Err-clause-err g c = λ faithful exists.
     let files = (g.F.Folder.contents c.args.folder.now).files in
     let entries = c.args.entries.now in
     let so_far = c.loop-path.invariant in
@@ -35,12 +35,12 @@ returns-in-Err-clause-err g c = λ tells stands.
     let within = c.loop-path-test.true in
     let is = c.loop-path-item.is in
     let rest = filter (λ f. is_large files f.1) (drop (i + 1) entries) in
-    elim (c.in-Err.ensures.err tells (subst (λ (now : Contents). IsSome (file_at now.files e.1)) (sym (so_far.same tells))
-    (all_at (λ (entry : List ℕ × Place). IsSome (file_at files entry.1)) entries i e within is stands))) [
-      | inl machine ↦ inl (machine_before _ _ _ _ so_far.asks.count c.in-Err.ensures.asks.count machine)
+    elim (c.in-Err.ensures.err faithful (subst (λ (now : Contents). IsSome (file_at now.files e.1)) (sym (so_far.same faithful))
+    (all_at (λ (entry : List ℕ × Place). IsSome (file_at files entry.1)) entries i e within is exists))) [
+      | inl machine ↦ inl (machine_before _ _ _ _ so_far.requests.count c.in-Err.ensures.requests.count machine)
       | inr large ↦
-          let here : is_large files e.1 ≡ true = sym (ap (λ (now : Contents). is_large now.files e.1) (so_far.same tells)) ∙ large.0 in
-          inr (sym (so_far.large tells)
+          let here : is_large files e.1 ≡ true = sym (ap (λ (now : Contents). is_large now.files e.1) (so_far.same faithful)) ∙ large.0 in
+          inr (sym (so_far.large faithful)
           ∙ step_here (λ es. first_of (too_large files es)) entries i e within is
           ∙ ap (λ b. first_of (map (λ (f : List ℕ × List ℕ). faults.TooLarge f.1) (cond b (e ∷ rest) rest))) here
           ∙ ap Some (sym large.1))
@@ -55,32 +55,32 @@ loop-path-preserved g c =
     let i = old.path-index in
     let e = c.loop-path-item.result in
     let x = file_in c.in-Ok.found in
-    let read = old.seen.items ++ waiting_files old.waiting in
+    let read = old.observed.items ++ waiting_files old.waiting in
     let within = c.loop-path-test.true in
     let is = c.loop-path-item.is in
     let added = c.in_ok-waiting.ensures in
-    let is_seen = λ (tells : IsTrue g.F.Folder.tells). subst (λ (now : Contents). IsSeenIn now.files x) (old.invariant.same tells) (c.in-Ok.ensures.seen tells) in
+    let is_observed = λ (faithful : IsTrue g.F.Folder.faithful). subst (λ (now : Contents). IsObservedIn now.files x) (old.invariant.same faithful) (c.in-Ok.ensures.observed faithful) in
     record {
-      asks = asks_then old.invariant.asks c.see_file.ensures.asks;
-      same = λ tells. c.see_file.ensures.same tells ∙ old.invariant.same tells;
-      answered = each_more (WasSeen g.F.Folder.failures g.F.Folder.may_leave g.F.Folder.asked c.args.folder.now c.see_file.new.folder) read _ x added
-          (all_seen_longer (asks_nothing c.args.folder.now) c.see_file.ensures.asks read old.invariant.answered)
-          (seen_longer old.invariant.asks (asks_nothing c.see_file.new.folder) x c.in-Ok.ensures.answered);
+      requests = requests_then old.invariant.requests c.see_file.ensures.requests;
+      same = λ faithful. c.see_file.ensures.same faithful ∙ old.invariant.same faithful;
+      answered = each_more (WasObserved g.F.Folder.failures g.F.Folder.may_leave g.F.Folder.allowed c.args.folder.now c.see_file.new.folder) read _ x added
+          (all_observed_longer (requests_nothing c.args.folder.now) c.see_file.ensures.requests read old.invariant.answered)
+          (observed_longer old.invariant.requests (requests_nothing c.see_file.new.folder) x c.in-Ok.ensures.answered);
       placed = placed_more entries i e read _ x within is added c.in-Ok.ensures.path c.in-Ok.ensures.place old.invariant.placed;
-      digested = test_more (λ (file : SeenFile). is_digest_of file.kept file.digest) read _ x added old.invariant.digested c.in-Ok.ensures.digested;
-      each = λ tells. each_more (IsSeenIn files) read _ x added (old.invariant.each tells) (is_seen tells);
-      large = λ tells.
-          let small : is_large files e.1 ≡ _ = ap (is_large files) (sym c.in-Ok.ensures.place) ∙ (is_seen tells).small in
+      digested = test_more (λ (file : ScannedFile). is_digest_of file.kept file.digest) read _ x added old.invariant.digested c.in-Ok.ensures.digested;
+      each = λ faithful. each_more (IsObservedIn files) read _ x added (old.invariant.each faithful) (is_observed faithful);
+      large = λ faithful.
+          let small : is_large files e.1 ≡ _ = ap (is_large files) (sym c.in-Ok.ensures.place) ∙ (is_observed faithful).small in
           sym (step_here (λ es. first_of (too_large files es)) entries i e within is ∙ ap (λ b. first_of (map (λ (f : List ℕ × List ℕ). faults.TooLarge f.1) (cond b (e ∷ filter (λ f. is_large files f.1) (drop (i + 1) entries)) (filter (λ f. is_large files f.1) (drop (i + 1) entries))))) small)
-          ∙ old.invariant.large tells;
+          ∙ old.invariant.large faithful;
     }
 
 pub returns-clause-reading : goal.returns-clause-reading
 returns-clause-reading g c =
     let entries = c.args.entries.now in
     let end = c.loop-path-test.false in
-    let read = c.loop-path.seen.items ++ waiting_files c.loop-path.waiting in
-    subst (λ (files : List SeenFile). IsReading files) (sym {A = List SeenFile} c.in_ok-digest_waiting.ensures) (record {
-      in_order = seen_sorted entries read (c.loop-path.invariant.placed ∙ take_all c.loop-path.path-index entries (omega (arith, end))) c.requires;
+    let read = c.loop-path.observed.items ++ waiting_files c.loop-path.waiting in
+    subst (λ (files : List ScannedFile). IsReading files) (sym {A = List ScannedFile} c.in_ok-digest_waiting.ensures) (record {
+      in_order = observed_sorted entries read (c.loop-path.invariant.placed ∙ take_all c.loop-path.path-index entries (omega (arith, end))) c.requires;
       digested = c.loop-path.invariant.digested;
     })

@@ -11,7 +11,7 @@ returns c =
       made = made;
       in_order = c.in_ok-made.ensures.ordered;
       is_made = c.in_ok-made.ensures.files;
-      removes = c.in_ok-outdated.ensures ∙ ap (λ stood. made_no_more stood made) (c.standing.ensures
+      removes = c.in_ok-outdated.ensures ∙ ap (λ existed. made_no_more existed made) (c.existing.ensures
           ∙ ap (λ name. unwrap_or (files_of outputs name) []) c.in_ok-output.ensures);
       writes = c.in_ok-renewed.ensures;
       prints = refl;

@@ -3,4 +3,4 @@ use Rattle.gb_with.specs.Anew.{made_no_more}
 use Rattle.gb_with.proofs.anew.outdated.Given as goal
 
 abbrev pub invariant-loop-path : goal.invariant-loop-path
-invariant-loop-path l = l.removes ≡ made_no_more (take l.path-index l.stood) l.made.entries
+invariant-loop-path l = l.removes ≡ made_no_more (take l.path-index l.existed) l.made.entries

@@ -1,5 +1,5 @@
 use Rattle.std.proofs.lemmas.Result.{err_from_is_err_and}
-use Rattle.gb_with.proofs.Shared.{apart-made, handed, once-broken, once-made, shared-made}
+use Rattle.gb_with.proofs.Shared.{separate-made, handed, once-broken, once-made, shared-made}
 use Rattle.gb_with.proofs.beside.beside.Goals as goal
 
 pub returns-in_err-add_firsts-clause-duplicate : goal.returns-in_err-add_firsts-clause-duplicate
@@ -24,7 +24,7 @@ returns-clause-once g c =
     c.in_ok-add_firsts.ensures.ok c.add_seconds.new.table c.in_ok-add_firsts.ensures.new
     c.in_ok-add_seconds.ensures.new c.in_ok-add_seconds.ensures.ok
 
-pub returns-clause-apart : goal.returns-clause-apart
-returns-clause-apart g c =
-    apart-made c.args.first c.args.second c.new-table.result c.add_firsts.new.table c.new-table.ensures
+pub returns-clause-separate : goal.returns-clause-separate
+returns-clause-separate g c =
+    separate-made c.args.first c.args.second c.new-table.result c.add_firsts.new.table c.new-table.ensures
     c.in_ok-add_firsts.ensures.ok c.in_ok-add_seconds.ensures.new

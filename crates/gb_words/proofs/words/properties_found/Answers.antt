@@ -1,7 +1,7 @@
 use Rattle.std.proofs.Common.{codes, refl, subst}
 use Rattle.std.specs.Prelude.{IfOk}
 use Rattle.clap.specs.Matches.{found_of}
-use Rattle.gb_words.specs.Faults.{TellsFirst}
+use Rattle.gb_words.specs.Faults.{ReportsFirst}
 use Rattle.gb_words.specs.Values.{AreLast, values_faults}
 use Rattle.gb_words.proofs.Found.{texts_read}
 use Rattle.gb_words.proofs.words.properties_found.Goals as goal
@@ -14,4 +14,4 @@ returns-clause-last c =
 pub returns-clause-faults : goal.returns-clause-faults
 returns-clause-faults c =
     let same = texts_read (found_of c.args.matches.now) (codes "property") _ _ _ c.get_strs.ensures c.unwrap_or-texts.ensures refl in
-    subst (λ texts. TellsFirst (values_faults texts) c.properties.result) same c.properties.ensures.faults
+    subst (λ texts. ReportsFirst (values_faults texts) c.properties.result) same c.properties.ensures.faults

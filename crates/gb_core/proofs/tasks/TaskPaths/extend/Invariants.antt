@@ -5,4 +5,4 @@ use Rattle.gb_core.proofs.tasks.TaskPaths.extend.Given as goal
 -- the tasks before the iterator's position have been inserted
 abbrev pub invariant-loop-task : goal.invariant-loop-task
 invariant-loop-task l =
-    (front : List (List ℕ)) × (front ++ l.task-iterator ≡ l.more) × (l.self ≡ with_tasks l.initial.self front)
+    (prefix : List (List ℕ)) × (prefix ++ l.task-iterator ≡ l.more) × (l.self ≡ with_tasks l.initial.self prefix)

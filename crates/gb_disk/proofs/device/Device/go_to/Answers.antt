@@ -20,8 +20,8 @@ loop-segment-preserved g c =
     record {
       good = ap (list_all is_segment) more ∙ all_good so_far segment c.loop-segment.invariant.good good;
       path = λ reached.
-          let above : string_bytes c.loop-segment.path ≡ path_in base (join_with_byte 47 so_far) = c.loop-segment.invariant.path (c.in_ok-standing.ensures.above reached) in
-          let steps : string_bytes c.step.new.path ≡ path_in (string_bytes c.loop-segment.path) segment = c.in_ok-standing.ensures.at reached in
+          let above : string_bytes c.loop-segment.path ≡ path_in base (join_with_byte 47 so_far) = c.loop-segment.invariant.path (c.in_ok-entry.ensures.above reached) in
+          let steps : string_bytes c.step.new.path ≡ path_in (string_bytes c.loop-segment.path) segment = c.in_ok-entry.ensures.at reached in
           let before : path_in (string_bytes c.loop-segment.path) segment ≡ path_in (path_in base (join_with_byte 47 so_far)) segment = ap (λ path. path_in path segment) above in
           let after = step_down base segment so_far c.loop-segment.invariant.good good in
           steps ∙ before ∙ after ∙ ap (λ s. path_in base (join_with_byte 47 s)) (sym more);

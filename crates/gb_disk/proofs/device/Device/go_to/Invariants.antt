@@ -10,5 +10,5 @@ invariant-loop-segment g l =
     let so_far = map (λ segment. segment.now) l.yielded in
     record {
       good : IsTrue (list_all is_segment so_far);
-      path : IsTrue (is_reached l.is_made l.standing) → string_bytes l.path ≡ path_in (string_bytes l.self.base) (join_with_byte 47 so_far);
+      path : IsTrue (is_reached l.is_made l.entry) → string_bytes l.path ≡ path_in (string_bytes l.self.base) (join_with_byte 47 so_far);
     }

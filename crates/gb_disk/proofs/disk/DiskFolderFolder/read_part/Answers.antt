@@ -3,5 +3,5 @@ use Rattle.gb_folder.specs.Calls.{ReadsPart, answered}
 use Rattle.gb_folder.proofs.Asked.{one_call}
 use Rattle.gb_disk.proofs.disk.DiskFolderFolder.read_part.Goals as goal
 
-pub returns-clause-asks : goal.returns-clause-asks
-returns-clause-asks g c = one_call (ReadsPart c.args.place.now c.args.at c.args.len (answered c.counted.result)) tt (search rules) (search rules) tt
+pub returns-clause-requests : goal.returns-clause-requests
+returns-clause-requests g c = one_call (ReadsPart c.args.place.now c.args.at c.args.len (answered c.counted.result)) tt (search rules) (search rules) tt

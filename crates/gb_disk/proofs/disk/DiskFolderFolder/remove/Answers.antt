@@ -3,5 +3,5 @@ use Rattle.gb_folder.specs.Calls.{Removes}
 use Rattle.gb_folder.proofs.Asked.{one_call, taking_permitted}
 use Rattle.gb_disk.proofs.disk.DiskFolderFolder.remove.Goals as goal
 
-pub returns-clause-asks : goal.returns-clause-asks
-returns-clause-asks g c = one_call (Removes c.args.place.now c.counted.result) (taking_permitted c.args.place.now) (search rules) (search rules) tt
+pub returns-clause-requests : goal.returns-clause-requests
+returns-clause-requests g c = one_call (Removes c.args.place.now c.counted.result) (taking_permitted c.args.place.now) (search rules) (search rules) tt

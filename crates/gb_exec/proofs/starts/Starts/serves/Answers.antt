@@ -40,14 +40,14 @@ returns-clause-serves c =
       | then-not-self w ↦ ap (λ i. i.is_spread) w.self-inside-is
       | else-not-self w ↦ ap (λ i. i.is_spread) w.self-inside-is ∙ w.if-not-self.false
     ] in
-    let seen : the_view new ≡ c.args.self.now = elim c.if-not-self.branch [
+    let observed : the_view new ≡ c.args.self.now = elim c.if-not-self.branch [
       | then-not-self w ↦ ap the_view w.self-inside-is ∙ c.self.view_is
       | else-not-self w ↦ ap the_view w.self-inside-is ∙ c.self.view_is
     ] in
-    let known : c.args.task < length (rows new.needs.items) = subst (λ p. c.args.task < length p.needs) (sym seen) c.requires.known in
+    let known : c.args.task < length (rows new.needs.items) = subst (λ p. c.args.task < length p.needs) (sym observed) c.requires.known in
     let is : c.index.result.now ≡ mark_at new.serving.items c.args.task =
     c.index.ensures ∙ get_or_default new.serving.items c.args.task c.index.result.now false (omega (arith, known, kept.each_serving)) in
-    subst (λ p. (IsTrue c.index.result.now → Serves p c.args.task) × (Serves p c.args.task → IsTrue c.index.result.now)) seen (
+    subst (λ p. (IsTrue c.index.result.now → Serves p c.args.task) × (Serves p c.args.task → IsTrue c.index.result.now)) observed (
       λ h. (kept.are_serving spread c.args.task).0 (sym is ∙ h),
       λ s. is ∙ (kept.are_serving spread c.args.task).1 s,
     )

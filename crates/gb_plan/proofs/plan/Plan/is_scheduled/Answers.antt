@@ -7,4 +7,4 @@ use Rattle.gb_plan.proofs.plan.Plan.is_scheduled.Goals as goal
 pub returns : goal.returns
 returns c =
     let path = c.args.path.now in
-    subst (λ (plan : List Planned). c.stands.result ≡ is_scheduled_in plan path) c.as_slice.ensures (c.stands.ensures ∙ scheduled_is c.as_slice.result.now path)
+    subst (λ (plan : List Planned). c.exists.result ≡ is_scheduled_in plan path) c.as_slice.ensures (c.exists.ensures ∙ scheduled_is c.as_slice.result.now path)

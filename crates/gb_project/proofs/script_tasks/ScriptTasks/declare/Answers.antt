@@ -2,7 +2,7 @@ use Rattle.std.proofs.Common.{◌≡◌, ap, subst, sym, ◌∙◌}
 use Rattle.std.specs.List.{list_all}
 use Rattle.gb_plan.specs.Graph.{IsRegistry}
 use Rattle.gb_registry.specs.Said.{paths_of}
-use Rattle.gb_registry.specs.Seen.{scripts_in}
+use Rattle.gb_registry.specs.SoFar.{scripts_in}
 use Rattle.gb_registry.specs.Select.{default_tasks}
 use Rattle.gb_registry.specs.Tables.{tables_of}
 use Rattle.gb_project.specs.Named.{is_named}

@@ -11,9 +11,9 @@ pub invariant_of-self : goal.invariant_of-self
 invariant_of-self g c =
     let chosen = c.args.chosen.now in
     let within = subst (λ (h : Held _ _ _ _). c.args.source < length h.nodes) (sym c.self.view_is) c.requires.source in
-    let stands = ap (λ (h : Held _ _ _ _). output_place h.nodes chosen) c.self.view_is ∙ c.requires.stands in
+    let exists = ap (λ (h : Held _ _ _ _). output_place h.nodes chosen) c.self.view_is ∙ c.requires.exists in
     record {
       within = rw c.declare.ensures (changed_within c.self.inside.nodes c.args.number (OfOutput (record { chosen = chosen; declared = Some c.args.source })) c.self.invariant.within within);
-      values = rw c.declare.ensures (values_declared g.T.Transforms.meanings c.self.inside.nodes c.args.number c.self.inside.values.items c.forget.new.states.items c.self.invariant.values c.forget.ensures chosen c.args.source stands);
+      values = rw c.declare.ensures (values_declared g.T.Transforms.meanings c.self.inside.nodes c.args.number c.self.inside.values.items c.forget.new.states.items c.self.invariant.values c.forget.ensures chosen c.args.source exists);
       producers = rw c.clear.ensures.items (none_remembered _);
     }

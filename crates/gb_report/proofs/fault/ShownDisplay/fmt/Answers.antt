@@ -20,6 +20,6 @@ loop-character-preserved g c plain =
 
 pub returns-clause-writes : goal.returns-clause-writes
 returns-clause-writes g c plain ok =
-    let front = YieldsList-end (YieldsList-from_take {s = c.into_iter-character-iterator.result} 80 (YieldsList-from_chars c.args.self.now.text.now (subst IsUtf8 c.as_str.ensures c.as_str.utf8) cc) cc)
+    let prefix = YieldsList-end (YieldsList-from_take {s = c.into_iter-character-iterator.result} 80 (YieldsList-from_chars c.args.self.now.text.now (subst IsUtf8 c.as_str.ensures c.as_str.utf8) cc) cc)
     c.loop-character.yielded c.loop-character.character-iterator c.loop-character.yielded_by c.next.result c.next.new.self c.in-None.is c.next.ensures.steps in
-    has_written_of_eq _ _ _ _ _ (ap (λ (cs : List ℕ). encode_utf8_all (map shown_character cs)) (sym (map-id c.loop-character.yielded) ∙ front.0)) (c.loop-character.invariant plain)
+    has_written_of_eq _ _ _ _ _ (ap (λ (cs : List ℕ). encode_utf8_all (map shown_character cs)) (sym (map-id c.loop-character.yielded) ∙ prefix.0)) (c.loop-character.invariant plain)

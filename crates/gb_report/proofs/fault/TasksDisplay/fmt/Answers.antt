@@ -5,9 +5,9 @@ use Rattle.gb_report.proofs.fault.TasksDisplay.fmt.Goals as goal
 
 pub loop-task-preserved : goal.loop-task-preserved
 loop-task-preserved g c plain =
-    let front = c.loop-task.invariant plain in
+    let prefix = c.loop-task.invariant plain in
     has_written_of_eq _ _ _ _ _ (one_more c.in-Some.others.now c.loop-task.task-index c.task-item.result (search rules) (search rules))
-    (has_written_append _ _ _ _ _ _ front (c.in_ok-write-2.ensures.writes front.plain refl))
+    (has_written_append _ _ _ _ _ _ prefix (c.in_ok-write-2.ensures.writes prefix.plain refl))
 
 pub returns-clause-writes : goal.returns-clause-writes
 returns-clause-writes g c plain is =

@@ -1,0 +1,56 @@
+use Rattle.std.proofs.Common.{◌∙◌, IfErr, IfOk, inl, inr, refl, sym, subst}
+use Rattle.std.proofs.lemmas.Result.{err_from_is_err_and}
+use Rattle.gb_folder.specs.Files.{Contents}
+use Rattle.gb_build.proofs.Readings.{not_read, registered}
+use Rattle.gb_meaning.specs.Edits.{Shown}
+use Rattle.gb_plan.specs.Graph.{IsRegistry, Registry}
+use Rattle.gb_declare.specs.Registered.{registry_said}
+use Rattle.gb_registry.specs.Tables.{tables_of}
+use Rattle.gb_registry.specs.declared.tables.Tables as handed
+use Rattle.gb_ask_command.specs.Reported.{Answer, AreReportedOf, IsAnswerTo, IsNotReported, in_earnest}
+use Rattle.gb_ask_command.proofs.Reported.{answers_it, shows}
+use Rattle.gb_ask_command.proofs.predicting.predict_build.Goals as goal
+
+pub returns-in_err-copied-clause-answer : goal.returns-in_err-copied-clause-answer
+returns-in_err-copied-clause-answer g c =
+    let F = g.F.Folder in
+    let tables = tables_of g.T.Transforms.meanings g.A.Actions.meanings c.args.tables.now in
+    let old : Shown = shows (F.contents c.args.folder.now) (F.failures c.args.folder.now) in
+    let p = err_from_is_err_and c.from_residual.result c.from_residual.ensures.1 in
+    subst (λ (r : Answer). IsAnswerTo tables F.faithful c.args.allowed.now old r old.failures) (sym p.1) (λ faithful. inr (inr (inl p.2)))
+
+pub returns-in_err-configured-clause-answer : goal.returns-in_err-configured-clause-answer
+returns-in_err-configured-clause-answer g c =
+    let F = g.F.Folder in
+    let tables = tables_of g.T.Transforms.meanings g.A.Actions.meanings c.args.tables.now in
+    let old : Shown = shows (F.contents c.args.folder.now) (F.failures c.args.folder.now) in
+    let after = F.failures c.read_registry.new.folder in
+    let residual = c.from_residual-in_err-configured in
+    let p = err_from_is_err_and residual.result residual.ensures.1 in
+    subst (λ (r : Answer). IsAnswerTo tables F.faithful c.args.allowed.now old r after) (sym p.1)
+    (λ faithful. not_read tables old.contents (in_earnest c.args.allowed.now) c.into_vec-given.result.items (c.into_vec-given.ensures ∙ c.in_ok-copied.ensures)
+    c.read_registry.result c.in_err-configured.field-0.0 p.0 old.failures after c.in_err-configured.was p.2 c.read_registry.ensures.blamed (c.in_err-configured.ensures.said faithful)
+    old refl refl)
+
+pub returns-clause-answer : goal.returns-clause-answer
+returns-clause-answer g c =
+    let F = g.F.Folder in
+    let M = g.A.Actions.meanings in
+    let allowed = c.args.allowed.now in
+    let source = c.in_ok-configured.configured.registry in
+    let old : Contents = F.contents c.args.folder.now in
+    let mid : Contents = F.contents c.read_registry.new.folder in
+    let later = F.failures c.read_registry.new.folder in
+    let after = F.failures c.predict_registered.new.folder in
+    let result : Answer = c.predict_registered.result in
+    let same = c.in_ok-configured.ensures.tables in
+    let registry_by : handed.Tables _ _ _ _ _ _ _ → Registry = λ given. registry_said (tables_of g.T.Transforms.meanings M given) source in
+    let tables = tables_of g.T.Transforms.meanings M c.args.tables.now in
+    answers_it tables F.faithful allowed old mid (F.failures c.args.folder.now) later after
+    c.read_registry.ensures.same c.read_registry.ensures.requests.count c.predict_registered.ensures.requests.count (registry_said tables source)
+    (λ faithful. registered tables old c.into_vec-given.result.items allowed.properties (c.into_vec-given.ensures ∙ c.in_ok-copied.ensures) source (c.in_ok-configured.ensures.said faithful))
+    result
+    (subst (λ given. IfOk result (λ reported. IsRegistry (registry_by given))) same c.predict_registered.ensures.sound)
+    (subst (λ (given : handed.Tables _ _ _ _ _ _ _). IfOk result (λ reported. AreReportedOf F.faithful M given.actions (registry_by given) allowed.requested allowed.excluded allowed.options (shows mid later) after reported.items))
+    same c.predict_registered.ensures.reported)
+    (subst (λ given. IfErr result (IsNotReported (registry_by given) allowed.requested allowed.excluded later after)) same c.predict_registered.ensures.not_reported)

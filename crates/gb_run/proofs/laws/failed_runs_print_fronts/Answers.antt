@@ -1,5 +1,0 @@
-use Rattle.gb_run.proofs.FailedRuns.{failed_runs_print_fronts as law}
-use Rattle.gb_run.proofs.laws.failed_runs_print_fronts.Goals as goal
-
-pub returns : goal.returns
-returns c = λ returned. law _

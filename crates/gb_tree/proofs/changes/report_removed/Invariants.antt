@@ -1,0 +1,6 @@
+use Rattle.std.proofs.Common.{◌≡◌, ◌++◌, map, drop}
+use Rattle.gb_action.specs.declared.change.Change.TheVariants.{Removed}
+use Rattle.gb_tree.proofs.changes.report_removed.Given as goal
+
+abbrev pub invariant-loop-path : goal.invariant-loop-path
+invariant-loop-path l = l.changes ++ map (λ entry. Removed entry.0) (drop l.path-index l.old) ≡ l.fn.changes ++ map (λ entry. Removed entry.0) l.old
