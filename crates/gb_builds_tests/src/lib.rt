@@ -32,13 +32,13 @@ mod noting;
 #[cfg(test)]
 mod offering;
 #[cfg(test)]
+mod predicting;
+#[cfg(test)]
 mod printing;
 #[cfg(test)]
 mod site;
 #[cfg(test)]
 mod stopping;
-#[cfg(test)]
-mod predicting;
 #[cfg(test)]
 mod versions;
 #[cfg(test)]

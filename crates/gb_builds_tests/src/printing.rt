@@ -172,7 +172,10 @@ fn observed_at_flushes<A: Actions, T: Transforms>(
     });
     let words = Ok(words_of(alloc, "a b")?);
     let status = run(alloc, folder, words, &mut page, tables);
-    let Flushed { written: _, observed } = page.into_writer();
+    let Flushed {
+        written: _,
+        observed,
+    } = page.into_writer();
     match status {
         Some(0) => Ok(observed),
         _ => Err(Fail::new("another status")),
@@ -194,7 +197,10 @@ fn is_observed<A: Actions, T: Transforms>(
 }
 
 /// Fails if a first build is not flushed part by part, or a later one not at once.
-fn are_observed<A: Actions, T: Transforms>(alloc: Global, tables: &Tables<A, T>) -> Result<(), Fail> {
+fn are_observed<A: Actions, T: Transforms>(
+    alloc: Global,
+    tables: &Tables<A, T>,
+) -> Result<(), Fail> {
     let mut folder = laid_out(alloc)?;
     is_observed(alloc, &mut folder, tables, &[10, 20, MADE.len()])?;
     is_observed(alloc, &mut folder, tables, &[KEPT.len()])

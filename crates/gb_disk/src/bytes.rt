@@ -3,8 +3,8 @@ ghost use Rattle.std.specs.Prelude.{◌≤◌, length, IfOk, IfErr, IfSome};
 ghost use Rattle.gb_disk.specs.Disk.{IsOfMachine};
 
 use crate::device::Device;
-use crate::span::Span;
 use crate::entry::FileInfo;
+use crate::span::Span;
 use gb_folder::folder::FolderFault;
 use std::alloc::Global;
 use std::fs::{self, Files, OpenFile};

@@ -3,8 +3,8 @@ ghost use Rattle.std.specs.Prelude.{◌≡◌, ℕ, List, IfOk, IfErr, IsTrue, O
 ghost use Rattle.gb_disk.specs.Disk.{IsOfMachine, aside, path_in};
 
 use crate::device::Device;
+use crate::entry::{Entry, entry_at, fault_of};
 use crate::path::{go_down, lead_to};
-use crate::entry::{Entry, fault_of, entry_at};
 use crate::trail::Trail;
 use gb_core::place::Place;
 use gb_folder::folder::FolderFault;

@@ -13,6 +13,6 @@ mod files;
 mod needs;
 mod outputs;
 pub mod parts;
-mod rows;
 mod reporting;
+mod rows;
 mod values;

@@ -19,11 +19,11 @@ mod dry;
 mod executions;
 mod heard_laws;
 pub mod listener;
+pub mod notifying;
 mod one;
 mod plans;
 mod start_laws;
 mod starts;
-pub mod notifying;
 
 pub use crate::building::execute;
 pub use crate::listener::{Recorder, TaskListener};

@@ -6,7 +6,7 @@ ghost use Rattle.gb_format.specs.Shown.{shown, mended, typeset_from, typeset};
 
 use crate::fits::Item;
 use crate::kind::{Kind, kind_of};
-use crate::rule::{Spacing, Rule, push_gap};
+use crate::rule::{Rule, Spacing, push_gap};
 use crate::state::{State, first_state, step};
 use std::alloc::{AllocError, Global};
 

@@ -268,7 +268,12 @@ fn reported_at<'a>(index: &'a Index, word: &RelPath) -> &'a [u8]
 }
 
 /// The existing lines without those that are gone, and the new ones.
-fn carried_lines(alloc: Global, existed: &[u8], gone: &Lines, new: &[u8]) -> Result<Lines, AllocError>
+fn carried_lines(
+    alloc: Global,
+    existed: &[u8],
+    gone: &Lines,
+    new: &[u8],
+) -> Result<Lines, AllocError>
     ensures { IfOk result (λ lines. (line : _)
         → contains byte_order lines line ≡ is_line_of existed.now (contains byte_order gone.now) new.now line) }
 {

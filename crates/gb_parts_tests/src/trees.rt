@@ -249,7 +249,12 @@ fn report<F: Folder>(
         "digests" | "output-digests" | "read-digests" => {
             push_prints(alloc, all, &prints_asked(alloc, folder, word, allowed)?)
         }
-        _ => report_files(alloc, word, &files_asked(alloc, folder, word, allowed)?, all),
+        _ => report_files(
+            alloc,
+            word,
+            &files_asked(alloc, folder, word, allowed)?,
+            all,
+        ),
     }
 }
 

@@ -115,12 +115,7 @@ fn push_before(
 }
 
 /// The curves from one to those that finalize it.
-fn push_after(
-    out: &mut String,
-    spots: &[Spot],
-    from: usize,
-    to: &[usize],
-) -> Result<(), AllocError>
+fn push_after(out: &mut String, spots: &[Spot], from: usize, to: &[usize]) -> Result<(), AllocError>
     ensures { OnOk result (string_bytes out.new ≡ string_bytes out.old
         ++ flat_map (λ one. curve (spot_at spots.now from) (spot_at spots.now one) (codes "f")) to.now) }
 {

@@ -3,7 +3,6 @@
 #![tactic(auto)]
 
 pub mod answers;
-pub mod requested;
 pub mod drawn;
 pub mod inventory;
 pub mod laws;
@@ -15,4 +14,5 @@ pub mod membership;
 pub mod notation;
 pub mod objects;
 pub mod owner;
+pub mod requested;
 pub mod search;

@@ -29,7 +29,12 @@ pub(crate) trait Part {
         ensures { result ≡ is_declared self.now other.now };
 
     /// Adds how the other differs.
-    fn report(&self, other: &Self, alloc: Global, reasons: &mut Vec<Reason>) -> Result<(), AllocError>
+    fn report(
+        &self,
+        other: &Self,
+        alloc: Global,
+        reasons: &mut Vec<Reason>,
+    ) -> Result<(), AllocError>
         ensures { OnOk result (reasons.new.items ≡ reasons.old.items ++ reported (self.now, other.now)) };
 }
 

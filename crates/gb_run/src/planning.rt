@@ -8,7 +8,7 @@ ghost use Rattle.gb_run.specs.Steps.{in_turn};
 ghost use Rattle.gb_run.specs.ChangeTexts.{shown_steps, steps_in};
 
 use crate::checking::check_held;
-use crate::reply::{put_reply, put_existing};
+use crate::reply::{put_existing, put_reply};
 use crate::turns::in_turn;
 use gb_action::output::OutputFiles;
 use gb_action::reply::{OutputPath, Written};

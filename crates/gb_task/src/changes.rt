@@ -85,7 +85,9 @@ pub fn execute_by_changes<A: Actions, F: Folder>(
 {
     let has_actions = !task.actions.is_empty();
     let mut lines = Texts::new(alloc);
-    let ended = go_on::<A, F>(alloc, folder, task, table, options, last, observed, &mut lines);
+    let ended = go_on::<A, F>(
+        alloc, folder, task, table, options, last, observed, &mut lines,
+    );
     TaskReport {
         path,
         outcome: outcome_of(ended),

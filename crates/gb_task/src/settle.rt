@@ -23,7 +23,7 @@ use gb_core::text::Texts;
 use gb_folder::folder::Folder;
 use gb_history::decide::Decision;
 use gb_history::record::Record;
-use gb_label::prepare::{Prepared, Observed, prepare};
+use gb_label::prepare::{Observed, Prepared, prepare};
 use gb_plan::task::TaskDeclaration;
 use gb_report::fault::Fault;
 use gb_report::report::{Options, Outcome, TaskReport};

@@ -63,7 +63,11 @@ fn with_digest(small: SmallFile, digest: [u8; 32]) -> ScannedFile
 }
 
 /// Appends a small file with its digest to the files read before.
-fn push_with(observed: &mut Vec<ScannedFile>, small: SmallFile, digest: [u8; 32]) -> Result<(), AllocError>
+fn push_with(
+    observed: &mut Vec<ScannedFile>,
+    small: SmallFile,
+    digest: [u8; 32],
+) -> Result<(), AllocError>
     requires { digest ≡ sha256 small.bytes }
     ensures { OnOk result (observed.new.items ≡ observed.old.items ++ file_of small ∷ []) }
 {
@@ -120,7 +124,11 @@ fn push_one(observed: &mut Vec<ScannedFile>, small: SmallFile) -> Result<(), All
 }
 
 /// Digests two files, one after the other, and appends them to the files read before.
-fn push_two(observed: &mut Vec<ScannedFile>, first: SmallFile, second: SmallFile) -> Result<(), AllocError>
+fn push_two(
+    observed: &mut Vec<ScannedFile>,
+    first: SmallFile,
+    second: SmallFile,
+) -> Result<(), AllocError>
     ensures { OnOk result (observed.new.items ≡ observed.old.items ++ file_of first ∷ file_of second ∷ []) }
 {
     push_one(observed, first)?;
@@ -142,7 +150,10 @@ fn push_three(
 }
 
 /// Digests the files that wait, one after another, and appends them to the files read before.
-pub(crate) fn digest_waiting(observed: &mut Vec<ScannedFile>, waiting: Waiting) -> Result<(), AllocError>
+pub(crate) fn digest_waiting(
+    observed: &mut Vec<ScannedFile>,
+    waiting: Waiting,
+) -> Result<(), AllocError>
     ensures { OnOk result (observed.new.items ≡ observed.old.items ++ waiting_files waiting) }
 {
     match waiting {

@@ -100,7 +100,11 @@ fn existing<'a>(request: &'a Request, output: &Name) -> &'a [(RelPath, Bytes)]
 }
 
 /// The existing files that are no longer made.
-fn outdated(alloc: Global, existed: &[(RelPath, Bytes)], made: &Made) -> Result<Removals, AllocError>
+fn outdated(
+    alloc: Global,
+    existed: &[(RelPath, Bytes)],
+    made: &Made,
+) -> Result<Removals, AllocError>
     ensures { IfOk result (λ removes. removes ≡ made_no_more existed.now made.now.entries) }
 {
     let mut removes = Removals::new(alloc);

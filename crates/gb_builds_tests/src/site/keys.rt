@@ -1,6 +1,6 @@
 //! Front matter of pages: keys in a layout, titles, and the order of dates.
 use crate::site::offering::{Kinds, offered};
-use crate::site::steps::{Step, go_on, exists};
+use crate::site::steps::{Step, exists, go_on};
 use gb_action::actions::Actions;
 use gb_folder::memory::MemoryFolder;
 use gb_kinds::builtin::Builtin;

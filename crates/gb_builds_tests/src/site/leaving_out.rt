@@ -1,6 +1,6 @@
 //! An argument that a script may give or leave out: the name of the token of `template`.
 use crate::site::offering::{Kinds, offered};
-use crate::site::steps::{Step, go_on, exists};
+use crate::site::steps::{Step, exists, go_on};
 use gb_action::actions::Actions;
 use gb_folder::memory::MemoryFolder;
 use gb_kinds::builtin::Builtin;

@@ -1,7 +1,7 @@
 //! Addresses on pages: those that could run code are left out, and those of files refer to the
 //! files.
 use crate::site::offering::{Kinds, offered};
-use crate::site::steps::{Step, go_on, exists};
+use crate::site::steps::{Step, exists, go_on};
 use gb_action::actions::Actions;
 use gb_folder::memory::MemoryFolder;
 use gb_kinds::builtin::Builtin;

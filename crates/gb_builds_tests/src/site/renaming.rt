@@ -1,6 +1,6 @@
 //! Pages at paths of their own: the kind `htmlPages`.
 use crate::site::offering::{Kinds, offered};
-use crate::site::steps::{Step, go_on, exist, exists};
+use crate::site::steps::{Step, exist, exists, go_on};
 use gb_action::actions::Actions;
 use gb_folder::memory::MemoryFolder;
 use gb_kinds::builtin::Builtin;
