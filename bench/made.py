@@ -69,7 +69,7 @@ How to read an entry:
   not change. `result` is what the call returns.
 - `IfOk result (λ x. ..)` is about a result without an error, `IfErr result (λ fault. ..)` about the error.
   `OnOk result ..` and `OnErr result ..` are about the same two cases, without a name for the value.
-- A clause *where contents are known* holds of a folder type that has `tells`, such as a folder in memory.
+- A clause *where contents are known* holds of a folder type that is `faithful`, such as a folder in memory.
 - A law is a call that does nothing at run time. Its clause is a fact for proofs.
 - Lines that begin with `impl` say which traits a type has, and what its parameters have to be.
 
@@ -355,7 +355,7 @@ class Reader:
             begun = re.match(r"(requires|ensures)(?: (\w+))? \{ ?", bare)
             if begun:
                 clause, ended = self.clause(begun)
-                # A comment after an empty line is about all clauses below it: each of these has `tells`.
+                # A comment after an empty line is about all clauses below it: each of these has `faithful`.
                 clause.sentence = "" if free else " ".join(sentence)
                 sentence, free = [], False
                 clauses.append(clause)
@@ -436,7 +436,7 @@ def clause_text(clause):
 
 def is_known(clause):
     """Whether it is only about folders whose contents are known."""
-    return bool(re.match(r"IsTrue (\w\.)?tells → ", clause.formula))
+    return bool(re.match(r"IsTrue (\w\.)?faithful → ", clause.formula))
 
 
 def contract_lines(clauses):

@@ -13,12 +13,12 @@ use Rattle.gb_meaning.specs.declared.events.Invocation.{Invocation}
 use Rattle.gb_plan.specs.Ready.{Rows}
 use Rattle.gb_report.specs.declared.fault.Fault.{Fault}
 use Rattle.gb_report.specs.declared.report.Report.{Report}
-use Rattle.gb_build.specs.EventAsked.{EventRequests, EventsAsk}
+use Rattle.gb_build.specs.EventAsked.{EventRequests, EventsRequest}
 
 module _ {F S : Type 0} (failures : F → ℕ) (may_leave : F → Tearing) (allowed : F → Call → F → Type 0) (meanings : Meanings S) (rows : Rows S) where
   pub requests_more_events : (all : List Event) (reported : List Answer) (event : Event) (answer : Answer) (old mid new : F) → length all ≡ length reported
-      → EventsAsk failures may_leave allowed meanings rows all reported old mid → EventRequests failures may_leave allowed meanings rows event answer mid new
-      → EventsAsk failures may_leave allowed meanings rows (all ++ event ∷ []) (reported ++ answer ∷ []) old new
+      → EventsRequest failures may_leave allowed meanings rows all reported old mid → EventRequests failures may_leave allowed meanings rows event answer mid new
+      → EventsRequest failures may_leave allowed meanings rows (all ++ event ∷ []) (reported ++ answer ∷ []) old new
   requests_more_events [] [] event answer old mid new same requests more = (new, subst (λ (f : F). EventRequests failures may_leave allowed meanings rows event answer f new) requests more, refl)
   requests_more_events [] (a ∷ reported) event answer old mid new same requests more = absurd (cc)
   requests_more_events (e ∷ all) [] event answer old mid new same requests more = absurd (cc)

@@ -35,10 +35,10 @@ EventRequests failures may_leave allowed meanings rows (events.Invoke invocation
     Requests failures may_leave allowed no_change old new
 
 -- one event after another
-abbrev pub EventsAsk : {F S : Type 0} → (F → ℕ) → (F → Tearing) → (F → Call → F → Type 0) → Meanings S
+abbrev pub EventsRequest : {F S : Type 0} → (F → ℕ) → (F → Tearing) → (F → Call → F → Type 0) → Meanings S
     → Rows S
     → List Event → List Answer → F → F → Type 0
-EventsAsk failures may_leave allowed meanings rows (event ∷ rest) (answer ∷ others) old new =
+EventsRequest failures may_leave allowed meanings rows (event ∷ rest) (answer ∷ others) old new =
     (mid : _) × EventRequests failures may_leave allowed meanings rows event answer old mid
-    × EventsAsk failures may_leave allowed meanings rows rest others mid new
-EventsAsk failures may_leave allowed meanings rows all reported old new = new ≡ old
+    × EventsRequest failures may_leave allowed meanings rows rest others mid new
+EventsRequest failures may_leave allowed meanings rows all reported old new = new ≡ old

@@ -1,7 +1,7 @@
 -- The definitions that the contracts of builds use.
 pub use Rattle.gb_action.specs.Meanings.{Meanings}
 pub use Rattle.gb_build.specs.Answers.{AnswerIsOutlined}
-pub use Rattle.gb_build.specs.EventAsked.{EventRequests, EventsAsk}
+pub use Rattle.gb_build.specs.EventAsked.{EventRequests, EventsRequest}
 pub use Rattle.gb_folder.specs.Files.{Bytes, Contents, SameTearing}
 pub use Rattle.gb_graph.specs.Answer.{IsPlanOf, IsRefusalOf}
 pub use Rattle.gb_history.specs.Places.{record_place}

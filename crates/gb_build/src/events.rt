@@ -11,7 +11,7 @@ ghost use Rattle.gb_records.specs.Assumed.{IsAssumed};
 ghost use Rattle.gb_registry.specs.Tables.{tables_of};
 ghost use Rattle.gb_build.specs.Registering.{registers_in, setting_of};
 ghost use Rattle.gb_build.specs.Leading.{Leads};
-ghost use Rattle.gb_build.specs.EventAsked.{EventRequests, EventsAsk};
+ghost use Rattle.gb_build.specs.EventAsked.{EventRequests, EventsRequest};
 ghost use Rattle.gb_build.specs.Answers.{AnswerIsOutlined, edit_answer};
 
 use crate::edits::{lose, put, remove};
@@ -45,7 +45,7 @@ pub fn run_events<A: Actions, T: Transforms, F: Folder, L: TaskListener>(
     // or a removal only at or under an output of a task of its plan or at the record of one, and
     // the text of such a record is that of a run of the task. A refused build and a dry run request
     // none.
-    ensures requests { IfOk result (λ answers. EventsAsk F.failures F.may_leave F.allowed A.meanings
+    ensures requests { IfOk result (λ answers. EventsRequest F.failures F.may_leave F.allowed A.meanings
         tables.now.actions events.now answers.items folder.old folder.new) }
     // One answer for each event.
     ensures each { IfOk result (λ answers. length answers.items ≡ length events.now) }

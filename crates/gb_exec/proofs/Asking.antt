@@ -17,7 +17,7 @@ use Rattle.gb_report.specs.declared.report.Outcome.TheVariants as outcomes
 use Rattle.gb_report.specs.declared.report.TaskReport.{TaskReport}
 use Rattle.gb_task.specs.Executing.{is_of_execution}
 use Rattle.gb_task.proofs.ByOutcome.{execution_places}
-use Rattle.gb_exec.specs.Asking.{ExecutionsAsk}
+use Rattle.gb_exec.specs.Asking.{ExecutionsRequest}
 use Rattle.gb_exec.specs.Building.{is_of_executions}
 use Rattle.gb_task.specs.ByOutcome.{ExecutionRequests}
 
@@ -29,8 +29,8 @@ module _ {F S : Type 0} (failures : F → ℕ) (may_leave : F → Tearing) (allo
   -- ---- One execution more
 
   pub executions_more : (plan : List Planned) (records : List (Option Record)) (reports : List TaskReport) (planned : Planned) (last : Option Record) (report : TaskReport) (old mid new : F)
-      → ExecutionsAsk failures may_leave allowed meanings rows options plan records reports old mid → ExecutionRequests failures may_leave allowed meanings rows options planned.task last report.outcome report.lines mid new
-      → ExecutionsAsk failures may_leave allowed meanings rows options (plan ++ planned ∷ []) (records ++ last ∷ []) (reports ++ report ∷ []) old new
+      → ExecutionsRequest failures may_leave allowed meanings rows options plan records reports old mid → ExecutionRequests failures may_leave allowed meanings rows options planned.task last report.outcome report.lines mid new
+      → ExecutionsRequest failures may_leave allowed meanings rows options (plan ++ planned ∷ []) (records ++ last ∷ []) (reports ++ report ∷ []) old new
   executions_more [] [] [] planned last report old mid new executions execution = (new, subst (λ (f : F). ExecutionRequests failures may_leave allowed meanings rows options planned.task last report.outcome report.lines f new) executions execution, refl)
   executions_more (p ∷ plan) (l ∷ records) (r ∷ reports) planned last report old mid new executions execution =
       (executions.0, executions.1, executions_more plan records reports planned last report executions.0 mid new executions.2 execution)
@@ -48,7 +48,7 @@ module _ {F S : Type 0} (failures : F → ℕ) (may_leave : F → Tearing) (allo
 
   -- the executions request changes only at outputs and records of the plan's tasks
   pub executions_places : (plan : List Planned) (records : List (Option Record)) (reports : List TaskReport) (old new : F)
-      → ExecutionsAsk failures may_leave allowed meanings rows options plan records reports old new → Requests failures may_leave allowed (changes_at (is_of_executions plan)) old new
+      → ExecutionsRequest failures may_leave allowed meanings rows options plan records reports old new → Requests failures may_leave allowed (changes_at (is_of_executions plan)) old new
   executions_places [] [] [] old new executions = subst (λ (f : F). Requests failures may_leave allowed (changes_at (is_of_executions [])) old f) (sym executions) (requests_nothing old)
   executions_places (planned ∷ plan) (last ∷ records) (report ∷ reports) old new executions =
       requests_then
@@ -64,7 +64,7 @@ module _ {F S : Type 0} (failures : F → ℕ) (may_leave : F → Tearing) (allo
   -- ---- A dry run
 
   pub dry_requests : (plan : List Planned) (records : List (Option Record)) (old : F) → length records ≡ length plan
-      → ExecutionsAsk failures may_leave allowed meanings rows options plan records (dry_reports plan) old old
+      → ExecutionsRequest failures may_leave allowed meanings rows options plan records (dry_reports plan) old old
   dry_requests [] [] old each = refl
   dry_requests (planned ∷ plan) (last ∷ records) old each = (old, requests_nothing old, dry_requests plan records old (omega (arith, each)))
   dry_requests [] (last ∷ records) old each = absurd (omega (arith, each))

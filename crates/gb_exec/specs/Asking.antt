@@ -14,12 +14,12 @@ module _ {F S : Type 0} (failures : F → ℕ) (may_leave : F → Tearing) (allo
     (meanings : Meanings S) (rows : Rows S) (options : Options) where
   -- The executions of the tasks of a plan, one after another, each from the state in which the one before it
   -- ended: for each task the record that was read of it, and its report.
-  abbrev pub ExecutionsAsk : List Planned → List (Option Record) → List TaskReport → F → F → Type 0
-  ExecutionsAsk [] [] [] old new = new ≡ old
-  ExecutionsAsk (planned ∷ plan) (last ∷ records) (report ∷ reports) old new =
+  abbrev pub ExecutionsRequest : List Planned → List (Option Record) → List TaskReport → F → F → Type 0
+  ExecutionsRequest [] [] [] old new = new ≡ old
+  ExecutionsRequest (planned ∷ plan) (last ∷ records) (report ∷ reports) old new =
       (mid : F)
       × ExecutionRequests failures may_leave allowed meanings rows options planned.task last report.outcome
       report.lines
       old mid
-      × ExecutionsAsk plan records reports mid new
-  ExecutionsAsk plan records reports old new = ⊥
+      × ExecutionsRequest plan records reports mid new
+  ExecutionsRequest plan records reports old new = ⊥

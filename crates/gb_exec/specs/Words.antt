@@ -1,5 +1,5 @@
 -- The definitions that the contract of `execute` uses.
-pub use Rattle.gb_exec.specs.Asking.{ExecutionsAsk}
+pub use Rattle.gb_exec.specs.Asking.{ExecutionsRequest}
 pub use Rattle.gb_exec.specs.Building.{CanBuild, is_of_executions}
 pub use Rattle.gb_exec.specs.Built.{AreWorth, HasBuilt}
 pub use Rattle.gb_exec.specs.Failing.{times_blamed}

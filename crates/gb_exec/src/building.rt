@@ -11,7 +11,7 @@ ghost use Rattle.gb_printer.specs.Printing.{Prints, parts_text};
 ghost use Rattle.gb_records.specs.Assumed.{IsAssumed};
 ghost use Rattle.gb_store.specs.Changes.{ChangesOnly};
 ghost use Rattle.gb_task.specs.Executing.{Registering, setting_with};
-ghost use Rattle.gb_exec.specs.Asking.{ExecutionsAsk};
+ghost use Rattle.gb_exec.specs.Asking.{ExecutionsRequest};
 ghost use Rattle.gb_exec.specs.Building.{CanBuild, is_of_executions};
 ghost use Rattle.gb_exec.specs.Built.{AreWorth, HasBuilt};
 ghost use Rattle.gb_exec.specs.Failing.{times_blamed};
@@ -67,7 +67,7 @@ pub fn execute<A: Actions, F: Folder, L: TaskListener, P: Printer>(
     ensures tearing { SameTearing (F.may_leave folder.old) (F.may_leave folder.new) }
     // Over any folder: task after task, each from the state in which the one before it ended, makes
     // the calls that its outcome permits.
-    ensures requests { IfOk result (λ report. ExecutionsAsk F.failures F.may_leave F.allowed A.meanings table.now
+    ensures requests { IfOk result (λ report. ExecutionsRequest F.failures F.may_leave F.allowed A.meanings table.now
         options plan.now records.now report.tasks folder.old folder.new) }
     // Faults are attributed to the device no more often than it failed.
     ensures device { IfOk result (λ report.

@@ -19,7 +19,7 @@ ghost use Rattle.gb_task.specs.Executing.{Registering, setting_with};
 ghost use Rattle.gb_exec.specs.Notifying.{AllReported};
 ghost use Rattle.gb_exec.specs.Plans.{AreOfPlan};
 ghost use Rattle.gb_exec.specs.declared.starts.Ending.TheVariants.{ToCome};
-ghost use Rattle.gb_exec.specs.Asking.{ExecutionsAsk};
+ghost use Rattle.gb_exec.specs.Asking.{ExecutionsRequest};
 ghost use Rattle.gb_exec.specs.Building.{CanBuild, is_of_executions};
 ghost use Rattle.gb_exec.specs.Built.{AreWorth, HasBuilt};
 ghost use Rattle.gb_exec.specs.Failing.{times_blamed};
@@ -78,7 +78,7 @@ pub(crate) fn execute_tasks<A: Actions, F: Folder, L: TaskListener, P: Printer>(
         (map L.ear listeners.old.items) (map L.ear listeners.new.items) }
     ensures printed { Prints P.contents P.whole (flat_map task_text reports.new.items)
         printer.old printer.new }
-    ensures requests { ExecutionsAsk F.failures F.may_leave F.allowed A.meanings build.now.table.now
+    ensures requests { ExecutionsRequest F.failures F.may_leave F.allowed A.meanings build.now.table.now
         build.now.options build.now.tasks.now build.now.records.now reports.new.items folder.old folder.new }
     ensures device { HasFailed (times_blamed reports.new.items)
         (F.failures folder.old) (F.failures folder.new) }

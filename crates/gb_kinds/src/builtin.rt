@@ -40,7 +40,7 @@ impl StoredAction {
     pub fn new(kind: u16, version: u32, shape: Shape, run: Run) -> StoredAction
         requires positive { 1 ≤ version }
         requires shaped { shape ≡ builtin_shape kind }
-        requires exists { Implements kind (Run.pre run) (Run.post run) }
+        requires implements { Implements kind (Run.pre run) (Run.post run) }
         ensures kind { result.kind ≡ kind }
         ensures version { result.version ≡ version }
     {

@@ -190,7 +190,7 @@ fn add(
     run: Run,
 ) -> Result<(), TableFault>
     requires shaped { IfOk shape (λ shape. shape ≡ builtin_shape kind) }
-    requires exists { Implements kind (Run.pre run) (Run.post run) }
+    requires implements { Implements kind (Run.pre run) (Run.post run) }
     requires other { list_any (λ e. bytes_eq e.0 name.now)
         (map {B = List ℕ × ℕ × ℕ} (λ e. (e.0, e.1.kind, e.1.version)) table.old) ≡ false }
     ensures ok { OnOk result (map {B = List ℕ × ℕ × ℕ} (λ e. (e.0, e.1.kind, e.1.version)) table.new

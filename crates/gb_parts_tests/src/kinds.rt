@@ -247,7 +247,7 @@ fn ask(
     request: &Request,
 ) -> Result<String, AllocError>
     requires shaped { IfOk shape (λ shape. shape ≡ builtin_shape kind) }
-    requires exists { Implements kind (Run.pre run) (Run.post run) }
+    requires implements { Implements kind (Run.pre run) (Run.post run) }
     requires files { map (λ tree. tree.0) request.now.files ≡ source ∷ [] }
     requires outputs { map {B = List ℕ × Form} (λ output. (output.name, output.form)) request.now.outputs
         ≡ (target, form) ∷ [] }

@@ -33,8 +33,8 @@ use Rattle.gb_task.proofs.Own.{is_kept, kept_at, swapped}
 use Rattle.gb_task.proofs.Present.{part_same}
 
 -- a task that reads none of its own outputs sees nothing at them
-pub sees_none : (task : Task) → reads_output_of task task ≡ false → AllUnobserved (λ q. not (is_output_of task q)) task
-sees_none task separate =
+pub finds_none : (task : Task) → reads_output_of task task ≡ false → AllUnobserved (λ q. not (is_output_of task q)) task
+finds_none task separate =
     unobserved_of task (λ q. not (is_output_of task q)) (output_places task)
     (λ q none. ap not (out_of task q ∙ none)) separate
 
@@ -88,7 +88,7 @@ module _ (kinds : Kinds) (task : Task) (out : list_any (λ (o : Output). is_own 
   sorted_outside = ap (is_sorted byte_order) (sym same) ∙ sorted-where is_kept taken sorted
 
   pub made_entry : IsMade kinds (entry_of task (with_outputs task (kept old) files))
-  made_entry = entry_made kinds task (kept old) files sorted_outside right makes_outside (sees_none task separate)
+  made_entry = entry_made kinds task (kept old) files sorted_outside right makes_outside (finds_none task separate)
 
   -- the files at the outputs are those of the entry
   pub files_entry : (entry_of task (with_outputs task (kept old) files)).files ≡ output_files task ran
@@ -99,9 +99,9 @@ module _ (kinds : Kinds) (task : Task) (out : list_any (λ (o : Output). is_own 
   -- the trees of the entry are those that were read
   trees_after : trees_of task (with_outputs task (kept old) files) ≡ trees_of task (kept old)
   trees_after =
-      sym (trees_same (λ q. not (is_output_of task q)) task (with_outputs task (kept old) files) (sees_none task separate))
+      sym (trees_same (λ q. not (is_output_of task q)) task (with_outputs task (kept old) files) (finds_none task separate))
       ∙ ap (trees_of task) same_rest
-      ∙ trees_same (λ q. not (is_output_of task q)) task (kept old) (sees_none task separate)
+      ∙ trees_same (λ q. not (is_output_of task q)) task (kept old) (finds_none task separate)
     where
       sorted_rest : is_sorted byte_order (rest_of task (kept old)) ≡ true
       sorted_rest = sorted-where (λ q. not (is_output_of task q)) (kept old) sorted_outside

@@ -2,8 +2,8 @@
 use Rattle.std.specs.Prelude.{ℕ, List, [], ◌∷◌, Option, Some, None, if◌then◌else◌}
 use Rattle.gb_folder.specs.Files.{Bytes}
 use Rattle.gb_tree.specs.declared.kept.ScannedFile.{ScannedFile}
-use Rattle.gb_tree.specs.declared.seeing.Content.{Content}
-use Rattle.gb_tree.specs.declared.seeing.Content.TheVariants.{Undigested, Digested}
+use Rattle.gb_tree.specs.declared.scanning.Content.{Content}
+use Rattle.gb_tree.specs.declared.scanning.Content.TheVariants.{Undigested, Digested}
 use Rattle.gb_tree.specs.declared.waiting.Found.{Found}
 use Rattle.gb_tree.specs.declared.waiting.Found.TheVariants.{Small, Observed}
 use Rattle.gb_tree.specs.declared.waiting.SmallFile.{SmallFile}

@@ -36,7 +36,7 @@ pub mod pattern;
 pub mod prints;
 pub mod property;
 mod reading;
-mod seeing;
+mod scanning;
 mod shortcut;
 mod starts;
 mod waiting;

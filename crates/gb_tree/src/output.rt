@@ -18,7 +18,7 @@ use crate::kept::Reading;
 use crate::path::path_from;
 use crate::prints::Prints;
 use crate::reading::{digest_all, listed, read_all};
-use crate::seeing::see_all;
+use crate::scanning::scan_all;
 use gb_action::snapshot::Snapshot;
 use gb_core::name::Name;
 use gb_core::place::{Place, RelPath};
@@ -112,7 +112,7 @@ pub fn output_reading<F: Folder>(
         (output_faults name.now place.now (F.contents folder.old)) fault) }
 {
     let entries = entries_at(alloc, folder, name, place)?;
-    let observed = see_all(alloc, folder, entries.as_slice(), room)?;
+    let observed = scan_all(alloc, folder, entries.as_slice(), room)?;
     Ok(Reading::new(name.copy()?, observed))
 }
 

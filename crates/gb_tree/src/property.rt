@@ -14,7 +14,7 @@ use crate::kept::Reading;
 use crate::pattern::Pattern;
 use crate::prints::Prints;
 use crate::reading::{digest_all, read_all};
-use crate::seeing::see_all;
+use crate::scanning::scan_all;
 use gb_action::snapshot::Snapshot;
 use gb_core::name::Name;
 use gb_core::place::Place;
@@ -137,6 +137,6 @@ pub fn reading_of<F: Folder>(
         (tree_faults name.now naming roots.now include.now exclude.now (F.contents folder.old)) fault) }
 {
     let entries = entries_of(alloc, folder, name, naming, roots, include, exclude)?;
-    let observed = see_all(alloc, folder, entries.as_slice(), room)?;
+    let observed = scan_all(alloc, folder, entries.as_slice(), room)?;
     Ok(Reading::new(name.copy()?, observed))
 }

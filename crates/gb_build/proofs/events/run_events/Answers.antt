@@ -16,7 +16,7 @@ use Rattle.gb_build.proofs.Blaming.{blamed_more}
 use Rattle.gb_build.proofs.Editing.{shows}
 use Rattle.gb_records.specs.Setting.{setting_by}
 use Rattle.gb_build.proofs.Running.{RunsFrom, heard_more, keeps_more, more_ahead, outlined_more, runs_hold, runs_nowhere, runs_on, take_all, taken_all, to_the_end}
-use Rattle.gb_build.specs.EventAsked.{EventsAsk}
+use Rattle.gb_build.specs.EventAsked.{EventsRequest}
 use Rattle.gb_build.proofs.EventAsked.{requests_more_events}
 use Rattle.gb_build.proofs.events.run_events.Goals as goal
 
@@ -48,8 +48,8 @@ loop-event-preserved g c =
           (subst (λ (events : List Event). AllZip AnswerIsOutlined events (c.loop-event.answers.items ++ c.take.result ∷ [])) taken_here
           (outlined_more (take index c.args.events.now) c.loop-event.answers.items c.event-item.result c.take.result so_far.outlined c.take.ensures.outlined));
       requests =
-          subst (λ (reported : List Answer). EventsAsk F.failures F.may_leave F.allowed g.A.Actions.meanings c.args.tables.now.actions (take (index + 1) c.args.events.now) reported c.args.folder.now c.take.new.folder) (sym items)
-          (subst (λ (events : List Event). EventsAsk F.failures F.may_leave F.allowed g.A.Actions.meanings c.args.tables.now.actions events (c.loop-event.answers.items ++ c.take.result ∷ []) c.args.folder.now c.take.new.folder) taken_here
+          subst (λ (reported : List Answer). EventsRequest F.failures F.may_leave F.allowed g.A.Actions.meanings c.args.tables.now.actions (take (index + 1) c.args.events.now) reported c.args.folder.now c.take.new.folder) (sym items)
+          (subst (λ (events : List Event). EventsRequest F.failures F.may_leave F.allowed g.A.Actions.meanings c.args.tables.now.actions events (c.loop-event.answers.items ++ c.take.result ∷ []) c.args.folder.now c.take.new.folder) taken_here
           (requests_more_events g.F.Folder.failures g.F.Folder.may_leave g.F.Folder.allowed g.A.Actions.meanings c.args.tables.now.actions (take index c.args.events.now) c.loop-event.answers.items c.event-item.result c.take.result c.args.folder.now c.loop-event.folder c.take.new.folder
           (taken_all index c.args.events.now c.loop-event.answers.items so_far.each c.loop-event-test.true) so_far.requests c.take.ensures.requests));
       elsewhere = λ faithful.
@@ -96,5 +96,5 @@ returns-clause-promise g c = λ faithful kinds assumed.
 pub returns-clause-requests : goal.returns-clause-requests
 returns-clause-requests g c =
     let F = g.F.Folder in
-    subst (λ (events : List Event). EventsAsk F.failures F.may_leave F.allowed g.A.Actions.meanings c.args.tables.now.actions events c.loop-event.answers.items c.args.folder.now c.loop-event.folder)
+    subst (λ (events : List Event). EventsRequest F.failures F.may_leave F.allowed g.A.Actions.meanings c.args.tables.now.actions events c.loop-event.answers.items c.args.folder.now c.loop-event.folder)
     (take_all c.loop-event.event-index c.args.events.now c.loop-event-test.false) c.loop-event.invariant.requests

@@ -30,7 +30,7 @@ use Rattle.gb_store.specs.Changes.{ChangesOnly}
 use Rattle.gb_store.proofs.Machine.{changes_none}
 use Rattle.gb_task.proofs.Parts.{differs_outside}
 use Rattle.gb_task.proofs.Recorded.{assumed_later}
-use Rattle.gb_exec.specs.Asking.{ExecutionsAsk}
+use Rattle.gb_exec.specs.Asking.{ExecutionsRequest}
 use Rattle.gb_exec.specs.Building.{is_of_executions}
 use Rattle.gb_task.specs.Buildable.{IsBuildable}
 use Rattle.gb_exec.proofs.Asking.{executions_more, executions_places}
@@ -87,7 +87,7 @@ loop-path-init g c =
       heard = subst (λ (rs : List TaskReport). AllReported (heard_of false rs) true ears ears) (sym none) (unnotified ears);
       printed = subst (λ (rs : List TaskReport). Prints P.contents P.whole (flat_map task_text rs) c.args.printer.now c.args.printer.now) (sym none)
           (prints_nothing P.contents P.whole c.args.printer.now);
-      requests = subst (λ (rs : List TaskReport). ExecutionsAsk F.failures F.may_leave F.allowed g.A.Actions.meanings c.args.build.now.table.now c.args.build.now.options [] [] rs start start) (sym none) refl;
+      requests = subst (λ (rs : List TaskReport). ExecutionsRequest F.failures F.may_leave F.allowed g.A.Actions.meanings c.args.build.now.table.now c.args.build.now.options [] [] rs start start) (sym none) refl;
       device = subst (λ (rs : List TaskReport). HasFailed (times_blamed rs) (F.failures start) (F.failures start)) (sym none) (inl (omega arith));
       changes = λ faithful. changes_none (is_of_executions []) (F.contents start) (F.contents start) refl;
       build = λ faithful kinds registry_of remembered clear observed assumed worth.
@@ -171,9 +171,9 @@ loop-path-preserved g c =
       printed = subst (λ (rs : List TaskReport). Prints P.contents P.whole (flat_map task_text rs) c.args.printer.now c.print_task.new.self) (sym items)
           (subst (λ (text : List ℕ). Prints P.contents P.whole text c.args.printer.now c.print_task.new.self) (sym (parts_more reports report))
           (prints_more P.contents P.whole (flat_map task_text reports) (task_text report) c.args.printer.now c.loop-path.printer c.print_task.new.self inv.printed c.print_task.ensures));
-      requests = subst (λ (ps : List Planned). ExecutionsAsk F.failures F.may_leave F.allowed g.A.Actions.meanings build.table.now build.options ps (take (i + 1) build.records.now) c.push_reserved.new.reports.items start next) (sym take_is)
-          (subst (λ (last : List (Option Record)). ExecutionsAsk F.failures F.may_leave F.allowed g.A.Actions.meanings build.table.now build.options (take i tasks ++ planned ∷ []) last c.push_reserved.new.reports.items start next) (sym read)
-          (subst (λ (rs : List TaskReport). ExecutionsAsk F.failures F.may_leave F.allowed g.A.Actions.meanings build.table.now build.options (take i tasks ++ planned ∷ []) (take i build.records.now ++ slice_index_or build.records.now i None ∷ []) rs start next) (sym items)
+      requests = subst (λ (ps : List Planned). ExecutionsRequest F.failures F.may_leave F.allowed g.A.Actions.meanings build.table.now build.options ps (take (i + 1) build.records.now) c.push_reserved.new.reports.items start next) (sym take_is)
+          (subst (λ (last : List (Option Record)). ExecutionsRequest F.failures F.may_leave F.allowed g.A.Actions.meanings build.table.now build.options (take i tasks ++ planned ∷ []) last c.push_reserved.new.reports.items start next) (sym read)
+          (subst (λ (rs : List TaskReport). ExecutionsRequest F.failures F.may_leave F.allowed g.A.Actions.meanings build.table.now build.options (take i tasks ++ planned ∷ []) (take i build.records.now ++ slice_index_or build.records.now i None ∷ []) rs start next) (sym items)
           (executions_more F.failures F.may_leave F.allowed g.A.Actions.meanings build.table.now build.options (take i tasks) (take i build.records.now) reports planned (slice_index_or build.records.now i None) report start now next inv.requests taken)));
       device = subst (λ (rs : List TaskReport). HasFailed (times_blamed rs) (F.failures start) (F.failures next)) (sym items)
           (failed_more reports report (F.failures start) (F.failures now) (F.failures next) inv.device count c.take_one-taken.ensures.blame);
@@ -253,6 +253,6 @@ returns-clause-requests g c =
     let mapped : length (order (drop i tasks)) ≡ length (drop i tasks) = length-map _ _ in
     let dropped : length (drop i tasks) ≡ length tasks - i = length-drop i tasks in
     let all : length tasks ≤ i = omega (arith, empty, ap length inv.left, mapped, dropped) in
-    subst (λ (ps : List Planned). ExecutionsAsk F.failures F.may_leave F.allowed g.A.Actions.meanings build.table.now build.options ps build.records.now c.loop-path.reports.items c.args.folder.now c.loop-path.folder) (take_all i tasks all)
-    (subst (λ (read : List (Option Record)). ExecutionsAsk F.failures F.may_leave F.allowed g.A.Actions.meanings build.table.now build.options (take i tasks) read c.loop-path.reports.items c.args.folder.now c.loop-path.folder)
+    subst (λ (ps : List Planned). ExecutionsRequest F.failures F.may_leave F.allowed g.A.Actions.meanings build.table.now build.options ps build.records.now c.loop-path.reports.items c.args.folder.now c.loop-path.folder) (take_all i tasks all)
+    (subst (λ (read : List (Option Record)). ExecutionsRequest F.failures F.may_leave F.allowed g.A.Actions.meanings build.table.now build.options (take i tasks) read c.loop-path.reports.items c.args.folder.now c.loop-path.folder)
     (take_all i build.records.now (omega (arith, all, c.requires.each))) inv.requests)

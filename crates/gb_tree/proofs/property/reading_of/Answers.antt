@@ -26,7 +26,7 @@ returns-in_err-observed-clause-err g c = λ faithful.
     let exclude = c.args.exclude.now in
     let entries = entries_of c.args.naming roots include exclude old.files in
     let listing = entry_faults c.args.name.now c.args.naming roots include exclude old in
-    at_err (λ r. IfErr r (λ fault. IsRefused (failures c.args.folder.now) (failures c.see_all.new.folder) (listing ++ too_large old.files entries) fault)) c.from_residual-in_err-observed.result p.0 c.in_err-observed.field-0.0 p.1 p.2
+    at_err (λ r. IfErr r (λ fault. IsRefused (failures c.args.folder.now) (failures c.scan_all.new.folder) (listing ++ too_large old.files entries) fault)) c.from_residual-in_err-observed.result p.0 c.in_err-observed.field-0.0 p.1 p.2
     (refused_reading (failures c.args.folder.now) _ _ old _ listing entries c.as_slice.result.now c.in_err-observed.field-0.0 (c.in_ok-entries.ensures.same faithful) (c.as_slice.ensures.value ∙ c.in_ok-entries.ensures.entries faithful)
     c.in_ok-entries.ensures.requests.count c.in_err-observed.ensures.requests.count (c.in_ok-entries.ensures.fit faithful) (found_exist c.args.naming roots include exclude old.files) (c.in_err-observed.ensures.err faithful))
 
@@ -66,15 +66,15 @@ returns-clause-listed g c =
     let include = c.args.include.now in
     let exclude = c.args.exclude.now in
     let entries = c.in_ok-entries.entries.items in
-    subst (λ (reported : Entries). AreEntriesListed F.failures F.may_leave F.allowed naming roots include exclude c.args.folder.now c.see_all.new.folder reported)
+    subst (λ (reported : Entries). AreEntriesListed F.failures F.may_leave F.allowed naming roots include exclude c.args.folder.now c.scan_all.new.folder reported)
     (sym (ap (λ (reading : List ℕ × List ScannedFile). entries_observed reading.1) c.new.ensures ∙ c.in_ok-observed.ensures.placed ∙ c.as_slice.ensures.value))
     (entries_longer (requests_nothing c.args.folder.now) c.in_ok-observed.ensures.requests naming roots include exclude entries c.in_ok-entries.ensures.listed)
 
 pub returns-clause-answered : goal.returns-clause-answered
 returns-clause-answered g c =
     let F = g.F.Folder in
-    subst (λ (reading : List ℕ × List ScannedFile). WereObserved F.failures F.may_leave F.allowed c.args.folder.now c.see_all.new.folder reading.1) (sym c.new.ensures)
-    (all_observed_longer c.in_ok-entries.ensures.requests (requests_nothing c.see_all.new.folder) c.in_ok-observed.observed.items c.in_ok-observed.ensures.answered)
+    subst (λ (reading : List ℕ × List ScannedFile). WereObserved F.failures F.may_leave F.allowed c.args.folder.now c.scan_all.new.folder reading.1) (sym c.new.ensures)
+    (all_observed_longer c.in_ok-entries.ensures.requests (requests_nothing c.scan_all.new.folder) c.in_ok-observed.observed.items c.in_ok-observed.ensures.answered)
 
 pub returns-clause-digests : goal.returns-clause-digests
 returns-clause-digests g c = λ faithful.

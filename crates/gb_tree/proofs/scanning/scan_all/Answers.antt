@@ -16,7 +16,7 @@ use Rattle.gb_tree.proofs.Blame.{at_entry, blamed_before}
 use Rattle.gb_tree.proofs.Loops.{step_here}
 use Rattle.gb_tree.proofs.Refused.{machine_before}
 use Rattle.gb_tree.proofs.Observed.{all_at, each_more, placed_more, observed_sorted, test_more}
-use Rattle.gb_tree.proofs.seeing.see_all.Goals as goal
+use Rattle.gb_tree.proofs.scanning.scan_all.Goals as goal
 
 pub returns-in-Err-clause-blame : goal.returns-in-Err-clause-blame
 returns-in-Err-clause-blame g c =
@@ -61,11 +61,11 @@ loop-path-preserved g c =
     let added = c.in_ok-waiting.ensures in
     let is_observed = λ (faithful : IsTrue g.F.Folder.faithful). subst (λ (now : Contents). IsObservedIn now.files x) (old.invariant.same faithful) (c.in-Ok.ensures.observed faithful) in
     record {
-      requests = requests_then old.invariant.requests c.see_file.ensures.requests;
-      same = λ faithful. c.see_file.ensures.same faithful ∙ old.invariant.same faithful;
-      answered = each_more (WasObserved g.F.Folder.failures g.F.Folder.may_leave g.F.Folder.allowed c.args.folder.now c.see_file.new.folder) read _ x added
-          (all_observed_longer (requests_nothing c.args.folder.now) c.see_file.ensures.requests read old.invariant.answered)
-          (observed_longer old.invariant.requests (requests_nothing c.see_file.new.folder) x c.in-Ok.ensures.answered);
+      requests = requests_then old.invariant.requests c.scan_file.ensures.requests;
+      same = λ faithful. c.scan_file.ensures.same faithful ∙ old.invariant.same faithful;
+      answered = each_more (WasObserved g.F.Folder.failures g.F.Folder.may_leave g.F.Folder.allowed c.args.folder.now c.scan_file.new.folder) read _ x added
+          (all_observed_longer (requests_nothing c.args.folder.now) c.scan_file.ensures.requests read old.invariant.answered)
+          (observed_longer old.invariant.requests (requests_nothing c.scan_file.new.folder) x c.in-Ok.ensures.answered);
       placed = placed_more entries i e read _ x within is added c.in-Ok.ensures.path c.in-Ok.ensures.place old.invariant.placed;
       digested = test_more (λ (file : ScannedFile). is_digest_of file.kept file.digest) read _ x added old.invariant.digested c.in-Ok.ensures.digested;
       each = λ faithful. each_more (IsObservedIn files) read _ x added (old.invariant.each faithful) (is_observed faithful);

@@ -60,7 +60,7 @@ fn keep(bytes: Bytes, room: &mut u64) -> Option<Bytes>
 
 /// One file, read in one call, so that the digest and the kept bytes are those of one file. A small
 /// file gives its bytes; another gives its digest, and its bytes where they are kept.
-fn see_bytes<F: Folder>(
+fn scan_bytes<F: Folder>(
     alloc: Global,
     folder: &mut F,
     place: &Place,
@@ -98,7 +98,7 @@ fn see_bytes<F: Folder>(
 }
 
 /// One file as it is read.
-fn see_file<F: Folder>(
+fn scan_file<F: Folder>(
     alloc: Global,
     folder: &mut F,
     path: &RelPath,
@@ -122,7 +122,7 @@ fn see_file<F: Folder>(
         ⊎ ((is_large (F.contents folder.old).files place.now ≡ true)
         × (fault ≡ TreeFault.TooLarge place.now))) }
 {
-    let content = see_bytes(alloc, folder, place, room)?;
+    let content = scan_bytes(alloc, folder, place, room)?;
     let path = path.copy()?;
     let place = place.copy()?;
     match content {
@@ -142,7 +142,7 @@ fn see_file<F: Folder>(
 }
 
 /// The files at these places as they are read, by their paths.
-pub(crate) fn see_all<F: Folder>(
+pub(crate) fn scan_all<F: Folder>(
     alloc: Global,
     folder: &mut F,
     entries: &[(RelPath, Place)],
@@ -169,7 +169,7 @@ pub(crate) fn see_all<F: Folder>(
     let mut observed = Vec::with_capacity(alloc, entries.len())?;
     let mut waiting = Waiting::Nothing;
     for (path, place) in entries.iter() {
-        let found = match see_file(alloc, folder, path, place, room) {
+        let found = match scan_file(alloc, folder, path, place, room) {
             Ok(found) => found,
             Err(fault) => {
                 drop(waiting);

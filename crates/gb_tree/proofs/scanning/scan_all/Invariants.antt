@@ -6,7 +6,7 @@ use Rattle.gb_tree.specs.Answered.{WereObserved}
 use Rattle.gb_tree.specs.Reading.{IsObservedIn, entries_observed, is_digest_of}
 use Rattle.gb_tree.specs.Tree.{too_large}
 use Rattle.gb_tree.specs.Waiting.{waiting_files}
-use Rattle.gb_tree.proofs.seeing.see_all.Given as goal
+use Rattle.gb_tree.proofs.scanning.scan_all.Given as goal
 
 abbrev pub invariant-loop-path : goal.invariant-loop-path
 invariant-loop-path g l =
