@@ -17,7 +17,7 @@ use Rattle.gb_core.proofs.Found.{tied_same, same_tied}
 use Rattle.gb_core.specs.Lists.{byte_order}
 use Rattle.gb_declare.specs.Declaring.{clash, heading}
 use Rattle.gb_declare.specs.Headings.{Heading, noted, clashes, is_other, word_in, words_in}
-use Rattle.gb_declare.proofs.JoinLemmas.{store_record}
+use Rattle.gb_declare.proofs.JoinLemmas.{put_in}
 
 equal : (o : Ordering) → is_eq o ≡ true → o ≡ Equal
 equal Less e = absurd (cc)
@@ -203,6 +203,6 @@ module _ (words : BTreeMap (List ℕ) (Bor Clause)) (h : Option Heading) (name :
   -- the clause about a name is stored under it
   pub noted_put : (new : BTreeMap (List ℕ) (Bor Clause)) (clause : Bor Clause) → h ≡ heading clause.now → new.entries ≡ insert_entry byte_order words.entries name clause → words_in new ≡ noted (words_in words) h
   noted_put new clause of put_is =
-      store_record (λ (c : Bor Clause). word_in (heading c.now)) words new new name clause refl put_is
+      put_in (λ (c : Bor Clause). word_in (heading c.now)) words new new name clause refl put_is
       ∙ ap (λ w. put byte_order name w (words_in words)) (ap word_in (sym of))
       ∙ sym (ap (noted (words_in words)) (split_heading h name is))

@@ -59,9 +59,9 @@ module _ {C Y : Type 0} (pick : C → Option (Named Y)) (clauses : List (Bor C))
       ∙ sym (ap (put_all old) (ap (filter_map pick) next ∙ skipped pick clause.now (now_of (drop (i + 1) clauses)) (sym none))) ∙ before
 
 -- one more thing in a map of things, under any view
-pub store_record : {X Y : Type 0} (view : X → Y) (held new after : BTreeMap (List ℕ) X) (name : List ℕ) (x : X) → after ≡ new → new.entries ≡ insert_entry byte_order held.entries name x
+pub put_in : {X Y : Type 0} (view : X → Y) (held new after : BTreeMap (List ℕ) X) (name : List ℕ) (x : X) → after ≡ new → new.entries ≡ insert_entry byte_order held.entries name x
     → map (λ e. (e.0, view e.1)) after.entries ≡ put byte_order name (view x) (map (λ e. (e.0, view e.1)) held.entries)
-store_record {X} view held new after name x same is =
+put_in {X} view held new after name x same is =
     ap (λ (m : BTreeMap (List ℕ) X). map (λ e. (e.0, view e.1)) m.entries) same
     ∙ ap (λ (es : List (List ℕ × X)). map (λ e. (e.0, view e.1)) es) is ∙ put_viewed view name x held.entries
 

@@ -52,7 +52,8 @@ always contents = ⊤
 abbrev pub PlainRun : Setting → State → List State → List Event → List Answer → Shown → Type 0
 PlainRun setting old [] [] [] end = (old.failures ≤ end.failures) × (old.contents ≡ end.contents)
 PlainRun setting old (next ∷ states) (event ∷ rest) (answer ∷ others) end =
-    (old.failures ≤ next.failures) × ((observed : List Bytes) → Step setting always observed old event answer next)
+    (old.failures ≤ next.failures)
+    × ((observed : List Bytes) → Step setting always observed old event answer next)
     × HoldsMemory setting next.contents next.remembered × PlainRun setting next states rest others end
 PlainRun setting old states rest others end = ⊥
 

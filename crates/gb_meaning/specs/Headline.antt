@@ -171,7 +171,8 @@ GoesThrough setting clear observed old [] [] [] end =
 GoesThrough setting clear observed old (next ∷ states) (event ∷ rest) (answer ∷ others) end =
     (old.failures ≤ next.failures)
     × Step setting (StillClear setting clear old) observed old event answer next
-    × (StillClear setting clear old (observed_with observed old next) → HoldsMemory setting next.contents next.remembered)
+    × (StillClear setting clear old (observed_with observed old next)
+    → HoldsMemory setting next.contents next.remembered)
     × GoesThrough setting (StillClear setting clear old (observed_with observed old next))
     (observed ++ contents_outside old.contents) next states rest others end
 GoesThrough setting clear observed old states rest others end = ⊥

@@ -21,9 +21,9 @@ abbrev pub cleared : List Task → Files → Files
 cleared tasks files = files_where (λ place. not (list_any (λ task. is_output_of task place) tasks)) files
 
 -- the files added, where the folder has room for them
-abbrev pub store_record : Task → Files → Result Files (List Fault) → Option Files
-store_record task files (Err fault) = None
-store_record task files (Ok new) =
+abbrev pub put_at_outputs : Task → Files → Result Files (List Fault) → Option Files
+put_at_outputs task files (Err fault) = None
+put_at_outputs task files (Ok new) =
     if is_empty (blocked_in (rest_of task files) new) then Some (put_over files new) else None
 
 -- one task more, on its inputs in the folder so far
@@ -32,7 +32,7 @@ add_task kinds folder None task = None
 add_task kinds folder (Some files) task =
     if is_empty task.actions then Some files
     else if is_empty (input_faults task (record folder { files = files }))
-    then store_record task files (made kinds task files)
+    then put_at_outputs task files (made kinds task files)
     else None
 
 -- What the plan's tasks make from scratch, on the inputs in this folder. No result where an input cannot be

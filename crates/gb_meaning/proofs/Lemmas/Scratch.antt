@@ -22,7 +22,7 @@ use Rattle.gb_plan.specs.declared.plan.Planned.{Planned}
 use Rattle.gb_meaning.specs.Label.{Moment}
 use Rattle.gb_report.specs.Outcome.{is_failed, is_started}
 use Rattle.gb_meaning.specs.Execution.{May, Executions, moment_after}
-use Rattle.gb_meaning.specs.Scratch.{cleared, store_record, add_task}
+use Rattle.gb_meaning.specs.Scratch.{cleared, put_at_outputs, add_task}
 use Rattle.gb_plan.proofs.Tests.{not_true}
 use Rattle.gb_meaning.proofs.Common.{all_assumed}
 use Rattle.gb_meaning.proofs.Lemmas.Files.{at-where, at-put_over, sorted-where, sorted-put_over, same_files, tied_same, total, or_else, left_of, right_of}
@@ -139,10 +139,10 @@ module _ (kinds : Kinds) (folder : Contents) where
   add_worked : (task : Task) (others : List Task) (old new : World) → folder.special ≡ old.folder.special → is_sorted byte_order old.folder.files ≡ true → Fits task others → Worked kinds task old new
       → add_task kinds folder (Some (cleared (task ∷ others) old.folder.files)) task ≡ Some (cleared others new.folder.files)
   add_worked task others old new special sorted fits did =
-      ap (λ b. cond b (Some S) (cond (is_empty (input_faults task (record folder { files = S }))) (store_record task S (made kinds task S)) None)) did.has_actions
-      ∙ ap (λ fs. cond (is_empty fs) (store_record task S (made kinds task S)) None) (input_faults_same (no_out (task ∷ others)) task folder F fits.unobserved ∙ here)
-      ∙ ap (λ b. cond b (store_record task S (made kinds task S)) None) did.readable
-      ∙ ap (store_record task S) (made_same (no_out (task ∷ others)) kinds task F fits.unobserved ∙ did.makes)
+      ap (λ b. cond b (Some S) (cond (is_empty (input_faults task (record folder { files = S }))) (put_at_outputs task S (made kinds task S)) None)) did.has_actions
+      ∙ ap (λ fs. cond (is_empty fs) (put_at_outputs task S (made kinds task S)) None) (input_faults_same (no_out (task ∷ others)) task folder F fits.unobserved ∙ here)
+      ∙ ap (λ b. cond b (put_at_outputs task S (made kinds task S)) None) did.readable
+      ∙ ap (put_at_outputs task S) (made_same (no_out (task ∷ others)) kinds task F fits.unobserved ∙ did.makes)
       ∙ ap (λ b. cond b (Some (put_over S did.made_files)) None) (room_stays task (no_out (task ∷ others)) F did.made_files did.room)
       ∙ ap Some (put_then_clear task others F did.made_files sorted (made_right kinds task F did.made_files did.makes) fits ∙ ap (cleared others) (sym did.files))
     where
@@ -218,7 +218,7 @@ module _ (kinds : Kinds) (folder : Contents) where
   after_execution planned rest old mid new again special sorted fit trusted separate (idle runs acts same) =
       subst (λ b. Built kinds folder (cond b (planned.task ∷ actives rest) (actives rest)) old.folder.files new.folder.files) (sym runs)
       (ap (λ o. fold (add_task kinds folder) o (actives rest))
-      (ap (λ b. cond b (Some S) (cond (is_empty (input_faults planned.task (record folder { files = S }))) (store_record planned.task S (made kinds planned.task S)) None)) acts
+      (ap (λ b. cond b (Some S) (cond (is_empty (input_faults planned.task (record folder { files = S }))) (put_at_outputs planned.task S (made kinds planned.task S)) None)) acts
       ∙ ap Some (λ i. files_where (λ q. not (here.0.idle_writes_none acts q i || any_out (actives rest) q)) old.folder.files)
       ∙ ap (λ (w : World). Some (cleared (actives rest) w.folder.files)) (sym same))
       ∙ again (special ∙ ap (λ (w : World). w.folder.special) (sym same))
