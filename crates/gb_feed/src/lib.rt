@@ -1,8 +1,10 @@
-//! Kinds of actions that list the pages of a site for programs: a site map and an Atom feed.
+//! Kinds of actions that make what machines read about a site: a site map, and a feed in Atom.
 //!
-//! Each makes one file from the texts of all pages, for a site whose address is an argument. Both
-//! take dates from the front matter of the pages and from nowhere else, so that a build is a
-//! function of its files.
+//! The promise: each is the text that its definition gives of the pages' paths, titles and dates,
+//! escaped for XML. The date of a feed is that of its newest page, so it is the same in each build
+//! of the same pages. A page without a date fails a feed with 42.
+//!
+//! Not proved: that the text is well-formed XML.
 #![tactic(auto)]
 
 pub mod actions;

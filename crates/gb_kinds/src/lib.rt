@@ -1,10 +1,18 @@
-//! The kinds of actions that every build has, and the closures that implement them.
+//! The built-in kinds of actions and functions of values, and the closures that implement them.
 //!
-//! `Builtin` defines the meaning of each number of a kind. For each kind there is one plain
-//! function, whose contract is that meaning, and its signature. A program boxes the functions and
-//! adds them to a `table`. No function here can make the boxes, since the facts known about a boxed
-//! closure would then depend on that function's body.
-//! The functions of values, which properties and providers are made of, have the same form.
+//! The promise: a full reply has exactly the files that the kind's definition makes, and an
+//! incremental one names only paths at which old and new files differ. [`builtin::Builtin`] gives
+//! each kind, by its number, that meaning. Each kind is one plain function in `texts.rt` or
+//! `files.rt`, and each function of values one in `functions.rt`.
+//!
+//! A program boxes the functions and adds them to a table ([`table`], [`function_table`]). No
+//! function here can make the boxes, since the facts known about a boxed closure would then depend
+//! on that function's body.
+//!
+//! Kinds that work file by file share one reply, over all files or over the changed ones.
+//! `wordIndex` computes its changes from the old index, the changes and the files that changed, in
+//! n log n steps of their bytes, and never reads an unchanged file. It relies on the old index only
+//! as far as the previous run made it.
 #![tactic(auto)]
 
 pub mod arguments;
