@@ -1,6 +1,14 @@
-//! The faults and warnings of the tasks of a folder, found before any of them is requested: the
-//! fault of each task, with the line of the clause that it names or of the statement that registers
-//! the task; if no task has one, the fault of the plan of all tasks; and warnings.
+//! What is wrong with registered tasks, found before any of them is requested: their faults, and
+//! warnings.
+//!
+//! The promise of [`find`](crate::finding::find): the faults are exactly those of the tasks, in the
+//! order of registration; where no task has one, exactly why there is no plan of all of them. Where
+//! no fault is found, no build is refused for a task, whatever is requested. The warnings are
+//! exactly those of four sorts, over the tasks without a fault.
+//!
+//! A fault has the line of the one clause of its task that has the word in the fault, else that of
+//! the statement that registers the task. It can be another clause that has the word by chance: to
+//! carry the clause through the registry would change each fault of a build.
 #![tactic(auto)]
 
 mod bare;

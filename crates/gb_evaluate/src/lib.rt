@@ -1,7 +1,12 @@
 //! Evaluates the expressions of a declared task, up to the first fault.
 //!
-//! [`asking`] evaluates one expression, and reports the fault where it gives no value;
-//! [`evaluating`] goes through the parts of a task in the order in which their faults are reported.
+//! The promise: a task evaluates to what its definition gives, or to its first fault in the order
+//! of its parts, or memory runs out. Every call leaves the providers unchanged.
+//!
+//! [`asking`] evaluates one expression, and reports the fault where it gives no value; a circle is
+//! reported by its names in the table of all scripts. [`evaluating`] goes through the parts of a
+//! task in the order in which their faults are reported: the nodes of a task are one row, which is
+//! cut by the number of expressions of each part.
 #![tactic(auto)]
 
 mod actions;

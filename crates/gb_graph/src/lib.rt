@@ -1,10 +1,20 @@
 //! Makes the plan of a build: the scheduled tasks in order, or the one reason why there is none.
 //!
-//! Builds call [`plan::plan`]. The modules below it work on task numbers: the rank of a task's key
-//! among all keys. [`order`] chooses and orders the tasks; [`chains`] computes for two tasks of a
-//! plan whether one waits for the other, as a row of bits for each task. With the chains the other
-//! rules are checked: of two tasks at one place one has to wait, and [`refusal`] reports the first
-//! of all faults.
+//! The promise of [`plan::plan`]: it is the plan that the definition gives, in which no two outputs
+//! overlap and each reader comes after its producer; or the first fault in the order of refusals,
+//! with the least tasks and place; or memory runs out. It has no premise and leaves the tasks as
+//! they are.
+//!
+//! How it works, in steps. [`selection`] finds the tasks of the request's words, [`schedule`] all
+//! that they need and that finalizes them, by a queue in which each task is declared once. Below
+//! that tasks are numbers: the rank of a task's key, by word and path, among all keys ([`ranked`]).
+//! [`order`] takes again and again the least task whose predecessors are placed; what is left is on
+//! a circle ([`circle`]). [`chains`] computes for each task, as a row of bits, which tasks come
+//! before it by a chain. With the chains the other rules are checked: of two tasks at one place one
+//! has to wait for the other, and [`refusal`] reports the first of all faults. Places that overlap
+//! are found by binary searches in one sorted row ([`overlaps`]).
+//!
+//! Set aside: to compare each place with each other, and paths in place of numbers.
 #![tactic(auto)]
 
 mod arrange;

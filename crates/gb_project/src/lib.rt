@@ -1,8 +1,15 @@
-//! Declares all tasks that scripts register at once, and realises them on demand.
+//! All tasks that scripts register: declared at once, realised when they are requested, and given
+//! to plans.
+//!
+//! The promise: a task realises to the declaration of its path or to its first fault, whatever else
+//! was realised before. Each path is there once, and a declaration names only registered tasks and
+//! has its outputs under the build folder of its project.
 //!
 //! A [`workspaces::Workspace`] has each task's clauses by its path, and the providers that they
 //! use. A task that no build requests is never evaluated, so a fault in it affects nobody.
 //! [`script_tasks::ScriptTasks`] is the same in the form that a plan requests.
+//!
+//! Set aside: declaring on demand, which would walk from task to task for each read.
 #![tactic(auto)]
 
 mod blocks;

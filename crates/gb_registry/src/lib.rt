@@ -1,5 +1,14 @@
-//! What the scripts of a build register: projects, properties and tasks. Their expressions are not
+//! What settings and scripts register: projects, properties and tasks, whose expressions are not
 //! yet evaluated.
+//!
+//! The promise: [`registry`] has exactly what the scripts register, or the first fault: statement
+//! by statement, and after all statements those of tasks that values name. That a
+//! [`configured::Configured`] has no fault is a fact of its type, so whoever declares tasks from
+//! one needs no premise.
+//!
+//! Scripts are checked in one pass ([`checking`]) with the state of the statements before
+//! ([`so_far`]): the tasks of all scripts, and the properties of the script itself. A look-up of a
+//! task or a project takes one hash.
 #![tactic(auto)]
 
 pub mod checking;
