@@ -1,3 +1,4 @@
+pub mod Again
 pub mod GoesOn
 pub mod Parts
 pub mod Merging

@@ -107,3 +107,8 @@ fn fault_of(fault: FolderFault, place: Place) -> TreeFault
         FolderFault::BadFileName => TreeFault::BadFileName(place),
     }
 }
+
+/// Whether a file that was listed no longer existed when it was read.
+pub(crate) fn is_gone<T>(reading: &Result<T, TreeFault>) -> bool {
+    matches!(reading, Err(TreeFault::Missing(_)))
+}

@@ -13,7 +13,7 @@ ghost use Rattle.gb_tree.specs.Prints.{digests_of};
 ghost use Rattle.gb_tree.specs.Answered.{AreOutputEntriesListed, WereObserved};
 ghost use Rattle.gb_tree.specs.Reading.{AreObserved, digests_observed, entries_observed};
 
-use crate::fault::TreeFault;
+use crate::fault::{TreeFault, is_gone};
 use crate::kept::Reading;
 use crate::path::path_from;
 use crate::prints::Prints;
@@ -80,8 +80,50 @@ pub fn output_prints<F: Folder>(
 }
 
 /// The files that [`outputs`] returns, each read once, with the same faults. Their bytes are kept
-/// where `room` is left for them; kept bytes reduce `room`.
+/// where `room` is left for them; kept bytes reduce `room`. If a listed file is gone when it is
+/// read, all are listed and read once more, and only then 11.
 pub fn output_reading<F: Folder>(
+    alloc: Global,
+    folder: &mut F,
+    name: &Name,
+    place: &Place,
+    room: &mut u64,
+) -> Result<Reading, TreeFault>
+    ensures requests { Requests F.failures F.may_leave F.allowed no_change folder.old folder.new }
+    ensures blame { Blames (λ at. IsTrue (is_under at place.now))
+        (F.failures folder.old) (F.failures folder.new) result }
+    ensures same { IsTrue F.faithful → F.contents folder.new ≡ F.contents folder.old }
+    ensures named { IfOk result (λ reading. reading.0 ≡ name.now) }
+    ensures under { IfOk result
+        (λ reading. AllByRecursion (λ observed. IsTrue (is_under observed.place place.now)) reading.1) }
+    // Over any folder: the files are those that calls returned, and so are the digests and the
+    // bytes.
+    ensures listed { IfOk result (λ reading. AreOutputEntriesListed F.failures F.may_leave F.allowed
+        folder.old folder.new place.now (entries_observed reading.1)) }
+    ensures answered { IfOk result
+        (λ reading. WereObserved F.failures F.may_leave F.allowed folder.old folder.new reading.1) }
+    ensures digests { IsTrue F.faithful → IfOk result (λ reading.
+        digests_observed reading.1 ≡ digests_of (files_from (F.contents folder.old).files place.now)) }
+    ensures observed { IsTrue F.faithful → IfOk result (λ reading. AreObserved (F.contents folder.old).files
+        (output_entries (F.contents folder.old).files place.now) reading.1) }
+    ensures fit { IsTrue F.faithful → OnOk result
+        (output_faults name.now place.now (F.contents folder.old) ≡ []) }
+    ensures err { IsTrue F.faithful → IfErr result (λ fault.
+        IsRefused (F.failures folder.old) (F.failures folder.new)
+        (output_faults name.now place.now (F.contents folder.old)) fault) }
+{
+    let free = *room;
+    let first = read_output_once(alloc, folder, name, place, room);
+    if !is_gone(&first) {
+        return first;
+    }
+    drop(first);
+    *room = free;
+    read_output_once(alloc, folder, name, place, room)
+}
+
+/// The files as one listing has them.
+fn read_output_once<F: Folder>(
     alloc: Global,
     folder: &mut F,
     name: &Name,

@@ -9,7 +9,7 @@ ghost use Rattle.gb_tree.specs.Answered.{AreEntriesListed, WereObserved};
 ghost use Rattle.gb_tree.specs.Reading.{AreObserved, digests_observed, entries_observed};
 
 use crate::entries::entries_of;
-use crate::fault::TreeFault;
+use crate::fault::{TreeFault, is_gone};
 use crate::kept::Reading;
 use crate::pattern::Pattern;
 use crate::prints::Prints;
@@ -102,8 +102,53 @@ pub fn prints_of<F: Folder>(
 }
 
 /// The files that [`snapshot`] returns, each read once, from the same listings and with the same
-/// faults. Their bytes are kept where `room` is left for them; kept bytes reduce `room`.
+/// faults. Their bytes are kept where `room` is left for them; kept bytes reduce `room`. If a
+/// listed file is gone when it is read, all are listed and read once more, and only then 11.
 pub fn reading_of<F: Folder>(
+    alloc: Global,
+    folder: &mut F,
+    name: &Name,
+    naming: Naming,
+    roots: &[Place],
+    include: &[Pattern],
+    exclude: &[Pattern],
+    room: &mut u64,
+) -> Result<Reading, TreeFault>
+    ensures requests { Requests F.failures F.may_leave F.allowed no_change folder.old folder.new }
+    ensures blame { Blames (λ at. IsTrue (is_under_any roots.now at))
+        (F.failures folder.old) (F.failures folder.new) result }
+    ensures same { IsTrue F.faithful → F.contents folder.new ≡ F.contents folder.old }
+    ensures named { IfOk result (λ reading. reading.0 ≡ name.now) }
+    ensures under { IfOk result
+        (λ reading. AllByRecursion (λ observed. IsTrue (is_under_any roots.now observed.place)) reading.1) }
+    // Over any folder: the files are those that calls returned, and so are the digests and the
+    // bytes.
+    ensures listed { IfOk result (λ reading. AreEntriesListed F.failures F.may_leave F.allowed naming roots.now
+        include.now exclude.now folder.old folder.new (entries_observed reading.1)) }
+    ensures answered { IfOk result
+        (λ reading. WereObserved F.failures F.may_leave F.allowed folder.old folder.new reading.1) }
+    ensures digests { IsTrue F.faithful → IfOk result (λ reading. digests_observed reading.1
+        ≡ digests_of (tree_of naming roots.now include.now exclude.now (F.contents folder.old).files)) }
+    ensures observed { IsTrue F.faithful → IfOk result (λ reading. AreObserved (F.contents folder.old).files
+        (entries_of naming roots.now include.now exclude.now (F.contents folder.old).files) reading.1) }
+    ensures fit { IsTrue F.faithful → OnOk result
+        (tree_faults name.now naming roots.now include.now exclude.now (F.contents folder.old) ≡ []) }
+    ensures err { IsTrue F.faithful → IfErr result (λ fault.
+        IsRefused (F.failures folder.old) (F.failures folder.new)
+        (tree_faults name.now naming roots.now include.now exclude.now (F.contents folder.old)) fault) }
+{
+    let free = *room;
+    let first = read_once(alloc, folder, name, naming, roots, include, exclude, room);
+    if !is_gone(&first) {
+        return first;
+    }
+    drop(first);
+    *room = free;
+    read_once(alloc, folder, name, naming, roots, include, exclude, room)
+}
+
+/// The files as one listing has them.
+fn read_once<F: Folder>(
     alloc: Global,
     folder: &mut F,
     name: &Name,
