@@ -25,3 +25,4 @@ pub mod Starting
 pub mod Above
 pub mod Small
 pub mod Comparing
+pub mod Rooted

@@ -10,3 +10,4 @@ pub mod Rising
 pub mod Reading
 pub mod Answered
 pub mod Waiting
+pub mod Sieve

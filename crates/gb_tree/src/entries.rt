@@ -11,8 +11,8 @@ ghost use Rattle.gb_folder.specs.Calls.{Requests, no_change};
 ghost use Rattle.gb_folder.specs.Limits.{max_files};
 ghost use Rattle.gb_tree.specs.Tree.{Blames, IsRefused, special_roots, too_many};
 ghost use Rattle.gb_tree.specs.Property.{doubled, entries_in, entries_of, entry_faults, found_from};
-ghost use Rattle.gb_tree.specs.Property.{held, in_order, is_in, is_under_any, lets_in, matches_any};
-ghost use Rattle.gb_tree.specs.Property.{paths_of, places_of};
+ghost use Rattle.gb_tree.specs.Property.{held, in_order, is_in, is_under_any, lets_in};
+ghost use Rattle.gb_tree.specs.Property.{paths_of, places_of, starts_in};
 ghost use Rattle.gb_tree.specs.Rising.{IsFrom, IsRising};
 ghost use Rattle.gb_tree.specs.Answered.{AreEntriesListed, IsStartListed, listed_in};
 
@@ -21,7 +21,8 @@ use crate::path::{path_of, relative_to};
 use crate::pattern::Pattern;
 use crate::property::Naming;
 use crate::reading::listed;
-use crate::starts::{distinct, starts_in};
+use crate::sieve::Sieve;
+use crate::starts::{distinct, starts_at};
 use gb_core::name::Name;
 use gb_core::place::{Place, RelPath, lies_beneath};
 use gb_folder::folder::Folder;
@@ -58,7 +59,6 @@ pub(crate) fn entries_of<F: Folder>(
         (entry_faults name.now naming roots.now include.now exclude.now (F.contents folder.old)) fault) }
 {
     let roots = distinct(alloc, roots)?;
-    let starts = starts_in(alloc, include, roots.as_slice())?;
     let mut entries = found_few(
         alloc,
         folder,
@@ -66,14 +66,14 @@ pub(crate) fn entries_of<F: Folder>(
         naming,
         include,
         exclude,
-        starts.as_slice(),
+        roots.as_slice(),
     )?;
     sort(&mut entries);
     check_doubled(alloc, name, entries.as_slice())?;
     Ok(entries)
 }
 
-/// The entries that the starts give, where these are no more than can be read.
+/// The entries that the starts of these roots give, where these are no more than can be read.
 fn found_few<F: Folder>(
     alloc: Global,
     folder: &mut F,
@@ -81,34 +81,98 @@ fn found_few<F: Folder>(
     naming: Naming,
     include: &[Pattern],
     exclude: &[Pattern],
-    starts: &[(Place, Place)],
+    roots: &[Place],
 ) -> Result<Vec<(RelPath, Place)>, TreeFault>
-    requires { AllByRecursion (λ start. IsTrue (is_under start.1 start.0)) starts.now }
     ensures requests { Requests F.failures F.may_leave F.allowed no_change folder.old folder.new }
-    ensures blame { Blames (λ at. IsTrue (is_under_any (places_of starts.now) at))
+    ensures blame { Blames (λ at. IsTrue (is_under_any (places_of (starts_in include.now roots.now)) at))
         (F.failures folder.old) (F.failures folder.new) result }
     ensures under { IfOk result (λ entries.
-        AllByRecursion (λ entry. IsTrue (is_under_any (places_of starts.now) entry.1)) entries.items) }
+        AllByRecursion (λ entry. IsTrue (is_under_any (places_of (starts_in include.now roots.now)) entry.1)) entries.items) }
     ensures same { IsTrue F.faithful → F.contents folder.new ≡ F.contents folder.old }
     ensures answered { IfOk result (λ entries. (listings : List (List (List ℕ)))
-        × AllZip (IsStartListed F.failures F.may_leave F.allowed folder.old folder.new) starts.now listings
-        × (entries.items ≡ listed_in naming include.now exclude.now (zip starts.now listings))) }
+        × AllZip (IsStartListed F.failures F.may_leave F.allowed folder.old folder.new)
+        (starts_in include.now roots.now) listings
+        × (entries.items ≡ listed_in naming include.now exclude.now (zip (starts_in include.now roots.now) listings))) }
     ensures found { IsTrue F.faithful → IfOk result (λ entries.
-        entries.items ≡ found_from naming include.now exclude.now (F.contents folder.old).files starts.now) }
+        entries.items
+        ≡ found_from naming include.now exclude.now (F.contents folder.old).files
+        (starts_in include.now roots.now)) }
     ensures none_special { IsTrue F.faithful → OnOk result
-        (special_roots (F.contents folder.old) (places_of starts.now) ≡ []) }
+        (special_roots (F.contents folder.old) (places_of (starts_in include.now roots.now)) ≡ []) }
     ensures few { IfOk result (λ entries. too_many name.now entries.items ≡ []) }
     ensures err { IsTrue F.faithful → IfErr result (λ fault.
         IsRefused (F.failures folder.old) (F.failures folder.new)
-        (special_roots (F.contents folder.old) (places_of starts.now)
+        (special_roots (F.contents folder.old) (places_of (starts_in include.now roots.now))
         ++ too_many name.now
-        (found_from naming include.now exclude.now (F.contents folder.old).files starts.now)) fault) }
+        (found_from naming include.now exclude.now (F.contents folder.old).files
+        (starts_in include.now roots.now))) fault) }
 {
-    let entries = found(alloc, folder, naming, include, exclude, starts)?;
+    let entries = found_at_all(alloc, folder, naming, include, exclude, roots)?;
     if entries.len() > MAX_FILES {
         return Err(TreeFault::TooManyFiles(name.copy()?));
     }
     Ok(entries)
+}
+
+/// What the starts of each of the roots give, up to one entry more than the limit. The starts of one
+/// root at a time are in memory.
+fn found_at_all<F: Folder>(
+    alloc: Global,
+    folder: &mut F,
+    naming: Naming,
+    include: &[Pattern],
+    exclude: &[Pattern],
+    roots: &[Place],
+) -> Result<Vec<(RelPath, Place)>, TreeFault>
+    ensures requests { Requests F.failures F.may_leave F.allowed no_change folder.old folder.new }
+    ensures blame { Blames (λ at. IsTrue (is_under_any (places_of (starts_in include.now roots.now)) at))
+        (F.failures folder.old) (F.failures folder.new) result }
+    ensures under { IfOk result (λ entries.
+        AllByRecursion (λ entry. IsTrue (is_under_any (places_of (starts_in include.now roots.now)) entry.1)) entries.items) }
+    ensures few { IfOk result (λ entries. length entries.items ≤ max_files + 1) }
+    ensures same { IsTrue F.faithful → F.contents folder.new ≡ F.contents folder.old }
+    ensures answered { IfOk result (λ entries. (listings : List (List (List ℕ)))
+        × AllZip (IsStartListed F.failures F.may_leave F.allowed folder.old folder.new)
+        (starts_in include.now roots.now) listings
+        × (entries.items ≡ held (listed_in naming include.now exclude.now (zip (starts_in include.now roots.now) listings)))) }
+    ensures found { IsTrue F.faithful → IfOk result (λ entries.
+        entries.items
+        ≡ held (found_from naming include.now exclude.now (F.contents folder.old).files
+        (starts_in include.now roots.now))) }
+    ensures none_special { IsTrue F.faithful → OnOk result
+        (special_roots (F.contents folder.old) (places_of (starts_in include.now roots.now)) ≡ []) }
+    ensures special { IsTrue F.faithful → IfErr result (λ fault.
+        IsRefused (F.failures folder.old) (F.failures folder.new)
+        (special_roots (F.contents folder.old) (places_of (starts_in include.now roots.now))) fault) }
+{
+    let included = Sieve::new(alloc, include)?;
+    let excluded = Sieve::new(alloc, exclude)?;
+    let mut entries = Vec::new(alloc);
+    for root in roots.iter() {
+        let starts = starts_at(alloc, include, root)?;
+        let here = found(
+            alloc,
+            folder,
+            naming,
+            &included,
+            &excluded,
+            starts.as_slice(),
+        )?;
+        append_held(&mut entries, here)?;
+    }
+    Ok(entries)
+}
+
+/// Appends entries to others, up to one more than the limit.
+fn append_held(
+    entries: &mut Vec<(RelPath, Place)>,
+    mut more: Vec<(RelPath, Place)>,
+) -> Result<(), AllocError>
+    ensures { OnOk result (entries.new.items ≡ held (entries.old.items ++ more.items)) }
+{
+    entries.append(&mut more)?;
+    entries.truncate(MAX_FILES + 1);
+    Ok(())
 }
 
 /// What each of the starts gives, up to one entry more than the limit. Later starts are listed all
@@ -117,8 +181,8 @@ fn found<F: Folder>(
     alloc: Global,
     folder: &mut F,
     naming: Naming,
-    include: &[Pattern],
-    exclude: &[Pattern],
+    include: &Sieve,
+    exclude: &Sieve,
     starts: &[(Place, Place)],
 ) -> Result<Vec<(RelPath, Place)>, TreeFault>
     requires { AllByRecursion (λ start. IsTrue (is_under start.1 start.0)) starts.now }
@@ -162,8 +226,8 @@ fn add_entries(
     alloc: Global,
     entries: &mut Vec<(RelPath, Place)>,
     naming: Naming,
-    include: &[Pattern],
-    exclude: &[Pattern],
+    include: &Sieve,
+    exclude: &Sieve,
     root: &Place,
     places: &[Place],
 ) -> Result<(), TreeFault>
@@ -183,7 +247,7 @@ fn add_entries(
 }
 
 /// Whether a place under the root belongs to the property.
-fn is_in(include: &[Pattern], exclude: &[Pattern], root: &Place, place: &Place) -> bool
+fn is_in(include: &Sieve, exclude: &Sieve, root: &Place, place: &Place) -> bool
     requires { IsTrue (is_under place.now root.now) }
     ensures { result ≡ is_in include.now exclude.now root.now place.now }
 {
@@ -191,16 +255,10 @@ fn is_in(include: &[Pattern], exclude: &[Pattern], root: &Place, place: &Place) 
 }
 
 /// Whether some include matches the path, or there is none, and no exclude does.
-fn lets_in(include: &[Pattern], exclude: &[Pattern], path: &str) -> bool
+fn lets_in(include: &Sieve, exclude: &Sieve, path: &str) -> bool
     ensures { result ≡ lets_in include.now exclude.now path.now }
 {
-    (include.is_empty() || matches_any(include, path)) && !matches_any(exclude, path)
-}
-
-fn matches_any(patterns: &[Pattern], path: &str) -> bool
-    ensures { result ≡ matches_any patterns.now path.now }
-{
-    patterns.iter().any(|pattern| pattern.matches_text(path))
+    (include.is_empty() || include.matches(path)) && !exclude.matches(path)
 }
 
 fn sort(entries: &mut Vec<(RelPath, Place)>)

@@ -38,5 +38,6 @@ pub mod property;
 mod reading;
 mod scanning;
 mod shortcut;
+mod sieve;
 mod starts;
 mod waiting;

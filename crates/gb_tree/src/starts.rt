@@ -1,6 +1,6 @@
 //! Where the files of a property are looked for: under a root, for each of its includes, at the
 //! folder before the first `*` or `?`.
-ghost use Rattle.std.specs.Prelude.{◌≡◌, ◌++◌, ℕ, List, map, IsTrue, IfOk, IfErr, OnOk, bytes_eq};
+ghost use Rattle.std.specs.Prelude.{◌≡◌, ◌++◌, [], ◌∷◌, ℕ, List, map, IsTrue, IfOk, IfErr, OnOk, bytes_eq};
 ghost use Rattle.std.specs.List.{AllByRecursion, list_any};
 ghost use Rattle.gb_core.specs.Place.{is_beneath, is_place};
 ghost use Rattle.gb_tree.specs.Pattern.{prefix_of, plain_prefix};
@@ -15,20 +15,18 @@ use gb_core::place::{Place, PlaceFault};
 use std::alloc::{AllocError, Global};
 use std::collections::BTreeSet;
 
-/// Each of the roots with each of the places under it at which files are listed.
-pub(crate) fn starts_in(
+/// A root with each of the places under it at which files are listed.
+pub(crate) fn starts_at(
     alloc: Global,
     include: &[Pattern],
-    roots: &[Place],
+    root: &Place,
 ) -> Result<Vec<(Place, Place)>, TreeFault>
-    ensures starts { IfOk result (λ starts. starts.items ≡ starts_in include.now roots.now) }
+    ensures starts { IfOk result (λ starts. starts.items ≡ starts_in include.now (root.now ∷ [])) }
     ensures err { IfErr result (λ fault. fault ≡ TreeFault.OutOfMemory) }
 {
-    let mut starts = Vec::new(alloc);
-    for root in roots.iter() {
-        let here = starts_of(alloc, include, root)?;
-        add_starts(&mut starts, root, here.as_slice())?;
-    }
+    let here = starts_of(alloc, include, root)?;
+    let mut starts = Vec::with_capacity(alloc, here.len())?;
+    add_starts(&mut starts, root, here.as_slice())?;
     Ok(starts)
 }
 

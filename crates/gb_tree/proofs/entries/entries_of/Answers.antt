@@ -13,31 +13,25 @@ use Rattle.gb_tree.proofs.Holding.{all_wider}
 use Rattle.gb_tree.proofs.Listing.{doubled_first, found_refused, in_their_order, only_doubled}
 use Rattle.gb_tree.proofs.Refused.{at_err}
 use Rattle.gb_tree.proofs.Sorting.{all_in_order}
-use Rattle.gb_tree.proofs.Starting.{beneath_roots, starts_within}
+use Rattle.gb_tree.proofs.Starting.{beneath_roots}
 use Rattle.gb_tree.proofs.entries.entries_of.Goals as goal
 
--- the starts that were found are those of the roots, each once
-these : (include : List (List ℕ)) (roots kept : List Place) (starts made : List (Place × Place)) → starts ≡ made → made ≡ starts_in include kept → kept ≡ distinct roots → starts ≡ starts_in include (distinct roots)
-these include roots kept starts made same are once = same ∙ are ∙ ap (starts_in include) once
+-- the starts are those of the roots, each once
+these : (include : List (List ℕ)) (roots kept : List Place) → kept ≡ distinct roots → starts_in include kept ≡ starts_in include (distinct roots)
+these include roots kept once = ap (starts_in include) once
 
 -- under one of the starts is under one of the roots
 of_roots : (include : List (List ℕ)) (roots : List Place) (starts : List (Place × Place)) → starts ≡ starts_in include (distinct roots) → (at : Place) → IsTrue (is_under_any (places_of starts) at) → IsTrue (is_under_any roots at)
 of_roots include roots starts same at h =
     distinct_under roots at (beneath_roots include (distinct roots) at (subst (λ (starts : List (Place × Place)). IsTrue (is_under_any (places_of starts) at)) same h))
 
-pub found_few-requires : goal.found_few-requires
-found_few-requires g c =
-    let starts = c.as_slice-2.result.now in
-    let same = these c.args.include.now c.args.roots.now c.as_slice.result.now starts c.in_ok-starts.starts.items c.as_slice-2.ensures.value c.in_ok-starts.ensures.starts (c.as_slice.ensures.value ∙ c.in_ok-roots.ensures) in
-    subst (λ (starts : List (Place × Place)). AllByRecursion (λ start. IsTrue (is_under start.1 start.0)) starts) (sym same) (starts_within c.args.include.now (distinct c.args.roots.now))
-
 pub returns-in_err-entries-clause-blame : goal.returns-in_err-entries-clause-blame
 returns-in_err-entries-clause-blame g c =
     let p = err_from_is_err_and c.from_residual-in_err-entries.result c.from_residual-in_err-entries.ensures.1 in
-    let starts = c.as_slice-2.result.now in
+    let starts = (starts_in c.args.include.now c.as_slice.result.now) in
     let roots = c.args.roots.now in
     blamed_before (λ at. IsTrue (is_under_any (places_of starts) at)) (λ at. IsTrue (is_under_any roots at)) _ _ _ _ c.in_err-entries.field-0.0 p.0 (omega arith) c.in_err-entries.ensures.requests.count p.1 p.2
-    (of_roots c.args.include.now roots starts (these c.args.include.now c.args.roots.now c.as_slice.result.now c.as_slice-2.result.now c.in_ok-starts.starts.items c.as_slice-2.ensures.value c.in_ok-starts.ensures.starts (c.as_slice.ensures.value ∙ c.in_ok-roots.ensures))) c.in_err-entries.ensures.blame
+    (of_roots c.args.include.now roots starts (these c.args.include.now c.args.roots.now c.as_slice.result.now (c.as_slice.ensures.value ∙ c.in_ok-roots.ensures))) c.in_err-entries.ensures.blame
 
 pub returns-in_err-entries-clause-err : goal.returns-in_err-entries-clause-err
 returns-in_err-entries-clause-err g c = λ faithful.
@@ -49,7 +43,7 @@ returns-in_err-entries-clause-err g c = λ faithful.
     let include = c.args.include.now in
     let exclude = c.args.exclude.now in
     at_err (λ r. IfErr r (λ fault. IsRefused (failures c.args.folder.now) (failures c.found_few.new.folder) (entry_faults name c.args.naming roots include exclude old) fault)) c.from_residual-in_err-entries.result p.0 c.in_err-entries.field-0.0 p.1 p.2
-    (found_refused name c.args.naming roots include exclude old c.as_slice-2.result.now (these c.args.include.now c.args.roots.now c.as_slice.result.now c.as_slice-2.result.now c.in_ok-starts.starts.items c.as_slice-2.ensures.value c.in_ok-starts.ensures.starts (c.as_slice.ensures.value ∙ c.in_ok-roots.ensures)) _ _ _ (c.in_err-entries.ensures.err faithful))
+    (found_refused name c.args.naming roots include exclude old (starts_in c.args.include.now c.as_slice.result.now) (these c.args.include.now c.args.roots.now c.as_slice.result.now (c.as_slice.ensures.value ∙ c.in_ok-roots.ensures)) _ _ _ (c.in_err-entries.ensures.err faithful))
 
 pub returns-in_err-check_doubled-clause-err : goal.returns-in_err-check_doubled-clause-err
 returns-in_err-check_doubled-clause-err g c = λ faithful.
@@ -60,26 +54,26 @@ returns-in_err-check_doubled-clause-err g c = λ faithful.
     let roots = c.args.roots.now in
     let include = c.args.include.now in
     let exclude = c.args.exclude.now in
-    let same = these c.args.include.now c.args.roots.now c.as_slice.result.now c.as_slice-2.result.now c.in_ok-starts.starts.items c.as_slice-2.ensures.value c.in_ok-starts.ensures.starts (c.as_slice.ensures.value ∙ c.in_ok-roots.ensures) in
-    let starts = c.as_slice-2.result.now in
-    let sorted = c.as_slice-3.result.now in
+    let same = these c.args.include.now c.args.roots.now c.as_slice.result.now (c.as_slice.ensures.value ∙ c.in_ok-roots.ensures) in
+    let starts = (starts_in c.args.include.now c.as_slice.result.now) in
+    let sorted = c.as_slice-2.result.now in
     at_err (λ r. IfErr r (λ fault. IsRefused (failures c.args.folder.now) (failures c.found_few.new.folder) (entry_faults name c.args.naming roots include exclude old) fault)) c.from_residual-in_err-check_doubled.result p.0 c.in_err-check_doubled.field-0.0 p.1 p.2
     (elim c.in_err-check_doubled.ensures.err [
       | inl none ↦ inl (inl none)
       | inr found ↦ inr (doubled_first name c.args.naming roots include exclude old starts same sorted found.0 _
           (only_doubled name c.args.naming roots include exclude old starts same c.in_ok-entries.entries.items sorted
-          (c.in_ok-entries.ensures.none_special faithful) (c.in_ok-entries.ensures.found faithful) c.in_ok-entries.ensures.few (c.as_slice-3.ensures.value ∙ c.sort.ensures.sorted))
+          (c.in_ok-entries.ensures.none_special faithful) (c.in_ok-entries.ensures.found faithful) c.in_ok-entries.ensures.few (c.as_slice-2.ensures.value ∙ c.sort.ensures.sorted))
           found.1 found.2)
     ])
 
 pub returns-clause-under : goal.returns-clause-under
 returns-clause-under g c =
     let roots = c.args.roots.now in
-    let starts = c.as_slice-2.result.now in
+    let starts = (starts_in c.args.include.now c.as_slice.result.now) in
     let entries : Entries = c.in_ok-entries.entries.items in
     subst (λ (es : Entries). AllByRecursion (λ entry. IsTrue (is_under_any roots entry.1)) es) (sym c.sort.ensures.sorted)
     (all_in_order _ entries (all_wider (λ (entry : List ℕ × Place). IsTrue (is_under_any (places_of starts) entry.1)) (λ (entry : List ℕ × Place). IsTrue (is_under_any roots entry.1)) entries
-    (λ entry. of_roots c.args.include.now roots starts (these c.args.include.now c.args.roots.now c.as_slice.result.now c.as_slice-2.result.now c.in_ok-starts.starts.items c.as_slice-2.ensures.value c.in_ok-starts.ensures.starts (c.as_slice.ensures.value ∙ c.in_ok-roots.ensures)) entry.1) c.in_ok-entries.ensures.under))
+    (λ entry. of_roots c.args.include.now roots starts (these c.args.include.now c.args.roots.now c.as_slice.result.now (c.as_slice.ensures.value ∙ c.in_ok-roots.ensures)) entry.1) c.in_ok-entries.ensures.under))
 
 pub returns-clause-listed : goal.returns-clause-listed
 returns-clause-listed g c =
@@ -87,7 +81,7 @@ returns-clause-listed g c =
     let naming = c.args.naming in
     let include = c.args.include.now in
     let exclude = c.args.exclude.now in
-    let same = these c.args.include.now c.args.roots.now c.as_slice.result.now c.as_slice-2.result.now c.in_ok-starts.starts.items c.as_slice-2.ensures.value c.in_ok-starts.ensures.starts (c.as_slice.ensures.value ∙ c.in_ok-roots.ensures) in
+    let same = these c.args.include.now c.args.roots.now c.as_slice.result.now (c.as_slice.ensures.value ∙ c.in_ok-roots.ensures) in
     record {
       listings = reported.0;
       listed = subst (λ (starts : List (Place × Place)). AllZip (IsStartListed g.F.Folder.failures g.F.Folder.may_leave g.F.Folder.allowed c.args.folder.now c.found_few.new.folder) starts reported.0) same reported.1;
@@ -97,10 +91,10 @@ returns-clause-listed g c =
 pub returns-clause-entries : goal.returns-clause-entries
 returns-clause-entries g c = λ faithful.
     c.sort.ensures.sorted ∙ ap in_order (c.in_ok-entries.ensures.found faithful)
-    ∙ in_their_order c.args.name.now c.args.naming c.args.roots.now c.args.include.now c.args.exclude.now (g.F.Folder.contents c.args.folder.now) c.as_slice-2.result.now (these c.args.include.now c.args.roots.now c.as_slice.result.now c.as_slice-2.result.now c.in_ok-starts.starts.items c.as_slice-2.ensures.value c.in_ok-starts.ensures.starts (c.as_slice.ensures.value ∙ c.in_ok-roots.ensures))
+    ∙ in_their_order c.args.name.now c.args.naming c.args.roots.now c.args.include.now c.args.exclude.now (g.F.Folder.contents c.args.folder.now) (starts_in c.args.include.now c.as_slice.result.now) (these c.args.include.now c.args.roots.now c.as_slice.result.now (c.as_slice.ensures.value ∙ c.in_ok-roots.ensures))
 
 pub returns-clause-fit : goal.returns-clause-fit
 returns-clause-fit g c = λ faithful.
-    only_doubled c.args.name.now c.args.naming c.args.roots.now c.args.include.now c.args.exclude.now (g.F.Folder.contents c.args.folder.now) c.as_slice-2.result.now (these c.args.include.now c.args.roots.now c.as_slice.result.now c.as_slice-2.result.now c.in_ok-starts.starts.items c.as_slice-2.ensures.value c.in_ok-starts.ensures.starts (c.as_slice.ensures.value ∙ c.in_ok-roots.ensures))
-    c.in_ok-entries.entries.items c.as_slice-3.result.now (c.in_ok-entries.ensures.none_special faithful) (c.in_ok-entries.ensures.found faithful) c.in_ok-entries.ensures.few (c.as_slice-3.ensures.value ∙ c.sort.ensures.sorted)
+    only_doubled c.args.name.now c.args.naming c.args.roots.now c.args.include.now c.args.exclude.now (g.F.Folder.contents c.args.folder.now) (starts_in c.args.include.now c.as_slice.result.now) (these c.args.include.now c.args.roots.now c.as_slice.result.now (c.as_slice.ensures.value ∙ c.in_ok-roots.ensures))
+    c.in_ok-entries.entries.items c.as_slice-2.result.now (c.in_ok-entries.ensures.none_special faithful) (c.in_ok-entries.ensures.found faithful) c.in_ok-entries.ensures.few (c.as_slice-2.ensures.value ∙ c.sort.ensures.sorted)
     ∙ ap (map (faults.DuplicateInput c.args.name.now)) c.in_ok-check_doubled.ensures.fit

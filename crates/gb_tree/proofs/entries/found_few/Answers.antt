@@ -3,7 +3,7 @@ use Rattle.std.proofs.lemmas.Result.{err_from_is_err_and}
 use Rattle.gb_core.specs.Lists.{first_of}
 use Rattle.gb_folder.specs.Files.{Place}
 use Rattle.gb_tree.specs.declared.fault.TreeFault.TheVariants as faults
-use Rattle.gb_tree.specs.Property.{found_from, is_under_any, places_of}
+use Rattle.gb_tree.specs.Property.{found_from, is_under_any, places_of, starts_in}
 use Rattle.gb_tree.specs.Tree.{special_roots, too_many}
 use Rattle.gb_tree.proofs.Blame.{blamed_before}
 use Rattle.gb_tree.proofs.Holding.{held_few, held_many}
@@ -13,16 +13,16 @@ use Rattle.gb_tree.proofs.entries.found_few.Goals as goal
 pub returns-in_err-entries-clause-blame : goal.returns-in_err-entries-clause-blame
 returns-in_err-entries-clause-blame g c =
     let p = err_from_is_err_and c.from_residual.result c.from_residual.ensures.1 in
-    let IsSuch : Place → Type 0 = λ at. IsTrue (is_under_any (places_of c.args.starts.now) at) in
+    let IsSuch : Place → Type 0 = λ at. IsTrue (is_under_any (places_of (starts_in c.args.include.now c.args.roots.now)) at) in
     blamed_before IsSuch IsSuch _ _ _ _ c.in_err-entries.field-0.0 p.0 (omega arith) c.in_err-entries.ensures.requests.count p.1 p.2 (λ at h. h) c.in_err-entries.ensures.blame
 
 pub returns-then-len-gt-MAX_FILES-clause-err : goal.returns-then-len-gt-MAX_FILES-clause-err
 returns-then-len-gt-MAX_FILES-clause-err g c = λ faithful.
     let old = g.F.Folder.contents c.args.folder.now in
     let name = c.args.name.now in
-    let all = found_from c.args.naming c.args.include.now c.args.exclude.now old.files c.args.starts.now in
+    let all = found_from c.args.naming c.args.include.now c.args.exclude.now old.files (starts_in c.args.include.now c.args.roots.now) in
     let many = held_many c.in_ok-entries.entries.items all (c.in_ok-entries.ensures.found faithful) (omega (arith, c.len.ensures, c.if-len-gt-MAX_FILES.true)) in
-    inr (back_first (special_roots old (places_of c.args.starts.now)) (too_many name all) (c.in_ok-entries.ensures.none_special faithful)
+    inr (back_first (special_roots old (places_of (starts_in c.args.include.now c.args.roots.now))) (too_many name all) (c.in_ok-entries.ensures.none_special faithful)
     ∙ ap (λ b. first_of (cond b (faults.TooManyFiles name ∷ []) [])) many
     ∙ ap (λ (reported : List ℕ). Some (faults.TooManyFiles reported)) (sym c.in_ok-copy.ensures))
 

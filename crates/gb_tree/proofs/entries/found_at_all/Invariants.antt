@@ -1,0 +1,26 @@
+use Rattle.std.proofs.Common.{◌≡◌, ◌≤◌, ◌+◌, [], IsTrue, List, length, take}
+use Rattle.std.specs.List.{AllByRecursion, AllZip, zip}
+use Rattle.gb_folder.specs.Calls.{Requests, no_change}
+use Rattle.gb_folder.specs.Files.{Place}
+use Rattle.gb_folder.specs.Limits.{max_files}
+use Rattle.gb_tree.specs.Answered.{IsStartListed, listed_in}
+use Rattle.gb_tree.specs.Property.{found_from, held, is_under_any, places_of, starts_in}
+use Rattle.gb_tree.specs.Tree.{special_roots}
+use Rattle.gb_tree.proofs.entries.found_at_all.Given as goal
+
+abbrev pub invariant-loop-root : goal.invariant-loop-root
+invariant-loop-root g l =
+    let contents = g.F.Folder.contents in
+    let old = contents l.fn.folder in
+    let passed = starts_in l.include (take l.root-index l.roots) in
+    record {
+      requests : Requests g.F.Folder.failures g.F.Folder.may_leave g.F.Folder.allowed no_change l.fn.folder l.folder;
+      few : length l.entries.items ≤ max_files + 1;
+      under : AllByRecursion (λ entry. IsTrue (is_under_any (places_of (starts_in l.include l.roots)) entry.1)) l.entries.items;
+      answered : (listings : List (List Place))
+          × AllZip (IsStartListed g.F.Folder.failures g.F.Folder.may_leave g.F.Folder.allowed l.fn.folder l.folder) passed listings
+          × (l.entries.items ≡ held (listed_in l.naming l.include l.exclude (zip passed listings)));
+      same : IsTrue g.F.Folder.faithful → contents l.folder ≡ old;
+      found : IsTrue g.F.Folder.faithful → l.entries.items ≡ held (found_from l.naming l.include l.exclude old.files passed);
+      none_special : IsTrue g.F.Folder.faithful → special_roots old (places_of passed) ≡ [];
+    }
