@@ -87,12 +87,15 @@ fn found_few<F: Folder>(
     ensures blame { Blames (λ at. IsTrue (is_under_any (places_of (starts_in include.now roots.now)) at))
         (F.failures folder.old) (F.failures folder.new) result }
     ensures under { IfOk result (λ entries.
-        AllByRecursion (λ entry. IsTrue (is_under_any (places_of (starts_in include.now roots.now)) entry.1)) entries.items) }
+        AllByRecursion
+        (λ entry. IsTrue (is_under_any (places_of (starts_in include.now roots.now)) entry.1))
+        entries.items) }
     ensures same { IsTrue F.faithful → F.contents folder.new ≡ F.contents folder.old }
     ensures answered { IfOk result (λ entries. (listings : List (List (List ℕ)))
         × AllZip (IsStartListed F.failures F.may_leave F.allowed folder.old folder.new)
         (starts_in include.now roots.now) listings
-        × (entries.items ≡ listed_in naming include.now exclude.now (zip (starts_in include.now roots.now) listings))) }
+        × (entries.items ≡ listed_in naming include.now exclude.now
+        (zip (starts_in include.now roots.now) listings))) }
     ensures found { IsTrue F.faithful → IfOk result (λ entries.
         entries.items
         ≡ found_from naming include.now exclude.now (F.contents folder.old).files
@@ -128,13 +131,16 @@ fn found_at_all<F: Folder>(
     ensures blame { Blames (λ at. IsTrue (is_under_any (places_of (starts_in include.now roots.now)) at))
         (F.failures folder.old) (F.failures folder.new) result }
     ensures under { IfOk result (λ entries.
-        AllByRecursion (λ entry. IsTrue (is_under_any (places_of (starts_in include.now roots.now)) entry.1)) entries.items) }
+        AllByRecursion
+        (λ entry. IsTrue (is_under_any (places_of (starts_in include.now roots.now)) entry.1))
+        entries.items) }
     ensures few { IfOk result (λ entries. length entries.items ≤ max_files + 1) }
     ensures same { IsTrue F.faithful → F.contents folder.new ≡ F.contents folder.old }
     ensures answered { IfOk result (λ entries. (listings : List (List (List ℕ)))
         × AllZip (IsStartListed F.failures F.may_leave F.allowed folder.old folder.new)
         (starts_in include.now roots.now) listings
-        × (entries.items ≡ held (listed_in naming include.now exclude.now (zip (starts_in include.now roots.now) listings)))) }
+        × (entries.items ≡ held (listed_in naming include.now exclude.now
+        (zip (starts_in include.now roots.now) listings)))) }
     ensures found { IsTrue F.faithful → IfOk result (λ entries.
         entries.items
         ≡ held (found_from naming include.now exclude.now (F.contents folder.old).files
