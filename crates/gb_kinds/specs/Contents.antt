@@ -1,5 +1,5 @@
 -- How the kinds that work file by file edit the bytes of one file.
-use Rattle.std.specs.Prelude.{ℕ, Bool, List, [], ◌∷◌, ◌++◌, length, is_some}
+use Rattle.std.specs.Prelude.{ℕ, Bool, List, [], ◌∷◌, ◌++◌, length, is_some, take}
 use Rattle.std.specs.List.{concat, filter}
 use Rattle.memchr.specs.Find.{first_of, matches}
 use Rattle.bstr.specs.Text.{lines_of, replaced_at}
@@ -25,7 +25,15 @@ kept_lines text bytes = concat (filter (occurs text) (lines_of bytes))
 abbrev pub token : List ℕ → List ℕ
 token key = 64 ∷ key ++ 64 ∷ []
 
--- The bytes with the value in place of each token of the key. Tokens are found from the left and do not
--- overlap, and an inserted value is not searched for tokens.
+-- One byte more than a file may have. A file with so many is refused, whatever follows them.
+abbrev pub most_made : ℕ
+most_made = 8388609
+
+-- The bytes with the value in place of each sign, and of them no more than show that a file is too large.
+-- Signs are found from the left and do not overlap, and an inserted value is not searched for them.
+abbrev pub replaced : List ℕ → List ℕ → List ℕ → List ℕ
+replaced bytes sign value = take most_made (replaced_at bytes (length sign) value 0 (matches bytes sign 0))
+
+-- the bytes with the value in place of each token of the key
 abbrev pub with_value : List ℕ → List ℕ → List ℕ → List ℕ
-with_value key value bytes = replaced_at bytes (length (token key)) value 0 (matches bytes (token key) 0)
+with_value key value bytes = replaced bytes (token key) value

@@ -3,6 +3,7 @@ ghost use Rattle.std.specs.Prelude.{◌≡◌, ◌++◌, ◌∷◌, [], IfOk};
 ghost use Rattle.std.specs.List.{concat, filter};
 ghost use Rattle.gb_kinds.specs.Contents.{sum_line, occurs, kept_lines, token, with_value};
 
+use crate::replaced::replaced;
 use bstr::ByteSlice;
 use gb_core::bytes::Bytes;
 use sha2::{Digest, Sha256};
@@ -84,7 +85,7 @@ fn with_value(alloc: Global, key: &[u8], value: &[u8], bytes: &[u8]) -> Result<B
     ensures { IfOk result (λ made. made ≡ with_value key.now value.now bytes.now) }
 {
     let token = token(alloc, key)?;
-    Ok(Bytes::new(bytes.replace(alloc, token.as_slice(), value)?))
+    replaced(alloc, bytes, token.as_slice(), value)
 }
 
 /// The key between two `@`.

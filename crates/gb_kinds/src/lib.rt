@@ -28,6 +28,7 @@ mod line;
 pub mod names;
 mod one_file;
 mod remade;
+pub mod replaced;
 pub mod shapes;
 mod source;
 pub mod stored;

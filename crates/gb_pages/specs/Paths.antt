@@ -4,7 +4,7 @@ use Rattle.std.specs.Prelude.{take, drop, Option, None, Some, Result, Ok, Err, i
 use Rattle.std.specs.Option.{option_or}
 use Rattle.std.specs.Str.{is_utf8}
 use Rattle.memchr.specs.Find.{first_of, matches}
-use Rattle.bstr.specs.Text.{replaced_at}
+use Rattle.gb_kinds.specs.Contents.{replaced}
 use Rattle.gb_core.specs.Place.{is_rel_path}
 use Rattle.gb_core.specs.declared.value.Value.{Value}
 use Rattle.gb_action.specs.Files.{Tree, Trees, tree_at}
@@ -50,7 +50,7 @@ has_token sign layout = is_some (first_of (matches layout sign 0))
 
 -- the layout with a page replacing each token
 abbrev pub filled : List ℕ → List ℕ → List ℕ → List ℕ
-filled sign layout page = replaced_at layout (length sign) page 0 (matches layout sign 0)
+filled sign layout page = replaced layout sign page
 
 -- the file of a page
 abbrev pub page_at : List ℕ → List ℕ → List ℕ × List ℕ → Option (List ℕ) → Result (List ℕ × List ℕ) (List ℕ)

@@ -17,6 +17,7 @@ use gb_core::place::RelPath;
 use gb_core::text::Text;
 use gb_kinds::arguments::first_text;
 use gb_kinds::names::source_name;
+use gb_kinds::replaced::replaced;
 use gb_with::tree_kind::{TreeKind, files_of};
 use std::alloc::{AllocError, Global};
 
@@ -175,8 +176,7 @@ fn all_pages(
                 "{path}: no path of a page"
             )?)?));
         };
-        let made = layout.replace(alloc, sign, bytes.as_slice())?;
-        pages.push((page, Bytes::new(made)))?;
+        pages.push((page, replaced(alloc, layout, sign, bytes.as_slice())?))?;
     }
     Ok(pages)
 }
