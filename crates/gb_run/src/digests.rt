@@ -3,7 +3,7 @@
 //! They are in a map keyed by the texts of their places, in byte order. So what is at or under an
 //! output's place is found by one look-up and one range of the map.
 ghost use Rattle.std.specs.Prelude.{◌≡◌, ◌++◌, ◌∷◌, ℕ, List, [], IsTrue, IfOk, OnOk, OnErr, map};
-ghost use Rattle.std.specs.Prelude.{string_bytes};
+ghost use Rattle.std.specs.Prelude.{string_bytes, unwrap_or};
 ghost use Rattle.std.specs.FinMap.Entries.{is_sorted};
 ghost use Rattle.sha2.specs.Sha256.{sha256};
 ghost use Rattle.gb_core.specs.Lists.{byte_order};
@@ -19,6 +19,7 @@ use gb_core::bytes::Bytes;
 use gb_core::place::{Place, RelPath};
 use gb_folder::own::is_own;
 use gb_folder::range::inside;
+use gb_lanes::digest_four;
 use gb_plan::task::Output;
 use gb_tree::prints::Prints;
 use sha2::{Digest, Sha256};
@@ -75,8 +76,73 @@ impl Digests {
     }
 
     /// Follows these steps, one after another: stores the digest of what is written, and drops that
-    /// of what is removed.
+    /// of what is removed. What four steps write is digested together.
     pub fn follow(&mut self, steps: &[(Place, Option<Bytes>)]) -> Result<(), AllocError>
+        ensures { OnOk result ((files : Files) → self.old ≡ digests_of files
+            → self.new ≡ digests_of (after_steps files steps.now)) }
+    {
+        let mut rest = steps;
+        'fours: while let Some((four, others)) = rest.split_first_chunk::<4>() {
+            self.follow_four(four)?;
+            rest = others;
+        }
+        self.follow_each(rest)
+    }
+
+    /// Follows four steps.
+    fn follow_four(&mut self, four: &[(Place, Option<Bytes>); 4]) -> Result<(), AllocError>
+        ensures { OnOk result ((files : Files) → self.old ≡ digests_of files
+            → self.new ≡ digests_of (after_steps files four.now)) }
+    {
+        let [first, second, third, fourth] = four;
+        let digests = digest_four(
+            written(first),
+            written(second),
+            written(third),
+            written(fourth),
+        );
+        self.follow_with(first, digests[0])?;
+        self.follow_with(second, digests[1])?;
+        self.follow_with(third, digests[2])?;
+        self.follow_with(fourth, digests[3])
+    }
+
+    /// Follows one step, with the digest of what it writes.
+    fn follow_with(
+        &mut self,
+        step: &(Place, Option<Bytes>),
+        digest: [u8; 32],
+    ) -> Result<(), AllocError>
+        requires { digest ≡ sha256 (unwrap_or step.now.1 []) }
+        ensures { OnOk result ((files : Files) → self.old ≡ digests_of files
+            → self.new ≡ digests_of (with_left files step.now.0 step.now.1)) }
+    {
+        let (place, left) = step;
+        match left {
+            Some(bytes) => self.hold_known(place, bytes, digest),
+            None => {
+                self.remove(place);
+                Ok(())
+            }
+        }
+    }
+
+    /// Stores the digest of a file with these bytes.
+    fn hold_known(
+        &mut self,
+        place: &Place,
+        bytes: &Bytes,
+        digest: [u8; 32],
+    ) -> Result<(), AllocError>
+        requires { digest ≡ sha256 bytes.now }
+        ensures { OnOk result ((files : Files) → self.old ≡ digests_of files
+            → self.new ≡ digests_of (with_file files place.now bytes.now)) }
+    {
+        self.hold(place, digest)
+    }
+
+    /// Follows steps one by one.
+    fn follow_each(&mut self, steps: &[(Place, Option<Bytes>)]) -> Result<(), AllocError>
         ensures { OnOk result ((files : Files) → self.old ≡ digests_of files
             → self.new ≡ digests_of (after_steps files steps.now)) }
     {
@@ -135,6 +201,16 @@ impl Digests {
             found_under(alloc, &self.held, &output.place)?
         };
         Ok(Prints::new(output.name.copy()?, found))
+    }
+}
+
+/// The bytes that a step writes; none if it removes a file.
+fn written(step: &(Place, Option<Bytes>)) -> &[u8]
+    ensures { result.now ≡ unwrap_or step.now.1 [] }
+{
+    match &step.1 {
+        Some(bytes) => bytes.as_slice(),
+        None => &[],
     }
 }
 

@@ -2,7 +2,7 @@ use Rattle.std.proofs.Common.{ap, take, ◌∙◌}
 use Rattle.gb_tree.specs.Prints.{digests_of}
 use Rattle.gb_run.specs.Steps.{after_steps}
 use Rattle.gb_run.proofs.SteppedOn.{after_more}
-use Rattle.gb_run.proofs.digests.Digests.follow.Goals as goal
+use Rattle.gb_run.proofs.digests.Digests.follow_each.Goals as goal
 
 pub loop-step-preserved : goal.loop-step-preserved
 loop-step-preserved c = λ files is.
