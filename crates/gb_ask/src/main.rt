@@ -81,7 +81,7 @@ fn asked<A: Actions, T: Transforms, W: Printer>(
     tables: &Tables<A, T>,
 ) -> Option<u8> {
     let alloc = rt.alloc();
-    let mut folder = DiskFolder::new(rt, String::new(alloc));
+    let mut folder = DiskFolder::for_one_build(rt, String::new(alloc));
     let (question, words) = parted(words);
     match question {
         Question::Graph => drawn(alloc, &mut folder, words, page, tables),

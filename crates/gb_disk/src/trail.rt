@@ -15,9 +15,10 @@ const MOST: usize = 8;
 /// them; and the only file that the preceding call listed, so that a read of it does not look it up
 /// again.
 ///
-/// If somebody else writes in the folder during a build, each place is still observed as it is,
-/// with two exceptions. A look-up by a whole path that finds neither a file nor a folder forgets
-/// everything and descends from the top; each write and each removal descends from there anyway.
+/// If somebody else writes in the folder during a build, each call that asks the system still
+/// observes each place as it is, with two exceptions. A look-up by a whole path that finds neither
+/// a file nor a folder forgets everything and descends from the top; each write and each removal
+/// descends from there anyway.
 /// First exception: a link replaces a known folder. Until `MOST` other folders were found or a call
 /// fails, `list`, `read` and `read_part` follow the link, if it leads to a folder that has the rest
 /// of the place. A link in place of the tool's own folder is such a link: a file is written under

@@ -72,7 +72,7 @@ fn built_alone<A: Actions, T: Transforms, R: Files + Env + Print + AllocGlobal>(
     ensures { IfOk result (λ status. status ≤ 2) }
 {
     let alloc = rt.alloc();
-    let mut folder = DiskFolder::new(rt, String::new(alloc));
+    let mut folder = DiskFolder::for_one_build(rt, String::new(alloc));
     let Ok(writer) = BufWriter::new(alloc, io::writer(rt)) else {
         return Err(AllocError);
     };

@@ -55,6 +55,7 @@ fn answer<F: Folder>(
         "read4" => folder.read(alloc, place, 4),
         "read9" => folder.read(alloc, place, 9),
         "part" => folder.read_part(alloc, place, 3, 9),
+        "start" => folder.read_part(alloc, place, 0, 5),
         "far" => folder.read_part(alloc, place, u64::MAX, u64::MAX),
         _ => wrote(alloc, write(folder, word, place)),
     }
@@ -173,6 +174,14 @@ fn on_disk(rt: &HostRuntime, path: &str, steps: &str) -> Result<Vec<u8>, Fail> {
     Ok(all)
 }
 
+/// The results of steps on the folder at a path, if it remembers what it answered.
+fn in_one_build(rt: &HostRuntime, path: &str, steps: &str) -> Result<Vec<u8>, Fail> {
+    let mut folder = DiskFolder::for_one_build(rt, String::from_str(rt.alloc(), path)?);
+    let mut all = Vec::new(rt.alloc());
+    take_steps(rt, path, &mut folder, steps, &mut all)?;
+    Ok(all)
+}
+
 /// Creates a new folder with this name, and changes it.
 fn renew(rt: &HostRuntime, name: &str, changes: &[&str]) -> Result<(), Fail> {
     if fs::exists(rt, name)? {
@@ -196,6 +205,15 @@ fn hold_on_disk(
     for (steps, wanted) in rows {
         renew(rt, name, changes)?;
         is_answered(wanted, on_disk(rt, name, steps)?.as_slice())?;
+    }
+    Ok(fs::remove_dir_all(rt, name)?)
+}
+
+/// Fails at the first row whose results a new folder with this name that remembers does not give.
+fn hold_in_one_build(rt: &HostRuntime, name: &str, rows: &[Row<'_>]) -> Result<(), Fail> {
+    for (steps, wanted) in rows {
+        renew(rt, name, &[])?;
+        is_answered(wanted, in_one_build(rt, name, steps)?.as_slice())?;
     }
     Ok(fs::remove_dir_all(rt, name)?)
 }
@@ -227,6 +245,7 @@ const ALIKE: [Row<'static>; 4] = [
 #[test]
 fn folders_answer_alike(rt: HostRuntime) -> Result<(), Fail> {
     hold_in_memory(rt.alloc(), &ALIKE)?;
+    hold_in_one_build(&rt, "alike", &ALIKE)?;
     hold_on_disk(&rt, "alike", &[], &ALIKE)
 }
 
@@ -264,6 +283,7 @@ const SPECIAL: [Row<'static>; 6] = [
 
 #[test]
 fn special_folders_are_answered(rt: HostRuntime) -> Result<(), Fail> {
+    hold_in_one_build(&rt, "odd", &SPECIAL)?;
     hold_on_disk(&rt, "odd", &[], &SPECIAL)
 }
 
@@ -382,6 +402,129 @@ const CHANGES: [Row<'static>; 30] = [
 #[test]
 fn changes_from_outside_are_observed(rt: HostRuntime) -> Result<(), Fail> {
     hold_on_disk(&rt, "changed", &BEFORE, &CHANGES)
+}
+
+/// Steps, and their expected results on a folder that remembers and on one that does not.
+type RememberedRow = (&'static str, &'static str, &'static str);
+
+const REMEMBERED: [RememberedRow; 18] = [
+    // A file is as it was when it was read, whole or in a part up to its end.
+    (
+        "!put a one;read a;!put a three;read a;part a;list a",
+        "one;one;;a ;",
+        "one;three;ee;a ;",
+    ),
+    (
+        "!put a one;start a;!put a two;start a;read a",
+        "one;one;one;",
+        "one;two;two;",
+    ),
+    // A part that has as many bytes as were asked for is not remembered.
+    (
+        "!put a three;start a;!put a other;start a",
+        "three;other;",
+        "three;other;",
+    ),
+    // A file that is remembered with too many bytes is read again.
+    (
+        "!put a three;read a;!put a one;read4 a;read a",
+        "three;one;one;",
+        "three;one;one;",
+    ),
+    // Any change by the folder, and any failure, ends this.
+    (
+        "!put a one;read a;!put a two;read a;write b;read a",
+        "one;one;ok;two;",
+        "one;two;ok;two;",
+    ),
+    (
+        "!put a one;!put b two;read a;!put a three;read a;remove b;read a",
+        "one;one;ok;three;",
+        "one;three;ok;three;",
+    ),
+    (
+        "!put a one;read a;!put a two;write4 b;read a",
+        "one;13;two;",
+        "one;13;two;",
+    ),
+    (
+        "!put a one;read a;list a;!put a two;read b;read a",
+        "one;a ;11;two;",
+        "one;a ;11;two;",
+    ),
+    (
+        "!make o;!put o/a x;list o;!unlink o/a;list o;read o/a;list o",
+        "o/a ;o/a ;11;;",
+        "o/a ;;11;;",
+    ),
+    // A write ends it for a listing of its place, and of roots above and under it.
+    (
+        "list f;!put f x;list f;write f;list f",
+        ";;ok;f ;",
+        ";f ;ok;f ;",
+    ),
+    (
+        "write o/a;list o;!put o/b x;list o;write o/c;list o",
+        "ok;o/a ;o/a ;ok;o/a o/b o/c ;",
+        "ok;o/a ;o/a o/b ;ok;o/a o/b o/c ;",
+    ),
+    (
+        "list f/g;write f;!unlink f;!make f;!put f/g x;list f/g",
+        ";ok;f/g ;",
+        ";ok;f/g ;",
+    ),
+    // So does a removal.
+    (
+        "write o/a;write o/b;list o;!put o/c x;list o;remove o/b;list o",
+        "ok;ok;o/a o/b ;o/a o/b ;ok;o/a o/c ;",
+        "ok;ok;o/a o/b ;o/a o/b o/c ;ok;o/a o/c ;",
+    ),
+    // Any write changes the tool's own folder.
+    (
+        "!make .gb/new;!put .gb/new/1 left;list .gb;list .gb;write b;list .gb",
+        ".gb/new/1 ;.gb/new/1 ;ok;;",
+        ".gb/new/1 ;.gb/new/1 ;ok;;",
+    ),
+    // A change beside the root does not end it.
+    (
+        "write o/a;write p;list o;!put o/b x;write ox;remove p;list o;read o/b",
+        "ok;ok;o/a ;ok;ok;o/a ;x;",
+        "ok;ok;o/a ;ok;ok;o/a o/b ;x;",
+    ),
+    // The listing that was asked for longest ago is dropped for the ninth.
+    (
+        "list a;list b;list c;list d;list e;list f;list g;list h;list a;list i;\
+         !put a x;!put b x;list a;list b",
+        ";;;;;;;;;;;b ;",
+        ";;;;;;;;;;a ;b ;",
+    ),
+    // An empty file is remembered too.
+    (
+        "!put a;read a;!put a one;read a;part a",
+        ";;;",
+        ";one;;",
+    ),
+    // A file is looked up for a read after a listing that was remembered.
+    (
+        "!put a one;!put b two;list a;list a;!unlink a;!link a b;read a",
+        "a ;a ;10;",
+        "a ;a ;two;",
+    ),
+];
+
+/// Fails if a new folder gives other results than a row.
+fn hold_remembered(rt: &HostRuntime, row: &RememberedRow) -> Result<(), Fail> {
+    let (steps, remembered, fresh) = row;
+    hold_in_one_build(rt, "remembered", &[(*steps, *remembered)])?;
+    hold_on_disk(rt, "remembered", &[], &[(*steps, *fresh)])
+}
+
+#[test]
+fn a_folder_for_one_build_remembers(rt: HostRuntime) -> Result<(), Fail> {
+    for row in &REMEMBERED {
+        hold_remembered(&rt, row)?;
+    }
+    Ok(())
 }
 
 /// The length of a place, steps at the place, as `LONG`, and at its first segment, as `FIRST`, and

@@ -1,0 +1,111 @@
+//! The listings of a folder that are remembered during one build.
+ghost use Rattle.std.specs.Prelude.{◌≡◌, IfOk, IfSome};
+ghost use Rattle.std.specs.List.Sorted.{IsStrictlySortedBy, IsStrictlySortedBy-prop};
+ghost use Rattle.gb_core.specs.Lists.{byte_order};
+ghost use Rattle.gb_disk.specs.Disk.{AllUnder};
+
+use gb_core::place::Place;
+use gb_folder::own::is_own;
+use std::alloc::{AllocError, Global};
+
+/// The maximum number of listings.
+const MOST: usize = 8;
+
+/// A listing of more places is not remembered.
+const MOST_PLACES: usize = 65_536;
+
+/// The places of the files under a root, in byte order, as they were when it was listed.
+#[derive(Drop)]
+struct Listing {
+    root: Place,
+    places: Vec<Place>,
+    ghost under: { AllUnder root places.items },
+    ghost ordered: { IsStrictlySortedBy byte_order places.items } by { IsStrictlySortedBy-prop _ _ },
+}
+
+/// The listings that were asked for last.
+#[derive(Drop)]
+pub(crate) struct Listings {
+    /// Each has another root; the one asked for last is at the end.
+    kept: Vec<Listing>,
+}
+
+/// Equal places in the same order.
+fn copies(alloc: Global, places: &[Place]) -> Result<Vec<Place>, AllocError>
+    ensures { IfOk result (λ made. made.items ≡ places.now) }
+{
+    let mut made = Vec::with_capacity(alloc, places.len())?;
+    for place in places {
+        made.push(place.copy()?)?;
+    }
+    Ok(made)
+}
+
+impl Listings {
+    /// Nothing listed yet.
+    pub fn new(alloc: Global) -> Listings {
+        Listings {
+            kept: Vec::new(alloc),
+        }
+    }
+
+    /// The places that a root was listed with, if that is remembered.
+    pub fn find(&mut self, alloc: Global, root: &Place) -> Result<Option<Vec<Place>>, AllocError>
+        ensures under { IfOk result
+            (λ found. IfSome found (λ places. AllUnder root.now places.items)) }
+        ensures ordered { IfOk result
+            (λ found. IfSome found (λ places. IsStrictlySortedBy byte_order places.items)) }
+    {
+        self.put_last(root);
+        match self.kept.last() {
+            Some(listing) if listing.root == *root => {
+                Ok(Some(copies(alloc, listing.places.as_slice())?))
+            }
+            _ => Ok(None),
+        }
+    }
+
+    /// Makes the listing of a root the one asked for last, if it is remembered.
+    fn put_last(&mut self, root: &Place) {
+        let found = self.kept.iter().position(|listing| listing.root == *root);
+        if let Some(at) = found {
+            self.kept.slice_mut(at..).rotate_left(1);
+        }
+    }
+
+    /// Remembers a listing of a root, unless it is too large or memory runs out.
+    pub fn remember(&mut self, root: &Place, places: &[Place])
+        requires under { AllUnder root.now places.now }
+        requires ordered { IsStrictlySortedBy byte_order places.now }
+    {
+        if places.len() <= MOST_PLACES {
+            let _ = self.keep(root, places);
+        }
+    }
+
+    /// Adds a listing. The one asked for longest ago is dropped if there are too many.
+    fn keep(&mut self, root: &Place, places: &[Place]) -> Result<(), AllocError>
+        requires under { AllUnder root.now places.now }
+        requires ordered { IsStrictlySortedBy byte_order places.now }
+    {
+        let listing = Listing {
+            root: root.copy()?,
+            places: copies(*self.kept.allocator(), places)?,
+        };
+        if self.kept.len() == MOST {
+            self.kept.remove(0);
+        }
+        Ok(self.kept.push(listing)?)
+    }
+
+    /// Forgets each listing that a change at the place may change: its root is the place, is under
+    /// it, or has it under it, or is in the tool's own folder, where new files are written first.
+    pub fn forget_at(&mut self, place: &Place) {
+        self.kept.retain(|listing| !listing.root.overlaps(place) && !is_own(&listing.root));
+    }
+
+    /// Forgets all listings.
+    pub fn forget(&mut self) {
+        self.kept.clear();
+    }
+}
