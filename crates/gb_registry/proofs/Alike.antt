@@ -50,7 +50,7 @@ each_after-append f before (x ∷ xs) ys =
     ∙ ap (λ b. f before x ++ each_after f (before ++ x ∷ []) xs ++ each_after f b ys) (append_assoc before (x ∷ []) xs)
 
 module _ {M F Z S A : Type 0} (tables : Tables M F Z S A) where
-  script_alike : (project : Path) (script : List Statement) (before : List Said) (so_far : SoFar) → IsObserved before project so_far
+  pub script_alike : (project : Path) (script : List Statement) (before : List Said) (so_far : SoFar) → IsObserved before project so_far
       → Alike (script_faults tables project so_far script) (each_after (statement_faults tables) before (said_by (project, script))) (IsObserved (before ++ said_by (project, script)) project (script_after project so_far script))
   script_alike project [] before so_far is = inr (refl, refl, subst (λ b. IsObserved b project so_far) (sym (append-nil before)) is)
   script_alike project (statement ∷ script) before so_far is =
@@ -65,7 +65,7 @@ pub record IsBefore (before : List Said) (so_far : SoFar) : Type 0 where
   pub tasks : so_far.tasks ≡ paths_of before
   pub count : so_far.count ≡ count_of before
 
-begins : (before : List Said) (project : Path) (so_far : SoFar) → IsBefore before so_far → script_of before project ≡ [] → IsObserved before project (begun so_far)
+pub begins : (before : List Said) (project : Path) (so_far : SoFar) → IsBefore before so_far → script_of before project ≡ [] → IsObserved before project (begun so_far)
 begins before project so_far is new = record {
   tasks = is.tasks;
   properties = sym (ap (filter_map declared_property) new);

@@ -6,6 +6,7 @@ pub mod Firsts
 pub mod Folders
 pub mod Judged
 pub mod Lineages
+pub mod Located
 pub mod Lookups
 pub mod Sample
 pub mod Rows

@@ -42,7 +42,7 @@ placed_more made made' one project script others whole added same_project same_s
     ∙ ap (λ m. scripts_in m ++ others) (sym added)
 
 -- the missing tasks that scripts name, statement by statement
-said_missing : (names : Names) (project : Path) (script : List Statement) → flat_map (missing_tasks names) (said_by (project, script)) ≡ flat_map (statement_missing names project) script
+pub said_missing : (names : Names) (project : Path) (script : List Statement) → flat_map (missing_tasks names) (said_by (project, script)) ≡ flat_map (statement_missing names project) script
 said_missing names project [] = refl
 said_missing names project (statement ∷ script) = ap (λ l. statement_missing names project statement ++ l) (said_missing names project script)
 

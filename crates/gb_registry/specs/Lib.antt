@@ -7,6 +7,7 @@ pub mod Tables
 pub mod Wrong
 pub mod Configure
 pub mod SoFar
+pub mod Faulty
 pub mod Select
 pub mod New
 pub mod Once

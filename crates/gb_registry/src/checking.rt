@@ -32,7 +32,7 @@ pub struct Scripted {
 }
 
 /// The first fault of a statement, in the order of its text.
-fn check_statement<A: Actions, T: Transforms>(
+pub(crate) fn check_statement<A: Actions, T: Transforms>(
     alloc: Global,
     tables: &Tables<A, T>,
     project: &Project,
@@ -160,7 +160,7 @@ fn check_script_missing<'s>(
     Ok(())
 }
 
-fn check_statement_missing<'s>(
+pub(crate) fn check_statement_missing<'s>(
     alloc: Global,
     names: &'s Names<'s>,
     project: &'s Project,

@@ -12,7 +12,7 @@ ghost use Rattle.gb_registry.specs.Tables.{tables_of};
 
 use crate::checking::{Scripted, check_missing, check_scripts};
 use crate::names::Names;
-use crate::project::Project;
+use crate::project::{Project, copy_folder};
 use crate::projects::{ProjectSet, projects_in};
 use crate::so_far::SoFar;
 use crate::tables::Tables;
@@ -52,15 +52,6 @@ fn copy_project(place: &(ProjectPath, Option<Place>)) -> Result<Project, AllocEr
     let path = place.0.copy()?;
     let folder = copy_folder(&place.1)?;
     Ok(Project::new(path, folder))
-}
-
-fn copy_folder(folder: &Option<Place>) -> Result<Option<Place>, AllocError>
-    ensures { IfOk result (λ copied. copied ≡ folder.now) }
-{
-    match folder {
-        Some(place) => Ok(Some(place.copy()?)),
-        None => Ok(None),
-    }
 }
 
 /// Checks scripts statement by statement. Then it looks up the tasks that their values name among

@@ -14,6 +14,7 @@
 pub mod checking;
 mod configure;
 pub mod configured;
+pub mod faulty;
 pub mod laws;
 mod missing;
 pub mod names;

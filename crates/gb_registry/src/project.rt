@@ -1,5 +1,5 @@
 //! A project with its folder.
-ghost use Rattle.std.specs.Prelude.{◌≡◌};
+ghost use Rattle.std.specs.Prelude.{◌≡◌, IfOk};
 ghost use Rattle.gb_registry.specs.Faults.{ReportsFirst};
 ghost use Rattle.gb_registry.specs.Wrong.{place_faults};
 
@@ -7,7 +7,7 @@ use gb_core::path::ProjectPath;
 use gb_core::place::{Place, PlaceFault};
 use gb_core::text::Text;
 use gb_report::fault::Fault;
-use std::alloc::Global;
+use std::alloc::{AllocError, Global};
 use std::marker::Model;
 
 /// A project. Contracts see its path.
@@ -29,6 +29,7 @@ impl Model for Project {
 }
 
 impl Project {
+    ghost use Rattle.std.specs.Prelude.{IfOk};
     ghost use Rattle.std.specs.Option.{option_copied};
     ghost use Rattle.gb_registry.specs.Projects.{folder_of};
 
@@ -54,6 +55,15 @@ impl Project {
         self.folder.as_ref()
     }
 
+    /// An equal project.
+    pub fn copy(&self) -> Result<Project, AllocError>
+        ensures { IfOk result (λ project. project ≡ self.now) }
+    {
+        let path = self.path.copy()?;
+        let folder = copy_folder(&self.folder)?;
+        Ok(Project::new(path, folder))
+    }
+
     /// Refused where the text is no place in the project (2).
     pub(crate) fn check_place(&self, alloc: Global, text: &Text) -> Result<(), Fault>
         ensures { ReportsFirst (place_faults self.now text.now) result }
@@ -63,5 +73,15 @@ impl Project {
             Err(PlaceFault::OutOfMemory) => Err(Fault::OutOfMemory),
             Err(PlaceFault::BadPlace) => Err(Fault::BadPlace(text.copy()?)),
         }
+    }
+}
+
+/// An equal folder.
+pub(crate) fn copy_folder(folder: &Option<Place>) -> Result<Option<Place>, AllocError>
+    ensures { IfOk result (λ copied. copied ≡ folder.now) }
+{
+    match folder {
+        Some(place) => Ok(Some(place.copy()?)),
+        None => Ok(None),
     }
 }
