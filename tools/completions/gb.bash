@@ -14,8 +14,8 @@ _gb() {
         COMPREPLY=($(compgen -W "$forms" -- "$word"; compgen -f -- "$word"))
         return ;;
     gb_ask:graph)
-        [[ $COMP_CWORD == 2 && $word == --* ]] &&
-            COMPREPLY=($(compgen -W '--tree --mermaid --svg --json' -- "$word")) ;;
+        [[ $COMP_CWORD -le 3 && $word == --* ]] &&
+            COMPREPLY=($(compgen -W '--why --tree --mermaid --svg --json' -- "$word")) ;;
     gb_ask:why | gb_ask:tasks | gb_ask:check | gb_ask:status)
         [[ $COMP_CWORD == 2 && $word == --* ]] && COMPREPLY=($(compgen -W '--json' -- "$word")) ;;
     gb_ask:reads | gb_ask:makes)

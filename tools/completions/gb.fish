@@ -8,6 +8,7 @@ for command in gb gb_ask
     complete -c $command -s m -l dry-run -d 'Print which tasks are scheduled'
 end
 complete -c gb_ask -n __fish_use_subcommand -a 'why tasks graph check reads makes status fmt help'
+complete -c gb_ask -n '__fish_seen_subcommand_from graph' -l why -d 'With the outcome of each task'
 complete -c gb_ask -n '__fish_seen_subcommand_from graph' -l tree -d 'As an outline'
 complete -c gb_ask -n '__fish_seen_subcommand_from graph' -l mermaid -d 'For Mermaid'
 complete -c gb_ask -n '__fish_seen_subcommand_from graph' -l svg -d 'As a picture'

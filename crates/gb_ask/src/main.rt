@@ -7,7 +7,8 @@ use gb_action::actions::Actions;
 use gb_action::table::ActionTable;
 use gb_answer::{builtin_actions, builtin_functions};
 use gb_ask_command::words::{
-    Mode, Question, Style, USAGE, mode_of, notation_of, question_of, style_of,
+    Colouring, Mode, Question, Style, USAGE, colouring_of, mode_of, notation_of, question_of,
+    style_of,
 };
 use gb_ask_command::{check, fmt, graph, places, status, tasks, why};
 use gb_command::run::UNPRINTED;
@@ -185,7 +186,7 @@ fn parted(words: Vec<String>) -> (Question, Vec<String>) {
     (question_of(first.as_str()), words)
 }
 
-/// Draws the plan in the style that the first argument names, if it names one.
+/// Draws the plan in the style and with the colours that the first arguments name, if they name some.
 fn drawn<A: Actions, T: Transforms, F: Folder, W: Printer>(
     alloc: Global,
     folder: &mut F,
@@ -193,9 +194,12 @@ fn drawn<A: Actions, T: Transforms, F: Folder, W: Printer>(
     page: &mut W,
     tables: &Tables<A, T>,
 ) -> Option<u8> {
+    let (before, words) = split_option(words, colouring_of);
     let (style, words) = split_option(words, style_of);
+    let (after, words) = split_option(words, colouring_of);
     let style = style.unwrap_or(Style::Dot);
-    graph::run(alloc, folder, style, Ok(words), page, tables)
+    let colouring = before.or(after).unwrap_or(Colouring::Plain);
+    graph::run(alloc, folder, style, colouring, Ok(words), page, tables)
 }
 
 /// Formats the named files in the mode that the first argument names, if it names one.

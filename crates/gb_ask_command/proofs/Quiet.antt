@@ -3,6 +3,7 @@ use Rattle.std.proofs.Common.{ℕ, ◌≡◌, ◌⊎◌, List, [], ◌∷◌, Ok
 use Rattle.std.specs.Prelude.{Bool, IsTrue}
 use Rattle.gb_build.proofs.OneLemmas.{folders_one}
 use Rattle.gb_build.proofs.Readings.{registered}
+use Rattle.gb_build.specs.Faulty.{IsFaulty}
 use Rattle.gb_build.specs.Registering.{registers_in}
 use Rattle.gb_build.specs.Scripts.{FolderSays}
 use Rattle.gb_check.specs.All.{AreFindings}
@@ -27,7 +28,7 @@ use Rattle.gb_registry.specs.Tables.{Tables}
 use Rattle.gb_report.specs.declared.fault.Fault.{Fault}
 use Rattle.gb_report.specs.declared.fault.Fault.TheVariants as faults
 use Rattle.gb_script.specs.declared.script.Statement.{Statement}
-use Rattle.gb_ask_command.specs.Check.{AreFindingsOf, AreLeft, IsNotForATask, IsQuiet}
+use Rattle.gb_ask_command.specs.Check.{AreFindingsOf, AreLeft, IsFoundAt, IsNotForATask, IsQuiet}
 
 -- ---- The same folder
 
@@ -110,3 +111,12 @@ module _ {M F Z S A : Type 0} (tables : Tables M F Z S A) where
         ]
     quiet allowed failures after fault same (inr (inr (inl memory))) = inl memory
     quiet allowed failures after fault same (inr (inr (inr (place, first, device)))) = inr (inl (place, device))
+
+-- the finding of a statement, too
+pub found_at_same : {M F Z S A : Type 0} (tables : Tables M F Z S A) (faithful : Bool) (old new : Files) → (IsTrue faithful → new ≡ old) → (findings : Findings)
+    → IsFoundAt tables faithful new findings → IsFoundAt tables faithful old findings
+found_at_same tables faithful old new same findings (at, faulty, (spot, (lines, are, is), only)) = (
+  at,
+  λ reported. subst (λ (files : Files). IsFaulty tables files at) (same reported) (faulty reported),
+  (spot, (lines, λ reported. subst (λ (files : Files). AreLinesAt files (script_of_project at.project) lines) (same reported) (are reported), is), only),
+)

@@ -7,6 +7,7 @@ use Rattle.gb_graph.specs.Answer.{IsRefusalOf}
 use Rattle.gb_meaning.specs.Edits.{Shown}
 use Rattle.gb_meaning.specs.declared.events.Invocation.{Invocation}
 use Rattle.gb_plan.specs.Graph.{Registry, paths_of}
+use Rattle.gb_predict.specs.declared.coming.Prediction.{Prediction}
 use Rattle.gb_query.specs.Inventory.{AreEntriesOf, IsUnlisted}
 use Rattle.gb_query.specs.Notation.{IsStatusOf}
 use Rattle.gb_query.specs.declared.lines.Activity.{Activity}
@@ -31,12 +32,12 @@ module _ {M F Z S A : Type 0} (tables : Tables M F Z S A) (faithful : Bool) (old
   of_text IsTextOf source read (Err fault) is out = λ yes. inl (inl out)
 
   -- a graph, or why there is none
-  pub of_drawing : (style : Style) (source : Source) → AreRead tables faithful old after allowed (Ok source)
-      → (reply : Reply) → IfOk reply (λ text. IsDrawing style (registry_said tables source) allowed.requested allowed.excluded (string_bytes text))
+  pub of_drawing : (style : Style) (predicted : List Prediction) (source : Source) → AreRead tables faithful old after allowed (Ok source)
+      → (reply : Reply) → IfOk reply (λ text. IsDrawing style predicted (registry_said tables source) allowed.requested allowed.excluded (string_bytes text))
       → IfErr reply (IsRefusalOf (registry_said tables source) allowed.requested allowed.excluded)
-      → IsGraphReply tables faithful old after style allowed reply
-  of_drawing style source read (Ok text) is refused = (source, read, is)
-  of_drawing style source read (Err fault) is refused = inr (source, read, refused)
+      → IsGraphReply tables faithful old after style predicted allowed reply
+  of_drawing style predicted source read (Ok text) is refused = (source, read, is)
+  of_drawing style predicted source read (Err fault) is refused = inr (source, read, refused)
 
   -- no place is requested
   pub of_no_place : (notation : Notation) (relation : Relation) (place found : Result Place Fault) (fault : Fault) → found ≡ Err fault

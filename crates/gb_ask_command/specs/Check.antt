@@ -1,17 +1,20 @@
 -- The reply to `check`.
-use Rattle.std.specs.Prelude.{ℕ, ◌≡◌, ◌⊎◌, ◌++◌, Bool, IsTrue, MatchResult, List, [], Result, Ok, Err}
+use Rattle.std.specs.Prelude.{ℕ, ◌≡◌, ◌⊎◌, ◌∷◌, ◌++◌, Bool, IsTrue, MatchResult, List, [], Result, Ok, Err}
 use Rattle.std.specs.Prelude.{if◌then◌else◌, map, nat_eq, string_bytes}
+use Rattle.gb_build.specs.Faulty.{IsFaulty}
 use Rattle.gb_build.specs.Registering.{registers_in}
 use Rattle.gb_build.specs.Scripts.{FolderSays}
 use Rattle.gb_check.specs.All.{AreFindings}
 use Rattle.gb_check.specs.Found.{findings_text, unread_text}
+use Rattle.gb_check.specs.Statement.{IsStatementSpot}
 use Rattle.gb_check.specs.declared.findings.Cause.TheVariants as causes
 use Rattle.gb_check.specs.declared.findings.Finding.{Finding}
 use Rattle.gb_check.specs.declared.findings.Findings.{Findings}
+use Rattle.gb_check.specs.declared.findings.Spot.{Spot}
 use Rattle.gb_check.specs.declared.findings.Spot.TheVariants as spots
 use Rattle.gb_command.specs.Answered.{AreRefused, AskFor, Given}
 use Rattle.gb_declare.specs.Registered.{registry_said}
-use Rattle.gb_folder.specs.Files.{Contents, Place, is_empty}
+use Rattle.gb_folder.specs.Files.{Contents, Files, Place, is_empty}
 use Rattle.gb_meaning.specs.Events.{IsDeviceFault, IsNotBuilt}
 use Rattle.gb_meaning.specs.declared.events.Invocation.{Invocation}
 use Rattle.gb_plan.specs.Graph.{Plan, Registry, paths_of}
@@ -25,6 +28,7 @@ use Rattle.gb_registry.specs.Projects.{Path}
 use Rattle.gb_registry.specs.Read.{IsRead}
 use Rattle.gb_registry.specs.Source.{Source}
 use Rattle.gb_registry.specs.Tables.{Tables}
+use Rattle.gb_registry.specs.declared.faulty.FaultAt.{FaultAt}
 use Rattle.gb_report.specs.Fault.{fault_number}
 use Rattle.gb_report.specs.declared.fault.Fault.{Fault}
 use Rattle.gb_report.specs.declared.fault.Fault.TheVariants as faults
@@ -96,6 +100,17 @@ module _ {M F Z S A : Type 0} (tables : Tables M F Z S A) where
       allowed fault after
       → IsNotForATask (registry_said tables source) allowed failures after fault
 
+-- ---- A statement at fault
+
+-- one fault at this statement, with its line, and no warnings
+abbrev pub IsFindingAt : Bool → Files → FaultAt → Findings → Type 0
+IsFindingAt faithful files at found =
+    (spot : Spot) × IsStatementSpot faithful files at.project at.statement spot
+    × (found.faults.items ≡ record { spot = spot; cause = causes.Fault at.fault } ∷ [])
+    × (found.warnings.items ≡ [])
+
+-- ---- The reply
+
 module _ {M F Z S A : Type 0} (tables : Tables M F Z S A) (faithful : Bool) where
   -- The findings for the statements of scripts, one script for each project. Warnings for values that nothing
   -- reads precede those for tasks, and warnings for records of tasks that are not registered follow.
@@ -110,6 +125,12 @@ module _ {M F Z S A : Type 0} (tables : Tables M F Z S A) (faithful : Bool) wher
     pub warnings : found.warnings.items
         ≡ unread_values scripts source.given ++ in_tasks.warnings.items ++ left
 
+  -- The fault of a statement. If the contents of the folder are known, it is the first fault of its scripts,
+  -- at the statement at which it arises.
+  abbrev pub IsFoundAt : Files → Findings → Type 0
+  IsFoundAt files found =
+      (at : FaultAt) × (IsTrue faithful → IsFaulty tables files at) × IsFindingAt faithful files at found
+
   pub record IsChecked (allowed : Invocation) (contents : Contents) (found : Findings) : Type 0 where
     pub source : Source
     pub said : IsTrue faithful → FolderSays tables contents.files allowed.properties (Ok source)
@@ -117,11 +138,11 @@ module _ {M F Z S A : Type 0} (tables : Tables M F Z S A) (faithful : Bool) wher
     pub quiet : IsTrue faithful → found.faults.items ≡ []
         → IsQuiet tables source contents allowed.properties
 
-  -- The findings; or if the contents of the folder are known, a fault of the machine between these counts of
-  -- failures, or the fault of the folder's scripts.
+  -- The findings, for tasks or for a statement; or if the contents of the folder are known, a fault of the
+  -- machine between these counts of failures, or the fault of the folder's scripts.
   abbrev pub IsCheckReply : Invocation → Contents → ℕ → ℕ → CheckReply → Type 0
   IsCheckReply allowed contents before after reply =
-      MatchResult reply (IsChecked allowed contents)
+      MatchResult reply (λ found. IsChecked allowed contents found ⊎ IsFoundAt contents.files found)
       (λ fault. IsTrue faithful
       → IsOfMachine before after fault ⊎ FolderSays tables contents.files allowed.properties (Err fault))
 

@@ -3,8 +3,10 @@ pub mod Reported
 pub mod WhyJson
 pub mod Words
 pub mod Reply
+pub mod Tints
 pub mod Graph
 pub mod Replies
+pub mod Coloured
 pub mod Fmt
 pub mod Unread
 pub mod CheckJson

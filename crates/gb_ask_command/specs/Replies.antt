@@ -8,6 +8,7 @@ use Rattle.gb_graph.specs.Answer.{IsRefusalOf}
 use Rattle.gb_meaning.specs.Edits.{Shown}
 use Rattle.gb_meaning.specs.declared.events.Invocation.{Invocation}
 use Rattle.gb_plan.specs.Graph.{Registry, paths_of}
+use Rattle.gb_predict.specs.declared.coming.Prediction.{Prediction}
 use Rattle.gb_query.specs.Asked.{asked_place}
 use Rattle.gb_query.specs.Inventory.{IsUnlisted}
 use Rattle.gb_query.specs.Notation.{IsFoundText, IsStatusOf, IsTasksText}
@@ -59,12 +60,13 @@ module _ {M F Z S A : Type 0} (tables : Tables M F Z S A) (faithful : Bool) (old
   abbrev pub IsTasksReply : Notation → Invocation → Reply → Type 0
   IsTasksReply notation allowed reply = IsReplyOf (IsTasksText notation) allowed reply
 
-  -- the graph of the plan of the request, or the fault for which a build of it is refused
-  abbrev pub IsGraphReply : Style → Invocation → Reply → Type 0
-  IsGraphReply style allowed (Ok text) =
+  -- the graph of the plan of the request, with the colours of these predictions, or the fault for which a
+  -- build of it is refused
+  abbrev pub IsGraphReply : Style → List Prediction → Invocation → Reply → Type 0
+  IsGraphReply style predicted allowed (Ok text) =
       IsOfScripts allowed (λ registry.
-      IsDrawing style registry allowed.requested allowed.excluded (string_bytes text))
-  IsGraphReply style allowed (Err fault) =
+      IsDrawing style predicted registry allowed.requested allowed.excluded (string_bytes text))
+  IsGraphReply style predicted allowed (Err fault) =
       AreRead allowed (Err fault)
       ⊎ IsOfScripts allowed (λ registry. IsRefusalOf registry allowed.requested allowed.excluded fault)
 

@@ -2,6 +2,8 @@
 use Rattle.std.specs.Prelude.{ℕ, ◌||◌, List, Option, Some, None, bytes_eq, codes, if◌then◌else◌}
 use Rattle.gb_query.specs.declared.notation.Notation.{Notation}
 use Rattle.gb_query.specs.declared.notation.Notation.TheVariants as notations
+use Rattle.gb_ask_command.specs.declared.words.Colouring.{Colouring}
+use Rattle.gb_ask_command.specs.declared.words.Colouring.TheVariants as colourings
 use Rattle.gb_ask_command.specs.declared.words.Mode.{Mode}
 use Rattle.gb_ask_command.specs.declared.words.Mode.TheVariants as modes
 use Rattle.gb_ask_command.specs.declared.words.Question.{Question}
@@ -29,6 +31,9 @@ style_of word =
     else if bytes_eq word (codes "--svg") then Some styles.Svg
     else if bytes_eq word (codes "--json") then Some styles.Json
     else None
+
+abbrev pub colouring_of : List ℕ → Option Colouring
+colouring_of word = if bytes_eq word (codes "--why") then Some colourings.Outcomes else None
 
 abbrev pub notation_of : List ℕ → Option Notation
 notation_of word = if bytes_eq word (codes "--json") then Some notations.Json else None

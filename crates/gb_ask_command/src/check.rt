@@ -1,6 +1,6 @@
 //! `check`: the faults and warnings of a folder's tasks.
-ghost use Rattle.std.specs.Prelude.{◌≡◌, ◌⊎◌, ◌++◌, IfErr, IfOk, IfSome, if◌then◌else◌, IsTrue, List, map};
-ghost use Rattle.std.specs.Prelude.{string_bytes};
+ghost use Rattle.std.specs.Prelude.{◌≡◌, ◌⊎◌, ◌∷◌, ◌++◌, [], IfErr, IfOk, IfSome, if◌then◌else◌, IsTrue};
+ghost use Rattle.std.specs.Prelude.{List, map, string_bytes};
 ghost use Rattle.std.specs.Io.KnownBytes.{Appends};
 ghost use Rattle.gb_command.specs.Answered.{given_of};
 ghost use Rattle.gb_declare.specs.Registered.{registry_said};
@@ -18,18 +18,20 @@ ghost use Rattle.gb_check.specs.All.{AreFindings};
 ghost use Rattle.gb_check.specs.Found.{findings_text};
 ghost use Rattle.gb_check.specs.Sites.{IsUnread};
 ghost use Rattle.gb_ask_command.specs.Check.{AreFindingsOf, AreLeft, CheckReply, IsCheckReply, IsCheckText};
-ghost use Rattle.gb_ask_command.specs.Check.{IsCheckWritten, RepliesCheck, check_status, check_text, left_of};
-ghost use Rattle.gb_ask_command.specs.Check.{written_status};
+ghost use Rattle.gb_ask_command.specs.Check.{IsCheckWritten, IsFindingAt, IsFoundAt};
+ghost use Rattle.gb_ask_command.specs.Check.{RepliesCheck, check_status, check_text, left_of, written_status};
 ghost use Rattle.gb_ask_command.specs.Reply.{Reply as Replied, reply_text};
 
 use crate::check_json::check_json;
 use crate::reply::{Reply, push_reply};
 use crate::unread::warn_unread;
 use gb_action::actions::Actions;
+use gb_build::faulty::read_fault;
 use gb_build::reading::read_registry;
 use gb_check::finding::find;
 use gb_check::findings::{Cause, Finding, Findings, Spot};
 use gb_check::found::{push_findings, unread_text};
+use gb_check::statement::statement_spot;
 use gb_command::run::asked_by;
 use gb_core::path::TaskPath;
 use gb_folder::folder::Folder;
@@ -41,12 +43,14 @@ use gb_query::inventory::unregistered;
 use gb_query::notation::Notation;
 use gb_registry::checking::Scripted;
 use gb_registry::configured::Configured;
+use gb_registry::faulty::FaultAt;
 use gb_registry::tables::Tables;
 use gb_report::fault::Fault;
 use std::alloc::{AllocError, Global};
 
 /// Prints the findings for all registered tasks, as lines or in JSON: their faults or that of the plan
-/// of all, each with its script and the line that registers the task, and then warnings. Only the
+/// of all, each with its script and its line, and then warnings; or else the first fault of a
+/// statement, with its script and the line of the statement. Only the
 /// values of properties count among the arguments. The exit status is 0 if there is no fault, and 1
 /// if there is one or memory ran out.
 pub fn run<A: Actions, T: Transforms, F: Folder, W: Printer>(
@@ -204,8 +208,88 @@ fn check_asked<A: Actions, T: Transforms, F: Folder>(
 {
     let copied = allowed.properties.copy(alloc)?;
     let given = copied.into_vec();
-    let configured = read_registry(alloc, folder, tables, given)?;
-    check_configured(alloc, folder, &configured)
+    match read_registry(alloc, folder, tables, given) {
+        Ok(configured) => check_configured(alloc, folder, &configured),
+        Err(fault) => check_statements(alloc, folder, tables, fault),
+    }
+}
+
+/// The finding for scripts that were refused for this fault: if a statement has it, it is found
+/// there, for which the scripts are read once more. If they cannot be, it stays the refusal.
+fn check_statements<A: Actions, T: Transforms, F: Folder>(
+    alloc: Global,
+    folder: &mut F,
+    tables: &Tables<A, T>,
+    fault: Fault,
+) -> Result<Findings, Fault>
+    ensures requests { Requests F.failures F.may_leave F.allowed no_change folder.old folder.new }
+    ensures same { IsTrue F.faithful → F.contents folder.new ≡ F.contents folder.old }
+    ensures found { IfOk result (IsFoundAt (tables_of T.meanings A.meanings tables.now) F.faithful
+        (F.contents folder.old).files) }
+    ensures err { IfErr result (λ same. same ≡ fault) }
+{
+    match statement_found(alloc, folder, tables) {
+        Ok(Some(found)) => {
+            drop(fault);
+            Ok(found)
+        }
+        Ok(None) => Err(fault),
+        Err(other) => {
+            drop(other);
+            Err(fault)
+        }
+    }
+}
+
+/// The first fault of a statement as the only finding; none if no statement has one.
+fn statement_found<A: Actions, T: Transforms, F: Folder>(
+    alloc: Global,
+    folder: &mut F,
+    tables: &Tables<A, T>,
+) -> Result<Option<Findings>, Fault>
+    ensures requests { Requests F.failures F.may_leave F.allowed no_change folder.old folder.new }
+    ensures same { IsTrue F.faithful → F.contents folder.new ≡ F.contents folder.old }
+    ensures found { IfOk result (λ found. IfSome found
+        (IsFoundAt (tables_of T.meanings A.meanings tables.now) F.faithful
+        (F.contents folder.old).files)) }
+{
+    match read_fault(alloc, folder, tables)? {
+        Some(at) => Ok(Some(found_at(alloc, folder, at)?)),
+        None => Ok(None),
+    }
+}
+
+/// The finding of a fault at its statement, as the only one.
+fn found_at<F: Folder>(alloc: Global, folder: &mut F, at: FaultAt) -> Result<Findings, Fault>
+    ensures requests { Requests F.failures F.may_leave F.allowed no_change folder.old folder.new }
+    ensures same { IsTrue F.faithful → F.contents folder.new ≡ F.contents folder.old }
+    ensures found { IfOk result (IsFindingAt F.faithful (F.contents folder.old).files at) }
+{
+    let FaultAt {
+        project,
+        statement,
+        fault,
+    } = at;
+    match statement_spot(alloc, folder, &project, statement) {
+        Ok(spot) => {
+            let cause = Cause::Fault(fault);
+            Ok(found_alone(alloc, Finding { spot, cause })?)
+        }
+        Err(other) => {
+            drop(fault);
+            Err(other)
+        }
+    }
+}
+
+/// This finding as the only one.
+fn found_alone(alloc: Global, finding: Finding) -> Result<Findings, AllocError>
+    ensures { IfOk result (λ found. (found.faults.items ≡ finding ∷ []) × (found.warnings.items ≡ [])) }
+{
+    let mut faults = Vec::new(alloc);
+    faults.push(finding)?;
+    let warnings = Vec::new(alloc);
+    Ok(Findings { faults, warnings })
 }
 
 /// The findings for the statements of some scripts.

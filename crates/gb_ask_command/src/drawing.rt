@@ -5,6 +5,7 @@ ghost use Rattle.gb_ask_command.specs.Graph.{IsDrawing, IsPicture};
 
 use crate::nodes::nodes_of;
 use crate::reply::Reply;
+use crate::tints::with_tints;
 use crate::words::Style;
 use gb_core::text::Text;
 use gb_graph::plan::plan;
@@ -14,24 +15,29 @@ use gb_picture::graph::Node;
 use gb_picture::mermaid::mermaid_of;
 use gb_picture::outline::outline_of;
 use gb_picture::svg::svg_of;
+use gb_predict::coming::Prediction;
 use gb_query::drawn::graph_json;
 use std::alloc::{AllocError, Global};
 
-/// The graph of the plan of a request for registered tasks, or why a build of it would be refused.
+/// The graph of the plan of a request for registered tasks, with the colours of these predictions,
+/// or why a build of it would be refused.
 pub(crate) fn draw_requested<Ts: Tasks>(
     alloc: Global,
     style: Style,
+    predicted: &[Prediction],
     tasks: &mut Ts,
     requested: &[Text],
     excluded: &[Text],
 ) -> Reply
     ensures drawing { IfOk result (λ text.
-        IsDrawing style (Ts.registry tasks.old) requested.now excluded.now (string_bytes text)) }
+        IsDrawing style predicted.now (Ts.registry tasks.old) requested.now excluded.now
+        (string_bytes text)) }
     ensures fault { IfErr result (IsRefusalOf (Ts.registry tasks.old) requested.now excluded.now) }
 {
     let plan = plan(alloc, tasks, requested, excluded)?;
     let nodes = nodes_of(alloc, plan.as_slice())?;
-    Ok(picture(alloc, style, nodes.as_slice())?)
+    let tinted = with_tints(alloc, nodes, predicted)?;
+    Ok(picture(alloc, style, tinted.as_slice())?)
 }
 
 /// The graph of these nodes.

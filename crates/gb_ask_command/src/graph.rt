@@ -9,16 +9,19 @@ ghost use Rattle.gb_printer.specs.Printing.{Prints};
 ghost use Rattle.gb_registry.specs.Tables.{tables_of};
 ghost use Rattle.gb_ask_command.specs.Graph.{IsDrawing};
 ghost use Rattle.gb_ask_command.specs.Reply.{Reply as Replied, reply_status, reply_text};
+ghost use Rattle.gb_ask_command.specs.Coloured.{ArePredicted, IsGraphAnswer};
 ghost use Rattle.gb_ask_command.specs.Replies.{IsGraphReply, Replies};
 
 use crate::drawing::draw_requested;
 use crate::reply::{Reply, print_reply};
 use crate::scripts::read_asked;
-use crate::words::Style;
+use crate::predicting::predict_build;
+use crate::words::{Colouring, Style};
 use gb_action::actions::Actions;
 use gb_command::run::asked_by;
 use gb_folder::folder::Folder;
 use gb_meaning::events::Invocation;
+use gb_predict::coming::Prediction;
 use gb_printer::printer::Printer;
 use gb_project::script_tasks::ScriptTasks;
 use gb_provider::transforms::Transforms;
@@ -27,12 +30,15 @@ use gb_registry::tables::Tables;
 use gb_report::fault::Fault;
 use std::alloc::Global;
 
-/// Prints the plan of the arguments' request as a graph in this style. The exit status is 0; it is
-/// 1 if a build of it would be refused, and 2 if the arguments request nothing known.
+/// Prints the plan of the arguments' request as a graph in this style, with the colours that show
+/// the outcome of each task if they are requested. No colour is shown if a build cannot be predicted,
+/// or for a task that does not start. The exit status is 0; it is 1 if a build of the request would
+/// be refused, and 2 if the arguments request nothing known.
 pub fn run<A: Actions, T: Transforms, F: Folder, W: Printer>(
     alloc: Global,
     folder: &mut F,
     style: Style,
+    colouring: Colouring,
     words: Result<Vec<String>, Fault>,
     writer: &mut W,
     tables: &Tables<A, T>,
@@ -41,16 +47,16 @@ pub fn run<A: Actions, T: Transforms, F: Folder, W: Printer>(
     ensures requests { Requests F.failures F.may_leave F.allowed no_change folder.old folder.new }
     ensures same { IsTrue F.faithful → F.contents folder.new ≡ F.contents folder.old }
     ensures reported { (reply : Replied)
-        × Replies (IsGraphReply (tables_of T.meanings A.meanings tables.now) F.faithful
+        × Replies (IsGraphAnswer (tables_of T.meanings A.meanings tables.now) F.faithful
         (record { contents = F.contents folder.old; failures = F.failures folder.old })
-        (F.failures folder.new) style)
+        (F.failures folder.new) style colouring)
         (given_of (λ words. map string_bytes words.items) words) reply
         × Prints W.contents W.whole (reply_text reply) writer.old writer.new
         × IfSome result (λ status.
         Appends (W.contents writer.old) (W.contents writer.new) (reply_text reply)
         × (status ≡ reply_status reply)) }
 {
-    let reply = replied(alloc, folder, style, words, tables);
+    let reply = replied(alloc, folder, style, colouring, words, tables);
     let status = print_reply(alloc, writer, &reply);
     drop(reply);
     status
@@ -60,27 +66,75 @@ fn replied<A: Actions, T: Transforms, F: Folder>(
     alloc: Global,
     folder: &mut F,
     style: Style,
+    colouring: Colouring,
     words: Result<Vec<String>, Fault>,
     tables: &Tables<A, T>,
 ) -> Reply
     ensures requests { Requests F.failures F.may_leave F.allowed no_change folder.old folder.new }
     ensures same { IsTrue F.faithful → F.contents folder.new ≡ F.contents folder.old }
-    ensures replies { Replies (IsGraphReply (tables_of T.meanings A.meanings tables.now) F.faithful
+    ensures replies { Replies (IsGraphAnswer (tables_of T.meanings A.meanings tables.now) F.faithful
         (record { contents = F.contents folder.old; failures = F.failures folder.old })
-        (F.failures folder.new) style)
+        (F.failures folder.new) style colouring)
         (given_of (λ words. map string_bytes words.items) words) result }
 {
     match asked_by(alloc, words) {
-        Ok(allowed) => draw(alloc, folder, style, tables, &allowed),
+        Ok(allowed) => draw_coloured(alloc, folder, style, colouring, tables, &allowed),
         Err(fault) => Err(fault),
     }
 }
 
-/// The graph of the request, over the scripts of a folder.
+/// The graph of the request, with the requested colours.
+fn draw_coloured<A: Actions, T: Transforms, F: Folder>(
+    alloc: Global,
+    folder: &mut F,
+    style: Style,
+    colouring: Colouring,
+    tables: &Tables<A, T>,
+    allowed: &Invocation,
+) -> Reply
+    ensures requests { Requests F.failures F.may_leave F.allowed no_change folder.old folder.new }
+    ensures same { IsTrue F.faithful → F.contents folder.new ≡ F.contents folder.old }
+    ensures reply { IsGraphAnswer (tables_of T.meanings A.meanings tables.now) F.faithful
+        (record { contents = F.contents folder.old; failures = F.failures folder.old })
+        (F.failures folder.new) style colouring allowed.now result }
+{
+    let predicted = predicted(alloc, folder, colouring, tables, allowed);
+    draw(alloc, folder, style, predicted.as_slice(), tables, allowed)
+}
+
+/// The predictions for the request, as `why` has them; none if no colours are requested or there is
+/// no prediction.
+fn predicted<A: Actions, T: Transforms, F: Folder>(
+    alloc: Global,
+    folder: &mut F,
+    colouring: Colouring,
+    tables: &Tables<A, T>,
+    allowed: &Invocation,
+) -> Vec<Prediction>
+    ensures requests { Requests F.failures F.may_leave F.allowed no_change folder.old folder.new }
+    ensures same { IsTrue F.faithful → F.contents folder.new ≡ F.contents folder.old }
+    ensures predicted { ArePredicted (tables_of T.meanings A.meanings tables.now) F.faithful
+        (record { contents = F.contents folder.old; failures = F.failures folder.old })
+        (F.failures folder.new) colouring allowed.now result.items }
+{
+    match colouring {
+        Colouring::Plain => Vec::new(alloc),
+        Colouring::Outcomes => match predict_build(alloc, folder, tables, allowed) {
+            Ok(predicted) => predicted,
+            Err(fault) => {
+                drop(fault);
+                Vec::new(alloc)
+            }
+        },
+    }
+}
+
+/// The graph of the request, over the scripts of a folder, with the colours of these predictions.
 fn draw<A: Actions, T: Transforms, F: Folder>(
     alloc: Global,
     folder: &mut F,
     style: Style,
+    predicted: &[Prediction],
     tables: &Tables<A, T>,
     allowed: &Invocation,
 ) -> Reply
@@ -88,10 +142,10 @@ fn draw<A: Actions, T: Transforms, F: Folder>(
     ensures same { IsTrue F.faithful → F.contents folder.new ≡ F.contents folder.old }
     ensures reply { IsGraphReply (tables_of T.meanings A.meanings tables.now) F.faithful
         (record { contents = F.contents folder.old; failures = F.failures folder.old })
-        (F.failures folder.new) style allowed.now result }
+        (F.failures folder.new) style predicted.now allowed.now result }
 {
     match read_asked(alloc, folder, tables, allowed) {
-        Ok(configured) => draw_registered(alloc, style, &configured, allowed),
+        Ok(configured) => draw_registered(alloc, style, predicted, &configured, allowed),
         Err(fault) => Err(fault),
     }
 }
@@ -99,11 +153,12 @@ fn draw<A: Actions, T: Transforms, F: Folder>(
 fn draw_registered<A: Actions, T: Transforms>(
     alloc: Global,
     style: Style,
+    predicted: &[Prediction],
     configured: &Configured<'_, A, T>,
     allowed: &Invocation,
 ) -> Reply
     ensures drawing { let tables = tables_of T.meanings A.meanings configured.now.tables.now in
-        IfOk result (λ text. IsDrawing style (registry_said tables configured.now.registry)
+        IfOk result (λ text. IsDrawing style predicted.now (registry_said tables configured.now.registry)
         allowed.now.requested allowed.now.excluded (string_bytes text)) }
     ensures fault { let tables = tables_of T.meanings A.meanings configured.now.tables.now in
         IfErr result (IsRefusalOf (registry_said tables configured.now.registry)
@@ -112,5 +167,5 @@ fn draw_registered<A: Actions, T: Transforms>(
     let mut tasks = ScriptTasks::declare(alloc, configured)?;
     let requested = allowed.requested.as_slice();
     let excluded = allowed.excluded.as_slice();
-    draw_requested(alloc, style, &mut tasks, requested, excluded)
+    draw_requested(alloc, style, predicted, &mut tasks, requested, excluded)
 }

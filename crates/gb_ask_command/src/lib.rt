@@ -25,6 +25,7 @@ mod reply;
 mod scripts;
 pub mod status;
 pub mod tasks;
+mod tints;
 mod unread;
 pub mod why;
 mod why_json;

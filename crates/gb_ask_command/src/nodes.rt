@@ -7,12 +7,12 @@ ghost use Rattle.gb_ask_command.specs.Graph.{AreNodesOf, IsNodeOf};
 use gb_core::tasks::TaskPaths;
 use gb_graph::by_path::Numbers;
 use gb_graph::ranked::numbers_of;
-use gb_picture::graph::Node;
+use gb_picture::graph::{Node, Tint};
 use gb_plan::plan::Planned;
 use std::alloc::{AllocError, Global};
 
-/// The nodes of a plan, in its order. Each path is looked up in a table, so that the number of
-/// steps grows as n log n.
+/// The nodes of a plan, in its order, without colours. Each path is looked up in a table, so that
+/// the number of steps grows as n log n.
 pub(crate) fn nodes_of(alloc: Global, plan: &[Planned]) -> Result<Vec<Node>, AllocError>
     requires { no_repeats (order plan.now) ≡ true }
     ensures { IfOk result (λ nodes. AreNodesOf plan.now nodes.items) }
@@ -44,6 +44,7 @@ fn node_of(alloc: Global, numbers: &Numbers<'_>, planned: &Planned) -> Result<No
     let name = String::from_str(alloc, planned.task.path.as_str())?;
     Ok(Node {
         name,
+        tint: Tint::Plain,
         needs,
         runs_after,
         finalizers,

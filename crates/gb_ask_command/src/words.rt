@@ -1,6 +1,6 @@
 //! The arguments of the program.
 ghost use Rattle.std.specs.Prelude.{◌≡◌, string_bytes};
-ghost use Rattle.gb_ask_command.specs.Words.{mode_of, notation_of, question_of, style_of};
+ghost use Rattle.gb_ask_command.specs.Words.{colouring_of, mode_of, notation_of, question_of, style_of};
 
 use gb_query::notation::Notation;
 
@@ -42,6 +42,15 @@ pub enum Style {
     Svg,
     /// In JSON.
     Json,
+}
+
+/// What the colours of a graph show.
+#[derive(Clone, Copy, Debug, PartialEq, Eq)]
+pub enum Colouring {
+    /// Nothing: there are none.
+    Plain,
+    /// The outcome of each task.
+    Outcomes,
 }
 
 /// What is done with formatted files.
@@ -86,6 +95,16 @@ pub fn style_of(word: &str) -> Option<Style>
     }
 }
 
+/// The colouring that an option names, if it names one.
+pub fn colouring_of(word: &str) -> Option<Colouring>
+    ensures { result ≡ colouring_of word.now }
+{
+    match word {
+        "--why" => Some(Colouring::Outcomes),
+        _ => None,
+    }
+}
+
 /// The notation that an option names, if it names one.
 pub fn notation_of(word: &str) -> Option<Notation>
     ensures { result ≡ notation_of word.now }
@@ -113,8 +132,9 @@ gb_ask why [--json] [WORD ..]
                            the outcome of each task if it ran now, and why it would run
 gb_ask tasks [--json] [WORD ..]
                            every registered task, what it does and what it makes
-gb_ask graph [--tree | --mermaid | --svg | --json] [WORD ..]
-                           the plan as a graph: for Graphviz, where no form is named
+gb_ask graph [--why] [--tree | --mermaid | --svg | --json] [WORD ..]
+                           the plan as a graph: for Graphviz, where no form is named;
+                           --why shows the outcome of each task, but not in JSON
 gb_ask reads [--json] PLACE [WORD ..]
                            every task that reads the place, with the property that takes it in
 gb_ask makes [--json] PLACE [WORD ..]

@@ -2,7 +2,7 @@
 use crate::building::{is_reported, put_bytes, words_of};
 use crate::offering::offered;
 use gb_action::actions::Actions;
-use gb_ask_command::words::{Mode, Style};
+use gb_ask_command::words::{Colouring, Mode, Style};
 use gb_ask_command::{fmt, graph, places, status, tasks};
 use gb_command::run::run;
 use gb_folder::memory::MemoryFolder;
@@ -37,6 +37,10 @@ const DOT: &str = "digraph tasks {\n  rankdir=LR;\n  node [shape=box];\n  t0 [la
      t0 -> t2 [style=dashed];\n}\n";
 
 const TREE: &str = ":a\n:b\n    needs :a\n    finalized by :c\n:c\n    runs after :a\n";
+
+/// Nothing was built.
+const COLOURED: &str = ":a runs\n:b does nothing\n    needs :a\n    finalized by :c\n\
+     :c does nothing\n    runs after :a\n";
 
 const MERMAID: &str =
     "flowchart LR\n  t0[\":a\"]\n  t1[\":b\"]\n  t0 --> t1\n  t1 ==> t2\n  t2[\":c\"]\n  \
@@ -92,11 +96,12 @@ fn listed<A: Actions, T: Transforms>(
     Ok(String::from_utf8(out)?)
 }
 
-/// The plan in a style.
+/// The plan in a style, with these colours.
 fn drawn<A: Actions, T: Transforms>(
     alloc: Global,
     tables: &Tables<A, T>,
     style: Style,
+    colouring: Colouring,
 ) -> Result<String, Fail> {
     let mut folder = folder(alloc)?;
     let words = words_of(alloc, "")?;
@@ -105,6 +110,7 @@ fn drawn<A: Actions, T: Transforms>(
         alloc,
         &mut folder,
         style,
+        colouring,
         Ok(words),
         &mut Page::new(&mut out),
         tables,
@@ -121,9 +127,16 @@ fn all_hold<A: Actions, T: Transforms>(alloc: Global, tables: &Tables<A, T>) -> 
         (Style::Mermaid, MERMAID),
         (Style::Json, GRAPH_JSON),
     ] {
-        is_reported(text, drawn(alloc, tables, style)?.as_str())?;
+        is_reported(
+            text,
+            drawn(alloc, tables, style, Colouring::Plain)?.as_str(),
+        )?;
     }
-    if drawn(alloc, tables, Style::Svg)?
+    is_reported(
+        COLOURED,
+        drawn(alloc, tables, Style::Tree, Colouring::Outcomes)?.as_str(),
+    )?;
+    if drawn(alloc, tables, Style::Svg, Colouring::Plain)?
         .as_str()
         .ends_with("</svg>\n")
     {

@@ -1,5 +1,6 @@
 pub mod Marks
 pub mod Sites
+pub mod Statement
 pub mod Findings
 pub mod Found
 pub mod Warnings

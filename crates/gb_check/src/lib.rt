@@ -25,4 +25,5 @@ mod places;
 mod planning;
 mod shared;
 pub mod sites;
+pub mod statement;
 mod warning;

@@ -99,7 +99,7 @@ fn push_script<F: Folder>(
 }
 
 /// The place of the script of a project.
-fn script_of_project(alloc: Global, project: &Project) -> Result<Place, Fault>
+pub(crate) fn script_of_project(alloc: Global, project: &Project) -> Result<Place, Fault>
     ensures place { IfOk result (λ place. place ≡ script_of_project project.now) }
     ensures err { IfErr result (λ fault. (fault ≡ OutOfMemory)
         ⊎ ((is_place (script_of_project project.now) ≡ false)
@@ -113,7 +113,7 @@ fn script_of_project(alloc: Global, project: &Project) -> Result<Place, Fault>
 }
 
 /// The lines of the statements of the script at a place. If there is no file, there are none.
-fn lines_at<F: Folder>(
+pub(crate) fn lines_at<F: Folder>(
     alloc: Global,
     folder: &mut F,
     place: &Place,

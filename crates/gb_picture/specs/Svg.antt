@@ -1,10 +1,13 @@
 -- A graph as a picture in SVG, given the places of its nodes.
-use Rattle.std.specs.Prelude.{ℕ, ◌≡◌, List, ◌++◌, codes, decimal, slice_get, string_bytes, unwrap_or}
+use Rattle.std.specs.Prelude.{ℕ, ◌≡◌, List, [], ◌++◌, codes, decimal, if◌then◌else◌, slice_get}
+use Rattle.std.specs.Prelude.{string_bytes, unwrap_or}
 use Rattle.std.specs.List.{flat_map}
 use Rattle.gb_picture.specs.Escapes.{xml_char}
-use Rattle.gb_picture.specs.Graph.{line, numbered}
+use Rattle.gb_picture.specs.Graph.{colour_of, is_tinted, line, numbered}
 use Rattle.gb_picture.specs.Shown.{bytes_of, shown}
 use Rattle.gb_picture.specs.declared.graph.Node.{Node}
+use Rattle.gb_picture.specs.declared.graph.Tint.{Tint}
+use Rattle.gb_picture.specs.declared.graph.Tint.TheVariants as tints
 use Rattle.gb_picture.specs.declared.place.Frame.{Frame}
 use Rattle.gb_picture.specs.declared.place.Spot.{Spot}
 
@@ -46,18 +49,27 @@ abbrev pub box_begun : Spot → List ℕ
 box_begun spot =
     codes "<g transform=\"translate(" ++ decimal spot.left ++ codes " " ++ decimal spot.top ++ codes ")\">"
 
-abbrev pub box_sides : ℕ → List ℕ
-box_sides width = codes "<rect width=\"" ++ decimal width ++ codes "\" height=\"24\" rx=\"4\"/>"
+-- the colour of a box
+abbrev pub box_fill : Tint → List ℕ
+box_fill tints.Plain = []
+box_fill tint = codes " style=\"fill:" ++ colour_of tint ++ codes "\""
+
+abbrev pub rect_begun : ℕ → List ℕ
+rect_begun width = codes "<rect width=\"" ++ decimal width ++ codes "\" height=\"24\" rx=\"4\""
+
+abbrev pub box_sides : ℕ → Tint → List ℕ
+box_sides width tint = rect_begun width ++ box_fill tint ++ codes "/>"
 
 abbrev pub box_name : List ℕ → List ℕ
 box_name name = line (codes "<text x=\"8\" y=\"16\">" ++ xml_text name ++ codes "</text></g>")
 
--- a box of this width with the name of the node in it
-abbrev pub svg_box : Spot → ℕ → List ℕ → List ℕ
-svg_box spot width name = box_begun spot ++ box_sides width ++ box_name name
+-- a box of this width and colour with the name of the node in it
+abbrev pub svg_box : Spot → ℕ → Tint → List ℕ → List ℕ
+svg_box spot width tint name = box_begun spot ++ box_sides width tint ++ box_name name
 
 abbrev pub svg_node : ℕ → List Spot → ℕ → Node → List ℕ
-svg_node width spots number node = svg_box (spot_at spots number) width (string_bytes node.name)
+svg_node width spots number node =
+    svg_box (spot_at spots number) width node.tint (string_bytes node.name)
 
 abbrev pub svg_begun : List ℕ
 svg_begun = codes "<svg xmlns=\"http://www.w3.org/2000/svg\""
@@ -82,11 +94,26 @@ legend_text =
 abbrev pub svg_head : Frame → List ℕ
 svg_head frame = svg_begun ++ size_text frame ++ legend_text
 
+-- what the colours of these nodes mean, if they have some
+abbrev pub colours_text : List Node → List ℕ
+colours_text nodes =
+    if is_tinted nodes
+    then line (codes "<g transform=\"translate(16 28)\">")
+    ++ line (codes "<rect width=\"40\" height=\"14\" style=\"fill:orange\"/>")
+    ++ line (codes "<text x=\"48\" y=\"12\">runs</text>")
+    ++ line (codes "<rect x=\"104\" width=\"40\" height=\"14\" style=\"fill:khaki\"/>")
+    ++ line (codes "<text x=\"152\" y=\"12\">may change</text>")
+    ++ line (codes "<rect x=\"248\" width=\"40\" height=\"14\" style=\"fill:palegreen\"/>")
+    ++ line (codes "<text x=\"296\" y=\"12\">is up to date</text>")
+    ++ line (codes "<rect x=\"408\" width=\"40\" height=\"14\" style=\"fill:lightgray\"/>")
+    ++ line (codes "<text x=\"456\" y=\"12\">does nothing</text></g>")
+    else []
+
 -- the curves, and the boxes over them
 abbrev pub svg_text : Frame → List Spot → List Node → List ℕ
 svg_text frame spots nodes =
-    svg_head frame ++ numbered (svg_edges spots) 0 nodes ++ numbered (svg_node frame.box_width spots) 0 nodes
-    ++ line (codes "</svg>")
+    svg_head frame ++ colours_text nodes ++ numbered (svg_edges spots) 0 nodes
+    ++ numbered (svg_node frame.box_width spots) 0 nodes ++ line (codes "</svg>")
 
 -- the text is the picture of these nodes, wherever they are placed
 abbrev pub IsSvgOf : List Node → List ℕ → Type 0

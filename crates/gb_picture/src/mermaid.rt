@@ -1,12 +1,12 @@
 //! A graph for Mermaid.
 ghost use Rattle.std.specs.Prelude.{◌≡◌, ◌++◌, IfOk, OnOk, codes, string_bytes};
 ghost use Rattle.std.specs.List.{flat_map};
-ghost use Rattle.gb_picture.specs.Mermaid.{mermaid_edge, mermaid_edges, mermaid_label, mermaid_node};
-ghost use Rattle.gb_picture.specs.Mermaid.{mermaid_text};
-ghost use Rattle.gb_picture.specs.Graph.{numbered};
+ghost use Rattle.gb_picture.specs.Mermaid.{mermaid_edge, mermaid_edges, mermaid_fill, mermaid_label};
+ghost use Rattle.gb_picture.specs.Mermaid.{mermaid_node, mermaid_text};
+ghost use Rattle.gb_picture.specs.Graph.{id, line, numbered};
 
 use crate::escapes::push_mermaid;
-use crate::graph::Node;
+use crate::graph::{Node, Tint, colour_of};
 use std::alloc::{AllocError, Global};
 use std::fmt::Write;
 
@@ -34,6 +34,7 @@ fn push_node(alloc: Global, out: &mut String, number: usize, node: &Node) -> Res
     ensures { OnOk result (string_bytes out.new ≡ string_bytes out.old ++ mermaid_node number node.now) }
 {
     push_label(alloc, out, number, node.name.as_str())?;
+    push_fill(out, number, node.tint)?;
     push_edges(out, number, node)
 }
 
@@ -44,6 +45,23 @@ fn push_label(alloc: Global, out: &mut String, number: usize, name: &str) -> Res
     write!(out, "  t{number}[\"")?;
     push_mermaid(alloc, out, name)?;
     out.push_str("\"]\n")
+}
+
+/// The colour of a node.
+fn push_fill(out: &mut String, number: usize, tint: Tint) -> Result<(), AllocError>
+    ensures { OnOk result (string_bytes out.new ≡ string_bytes out.old ++ mermaid_fill number tint) }
+{
+    match tint {
+        Tint::Plain => Ok(()),
+        tint => push_style(out, number, colour_of(tint)),
+    }
+}
+
+fn push_style(out: &mut String, number: usize, colour: &str) -> Result<(), AllocError>
+    ensures { OnOk result (string_bytes out.new
+        ≡ string_bytes out.old ++ line (codes "  style " ++ id number ++ codes " fill:" ++ colour.now)) }
+{
+    writeln!(out, "  style t{number} fill:{colour}")
 }
 
 fn push_edges(out: &mut String, number: usize, node: &Node) -> Result<(), AllocError>

@@ -2,9 +2,9 @@
 ghost use Rattle.std.specs.Prelude.{◌≡◌, ◌++◌, IfOk, OnOk, string_bytes};
 ghost use Rattle.std.specs.List.{flat_map};
 ghost use Rattle.gb_picture.specs.Graph.{name_at};
-ghost use Rattle.gb_picture.specs.Outline.{outline_edge, outline_node, outline_text};
+ghost use Rattle.gb_picture.specs.Outline.{outcome_text, outline_edge, outline_node, outline_text};
 
-use crate::graph::Node;
+use crate::graph::{Node, Tint};
 use crate::shown::push_shown;
 use std::alloc::{AllocError, Global};
 
@@ -24,6 +24,7 @@ fn push_node(alloc: Global, out: &mut String, nodes: &[Node], node: &Node) -> Re
     ensures { OnOk result (string_bytes out.new ≡ string_bytes out.old ++ outline_node nodes.now node.now) }
 {
     push_shown(alloc, out, node.name.as_str())?;
+    out.push_str(outcome_text(node.tint))?;
     out.push('\n')?;
     push_edges(alloc, out, nodes, "    needs ", node.needs.as_slice())?;
     push_edges(
@@ -40,6 +41,19 @@ fn push_node(alloc: Global, out: &mut String, nodes: &[Node], node: &Node) -> Re
         "    finalized by ",
         node.finalizers.as_slice(),
     )
+}
+
+/// What is shown of the outcome of a node, after its name.
+fn outcome_text(tint: Tint) -> &'static str
+    ensures { result.now ≡ outcome_text tint }
+{
+    match tint {
+        Tint::Plain => "",
+        Tint::Runs => " runs",
+        Tint::Open => " may change",
+        Tint::Done => " is up to date",
+        Tint::Idle => " does nothing",
+    }
 }
 
 /// The lines of the nodes that a node is connected to in one way.

@@ -2,12 +2,13 @@
 ghost use Rattle.std.specs.Prelude.{◌≡◌, ◌++◌, IfOk, OnOk, codes, string_bytes};
 ghost use Rattle.std.specs.List.{flat_map};
 ghost use Rattle.gb_picture.specs.Graph.{numbered};
-ghost use Rattle.gb_picture.specs.Svg.{IsSvgOf, box_begun, box_name, box_sides, curve, curve_begun};
-ghost use Rattle.gb_picture.specs.Svg.{curve_bent, curve_ended, legend_text, size_text, spot_at, svg_begun};
+ghost use Rattle.gb_picture.specs.Svg.{IsSvgOf, box_begun, box_fill, box_name, box_sides, colours_text};
+ghost use Rattle.gb_picture.specs.Svg.{curve, curve_begun, curve_bent, curve_ended, legend_text, size_text};
+ghost use Rattle.gb_picture.specs.Svg.{rect_begun, spot_at, svg_begun};
 ghost use Rattle.gb_picture.specs.Svg.{svg_box, svg_edges, svg_head, svg_node, svg_text};
 
 use crate::escapes::push_xml;
-use crate::graph::Node;
+use crate::graph::{Node, Tint, colour_of, is_tinted};
 use crate::place::{Frame, Spot, frame_of, spots};
 use std::alloc::{AllocError, Global};
 use std::fmt::Write;
@@ -29,6 +30,7 @@ fn drawn(alloc: Global, frame: Frame, spots: &[Spot], nodes: &[Node]) -> Result<
 {
     let mut out = String::new(alloc);
     push_head(&mut out, frame)?;
+    push_colours(&mut out, nodes)?;
     push_all_edges(&mut out, spots, nodes)?;
     push_boxes(alloc, &mut out, frame.box_width, spots, nodes)?;
     out.push_str("</svg>\n")?;
@@ -71,6 +73,29 @@ fn push_legend(out: &mut String) -> Result<(), AllocError>
     ensures { OnOk result (string_bytes out.new ≡ string_bytes out.old ++ legend_text) }
 {
     out.push_str(LEGEND)
+}
+
+/// The meaning of the colours.
+const COLOURS: &str = "<g transform=\"translate(16 28)\">
+<rect width=\"40\" height=\"14\" style=\"fill:orange\"/>
+<text x=\"48\" y=\"12\">runs</text>
+<rect x=\"104\" width=\"40\" height=\"14\" style=\"fill:khaki\"/>
+<text x=\"152\" y=\"12\">may change</text>
+<rect x=\"248\" width=\"40\" height=\"14\" style=\"fill:palegreen\"/>
+<text x=\"296\" y=\"12\">is up to date</text>
+<rect x=\"408\" width=\"40\" height=\"14\" style=\"fill:lightgray\"/>
+<text x=\"456\" y=\"12\">does nothing</text></g>
+";
+
+/// What the colours of these nodes mean, if they have some.
+fn push_colours(out: &mut String, nodes: &[Node]) -> Result<(), AllocError>
+    ensures { OnOk result (string_bytes out.new ≡ string_bytes out.old ++ colours_text nodes.now) }
+{
+    if is_tinted(nodes) {
+        out.push_str(COLOURS)
+    } else {
+        Ok(())
+    }
 }
 
 fn push_all_edges(out: &mut String, spots: &[Spot], nodes: &[Node]) -> Result<(), AllocError>
@@ -198,6 +223,7 @@ fn push_node(
         out,
         spot_at(spots, number),
         width,
+        node.tint,
         node.name.as_str(),
     )
 }
@@ -208,12 +234,14 @@ fn push_box(
     out: &mut String,
     spot: Spot,
     width: usize,
+    tint: Tint,
     name: &str,
 ) -> Result<(), AllocError>
-    ensures { OnOk result (string_bytes out.new ≡ string_bytes out.old ++ svg_box spot width name.now) }
+    ensures { OnOk result
+        (string_bytes out.new ≡ string_bytes out.old ++ svg_box spot width tint name.now) }
 {
     push_corner(out, spot)?;
-    push_sides(out, width)?;
+    push_sides(out, width, tint)?;
     push_name(alloc, out, name)
 }
 
@@ -224,10 +252,41 @@ fn push_corner(out: &mut String, spot: Spot) -> Result<(), AllocError>
     write!(out, "<g transform=\"translate({left} {top})\">")
 }
 
-fn push_sides(out: &mut String, width: usize) -> Result<(), AllocError>
-    ensures { OnOk result (string_bytes out.new ≡ string_bytes out.old ++ box_sides width) }
+fn push_sides(out: &mut String, width: usize, tint: Tint) -> Result<(), AllocError>
+    ensures { OnOk result (string_bytes out.new ≡ string_bytes out.old ++ box_sides width tint) }
 {
-    write!(out, "<rect width=\"{width}\" height=\"24\" rx=\"4\"/>")
+    push_rect(out, width)?;
+    push_fill(out, tint)?;
+    push_end(out)
+}
+
+fn push_end(out: &mut String) -> Result<(), AllocError>
+    ensures { OnOk result (string_bytes out.new ≡ string_bytes out.old ++ codes "/>") }
+{
+    out.push_str("/>")
+}
+
+fn push_rect(out: &mut String, width: usize) -> Result<(), AllocError>
+    ensures { OnOk result (string_bytes out.new ≡ string_bytes out.old ++ rect_begun width) }
+{
+    write!(out, "<rect width=\"{width}\" height=\"24\" rx=\"4\"")
+}
+
+/// The colour of a box.
+fn push_fill(out: &mut String, tint: Tint) -> Result<(), AllocError>
+    ensures { OnOk result (string_bytes out.new ≡ string_bytes out.old ++ box_fill tint) }
+{
+    match tint {
+        Tint::Plain => Ok(()),
+        tint => push_colour(out, colour_of(tint)),
+    }
+}
+
+fn push_colour(out: &mut String, colour: &str) -> Result<(), AllocError>
+    ensures { OnOk result (string_bytes out.new
+        ≡ string_bytes out.old ++ codes " style=\"fill:" ++ colour.now ++ codes "\"") }
+{
+    write!(out, " style=\"fill:{colour}\"")
 }
 
 fn push_name(alloc: Global, out: &mut String, name: &str) -> Result<(), AllocError>

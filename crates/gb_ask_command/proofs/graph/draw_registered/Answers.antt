@@ -22,12 +22,13 @@ pub returns-clause-drawing : goal.returns-clause-drawing
 returns-clause-drawing g c =
     let allowed = c.args.allowed.now in
     let style = c.args.style in
+    let predicted = c.args.predicted.now in
     let tables = tables_of g.T.Transforms.meanings g.A.Actions.meanings c.args.configured.now.tables.now in
     let declared = registry_in g.T.Transforms.meanings g.A.Actions.meanings c.in_ok-tasks.tasks.workspace in
     let same : declared ≡ registry_said tables c.args.configured.now.registry = c.in_ok-tasks.ensures.registry in
-    subst (λ (registry : Registry). IfOk c.draw_requested.result (λ text. IsDrawing style registry allowed.requested allowed.excluded (string_bytes text))) same
-    (subst (λ (words : List Text). IfOk c.draw_requested.result (λ text. IsDrawing style declared allowed.requested words (string_bytes text))) c.as_slice-excluded.ensures
-    (subst (λ (words : List Text). IfOk c.draw_requested.result (λ text. IsDrawing style declared words c.as_slice-excluded.result.now (string_bytes text))) c.as_slice-requested.ensures
+    subst (λ (registry : Registry). IfOk c.draw_requested.result (λ text. IsDrawing style predicted registry allowed.requested allowed.excluded (string_bytes text))) same
+    (subst (λ (words : List Text). IfOk c.draw_requested.result (λ text. IsDrawing style predicted declared allowed.requested words (string_bytes text))) c.as_slice-excluded.ensures
+    (subst (λ (words : List Text). IfOk c.draw_requested.result (λ text. IsDrawing style predicted declared words c.as_slice-excluded.result.now (string_bytes text))) c.as_slice-requested.ensures
     c.draw_requested.ensures.drawing))
 
 pub returns-clause-fault : goal.returns-clause-fault

@@ -1,0 +1,24 @@
+-- The statement of a folder's scripts at which their first fault arises.
+use Rattle.std.specs.Prelude.{ℕ, ◌≡◌, List, [], Ok, Some, zip}
+use Rattle.gb_folder.specs.Files.{Files}
+use Rattle.gb_registry.specs.Configure.{configure_faults}
+use Rattle.gb_registry.specs.Faults.{first_of}
+use Rattle.gb_registry.specs.Faulty.{IsFirstAt}
+use Rattle.gb_registry.specs.Projects.{project_paths, projects_of}
+use Rattle.gb_registry.specs.Source.{source_of}
+use Rattle.gb_registry.specs.Tables.{Tables}
+use Rattle.gb_registry.specs.declared.faulty.FaultAt.{FaultAt}
+use Rattle.gb_script.specs.declared.script.Statement.{Statement}
+use Rattle.gb_build.specs.Scripts.{ScriptsSay, SettingsSay, script_places}
+
+-- The settings and the scripts of the folder can be read, and this is the first fault of their statements, at
+-- the statement at which it arises.
+pub record IsFaulty {M F Z S A : Type 0} (tables : Tables M F Z S A) (files : Files) (at : FaultAt) : Type 0
+  where
+    pub settings : List (List (List ℕ))
+    pub texts : List (List Statement)
+    pub settings_say : SettingsSay files (Ok settings)
+    pub scripts_say : ScriptsSay files (script_places (projects_of settings)) (Ok texts)
+    pub fault_is : first_of (configure_faults tables (source_of settings texts [])) ≡ Some at.fault
+    pub first_at : IsFirstAt tables (source_of settings texts []).names
+        (zip (project_paths settings) texts) at
