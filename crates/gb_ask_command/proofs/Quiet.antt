@@ -85,32 +85,32 @@ module _ {M F Z S A : Type 0} (tables : Tables M F Z S A) where
   -- ---- Builds of the folder
 
   module _ (source : Source) (contents : Contents) (given : List (Text × Text)) (says : FolderSays tables contents.files given (Ok source)) (silent : IsSilent (registry_said tables source)) where
-    there : (allowed : Invocation) → allowed.properties ≡ given → registers_in tables (outside contents).files allowed.properties (Ok (registry_said tables source))
-    there allowed same = registered tables contents given allowed.properties (sym same) source says
+    there : (invocation : Invocation) → invocation.properties ≡ given → registers_in tables (outside contents).files invocation.properties (Ok (registry_said tables source))
+    there invocation same = registered tables contents given invocation.properties (sym same) source says
 
-    no_other : (allowed : Invocation) → allowed.properties ≡ given → (registry : Registry) → registers_in tables (outside contents).files allowed.properties (Ok registry) → registry ≡ registry_said tables source
-    no_other allowed same registry (other, says_other, is) =
-        let here = there allowed same in
-        let one = folders_one tables (outside contents).files allowed.properties (Ok other) (Ok here.0) says_other here.1 in
+    no_other : (invocation : Invocation) → invocation.properties ≡ given → (registry : Registry) → registers_in tables (outside contents).files invocation.properties (Ok registry) → registry ≡ registry_said tables source
+    no_other invocation same registry (other, says_other, is) =
+        let here = there invocation same in
+        let one = folders_one tables (outside contents).files invocation.properties (Ok other) (Ok here.0) says_other here.1 in
         let same_source : other ≡ here.0 = cc in
         is ∙ ap (registry_said tables) same_source ∙ sym here.2
 
-    of_refusal : (allowed : Invocation) (fault : Fault) → IsRefusedBy (registry_said tables source) allowed fault
-        → (fault ≡ faults.OutOfMemory) ⊎ ((request_of (registry_said tables source) allowed.requested allowed.excluded ≡ Err fault) ⊎ ((plan : Plan) × IsScheduleFault plan fault))
-    of_refusal allowed fault refused = silent allowed.requested allowed.excluded fault (inr refused)
+    of_refusal : (invocation : Invocation) (fault : Fault) → IsRefusedBy (registry_said tables source) invocation fault
+        → (fault ≡ faults.OutOfMemory) ⊎ ((request_of (registry_said tables source) invocation.requested invocation.excluded ≡ Err fault) ⊎ ((plan : Plan) × IsScheduleFault plan fault))
+    of_refusal invocation fault refused = silent invocation.requested invocation.excluded fault (inr refused)
 
     pub quiet : IsQuiet tables source contents given
-    quiet allowed failures after fault same (inl scripts) =
-        let here = there allowed same in
-        let two = folders_one tables (outside contents).files allowed.properties (Ok here.0) (Err fault) here.1 scripts in
+    quiet invocation failures after fault same (inl scripts) =
+        let here = there invocation same in
+        let two = folders_one tables (outside contents).files invocation.properties (Ok here.0) (Err fault) here.1 scripts in
         absurd (cc)
-    quiet allowed failures after fault same (inr (inl (registry, scripts, refused))) =
-        elim (of_refusal allowed fault (subst (λ (r : Registry). IsRefusedBy r allowed fault) (no_other allowed same registry scripts) refused)) as (λ _. IsNotForATask (registry_said tables source) allowed failures after fault) [
+    quiet invocation failures after fault same (inr (inl (registry, scripts, refused))) =
+        elim (of_refusal invocation fault (subst (λ (r : Registry). IsRefusedBy r invocation fault) (no_other invocation same registry scripts) refused)) as (λ _. IsNotForATask (registry_said tables source) invocation failures after fault) [
           | inl memory ↦ inl memory
           | inr rest ↦ inr (inr rest)
         ]
-    quiet allowed failures after fault same (inr (inr (inl memory))) = inl memory
-    quiet allowed failures after fault same (inr (inr (inr (place, first, device)))) = inr (inl (place, device))
+    quiet invocation failures after fault same (inr (inr (inl memory))) = inl memory
+    quiet invocation failures after fault same (inr (inr (inr (place, first, device)))) = inr (inl (place, device))
 
 -- the finding of a statement, too
 pub found_at_same : {M F Z S A : Type 0} (tables : Tables M F Z S A) (faithful : Bool) (old new : Files) → (IsTrue faithful → new ≡ old) → (findings : Findings)

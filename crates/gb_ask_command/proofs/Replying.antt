@@ -23,36 +23,36 @@ use Rattle.gb_ask_command.specs.Replies.{AreRead, IsGraphReply, IsReplyAbout, Is
 use Rattle.gb_ask_command.specs.Reply.{Reply}
 use Rattle.gb_ask_command.specs.declared.words.Style.{Style}
 
-module _ {M F Z S A : Type 0} (tables : Tables M F Z S A) (faithful : Bool) (old : Shown) (after : ℕ) (allowed : Invocation) where
+module _ {M F Z S A : Type 0} (tables : Tables M F Z S A) (faithful : Bool) (old : Shown) (after : ℕ) (invocation : Invocation) where
   -- a text, or that memory ran out
-  pub of_text : (IsTextOf : Registry → List ℕ → Type 0) (source : Source) → AreRead tables faithful old after allowed (Ok source)
+  pub of_text : (IsTextOf : Registry → List ℕ → Type 0) (source : Source) → AreRead tables faithful old after invocation (Ok source)
       → (reply : Reply) → IfOk reply (λ text. IsTextOf (registry_said tables source) (string_bytes text)) → IfErr reply (λ fault. fault ≡ faults.OutOfMemory)
-      → IsReplyOf tables faithful old after IsTextOf allowed reply
+      → IsReplyOf tables faithful old after IsTextOf invocation reply
   of_text IsTextOf source read (Ok text) is out = (source, read, is)
   of_text IsTextOf source read (Err fault) is out = λ yes. inl (inl out)
 
   -- a graph, or why there is none
-  pub of_drawing : (style : Style) (predicted : List Prediction) (source : Source) → AreRead tables faithful old after allowed (Ok source)
-      → (reply : Reply) → IfOk reply (λ text. IsDrawing style predicted (registry_said tables source) allowed.requested allowed.excluded (string_bytes text))
-      → IfErr reply (IsRefusalOf (registry_said tables source) allowed.requested allowed.excluded)
-      → IsGraphReply tables faithful old after style predicted allowed reply
+  pub of_drawing : (style : Style) (predicted : List Prediction) (source : Source) → AreRead tables faithful old after invocation (Ok source)
+      → (reply : Reply) → IfOk reply (λ text. IsDrawing style predicted (registry_said tables source) invocation.requested invocation.excluded (string_bytes text))
+      → IfErr reply (IsRefusalOf (registry_said tables source) invocation.requested invocation.excluded)
+      → IsGraphReply tables faithful old after style predicted invocation reply
   of_drawing style predicted source read (Ok text) is refused = (source, read, is)
   of_drawing style predicted source read (Err fault) is refused = inr (source, read, refused)
 
   -- no place is requested
   pub of_no_place : (notation : Notation) (relation : Relation) (place found : Result Place Fault) (fault : Fault) → found ≡ Err fault
-      → (found ≡ place) ⊎ (found ≡ Err faults.OutOfMemory) → IsReplyAbout tables faithful old after notation relation place allowed (Err fault)
+      → (found ≡ place) ⊎ (found ≡ Err faults.OutOfMemory) → IsReplyAbout tables faithful old after notation relation place invocation (Err fault)
   of_no_place notation relation (Ok place) found fault err (inl is) = absurd (cc)
   of_no_place notation relation (Ok place) found fault err (inr is) = λ yes. inl (inl (cc))
   of_no_place notation relation (Err other) found fault err (inl is) = inl (cc)
   of_no_place notation relation (Err other) found fault err (inr is) = inr (cc)
 
   -- the entries of the folder, after the scripts are read
-  pub of_status : (notation : Notation) (activity : Activity) (source : Source) → AreRead tables faithful old after allowed (Ok source)
+  pub of_status : (notation : Notation) (activity : Activity) (source : Source) → AreRead tables faithful old after invocation (Ok source)
       → (mid : Contents) (later : ℕ) → (IsTrue faithful → mid ≡ old.contents) → old.failures ≤ later → later ≤ after
       → (reply : Reply) → IfOk reply (λ text. IsStatusOf faithful notation activity mid.files (paths_of (registry_said tables source)) (string_bytes text))
       → (IsTrue faithful → IfErr reply (IsUnlisted mid later after))
-      → IsStatusReply tables faithful old after notation activity allowed reply
+      → IsStatusReply tables faithful old after notation activity invocation reply
   of_status notation activity source read mid later same earlier count (Ok text) is unlisted = (
     source,
     read,

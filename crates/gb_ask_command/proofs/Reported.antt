@@ -69,14 +69,14 @@ module _ {S : Type 0} (meanings : Meanings S) (rows : Rows S) (options : Options
 
 -- ---- The request
 
-module _ {M F Z S A : Type 0} (tables : Tables M F Z S A) (faithful : Bool) (allowed : Invocation) (contents mid : Contents) (before later after : ℕ)
+module _ {M F Z S A : Type 0} (tables : Tables M F Z S A) (faithful : Bool) (invocation : Invocation) (contents mid : Contents) (before later after : ℕ)
     (same : IsTrue faithful → mid ≡ contents) (earlier : before ≤ later) (count : later ≤ after) (registry : Registry)
-    (scripts : IsTrue faithful → registers_in tables (outside contents).files allowed.properties (Ok registry)) where
+    (scripts : IsTrue faithful → registers_in tables (outside contents).files invocation.properties (Ok registry)) where
   -- an answer since the scripts were read is the answer to the request
   pub answers_it : (answer : Answer) → IfOk answer (λ reported. IsRegistry registry)
-      → IfOk answer (λ reported. AreReportedOf faithful tables.shapes tables.kinds registry allowed.requested allowed.excluded allowed.options (shows mid later) after reported.items)
-      → IfErr answer (IsNotReported registry allowed.requested allowed.excluded later after)
-      → IsAnswerTo tables faithful allowed (shows contents before) answer after
+      → IfOk answer (λ reported. AreReportedOf faithful tables.shapes tables.kinds registry invocation.requested invocation.excluded invocation.options (shows mid later) after reported.items)
+      → IfErr answer (IsNotReported registry invocation.requested invocation.excluded later after)
+      → IsAnswerTo tables faithful invocation (shows contents before) answer after
   answers_it (Ok reported) sound is none = record {
     registry = registry;
     is_registry = sound;
@@ -84,9 +84,9 @@ module _ {M F Z S A : Type 0} (tables : Tables M F Z S A) (faithful : Bool) (all
     reported_of = (
       is.0,
       is.1,
-      reported_since tables.shapes tables.kinds allowed.options contents mid before later after faithful same earlier count is.0 reported.items is.2,
+      reported_since tables.shapes tables.kinds invocation.options contents mid before later after faithful same earlier count is.0 reported.items is.2,
     );
   }
   answers_it (Err fault) sound none why = λ yes.
-      not_built (registers_in tables) registry (shows contents before) (in_earnest allowed) fault after (scripts yes)
-      (begun_before registry (in_earnest allowed) before later after earlier count fault why)
+      not_built (registers_in tables) registry (shows contents before) (in_earnest invocation) fault after (scripts yes)
+      (begun_before registry (in_earnest invocation) before later after earlier count fault why)

@@ -85,9 +85,9 @@ AreLeft faithful contents registered found =
 
 -- a refusal for lack of memory, for a device that failed, for an argument, or for the plan (60 to 63)
 abbrev pub IsNotForATask : Registry → Invocation → ℕ → ℕ → Fault → Type 0
-IsNotForATask registry allowed before after fault =
+IsNotForATask registry invocation before after fault =
     (fault ≡ faults.OutOfMemory) ⊎ (((place : Place) × IsDeviceFault before after place fault)
-    ⊎ ((request_of registry allowed.requested allowed.excluded ≡ Err fault)
+    ⊎ ((request_of registry invocation.requested invocation.excluded ≡ Err fault)
     ⊎ ((plan : Plan) × IsScheduleFault plan fault)))
 
 module _ {M F Z S A : Type 0} (tables : Tables M F Z S A) where
@@ -95,10 +95,10 @@ module _ {M F Z S A : Type 0} (tables : Tables M F Z S A) where
   -- causes a refusal.
   abbrev pub IsQuiet : Source → Contents → List (Text × Text) → Type 0
   IsQuiet source contents given =
-      (allowed : Invocation) (failures after : ℕ) (fault : Fault) → allowed.properties ≡ given
+      (invocation : Invocation) (failures after : ℕ) (fault : Fault) → invocation.properties ≡ given
       → IsNotBuilt (registers_in tables) (record { contents = contents; failures = failures })
-      allowed fault after
-      → IsNotForATask (registry_said tables source) allowed failures after fault
+      invocation fault after
+      → IsNotForATask (registry_said tables source) invocation failures after fault
 
 -- ---- A statement at fault
 
@@ -131,23 +131,23 @@ module _ {M F Z S A : Type 0} (tables : Tables M F Z S A) (faithful : Bool) wher
   IsFoundAt files found =
       (at : FaultAt) × (IsTrue faithful → IsFaulty tables files at) × IsFindingAt faithful files at found
 
-  pub record IsChecked (allowed : Invocation) (contents : Contents) (found : Findings) : Type 0 where
+  pub record IsChecked (invocation : Invocation) (contents : Contents) (found : Findings) : Type 0 where
     pub source : Source
-    pub said : IsTrue faithful → FolderSays tables contents.files allowed.properties (Ok source)
+    pub said : IsTrue faithful → FolderSays tables contents.files invocation.properties (Ok source)
     pub found_of : AreFindingsOf source contents found
     pub quiet : IsTrue faithful → found.faults.items ≡ []
-        → IsQuiet tables source contents allowed.properties
+        → IsQuiet tables source contents invocation.properties
 
   -- The findings, for tasks or for a statement; or if the contents of the folder are known, a fault of the
   -- machine between these counts of failures, or the fault of the folder's scripts.
   abbrev pub IsCheckReply : Invocation → Contents → ℕ → ℕ → CheckReply → Type 0
-  IsCheckReply allowed contents before after reply =
-      MatchResult reply (λ found. IsChecked allowed contents found ⊎ IsFoundAt contents.files found)
+  IsCheckReply invocation contents before after reply =
+      MatchResult reply (λ found. IsChecked invocation contents found ⊎ IsFoundAt contents.files found)
       (λ fault. IsTrue faithful
-      → IsOfMachine before after fault ⊎ FolderSays tables contents.files allowed.properties (Err fault))
+      → IsOfMachine before after fault ⊎ FolderSays tables contents.files invocation.properties (Err fault))
 
   -- the arguments are refused, or they make a request, and this is the reply to it
   abbrev pub RepliesCheck : Given → Contents → ℕ → ℕ → CheckReply → Type 0
   RepliesCheck given contents before after reply =
       ((fault : Fault) × AreRefused given fault × (reply ≡ Err fault))
-      ⊎ ((allowed : Invocation) × AskFor given allowed × IsCheckReply allowed contents before after reply)
+      ⊎ ((invocation : Invocation) × AskFor given invocation × IsCheckReply invocation contents before after reply)

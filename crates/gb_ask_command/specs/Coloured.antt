@@ -15,17 +15,17 @@ module _ {M F Z S A : Type 0} (tables : Tables M F Z S A) (faithful : Bool) (old
   -- The predictions that colours show: none if no colours are requested; or else those that `why` reports for
   -- the request, or none. The folder is `old` at first, and its device has failed `after` times at the end.
   abbrev pub ArePredicted : Colouring → Invocation → List Prediction → Type 0
-  ArePredicted colourings.Plain allowed predicted = predicted ≡ []
-  ArePredicted colourings.Outcomes allowed predicted =
-      (predicted ≡ []) ⊎ IsReported tables faithful allowed old after predicted
+  ArePredicted colourings.Plain invocation predicted = predicted ≡ []
+  ArePredicted colourings.Outcomes invocation predicted =
+      (predicted ≡ []) ⊎ IsReported tables faithful invocation old after predicted
 
 module _ {M F Z S A : Type 0} (tables : Tables M F Z S A) (faithful : Bool) (old : Shown) (after : ℕ)
     (style : Style) (colouring : Colouring) where
   -- First the request is predicted, which does not change the folder. Then this is the reply, with the
   -- colours of these predictions.
-  pub record IsGraphAnswer (allowed : Invocation) (reply : Reply) : Type 0 where
+  pub record IsGraphAnswer (invocation : Invocation) (reply : Reply) : Type 0 where
     pub shown : Shown
     pub same : IsTrue faithful → shown.contents ≡ old.contents
     pub predicted : List Prediction
-    pub are_predicted : ArePredicted tables faithful old shown.failures colouring allowed predicted
-    pub reply_is : IsGraphReply tables faithful shown after style predicted allowed reply
+    pub are_predicted : ArePredicted tables faithful old shown.failures colouring invocation predicted
+    pub reply_is : IsGraphReply tables faithful shown after style predicted invocation reply

@@ -29,7 +29,7 @@ use Rattle.gb_ask_command.specs.declared.words.Style.{Style}
 abbrev pub Replies : {R : Type 0} → (Invocation → Result R Fault → Type 0) → Given → Result R Fault → Type 0
 Replies IsReplyTo given reply =
     ((fault : Fault) × AreRefused given fault × (reply ≡ Err fault))
-    ⊎ ((allowed : Invocation) × AskFor given allowed × IsReplyTo allowed reply)
+    ⊎ ((invocation : Invocation) × AskFor given invocation × IsReplyTo invocation reply)
 
 -- the folder is `old` at first, and its device has failed `after` times at the end
 module _ {M F Z S A : Type 0} (tables : Tables M F Z S A) (faithful : Bool) (old : Shown) (after : ℕ) where
@@ -38,55 +38,55 @@ module _ {M F Z S A : Type 0} (tables : Tables M F Z S A) (faithful : Bool) (old
   -- These are the scripts with the given values, or the fault for which they cannot be read. If contents are
   -- known, this is the result for the folder's own scripts, or a fault of the machine.
   abbrev pub AreRead : Invocation → Result Source Fault → Type 0
-  AreRead allowed (Ok source) =
-      IsTrue faithful → FolderSays tables old.contents.files allowed.properties (Ok source)
-  AreRead allowed (Err fault) =
+  AreRead invocation (Ok source) =
+      IsTrue faithful → FolderSays tables old.contents.files invocation.properties (Ok source)
+  AreRead invocation (Err fault) =
       IsTrue faithful → IsOfMachine old.failures after fault
-      ⊎ FolderSays tables old.contents.files allowed.properties (Err fault)
+      ⊎ FolderSays tables old.contents.files invocation.properties (Err fault)
 
   -- scripts are read, and this holds of the tasks that they register
   abbrev pub IsOfScripts : Invocation → (Registry → Type 0) → Type 0
-  IsOfScripts allowed Holds =
-      (source : Source) × AreRead allowed (Ok source) × Holds (registry_said tables source)
+  IsOfScripts invocation Holds =
+      (source : Source) × AreRead invocation (Ok source) × Holds (registry_said tables source)
 
   -- a text about the tasks that the scripts register, or the fault for which they cannot be read
   abbrev pub IsReplyOf : (Registry → List ℕ → Type 0) → Invocation → Reply → Type 0
-  IsReplyOf IsTextOf allowed (Ok text) = IsOfScripts allowed (λ registry. IsTextOf registry (string_bytes text))
-  IsReplyOf IsTextOf allowed (Err fault) = AreRead allowed (Err fault)
+  IsReplyOf IsTextOf invocation (Ok text) = IsOfScripts invocation (λ registry. IsTextOf registry (string_bytes text))
+  IsReplyOf IsTextOf invocation (Err fault) = AreRead invocation (Err fault)
 
   -- ---- Each question
 
   -- all registered tasks, in the order of registration
   abbrev pub IsTasksReply : Notation → Invocation → Reply → Type 0
-  IsTasksReply notation allowed reply = IsReplyOf (IsTasksText notation) allowed reply
+  IsTasksReply notation invocation reply = IsReplyOf (IsTasksText notation) invocation reply
 
   -- the graph of the plan of the request, with the colours of these predictions, or the fault for which a
   -- build of it is refused
   abbrev pub IsGraphReply : Style → List Prediction → Invocation → Reply → Type 0
-  IsGraphReply style predicted allowed (Ok text) =
-      IsOfScripts allowed (λ registry.
-      IsDrawing style predicted registry allowed.requested allowed.excluded (string_bytes text))
-  IsGraphReply style predicted allowed (Err fault) =
-      AreRead allowed (Err fault)
-      ⊎ IsOfScripts allowed (λ registry. IsRefusalOf registry allowed.requested allowed.excluded fault)
+  IsGraphReply style predicted invocation (Ok text) =
+      IsOfScripts invocation (λ registry.
+      IsDrawing style predicted registry invocation.requested invocation.excluded (string_bytes text))
+  IsGraphReply style predicted invocation (Err fault) =
+      AreRead invocation (Err fault)
+      ⊎ IsOfScripts invocation (λ registry. IsRefusalOf registry invocation.requested invocation.excluded fault)
 
   -- exactly the relations between registered tasks and this place, or the fault that no place is requested
   abbrev pub IsReplyAbout : Notation → Relation → Result Place Fault → Invocation → Reply → Type 0
-  IsReplyAbout notation relation (Ok place) allowed reply =
+  IsReplyAbout notation relation (Ok place) invocation reply =
       IsReplyOf (λ registry text. IsFoundText notation relation (found_in relation place registry) text)
-      allowed reply
-  IsReplyAbout notation relation (Err fault) allowed reply =
+      invocation reply
+  IsReplyAbout notation relation (Err fault) invocation reply =
       (reply ≡ Err fault) ⊎ (reply ≡ Err faults.OutOfMemory)
 
   abbrev pub IsPlaceReply : Notation → Relation → Invocation → Reply → Type 0
-  IsPlaceReply notation relation allowed reply =
-      IsReplyAbout notation relation (asked_place allowed.requested) allowed reply
+  IsPlaceReply notation relation invocation reply =
+      IsReplyAbout notation relation (asked_place invocation.requested) invocation reply
 
   -- Whether a build runs, and what each file of `.gb` is if the scripts register these tasks; or the fault
   -- for which scripts or files cannot be read. If contents are known, the files are the folder's own.
   abbrev pub IsStatusReply : Notation → Activity → Invocation → Reply → Type 0
-  IsStatusReply notation activity allowed (Ok text) =
-      IsOfScripts allowed (λ registry.
+  IsStatusReply notation activity invocation (Ok text) =
+      IsOfScripts invocation (λ registry.
       IsStatusOf faithful notation activity old.contents.files (paths_of registry) (string_bytes text))
-  IsStatusReply notation activity allowed (Err fault) =
-      AreRead allowed (Err fault) ⊎ (IsTrue faithful → IsUnlisted old.contents old.failures after fault)
+  IsStatusReply notation activity invocation (Err fault) =
+      AreRead invocation (Err fault) ⊎ (IsTrue faithful → IsUnlisted old.contents old.failures after fault)

@@ -97,13 +97,13 @@ IsNotReported registry requested excluded before after fault =
 
 -- the same request without `--dry-run`
 abbrev pub in_earnest : Invocation → Invocation
-in_earnest allowed = record {
-  requested = allowed.requested;
-  excluded = allowed.excluded;
-  properties = allowed.properties;
+in_earnest invocation = record {
+  requested = invocation.requested;
+  excluded = invocation.excluded;
+  properties = invocation.properties;
   options = record {
-    keep_going = allowed.options.keep_going;
-    rerun = allowed.options.rerun;
+    keep_going = invocation.options.keep_going;
+    rerun = invocation.options.rerun;
     dry_run = false;
   };
 }
@@ -111,21 +111,21 @@ in_earnest allowed = record {
 module _ {M F Z S A : Type 0} (tables : Tables M F Z S A) (faithful : Bool) where
   -- The tasks of the plan of the request for some registry are reported. If contents are known, it is the
   -- registry of the folder's scripts.
-  pub record IsReported (allowed : Invocation) (old : Shown) (after : ℕ) (reported : List Prediction)
+  pub record IsReported (invocation : Invocation) (old : Shown) (after : ℕ) (reported : List Prediction)
       : Type 0 where
     pub registry : Registry
     pub is_registry : IsRegistry registry
     pub scripts : IsTrue faithful
-        → registers_in tables (outside old.contents).files allowed.properties (Ok registry)
-    pub reported_of : AreReportedOf faithful tables.shapes tables.kinds registry allowed.requested allowed.excluded
-        allowed.options old after reported
+        → registers_in tables (outside old.contents).files invocation.properties (Ok registry)
+    pub reported_of : AreReportedOf faithful tables.shapes tables.kinds registry invocation.requested invocation.excluded
+        invocation.options old after reported
 
   -- the request is reported; or if contents are known, a build of it is refused for this fault
   abbrev pub IsAnswerTo : Invocation → Shown → Answer → ℕ → Type 0
-  IsAnswerTo allowed old (Ok reported) after = IsReported allowed old after reported.items
-  IsAnswerTo allowed old (Err fault) after =
-      IsTrue faithful → IsNotBuilt (registers_in tables) old (in_earnest allowed) fault after
+  IsAnswerTo invocation old (Ok reported) after = IsReported invocation old after reported.items
+  IsAnswerTo invocation old (Err fault) after =
+      IsTrue faithful → IsNotBuilt (registers_in tables) old (in_earnest invocation) fault after
 
   -- the arguments are refused, or they make a request, and this is the answer to it
   abbrev pub Answers : Given → Shown → Answer → ℕ → Type 0
-  Answers given old answer after = Replies (λ allowed reply. IsAnswerTo allowed old reply after) given answer
+  Answers given old answer after = Replies (λ invocation reply. IsAnswerTo invocation old reply after) given answer

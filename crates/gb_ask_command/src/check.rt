@@ -189,7 +189,7 @@ fn replied<A: Actions, T: Transforms, F: Folder>(
         (F.failures folder.old) (F.failures folder.new) result }
 {
     match asked_by(alloc, words) {
-        Ok(allowed) => check_asked(alloc, folder, tables, &allowed),
+        Ok(invocation) => check_asked(alloc, folder, tables, &invocation),
         Err(fault) => Err(fault),
     }
 }
@@ -199,14 +199,14 @@ fn check_asked<A: Actions, T: Transforms, F: Folder>(
     alloc: Global,
     folder: &mut F,
     tables: &Tables<A, T>,
-    allowed: &Invocation,
+    invocation: &Invocation,
 ) -> Result<Findings, Fault>
     ensures requests { Requests F.failures F.may_leave F.allowed no_change folder.old folder.new }
     ensures same { IsTrue F.faithful → F.contents folder.new ≡ F.contents folder.old }
-    ensures reply { IsCheckReply (tables_of T.meanings A.meanings tables.now) F.faithful allowed.now
+    ensures reply { IsCheckReply (tables_of T.meanings A.meanings tables.now) F.faithful invocation.now
         (F.contents folder.old) (F.failures folder.old) (F.failures folder.new) result }
 {
-    let copied = allowed.properties.copy(alloc)?;
+    let copied = invocation.properties.copy(alloc)?;
     let given = copied.into_vec();
     match read_registry(alloc, folder, tables, given) {
         Ok(configured) => check_configured(alloc, folder, &configured),

@@ -13,9 +13,9 @@ ghost use Rattle.gb_ask_command.specs.Coloured.{ArePredicted, IsGraphAnswer};
 ghost use Rattle.gb_ask_command.specs.Replies.{IsGraphReply, Replies};
 
 use crate::drawing::draw_requested;
+use crate::predicting::predict_build;
 use crate::reply::{Reply, print_reply};
 use crate::scripts::read_asked;
-use crate::predicting::predict_build;
 use crate::words::{Colouring, Style};
 use gb_action::actions::Actions;
 use gb_command::run::asked_by;
@@ -78,7 +78,7 @@ fn replied<A: Actions, T: Transforms, F: Folder>(
         (given_of (λ words. map string_bytes words.items) words) result }
 {
     match asked_by(alloc, words) {
-        Ok(allowed) => draw_coloured(alloc, folder, style, colouring, tables, &allowed),
+        Ok(invocation) => draw_coloured(alloc, folder, style, colouring, tables, &invocation),
         Err(fault) => Err(fault),
     }
 }
@@ -90,16 +90,23 @@ fn draw_coloured<A: Actions, T: Transforms, F: Folder>(
     style: Style,
     colouring: Colouring,
     tables: &Tables<A, T>,
-    allowed: &Invocation,
+    invocation: &Invocation,
 ) -> Reply
     ensures requests { Requests F.failures F.may_leave F.allowed no_change folder.old folder.new }
     ensures same { IsTrue F.faithful → F.contents folder.new ≡ F.contents folder.old }
     ensures reply { IsGraphAnswer (tables_of T.meanings A.meanings tables.now) F.faithful
         (record { contents = F.contents folder.old; failures = F.failures folder.old })
-        (F.failures folder.new) style colouring allowed.now result }
+        (F.failures folder.new) style colouring invocation.now result }
 {
-    let predicted = predicted(alloc, folder, colouring, tables, allowed);
-    draw(alloc, folder, style, predicted.as_slice(), tables, allowed)
+    let predicted = predicted(alloc, folder, colouring, tables, invocation);
+    draw(
+        alloc,
+        folder,
+        style,
+        predicted.as_slice(),
+        tables,
+        invocation,
+    )
 }
 
 /// The predictions for the request, as `why` has them; none if no colours are requested or there is
@@ -109,17 +116,17 @@ fn predicted<A: Actions, T: Transforms, F: Folder>(
     folder: &mut F,
     colouring: Colouring,
     tables: &Tables<A, T>,
-    allowed: &Invocation,
+    invocation: &Invocation,
 ) -> Vec<Prediction>
     ensures requests { Requests F.failures F.may_leave F.allowed no_change folder.old folder.new }
     ensures same { IsTrue F.faithful → F.contents folder.new ≡ F.contents folder.old }
     ensures predicted { ArePredicted (tables_of T.meanings A.meanings tables.now) F.faithful
         (record { contents = F.contents folder.old; failures = F.failures folder.old })
-        (F.failures folder.new) colouring allowed.now result.items }
+        (F.failures folder.new) colouring invocation.now result.items }
 {
     match colouring {
         Colouring::Plain => Vec::new(alloc),
-        Colouring::Outcomes => match predict_build(alloc, folder, tables, allowed) {
+        Colouring::Outcomes => match predict_build(alloc, folder, tables, invocation) {
             Ok(predicted) => predicted,
             Err(fault) => {
                 drop(fault);
@@ -136,16 +143,16 @@ fn draw<A: Actions, T: Transforms, F: Folder>(
     style: Style,
     predicted: &[Prediction],
     tables: &Tables<A, T>,
-    allowed: &Invocation,
+    invocation: &Invocation,
 ) -> Reply
     ensures requests { Requests F.failures F.may_leave F.allowed no_change folder.old folder.new }
     ensures same { IsTrue F.faithful → F.contents folder.new ≡ F.contents folder.old }
     ensures reply { IsGraphReply (tables_of T.meanings A.meanings tables.now) F.faithful
         (record { contents = F.contents folder.old; failures = F.failures folder.old })
-        (F.failures folder.new) style predicted.now allowed.now result }
+        (F.failures folder.new) style predicted.now invocation.now result }
 {
-    match read_asked(alloc, folder, tables, allowed) {
-        Ok(configured) => draw_registered(alloc, style, predicted, &configured, allowed),
+    match read_asked(alloc, folder, tables, invocation) {
+        Ok(configured) => draw_registered(alloc, style, predicted, &configured, invocation),
         Err(fault) => Err(fault),
     }
 }
@@ -155,17 +162,17 @@ fn draw_registered<A: Actions, T: Transforms>(
     style: Style,
     predicted: &[Prediction],
     configured: &Configured<'_, A, T>,
-    allowed: &Invocation,
+    invocation: &Invocation,
 ) -> Reply
     ensures drawing { let tables = tables_of T.meanings A.meanings configured.now.tables.now in
         IfOk result (λ text. IsDrawing style predicted.now (registry_said tables configured.now.registry)
-        allowed.now.requested allowed.now.excluded (string_bytes text)) }
+        invocation.now.requested invocation.now.excluded (string_bytes text)) }
     ensures fault { let tables = tables_of T.meanings A.meanings configured.now.tables.now in
         IfErr result (IsRefusalOf (registry_said tables configured.now.registry)
-        allowed.now.requested allowed.now.excluded) }
+        invocation.now.requested invocation.now.excluded) }
 {
     let mut tasks = ScriptTasks::declare(alloc, configured)?;
-    let requested = allowed.requested.as_slice();
-    let excluded = allowed.excluded.as_slice();
+    let requested = invocation.requested.as_slice();
+    let excluded = invocation.excluded.as_slice();
     draw_requested(alloc, style, predicted, &mut tasks, requested, excluded)
 }

@@ -79,7 +79,7 @@ fn replied<A: Actions, T: Transforms, F: Folder>(
         (given_of (λ words. map string_bytes words.items) words) result }
 {
     match asked_by(alloc, words) {
-        Ok(allowed) => answer(alloc, folder, notation, relation, tables, &allowed),
+        Ok(invocation) => answer(alloc, folder, notation, relation, tables, &invocation),
         Err(fault) => Err(fault),
     }
 }
@@ -91,16 +91,18 @@ fn answer<A: Actions, T: Transforms, F: Folder>(
     notation: Notation,
     relation: Relation,
     tables: &Tables<A, T>,
-    allowed: &Invocation,
+    invocation: &Invocation,
 ) -> Reply
     ensures requests { Requests F.failures F.may_leave F.allowed no_change folder.old folder.new }
     ensures same { IsTrue F.faithful → F.contents folder.new ≡ F.contents folder.old }
     ensures reply { IsPlaceReply (tables_of T.meanings A.meanings tables.now) F.faithful
         (record { contents = F.contents folder.old; failures = F.failures folder.old })
-        (F.failures folder.new) notation relation allowed.now result }
+        (F.failures folder.new) notation relation invocation.now result }
 {
-    match asked_place(alloc, allowed.requested.as_slice()) {
-        Ok(place) => search_folder(alloc, folder, notation, relation, tables, allowed, &place),
+    match asked_place(alloc, invocation.requested.as_slice()) {
+        Ok(place) => search_folder(
+            alloc, folder, notation, relation, tables, invocation, &place,
+        ),
         Err(fault) => Err(fault),
     }
 }
@@ -112,16 +114,16 @@ fn search_folder<A: Actions, T: Transforms, F: Folder>(
     notation: Notation,
     relation: Relation,
     tables: &Tables<A, T>,
-    allowed: &Invocation,
+    invocation: &Invocation,
     place: &Place,
 ) -> Reply
     ensures requests { Requests F.failures F.may_leave F.allowed no_change folder.old folder.new }
     ensures same { IsTrue F.faithful → F.contents folder.new ≡ F.contents folder.old }
     ensures reply { IsReplyAbout (tables_of T.meanings A.meanings tables.now) F.faithful
         (record { contents = F.contents folder.old; failures = F.failures folder.old })
-        (F.failures folder.new) notation relation (Ok place.now) allowed.now result }
+        (F.failures folder.new) notation relation (Ok place.now) invocation.now result }
 {
-    match read_asked(alloc, folder, tables, allowed) {
+    match read_asked(alloc, folder, tables, invocation) {
         Ok(configured) => search_registered(alloc, notation, relation, &configured, place),
         Err(fault) => Err(fault),
     }

@@ -37,18 +37,18 @@ pub(crate) fn predict_build<A: Actions, T: Transforms, F: Folder>(
     alloc: Global,
     folder: &mut F,
     tables: &Tables<A, T>,
-    allowed: &Invocation,
+    invocation: &Invocation,
 ) -> Answer
     ensures requests { Requests F.failures F.may_leave F.allowed no_change folder.old folder.new }
     ensures same { IsTrue F.faithful → F.contents folder.new ≡ F.contents folder.old }
-    ensures answer { IsAnswerTo (tables_of T.meanings A.meanings tables.now) F.faithful allowed.now
+    ensures answer { IsAnswerTo (tables_of T.meanings A.meanings tables.now) F.faithful invocation.now
         (record { contents = F.contents folder.old; failures = F.failures folder.old })
         result (F.failures folder.new) }
 {
-    let copied = allowed.properties.copy(alloc)?;
+    let copied = invocation.properties.copy(alloc)?;
     let given = copied.into_vec();
     let configured = read_registry(alloc, folder, tables, given)?;
-    predict_registered(alloc, folder, &configured, allowed)
+    predict_registered(alloc, folder, &configured, invocation)
 }
 
 /// Predicts the request for the tasks of these scripts.
@@ -56,7 +56,7 @@ fn predict_registered<A: Actions, T: Transforms, F: Folder>(
     alloc: Global,
     folder: &mut F,
     configured: &Configured<'_, A, T>,
-    allowed: &Invocation,
+    invocation: &Invocation,
 ) -> Answer
     ensures requests { Requests F.failures F.may_leave F.allowed no_change folder.old folder.new }
     ensures same { IsTrue F.faithful → F.contents folder.new ≡ F.contents folder.old }
@@ -65,17 +65,17 @@ fn predict_registered<A: Actions, T: Transforms, F: Folder>(
     ensures reported { let tables = tables_of T.meanings A.meanings configured.now.tables.now in
         IfOk result (λ reported. AreReportedOf F.faithful A.meanings configured.now.tables.now.actions
         (registry_said tables configured.now.registry)
-        allowed.now.requested allowed.now.excluded allowed.now.options
+        invocation.now.requested invocation.now.excluded invocation.now.options
         (record { contents = F.contents folder.old; failures = F.failures folder.old })
         (F.failures folder.new) reported.items) }
     ensures not_reported { let tables = tables_of T.meanings A.meanings configured.now.tables.now in
         IfErr result (IsNotReported (registry_said tables configured.now.registry)
-        allowed.now.requested allowed.now.excluded (F.failures folder.old) (F.failures folder.new)) }
+        invocation.now.requested invocation.now.excluded (F.failures folder.old) (F.failures folder.new)) }
 {
     let _scripts = configured.registry.scripts();
     let mut tasks = ScriptTasks::declare(alloc, configured)?;
-    let requested = allowed.requested.as_slice();
-    let excluded = allowed.excluded.as_slice();
+    let requested = invocation.requested.as_slice();
+    let excluded = invocation.excluded.as_slice();
     predict_requested::<A, F, _>(
         alloc,
         folder,
@@ -83,7 +83,7 @@ fn predict_registered<A: Actions, T: Transforms, F: Folder>(
         &configured.tables.actions,
         requested,
         excluded,
-        allowed.options,
+        invocation.options,
     )
 }
 

@@ -20,7 +20,7 @@ pub(crate) fn read_asked<'a, A: Actions, T: Transforms, F: Folder>(
     alloc: Global,
     folder: &mut F,
     tables: &'a Tables<A, T>,
-    allowed: &Invocation,
+    invocation: &Invocation,
 ) -> Result<Configured<'a, A, T>, Fault>
     ensures requests { Requests F.failures F.may_leave F.allowed no_change folder.old folder.new }
     ensures same { IsTrue F.faithful → F.contents folder.new ≡ F.contents folder.old }
@@ -28,12 +28,12 @@ pub(crate) fn read_asked<'a, A: Actions, T: Transforms, F: Folder>(
     ensures read { let handed = tables_of T.meanings A.meanings tables.now in MatchResult result
         (λ configured. AreRead handed F.faithful
         (record { contents = F.contents folder.old; failures = F.failures folder.old })
-        (F.failures folder.new) allowed.now (Ok configured.registry))
+        (F.failures folder.new) invocation.now (Ok configured.registry))
         (λ fault. AreRead handed F.faithful
         (record { contents = F.contents folder.old; failures = F.failures folder.old })
-        (F.failures folder.new) allowed.now (Err fault)) }
+        (F.failures folder.new) invocation.now (Err fault)) }
 {
-    match allowed.properties.copy(alloc) {
+    match invocation.properties.copy(alloc) {
         Ok(copied) => {
             let given = copied.into_vec();
             read_registry(alloc, folder, tables, given)

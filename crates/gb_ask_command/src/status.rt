@@ -76,7 +76,7 @@ fn replied<A: Actions, T: Transforms, F: Folder>(
         (given_of (λ words. map string_bytes words.items) words) result }
 {
     match asked_by(alloc, words) {
-        Ok(allowed) => look(alloc, folder, notation, activity, tables, &allowed),
+        Ok(invocation) => look(alloc, folder, notation, activity, tables, &invocation),
         Err(fault) => Err(fault),
     }
 }
@@ -89,15 +89,15 @@ fn look<A: Actions, T: Transforms, F: Folder>(
     notation: Notation,
     activity: Activity,
     tables: &Tables<A, T>,
-    allowed: &Invocation,
+    invocation: &Invocation,
 ) -> Reply
     ensures requests { Requests F.failures F.may_leave F.allowed no_change folder.old folder.new }
     ensures same { IsTrue F.faithful → F.contents folder.new ≡ F.contents folder.old }
     ensures reply { IsStatusReply (tables_of T.meanings A.meanings tables.now) F.faithful
         (record { contents = F.contents folder.old; failures = F.failures folder.old })
-        (F.failures folder.new) notation activity allowed.now result }
+        (F.failures folder.new) notation activity invocation.now result }
 {
-    match read_asked(alloc, folder, tables, allowed) {
+    match read_asked(alloc, folder, tables, invocation) {
         Ok(configured) => look_beside(alloc, folder, notation, activity, &configured),
         Err(fault) => Err(fault),
     }

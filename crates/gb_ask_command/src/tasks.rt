@@ -72,7 +72,7 @@ fn replied<A: Actions, T: Transforms, F: Folder>(
         (given_of (λ words. map string_bytes words.items) words) result }
 {
     match asked_by(alloc, words) {
-        Ok(allowed) => list(alloc, folder, notation, tables, &allowed),
+        Ok(invocation) => list(alloc, folder, notation, tables, &invocation),
         Err(fault) => Err(fault),
     }
 }
@@ -83,15 +83,15 @@ fn list<A: Actions, T: Transforms, F: Folder>(
     folder: &mut F,
     notation: Notation,
     tables: &Tables<A, T>,
-    allowed: &Invocation,
+    invocation: &Invocation,
 ) -> Reply
     ensures requests { Requests F.failures F.may_leave F.allowed no_change folder.old folder.new }
     ensures same { IsTrue F.faithful → F.contents folder.new ≡ F.contents folder.old }
     ensures reply { IsTasksReply (tables_of T.meanings A.meanings tables.now) F.faithful
         (record { contents = F.contents folder.old; failures = F.failures folder.old })
-        (F.failures folder.new) notation allowed.now result }
+        (F.failures folder.new) notation invocation.now result }
 {
-    match read_asked(alloc, folder, tables, allowed) {
+    match read_asked(alloc, folder, tables, invocation) {
         Ok(configured) => list_registered(alloc, notation, &configured),
         Err(fault) => Err(fault),
     }

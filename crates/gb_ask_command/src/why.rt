@@ -72,7 +72,7 @@ fn answered<A: Actions, T: Transforms, F: Folder>(
         result (F.failures folder.new) }
 {
     match asked_by(alloc, words) {
-        Ok(allowed) => predict_build(alloc, folder, tables, &allowed),
+        Ok(invocation) => predict_build(alloc, folder, tables, &invocation),
         Err(fault) => Err(fault),
     }
 }

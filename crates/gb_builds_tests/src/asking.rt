@@ -269,16 +269,16 @@ fn site(alloc: Global) -> Result<MemoryFolder, Fail> {
 fn related<A: Actions, T: Transforms>(
     alloc: Global,
     tables: &Tables<A, T>,
-    allowed: &Asked<'_>,
+    asked: &Asked<'_>,
 ) -> Result<String, Fail> {
     let mut folder = site(alloc)?;
-    let words = words_of(alloc, allowed.2)?;
+    let words = words_of(alloc, asked.2)?;
     let mut out = Vec::new(alloc);
     places::run(
         alloc,
         &mut folder,
-        allowed.1,
-        allowed.0,
+        asked.1,
+        asked.0,
         Ok(words),
         &mut Page::new(&mut out),
         tables,
@@ -356,8 +356,8 @@ fn are_related<A: Actions, T: Transforms>(
     alloc: Global,
     tables: &Tables<A, T>,
 ) -> Result<(), Fail> {
-    for allowed in &PLACES {
-        is_reported(allowed.3, related(alloc, tables, allowed)?.as_str())?;
+    for asked in &PLACES {
+        is_reported(asked.3, related(alloc, tables, asked)?.as_str())?;
     }
     is_status(alloc, tables)
 }

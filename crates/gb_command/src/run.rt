@@ -88,9 +88,9 @@ fn answered<A: Actions, T: Transforms, F: Folder, W: Printer>(
         (given_of (λ words. map string_bytes words.items) words) result folder.old folder.new }
 {
     match asked_by(alloc, words) {
-        Ok(allowed) => {
+        Ok(invocation) => {
             let mut listeners: Vec<Recorder> = Vec::new(alloc);
-            invoke(alloc, folder, tables, &allowed, &mut listeners, writer)
+            invoke(alloc, folder, tables, &invocation, &mut listeners, writer)
         }
         Err(fault) => Err(fault),
     }

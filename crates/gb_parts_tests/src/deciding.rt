@@ -27,21 +27,21 @@ const DECISIONS: [Row; 10] = [
 ];
 
 /// The names of the incremental properties: `src`, unless it is read whole.
-fn incremental(alloc: Global, allowed: &str) -> Result<Vec<Name>, Fail> {
-    if allowed == "whole" {
+fn incremental(alloc: Global, asked: &str) -> Result<Vec<Name>, Fail> {
+    if asked == "whole" {
         return Ok(Vec::new(alloc));
     }
     Ok(vec![in alloc; Name::read(alloc, "src")?]?)
 }
 
 /// The present state.
-pub fn present(alloc: Global, task: &TaskPath, text: &str, allowed: &str) -> Result<Present, Fail> {
-    let incremental = incremental(alloc, allowed)?;
+pub fn present(alloc: Global, task: &TaskPath, text: &str, asked: &str) -> Result<Present, Fail> {
+    let incremental = incremental(alloc, asked)?;
     Ok(Present {
         now: read_record(alloc, task, text.as_bytes())?,
         incremental,
-        rerun: allowed == "rerun",
-        is_stale: allowed == "stale",
+        rerun: asked == "rerun",
+        is_stale: asked == "stale",
     })
 }
 
@@ -49,10 +49,10 @@ pub fn present(alloc: Global, task: &TaskPath, text: &str, allowed: &str) -> Res
 fn decided(
     alloc: Global,
     first: &Record,
-    allowed: &str,
+    asked: &str,
     present: &Present,
 ) -> Result<&'static str, AllocError> {
-    let old = if allowed == "new" { None } else { Some(first) };
+    let old = if asked == "new" { None } else { Some(first) };
     Ok(match decide(alloc, old, present)? {
         Decision::UpToDate => "up to date",
         Decision::Incremental(_) => "incremental",
@@ -61,9 +61,9 @@ fn decided(
 }
 
 fn hold(alloc: Global, task: &TaskPath, first: &Record, row: &Row) -> Result<(), Fail> {
-    let (text, allowed, wanted) = row;
-    let present = present(alloc, task, text, allowed)?;
-    is_answered(wanted, decided(alloc, first, allowed, &present)?.as_bytes())
+    let (text, asked, wanted) = row;
+    let present = present(alloc, task, text, asked)?;
+    is_answered(wanted, decided(alloc, first, asked, &present)?.as_bytes())
 }
 
 fn hold_all(alloc: Global, task: &TaskPath, first: &Record) -> Result<(), Fail> {

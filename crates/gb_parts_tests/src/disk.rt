@@ -499,11 +499,7 @@ const REMEMBERED: [RememberedRow; 18] = [
         ";;;;;;;;;;a ;b ;",
     ),
     // An empty file is remembered too.
-    (
-        "!put a;read a;!put a one;read a;part a",
-        ";;;",
-        ";one;;",
-    ),
+    ("!put a;read a;!put a one;read a;part a", ";;;", ";one;;"),
     // A file is looked up for a read after a listing that was remembered.
     (
         "!put a one;!put b two;list a;list a;!unlink a;!link a b;read a",

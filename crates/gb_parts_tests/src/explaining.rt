@@ -31,9 +31,9 @@ const REASONS: [Row; 9] = [
 ];
 
 fn hold(alloc: Global, task: &TaskPath, first: &Record, row: &Row) -> Result<(), Fail> {
-    let (text, allowed, wanted) = row;
-    let present = present(alloc, task, text, allowed)?;
-    let old = if *allowed == "new" { None } else { Some(first) };
+    let (text, asked, wanted) = row;
+    let present = present(alloc, task, text, asked)?;
+    let old = if *asked == "new" { None } else { Some(first) };
     let mut reported = String::new(alloc);
     for reason in explain(alloc, old, &present)?.iter() {
         push_reason(&mut reported, reason)?;

@@ -72,23 +72,23 @@ fn push_change(
 }
 
 /// Adds an argument, as `arg text`, a file of `src` or `out`, as `src path=text`, or a change, as `A path`.
-fn take_step(alloc: Global, allowed: &mut Asked, step: &str) -> Result<(), PlaceFault> {
+fn take_step(alloc: Global, asked: &mut Asked, step: &str) -> Result<(), PlaceFault> {
     let (word, reported) = cut(step, ' ');
     match word {
         "arg" => Ok(
-            allowed
+            asked
                 .args
                 .push(Value::Text(Text::from_str(alloc, reported)?))?,
         ),
-        "src" => put(alloc, &mut allowed.files, reported),
-        "out" => put(alloc, &mut allowed.existed, reported),
-        _ => push_change(alloc, &mut allowed.changes, word, reported),
+        "src" => put(alloc, &mut asked.files, reported),
+        "out" => put(alloc, &mut asked.existed, reported),
+        _ => push_change(alloc, &mut asked.changes, word, reported),
     }
 }
 
-fn take_steps(alloc: Global, allowed: &mut Asked, steps: &str) -> Result<(), PlaceFault> {
+fn take_steps(alloc: Global, asked: &mut Asked, steps: &str) -> Result<(), PlaceFault> {
     for step in steps.split_terminator(';') {
-        take_step(alloc, allowed, step)?;
+        take_step(alloc, asked, step)?;
     }
     Ok(())
 }
@@ -125,20 +125,20 @@ fn request_of(alloc: Global, form: Form, row: &Row) -> Result<Request, PlaceFaul
     ensures outputs { IfOk result (λ request. map {B = List ℕ × Form} (λ output. (output.name, output.form))
         request.outputs ≡ (target, form) ∷ []) }
 {
-    let mut allowed = Asked {
+    let mut asked = Asked {
         args: Arguments::new(alloc),
         files: Files::new(alloc),
         existed: Files::new(alloc),
         changes: ChangeList::new(alloc),
     };
-    take_steps(alloc, &mut allowed, row.1)?;
-    take_steps(alloc, &mut allowed, row.2)?;
+    take_steps(alloc, &mut asked, row.1)?;
+    take_steps(alloc, &mut asked, row.2)?;
     let Asked {
         args,
         files,
         existed,
         changes,
-    } = allowed;
+    } = asked;
     let files = snapshots_of(alloc, files)?;
     let outputs = outputs_of(alloc, form, existed)?;
     let lists = lists_of(alloc, changes)?;

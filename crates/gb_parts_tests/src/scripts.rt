@@ -289,7 +289,7 @@ fn knows_reserved_words_as_names(rt: HostRuntime) -> Result<(), Fail> {
     are_names(rt.alloc(), &RESERVED)
 }
 
-/// Fails at the first word that is allowed after the statement.
+/// Fails at the first word that is asked after the statement.
 fn are_refused_after(alloc: Global, statement: &str, words: &[&str]) -> Result<(), Fail> {
     for word in words {
         if is_refused_after(alloc, statement, word) != Ok(true) {

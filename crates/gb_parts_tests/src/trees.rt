@@ -87,13 +87,13 @@ struct Asked {
 }
 
 /// Adds a pattern after a `+` or a `-`, which includes or excludes files, or a place.
-fn add(alloc: Global, allowed: &mut Asked, text: &str) -> Result<(), Fail> {
+fn add(alloc: Global, asked: &mut Asked, text: &str) -> Result<(), Fail> {
     if let Some(text) = text.strip_prefix('+') {
-        allowed.include.push(Pattern::read(alloc, text)?)?;
+        asked.include.push(Pattern::read(alloc, text)?)?;
     } else if let Some(text) = text.strip_prefix('-') {
-        allowed.exclude.push(Pattern::read(alloc, text)?)?;
+        asked.exclude.push(Pattern::read(alloc, text)?)?;
     } else {
-        allowed.places.push(Place::read(alloc, text)?)?;
+        asked.places.push(Place::read(alloc, text)?)?;
     }
     Ok(())
 }
@@ -101,7 +101,7 @@ fn add(alloc: Global, allowed: &mut Asked, text: &str) -> Result<(), Fail> {
 /// The query of a word and the texts after it.
 fn asked_of(alloc: Global, word: &str, texts: &str) -> Result<Asked, Fail> {
     let is_named = word == "names";
-    let mut allowed = Asked {
+    let mut asked = Asked {
         name: Name::read(alloc, "src")?,
         naming: if is_named {
             Naming::NameOnly
@@ -113,9 +113,9 @@ fn asked_of(alloc: Global, word: &str, texts: &str) -> Result<Asked, Fail> {
         exclude: Vec::new(alloc),
     };
     for text in texts.split_whitespace() {
-        add(alloc, &mut allowed, text)?;
+        add(alloc, &mut asked, text)?;
     }
-    Ok(allowed)
+    Ok(asked)
 }
 
 /// The files of an output or of a property.
@@ -123,18 +123,18 @@ fn files_asked<F: Folder>(
     alloc: Global,
     folder: &mut F,
     word: &str,
-    allowed: &Asked,
+    asked: &Asked,
 ) -> Result<Snapshot, TreeFault> {
-    match (word, allowed.places.as_slice()) {
-        ("outputs", [place]) => outputs(alloc, folder, &allowed.name, place),
+    match (word, asked.places.as_slice()) {
+        ("outputs", [place]) => outputs(alloc, folder, &asked.name, place),
         (_, roots) => snapshot(
             alloc,
             folder,
-            &allowed.name,
-            allowed.naming,
+            &asked.name,
+            asked.naming,
             roots,
-            allowed.include.as_slice(),
-            allowed.exclude.as_slice(),
+            asked.include.as_slice(),
+            asked.exclude.as_slice(),
         ),
     }
 }
@@ -144,23 +144,23 @@ fn prints_asked<F: Folder>(
     alloc: Global,
     folder: &mut F,
     word: &str,
-    allowed: &Asked,
+    asked: &Asked,
 ) -> Result<Prints, TreeFault> {
-    match (word, allowed.places.as_slice()) {
-        ("output-digests", [place]) => output_prints(alloc, folder, &allowed.name, place),
+    match (word, asked.places.as_slice()) {
+        ("output-digests", [place]) => output_prints(alloc, folder, &asked.name, place),
         ("read-digests", [place]) => {
             let mut room = 65_600;
-            let reading = output_reading(alloc, folder, &allowed.name, place, &mut room)?;
+            let reading = output_reading(alloc, folder, &asked.name, place, &mut room)?;
             Ok(reading.prints(alloc)?)
         }
         (_, roots) => prints_of(
             alloc,
             folder,
-            &allowed.name,
-            allowed.naming,
+            &asked.name,
+            asked.naming,
             roots,
-            allowed.include.as_slice(),
-            allowed.exclude.as_slice(),
+            asked.include.as_slice(),
+            asked.exclude.as_slice(),
         ),
     }
 }
@@ -211,14 +211,14 @@ fn push_changes(
 fn report_changes<F: Folder>(
     alloc: Global,
     folder: &mut F,
-    allowed: &Asked,
+    asked: &Asked,
     all: &mut String,
 ) -> Result<(), TreeFault> {
-    let [before, after] = allowed.places.as_slice() else {
+    let [before, after] = asked.places.as_slice() else {
         return Ok(());
     };
-    let old = output_prints(alloc, folder, &allowed.name, before)?;
-    let new = output_prints(alloc, folder, &allowed.name, after)?;
+    let old = output_prints(alloc, folder, &asked.name, before)?;
+    let new = output_prints(alloc, folder, &asked.name, after)?;
     push_changes(alloc, all, &old, &new)
 }
 
@@ -241,20 +241,15 @@ fn report<F: Folder>(
     alloc: Global,
     folder: &mut F,
     word: &str,
-    allowed: &Asked,
+    asked: &Asked,
     all: &mut String,
 ) -> Result<(), TreeFault> {
     match word {
-        "changes" => report_changes(alloc, folder, allowed, all),
+        "changes" => report_changes(alloc, folder, asked, all),
         "digests" | "output-digests" | "read-digests" => {
-            push_prints(alloc, all, &prints_asked(alloc, folder, word, allowed)?)
+            push_prints(alloc, all, &prints_asked(alloc, folder, word, asked)?)
         }
-        _ => report_files(
-            alloc,
-            word,
-            &files_asked(alloc, folder, word, allowed)?,
-            all,
-        ),
+        _ => report_files(alloc, word, &files_asked(alloc, folder, word, asked)?, all),
     }
 }
 
@@ -268,10 +263,10 @@ fn report_or_fail<F: Folder>(
     alloc: Global,
     folder: &mut F,
     word: &str,
-    allowed: &Asked,
+    asked: &Asked,
     all: &mut String,
 ) -> Result<(), AllocError> {
-    match report(alloc, folder, word, allowed, all) {
+    match report(alloc, folder, word, asked, all) {
         Ok(()) => all.push(';'),
         Err(fault) => push_fault(&fault, all),
     }
@@ -284,8 +279,8 @@ fn ask<F: Folder>(
     texts: &str,
     all: &mut String,
 ) -> Result<(), Fail> {
-    let allowed = asked_of(alloc, word, texts)?;
-    Ok(report_or_fail(alloc, folder, word, &allowed, all)?)
+    let asked = asked_of(alloc, word, texts)?;
+    Ok(report_or_fail(alloc, folder, word, &asked, all)?)
 }
 
 /// Writes a file or files, or adds the output for a pattern or for the folder.
@@ -523,12 +518,12 @@ const CALLS: [Failing; 5] = [
 
 /// Fails with the output if it is not the expected one.
 fn hold_call(alloc: Global, row: &Failing) -> Result<(), Fail> {
-    let (files, at, allowed, wanted) = row;
+    let (files, at, asked, wanted) = row;
     let mut all = String::new(alloc);
     let mut folder = MemoryFolder::new(alloc);
     take_steps(alloc, &mut folder, files, &mut all)?;
     let mut faulty = FaultyFolder::new(folder, *at, FaultMode::FailOnce);
-    take_steps(alloc, &mut faulty, allowed, &mut all)?;
+    take_steps(alloc, &mut faulty, asked, &mut all)?;
     if all.as_str() == *wanted {
         Ok(())
     } else {

@@ -13,7 +13,7 @@ use Rattle.gb_ask_command.proofs.places.answer.Goals as goal
 pub returns-in-Ok-clause-reply : goal.returns-in-Ok-clause-reply
 returns-in-Ok-clause-reply g c =
     let F = g.F.Folder in
-    let allowed = c.args.allowed.now in
+    let invocation = c.args.allowed.now in
     let tables = tables_of g.T.Transforms.meanings g.A.Actions.meanings c.args.tables.now in
     let old : Shown = shows (F.contents c.args.folder.now) (F.failures c.args.folder.now) in
     let after = F.failures c.search_folder.new.folder in
@@ -21,16 +21,16 @@ returns-in-Ok-clause-reply g c =
       | inl is ↦ is
       | inr none ↦ absurd (cc)
     ] in
-    subst (λ (place : Result Place Fault). IsReplyAbout tables F.faithful old after c.args.notation c.args.relation place allowed c.search_folder.result)
+    subst (λ (place : Result Place Fault). IsReplyAbout tables F.faithful old after c.args.notation c.args.relation place invocation c.search_folder.result)
     (subst (λ words. Ok c.in-Ok.place ≡ asked_place words) c.as_slice.ensures found)
     c.search_folder.ensures.reply
 
 pub returns-in-Err-clause-reply : goal.returns-in-Err-clause-reply
 returns-in-Err-clause-reply g c =
     let F = g.F.Folder in
-    let allowed = c.args.allowed.now in
+    let invocation = c.args.allowed.now in
     let tables = tables_of g.T.Transforms.meanings g.A.Actions.meanings c.args.tables.now in
     let old : Shown = shows (F.contents c.args.folder.now) (F.failures c.args.folder.now) in
     let found = c.asked_place.result in
-    of_no_place tables F.faithful old old.failures allowed c.args.notation c.args.relation (asked_place allowed.requested) found c.in-Err.fault c.in-Err.is
+    of_no_place tables F.faithful old old.failures invocation c.args.notation c.args.relation (asked_place invocation.requested) found c.in-Err.fault c.in-Err.is
     (subst (λ words. (found ≡ asked_place words) ⊎ (found ≡ Err faults.OutOfMemory)) c.as_slice.ensures c.asked_place.ensures)

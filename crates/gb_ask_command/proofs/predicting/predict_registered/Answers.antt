@@ -39,29 +39,29 @@ returns-clause-reported g c =
     let F = g.F.Folder in
     let meanings = g.A.Actions.meanings in
     let rows = c.args.configured.now.tables.now.actions in
-    let allowed = c.args.allowed.now in
+    let invocation = c.args.allowed.now in
     let tables = tables_of g.T.Transforms.meanings meanings c.args.configured.now.tables.now in
     let declared = registry_in g.T.Transforms.meanings meanings c.in_ok-tasks.tasks.workspace in
     let same : declared ≡ registry_said tables c.args.configured.now.registry = c.in_ok-tasks.ensures.registry in
     let old : Shown = shows (F.contents c.args.folder.now) (F.failures c.args.folder.now) in
     let after = F.failures c.predict_requested.new.folder in
     let result : Answer = c.predict_requested.result in
-    subst (λ (registry : Registry). IfOk result (λ reported. AreReportedOf F.faithful meanings rows registry allowed.requested allowed.excluded allowed.options old after reported.items)) same
-    (subst (λ (words : List Text). IfOk result (λ reported. AreReportedOf F.faithful meanings rows declared allowed.requested words allowed.options old after reported.items)) c.as_slice-excluded.ensures
-    (subst (λ (words : List Text). IfOk result (λ reported. AreReportedOf F.faithful meanings rows declared words c.as_slice-excluded.result.now allowed.options old after reported.items)) c.as_slice-requested.ensures
+    subst (λ (registry : Registry). IfOk result (λ reported. AreReportedOf F.faithful meanings rows registry invocation.requested invocation.excluded invocation.options old after reported.items)) same
+    (subst (λ (words : List Text). IfOk result (λ reported. AreReportedOf F.faithful meanings rows declared invocation.requested words invocation.options old after reported.items)) c.as_slice-excluded.ensures
+    (subst (λ (words : List Text). IfOk result (λ reported. AreReportedOf F.faithful meanings rows declared words c.as_slice-excluded.result.now invocation.options old after reported.items)) c.as_slice-requested.ensures
     c.predict_requested.ensures.reported))
 
 pub returns-clause-not_reported : goal.returns-clause-not_reported
 returns-clause-not_reported g c =
     let F = g.F.Folder in
-    let allowed = c.args.allowed.now in
+    let invocation = c.args.allowed.now in
     let tables = tables_of g.T.Transforms.meanings g.A.Actions.meanings c.args.configured.now.tables.now in
     let declared = registry_in g.T.Transforms.meanings g.A.Actions.meanings c.in_ok-tasks.tasks.workspace in
     let same : declared ≡ registry_said tables c.args.configured.now.registry = c.in_ok-tasks.ensures.registry in
     let before = F.failures c.args.folder.now in
     let after = F.failures c.predict_requested.new.folder in
     let result : Answer = c.predict_requested.result in
-    subst (λ (registry : Registry). IfErr result (IsNotReported registry allowed.requested allowed.excluded before after)) same
-    (subst (λ (words : List Text). IfErr result (IsNotReported declared allowed.requested words before after)) c.as_slice-excluded.ensures
+    subst (λ (registry : Registry). IfErr result (IsNotReported registry invocation.requested invocation.excluded before after)) same
+    (subst (λ (words : List Text). IfErr result (IsNotReported declared invocation.requested words before after)) c.as_slice-excluded.ensures
     (subst (λ (words : List Text). IfErr result (IsNotReported declared words c.as_slice-excluded.result.now before after)) c.as_slice-requested.ensures
     c.predict_requested.ensures.not_reported))
