@@ -49,27 +49,27 @@ IsRefused given old answer new =
 abbrev pub RequestsFor : {F S : Type 0} → (F → ℕ) → (F → Tearing) → (F → Call → F → Type 0) → Meanings S → Rows S
     → Given
     → Result Report Fault → F → F → Type 0
-RequestsFor failures may_leave invocation meanings rows given (Err fault) old new =
-    Requests failures may_leave invocation no_change old new
-RequestsFor failures may_leave invocation meanings rows given (Ok report) old new =
+RequestsFor failures may_leave allowed meanings rows given (Err fault) old new =
+    Requests failures may_leave allowed no_change old new
+RequestsFor failures may_leave allowed meanings rows given (Ok report) old new =
     (invocation : Invocation) × AskFor given invocation
-    × InvocationRequests failures may_leave invocation meanings rows invocation (Ok report) old new
+    × InvocationRequests failures may_leave allowed meanings rows invocation (Ok report) old new
 
 module _ {M F Z S A : Type 0} (tables : Tables M F Z S A) (may_leave : Tearing) where
   -- It is one invocation by its definition, with what the scripts of the folder register, and so a plain
   -- step, starting from any true records. It changes only what a build may, and nothing where it is refused.
-  pub record Invokes (invocation : Invocation) (old : Shown) (answer : Result Report Fault) (new : Shown)
+  pub record Invokes (asked : Invocation) (old : Shown) (answer : Result Report Fault) (new : Shown)
       : Type 0 where
-    pub keeps : EventKeeps (registers_in tables) (events.Invoke invocation) (answer_of answer)
+    pub keeps : EventKeeps (registers_in tables) (events.Invoke asked) (answer_of answer)
         old.contents new.contents
     pub holds : (kinds : Kinds) → IsAssumed tables.shapes tables.kinds kinds may_leave
-        → InvocationHolds (setting_of tables kinds may_leave) old invocation answer new
+        → InvocationHolds (setting_of tables kinds may_leave) old asked answer new
     pub promise : (kinds : Kinds) → IsAssumed tables.shapes tables.kinds kinds may_leave
-        → PromiseHolds (setting_of tables kinds may_leave) old (events.Invoke invocation ∷ [])
+        → PromiseHolds (setting_of tables kinds may_leave) old (events.Invoke asked ∷ [])
         (answer_of answer ∷ []) new
 
   -- the arguments are refused, or they request an invocation, and this is its answer
   abbrev pub Answers : Given → Shown → Result Report Fault → Shown → Type 0
   Answers given old answer new =
       IsRefused given old answer new
-      ⊎ ((invocation : Invocation) × AskFor given invocation × Invokes invocation old answer new)
+      ⊎ ((asked : Invocation) × AskFor given asked × Invokes asked old answer new)

@@ -28,7 +28,7 @@ returns-in-Ok-clause-reply g c =
     let between = F.failures c.read_registry.new.folder in
     let after = F.failures c.check_configured.new.folder in
     let tables = tables_of g.T.Transforms.meanings M c.args.tables.now in
-    let given = c.args.allowed.now.properties in
+    let given = c.args.invocation.now.properties in
     let said : IsTrue F.faithful → FolderSays tables old.files given (Ok source) =
     λ faithful. subst (λ values. FolderSays tables old.files values (Ok source)) (c.into_vec-given.ensures ∙ c.in_ok-copied.ensures) (c.in-Ok.ensures.said faithful) in
     let found : IfOk c.check_configured.result (AreFindingsOf tables F.faithful source mid) =
@@ -36,7 +36,7 @@ returns-in-Ok-clause-reply g c =
     let Unread : Contents → Fault → Type 0 = λ contents fault. (scripts : List (Path × List Statement)) × IsRead source scripts × IsUnread contents.files scripts fault in
     let Bad : Fault → Type 0 = λ fault. IsOfMachine between after fault ⊎ Unread mid fault in
     let Worse : Fault → Type 0 = λ fault. IsOfMachine before after fault ⊎ FolderSays tables old.files given (Err fault) in
-    let Replied : Findings → Type 0 = λ found. IsChecked tables F.faithful c.args.allowed.now old found ⊎ IsFoundAt tables F.faithful old.files found in
+    let Replied : Findings → Type 0 = λ found. IsChecked tables F.faithful c.args.invocation.now old found ⊎ IsFoundAt tables F.faithful old.files found in
     match_of c.check_configured.result (AreFindingsOf tables F.faithful source mid) Replied F.faithful Bad Worse
     (λ findings are.
     let here : AreFindingsOf tables F.faithful source old findings = found_in_same tables F.faithful old mid c.read_registry.ensures.same source findings are in
@@ -63,9 +63,9 @@ returns-in-Err-clause-reply g c =
     let between = F.failures c.read_registry.new.folder in
     let after = F.failures c.check_statements.new.folder in
     let tables = tables_of g.T.Transforms.meanings g.A.Actions.meanings c.args.tables.now in
-    let given = c.args.allowed.now.properties in
+    let given = c.args.invocation.now.properties in
     let refused = c.in-Err.fault in
-    let Replied : Findings → Type 0 = λ found. IsChecked tables F.faithful c.args.allowed.now old found ⊎ IsFoundAt tables F.faithful old.files found in
+    let Replied : Findings → Type 0 = λ found. IsChecked tables F.faithful c.args.invocation.now old found ⊎ IsFoundAt tables F.faithful old.files found in
     let Refused : List (List _ × List _) → Fault → Type 0 = λ values fault. IsOfMachine before between fault ⊎ FolderSays tables old.files values (Err fault) in
     let Worse : Fault → Type 0 = λ fault. IsOfMachine before after fault ⊎ FolderSays tables old.files given (Err fault) in
     match_of c.check_statements.result (IsFoundAt tables F.faithful mid.files) Replied F.faithful (λ fault. fault ≡ refused) Worse

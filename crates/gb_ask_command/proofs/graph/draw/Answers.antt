@@ -14,7 +14,7 @@ pub returns-in-Ok-clause-reply : goal.returns-in-Ok-clause-reply
 returns-in-Ok-clause-reply g c =
     let F = g.F.Folder in
     let M = g.A.Actions.meanings in
-    let invocation = c.args.allowed.now in
+    let invocation = c.args.invocation.now in
     let style = c.args.style in
     let predicted = c.args.predicted.now in
     let source = c.in-Ok.configured.registry in

@@ -17,6 +17,6 @@ returns-clause-reply g c =
       predicted = c.predicted.result.items;
       are_predicted = c.predicted.ensures.predicted;
       reply_is =
-          subst (λ (predicted : List Prediction). IsGraphReply tables F.faithful shown (F.failures c.draw.new.folder) c.args.style predicted c.args.allowed.now c.draw.result)
+          subst (λ (predicted : List Prediction). IsGraphReply tables F.faithful shown (F.failures c.draw.new.folder) c.args.style predicted c.args.invocation.now c.draw.result)
           c.as_slice.ensures.value c.draw.ensures.reply;
     }

@@ -13,14 +13,14 @@ use Rattle.gb_ask_command.proofs.graph.draw_registered.Goals as goal
 
 pub returns-in_err-tasks-clause-fault : goal.returns-in_err-tasks-clause-fault
 returns-in_err-tasks-clause-fault g c =
-    let invocation = c.args.allowed.now in
+    let invocation = c.args.invocation.now in
     let tables = tables_of g.T.Transforms.meanings g.A.Actions.meanings c.args.configured.now.tables.now in
     let p = err_from_is_err_and c.from_residual.result c.from_residual.ensures.1 in
     subst (λ (r : Reply). IfErr r (IsRefusalOf (registry_said tables c.args.configured.now.registry) invocation.requested invocation.excluded)) (sym p.1) (inl p.2)
 
 pub returns-clause-drawing : goal.returns-clause-drawing
 returns-clause-drawing g c =
-    let invocation = c.args.allowed.now in
+    let invocation = c.args.invocation.now in
     let style = c.args.style in
     let predicted = c.args.predicted.now in
     let tables = tables_of g.T.Transforms.meanings g.A.Actions.meanings c.args.configured.now.tables.now in
@@ -33,7 +33,7 @@ returns-clause-drawing g c =
 
 pub returns-clause-fault : goal.returns-clause-fault
 returns-clause-fault g c =
-    let invocation = c.args.allowed.now in
+    let invocation = c.args.invocation.now in
     let tables = tables_of g.T.Transforms.meanings g.A.Actions.meanings c.args.configured.now.tables.now in
     let declared = registry_in g.T.Transforms.meanings g.A.Actions.meanings c.in_ok-tasks.tasks.workspace in
     let same : declared ≡ registry_said tables c.args.configured.now.registry = c.in_ok-tasks.ensures.registry in

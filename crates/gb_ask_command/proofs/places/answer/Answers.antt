@@ -13,7 +13,7 @@ use Rattle.gb_ask_command.proofs.places.answer.Goals as goal
 pub returns-in-Ok-clause-reply : goal.returns-in-Ok-clause-reply
 returns-in-Ok-clause-reply g c =
     let F = g.F.Folder in
-    let invocation = c.args.allowed.now in
+    let invocation = c.args.invocation.now in
     let tables = tables_of g.T.Transforms.meanings g.A.Actions.meanings c.args.tables.now in
     let old : Shown = shows (F.contents c.args.folder.now) (F.failures c.args.folder.now) in
     let after = F.failures c.search_folder.new.folder in
@@ -28,7 +28,7 @@ returns-in-Ok-clause-reply g c =
 pub returns-in-Err-clause-reply : goal.returns-in-Err-clause-reply
 returns-in-Err-clause-reply g c =
     let F = g.F.Folder in
-    let invocation = c.args.allowed.now in
+    let invocation = c.args.invocation.now in
     let tables = tables_of g.T.Transforms.meanings g.A.Actions.meanings c.args.tables.now in
     let old : Shown = shows (F.contents c.args.folder.now) (F.failures c.args.folder.now) in
     let found = c.asked_place.result in

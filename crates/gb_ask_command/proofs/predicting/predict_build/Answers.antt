@@ -17,7 +17,7 @@ returns-in_err-copied-clause-answer g c =
     let tables = tables_of g.T.Transforms.meanings g.A.Actions.meanings c.args.tables.now in
     let old : Shown = shows (F.contents c.args.folder.now) (F.failures c.args.folder.now) in
     let p = err_from_is_err_and c.from_residual.result c.from_residual.ensures.1 in
-    subst (λ (r : Answer). IsAnswerTo tables F.faithful c.args.allowed.now old r old.failures) (sym p.1) (λ faithful. inr (inr (inl p.2)))
+    subst (λ (r : Answer). IsAnswerTo tables F.faithful c.args.invocation.now old r old.failures) (sym p.1) (λ faithful. inr (inr (inl p.2)))
 
 pub returns-in_err-configured-clause-answer : goal.returns-in_err-configured-clause-answer
 returns-in_err-configured-clause-answer g c =
@@ -27,8 +27,8 @@ returns-in_err-configured-clause-answer g c =
     let after = F.failures c.read_registry.new.folder in
     let residual = c.from_residual-in_err-configured in
     let p = err_from_is_err_and residual.result residual.ensures.1 in
-    subst (λ (r : Answer). IsAnswerTo tables F.faithful c.args.allowed.now old r after) (sym p.1)
-    (λ faithful. not_read tables old.contents (in_earnest c.args.allowed.now) c.into_vec-given.result.items (c.into_vec-given.ensures ∙ c.in_ok-copied.ensures)
+    subst (λ (r : Answer). IsAnswerTo tables F.faithful c.args.invocation.now old r after) (sym p.1)
+    (λ faithful. not_read tables old.contents (in_earnest c.args.invocation.now) c.into_vec-given.result.items (c.into_vec-given.ensures ∙ c.in_ok-copied.ensures)
     c.read_registry.result c.in_err-configured.field-0.0 p.0 old.failures after c.in_err-configured.was p.2 c.read_registry.ensures.blamed (c.in_err-configured.ensures.said faithful)
     old refl refl)
 
@@ -36,7 +36,7 @@ pub returns-clause-answer : goal.returns-clause-answer
 returns-clause-answer g c =
     let F = g.F.Folder in
     let M = g.A.Actions.meanings in
-    let invocation = c.args.allowed.now in
+    let invocation = c.args.invocation.now in
     let source = c.in_ok-configured.configured.registry in
     let old : Contents = F.contents c.args.folder.now in
     let mid : Contents = F.contents c.read_registry.new.folder in

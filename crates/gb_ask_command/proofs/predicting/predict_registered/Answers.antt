@@ -18,7 +18,7 @@ returns-in_err-tasks-clause-not_reported g c =
     let failures = g.F.Folder.failures c.args.folder.now in
     let tables = tables_of g.T.Transforms.meanings g.A.Actions.meanings c.args.configured.now.tables.now in
     let p = err_from_is_err_and c.from_residual.result c.from_residual.ensures.1 in
-    subst (λ (r : Answer). IfErr r (IsNotReported (registry_said tables c.args.configured.now.registry) c.args.allowed.now.requested c.args.allowed.now.excluded failures failures)) (sym p.1)
+    subst (λ (r : Answer). IfErr r (IsNotReported (registry_said tables c.args.configured.now.registry) c.args.invocation.now.requested c.args.invocation.now.excluded failures failures)) (sym p.1)
     (inl (inl p.2))
 
 pub predict_requested-requires : goal.predict_requested-requires
@@ -39,7 +39,7 @@ returns-clause-reported g c =
     let F = g.F.Folder in
     let meanings = g.A.Actions.meanings in
     let rows = c.args.configured.now.tables.now.actions in
-    let invocation = c.args.allowed.now in
+    let invocation = c.args.invocation.now in
     let tables = tables_of g.T.Transforms.meanings meanings c.args.configured.now.tables.now in
     let declared = registry_in g.T.Transforms.meanings meanings c.in_ok-tasks.tasks.workspace in
     let same : declared ≡ registry_said tables c.args.configured.now.registry = c.in_ok-tasks.ensures.registry in
@@ -54,7 +54,7 @@ returns-clause-reported g c =
 pub returns-clause-not_reported : goal.returns-clause-not_reported
 returns-clause-not_reported g c =
     let F = g.F.Folder in
-    let invocation = c.args.allowed.now in
+    let invocation = c.args.invocation.now in
     let tables = tables_of g.T.Transforms.meanings g.A.Actions.meanings c.args.configured.now.tables.now in
     let declared = registry_in g.T.Transforms.meanings g.A.Actions.meanings c.in_ok-tasks.tasks.workspace in
     let same : declared ≡ registry_said tables c.args.configured.now.registry = c.in_ok-tasks.ensures.registry in

@@ -14,7 +14,7 @@ returns-in-Ok-clause-read g c =
     let files = (F.contents c.args.folder.now).files in
     let before = F.failures c.args.folder.now in
     let after = F.failures c.read_registry.new.folder in
-    let given = c.args.allowed.now.properties in
+    let given = c.args.invocation.now.properties in
     where_known (IsTrue F.faithful) (λ configured. FolderSays tables files given (Ok configured.registry)) (λ fault. IsOfMachine before after fault ⊎ FolderSays tables files given (Err fault)) c.read_registry.result
     (λ faithful. subst (λ (values : List (Text × Text)). MatchResult c.read_registry.result (λ configured. FolderSays tables files values (Ok configured.registry)) (λ fault. IsOfMachine before after fault ⊎ FolderSays tables files values (Err fault)))
     (c.into_vec-given.ensures ∙ c.in-Ok.ensures) (c.read_registry.ensures.said faithful))

@@ -16,7 +16,7 @@ use Rattle.gb_command.proofs.run.answered.Goals as goal
 pub returns-in-Ok-clause-answers : goal.returns-in-Ok-clause-answers
 returns-in-Ok-clause-answers g c = λ faithful.
     inr (
-      c.in-Ok.allowed,
+      c.in-Ok.invocation,
       c.in-Ok.ensures,
       record {
         keeps = c.invoke.ensures.keeps faithful;
