@@ -82,7 +82,7 @@ module _ (first second : Tearing) (same : SameTearing first second) where
         registry = step.planned.registry;
         scripts = step.planned.scripts;
         request = step.planned.request;
-        allowed = step.planned.allowed;
+        asked = step.planned.asked;
         planned = step.planned.planned;
       };
       dry_run = step.dry_run;

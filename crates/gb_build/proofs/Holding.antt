@@ -87,7 +87,7 @@ module _ (kinds : Kinds) (registry_of : Registering) (may_leave : Tearing) (regi
       (given.0, elim given.1 [ inl empty ↦ inl empty | inr separate ↦ inr (separate_of_fewer sha256 all some among separate) ])
 
   planned : HasPlan setting (outside old.contents) invocation plan
-  planned = record { registry = registry; scripts = scripts; request = is_plan.0; allowed = is_plan.1; planned = is_plan.2 }
+  planned = record { registry = registry; scripts = scripts; request = is_plan.0; asked = is_plan.1; planned = is_plan.2 }
 
   -- a build of the plan from what is remembered to what is, with its records, is a step
   pub assembled : (remembered memory : Memory) (clear : Bool) (observed : List Bytes) → (IsTrue clear → HoldsObserved setting observed (state_of old remembered))
@@ -130,7 +130,7 @@ module _ (kinds : Kinds) (registry_of : Registering) (may_leave : Tearing) (regi
       one = setting_with kinds (λ files properties. Ok registry) may_leave
 
       planned_so : HasPlan one (outside old.contents) invocation plan
-      planned_so = record { registry = registry; scripts = refl; request = is_plan.0; allowed = is_plan.1; planned = is_plan.2 }
+      planned_so = record { registry = registry; scripts = refl; request = is_plan.0; asked = is_plan.1; planned = is_plan.2 }
 
   -- what a build of the plan is, by what was read before it in a folder of these contents
   abbrev pub GivesBuild : Tearing → ℕ → List (Option Record) → Contents → Type 0

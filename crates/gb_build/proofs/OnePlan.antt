@@ -25,5 +25,5 @@ module _ {M F Z S A : Type 0} (tables : Tables M F Z S A) (kinds : Kinds) (may_l
   one_plan folder invocation one other first second =
       let source = same_source first.scripts.0 second.scripts.0 (folders_one tables folder.files invocation.properties (Ok first.scripts.0) (Ok second.scripts.0) first.scripts.1 second.scripts.1) in
       let registry : first.registry ≡ second.registry = first.scripts.2 ∙ (ap (registry_said tables) source ∙ sym second.scripts.2) in
-      let request = same_request first.request second.request (sym first.allowed ∙ (ap (λ (r : Registry). request_of r invocation.requested invocation.excluded) registry ∙ second.allowed)) in
+      let request = same_request first.request second.request (sym first.asked ∙ (ap (λ (r : Registry). request_of r invocation.requested invocation.excluded) registry ∙ second.asked)) in
       plans_are_one second.request one other (subst (λ (r : Request). IsPlan r one) request first.planned) second.planned

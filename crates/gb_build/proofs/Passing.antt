@@ -69,7 +69,7 @@ module _ (kinds : Kinds) (registry : Registry) (registers : Registering) (may_le
     registry = is.registry;
     scripts = subst (registers (outside contents).files invocation.properties) is.scripts says;
     request = is.request;
-    allowed = is.allowed;
+    asked = is.asked;
     planned = is.planned;
   }
 

@@ -173,7 +173,7 @@ module _ (kinds : Kinds) (task : Task) (old trees : Trees) (changes : List Chang
   -- the request follows on
   pub follows : FollowsOn (kinds.makes (kind_of writer)) (request_of task trees changes observed writer.args) old
   follows = record {
-    faithful = record { ordered = goes_on.faithful.ordered; same_names = goes_on.faithful.same_names; same_others = goes_on.faithful.same_others; reported = goes_on.faithful.reported };
+    shows = record { ordered = goes_on.shows.ordered; same_names = goes_on.shows.same_names; same_others = goes_on.shows.same_others; reported = goes_on.shows.reported };
     before = before.written;
     was_made = before.makes;
     exists = observed_before;

@@ -51,7 +51,7 @@ goes_on_owned : (kinds : Kinds) (task : Task) (old trees : Trees) (changes : Lis
 goes_on_owned kinds task old trees changes outputs files sorted goes_on = record {
   one_writer = goes_on.one_writer;
   was_made = goes_on.was_made ∙ ap Ok (sym (owned_again task files));
-  faithful = goes_on.faithful;
+  shows = goes_on.shows;
   exists = goes_on.exists ∙ sym (owned_observed (is_output_of task) files sorted task.outputs (λ q under. under));
   separate = goes_on.separate;
   not_own = goes_on.not_own;

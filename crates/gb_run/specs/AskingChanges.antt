@@ -47,7 +47,7 @@ pub record GoesOn (kinds : Kinds) (task : Task) (old trees : Trees) (changes : L
     (outputs : List OutputFiles) (files : Files) : Type 0 where
   pub one_writer : IsTrue (has_one_writer kinds task.actions)
   pub was_made : made_of kinds task.actions task.values old task.outputs ≡ Ok (output_files task files)
-  pub faithful : DescribesChangesFrom old (request_of task trees changes outputs [])
+  pub shows : DescribesChangesFrom old (request_of task trees changes outputs [])
   pub exists : outputs ≡ map (observed_of files) task.outputs
   pub separate : some_overlap (output_places task) ≡ false
   pub not_own : list_any (λ output. is_own output.place) task.outputs ≡ false

@@ -282,8 +282,8 @@ module _ (kinds : Kinds) (options : Options) (task : Task) (memory : Memory) (ol
   same_names : map (λ (tree : List ℕ × Tree). tree.0) since.entry.inputs ≡ map (λ (property : FileProperty). property.name) task.files
   same_names = since.same_properties
 
-  faithful : DescribesChangesFrom since.entry.inputs (request_of task (trees_of task (kept old.files)) (changes_from task since.entry.inputs (kept old.files)) (map (observed_of taken.files) task.outputs) [])
-  faithful = record {
+  shows : DescribesChangesFrom since.entry.inputs (request_of task (trees_of task (kept old.files)) (changes_from task since.entry.inputs (kept old.files)) (map (observed_of taken.files) task.outputs) [])
+  shows = record {
     ordered = ordered_inputs old.files memory task.path since.entry existing is_path since.remembered;
     same_names = since.same_properties ∙ sym (names_of_trees (kept old.files) task.files);
     same_others = λ name none. others_so since.entry.inputs (λ (property : FileProperty). tree_of property (kept old.files)) task.files names.files since.same_properties since.same_others name none;
@@ -305,7 +305,7 @@ module _ (kinds : Kinds) (options : Options) (task : Task) (memory : Memory) (ol
       (record {
         one_writer = since.one_writer;
         was_made = was_made;
-        faithful = faithful;
+        shows = shows;
         exists = refl;
         separate = separate;
         not_own = out;

@@ -317,8 +317,8 @@ module _ (kinds : Kinds) (task : Task) (last : Record) (trees : Trees) (observed
     lists_are : flat_map (changes_of names) (zip last.inputs (digests_in trees)) ≡ lists_of names so.entry.inputs trees
     lists_are = ap (λ prints. flat_map (changes_of names) (zip prints (digests_in trees))) inputs_said ∙ same_lists all so.separate names so.entry.inputs trees old_in new_in
 
-    faithful : DescribesChangesFrom so.entry.inputs (request_of task trees (lists_of names so.entry.inputs trees) observed [])
-    faithful = record {
+    shows : DescribesChangesFrom so.entry.inputs (request_of task trees (lists_of names so.entry.inputs trees) observed [])
+    shows = record {
       ordered = all_sorted sha256 so.entry.inputs (subst (AllByRecursion ArePrints) inputs_said held);
       same_names = same_names names so.entry.inputs trees same;
       same_others = others_same names so.entry.inputs trees same;
@@ -329,7 +329,7 @@ module _ (kinds : Kinds) (task : Task) (last : Record) (trees : Trees) (observed
     goes_on one = subst (λ (lists : List Changes). GoesOn kinds task so.entry.inputs trees lists observed so.entry.files) (sym lists_are) (record {
       one_writer = one;
       was_made = made_then ∙ ap Ok own_files;
-      faithful = faithful;
+      shows = shows;
       exists = exist;
       separate = lie.separate;
       not_own = lie.not_own;

@@ -95,7 +95,7 @@ returns-clause-outlined g c =
     c.as_slice-requested.ensures c.as_slice-excluded.ensures c.in_ok-plan.ensures.plan in
     record {
       request = is_plan.0;
-      allowed = is_plan.1;
+      asked = is_plan.1;
       plan = c.in_ok-plan.plan;
       planned = is_plan.2;
       dry_run = c.in_ok-report.ensures.dry_run;
