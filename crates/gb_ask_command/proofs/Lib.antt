@@ -1,3 +1,4 @@
+mod FaultyLemmas
 mod Reported
 pub mod Numbers
 pub mod Writing

@@ -3,7 +3,7 @@ use Rattle.std.proofs.Common.{ℕ, ◌≡◌, ◌⊎◌, List, [], ◌∷◌, Ok
 use Rattle.std.specs.Prelude.{Bool, IsTrue}
 use Rattle.gb_build.proofs.OneLemmas.{folders_one}
 use Rattle.gb_build.proofs.Readings.{registered}
-use Rattle.gb_build.specs.Faulty.{IsFaulty}
+use Rattle.gb_ask_command.specs.Faulty.{IsFaulty}
 use Rattle.gb_build.specs.Registering.{registers_in}
 use Rattle.gb_build.specs.Scripts.{FolderSays}
 use Rattle.gb_check.specs.All.{AreFindings}

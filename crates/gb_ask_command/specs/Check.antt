@@ -1,7 +1,7 @@
 -- The reply to `check`.
 use Rattle.std.specs.Prelude.{ℕ, ◌≡◌, ◌⊎◌, ◌∷◌, ◌++◌, Bool, IsTrue, MatchResult, List, [], Result, Ok, Err}
 use Rattle.std.specs.Prelude.{if◌then◌else◌, map, nat_eq, string_bytes}
-use Rattle.gb_build.specs.Faulty.{IsFaulty}
+use Rattle.gb_ask_command.specs.Faulty.{IsFaulty}
 use Rattle.gb_build.specs.Registering.{registers_in}
 use Rattle.gb_build.specs.Scripts.{FolderSays}
 use Rattle.gb_check.specs.All.{AreFindings}

@@ -1,3 +1,4 @@
+pub mod Faulty
 pub mod Line
 pub mod Reported
 pub mod WhyJson

@@ -26,7 +26,7 @@ use crate::check_json::check_json;
 use crate::reply::{Reply, push_reply};
 use crate::unread::warn_unread;
 use gb_action::actions::Actions;
-use gb_build::faulty::read_fault;
+use crate::faulty::read_fault;
 use gb_build::reading::read_registry;
 use gb_check::finding::find;
 use gb_check::findings::{Cause, Finding, Findings, Spot};

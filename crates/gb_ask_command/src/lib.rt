@@ -15,6 +15,7 @@ mod answer;
 pub mod check;
 mod check_json;
 mod drawing;
+mod faulty;
 pub mod fmt;
 pub mod graph;
 mod line;

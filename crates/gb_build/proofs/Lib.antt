@@ -4,7 +4,6 @@ pub mod RowLemmas
 pub mod PlaceLemmas
 pub mod OneLemmas
 pub mod OwnLemmas
-pub mod FaultyLemmas
 pub mod SaidLemmas
 pub mod Rows
 pub mod Earlier

@@ -1,7 +1,6 @@
 pub mod Texts
 pub mod Executions
 pub mod Scripts
-pub mod Faulty
 pub mod Laws
 pub mod Refusing
 pub mod Asking

@@ -19,7 +19,6 @@ mod before;
 mod each_script;
 mod edits;
 pub mod events;
-pub mod faulty;
 pub mod invoking;
 pub mod laws;
 pub mod nothing;

@@ -4,11 +4,11 @@ use Rattle.gb_core.specs.Place.{is_place}
 use Rattle.gb_registry.specs.Projects.{projects_of}
 use Rattle.gb_registry.specs.Tables.{tables_of}
 use Rattle.gb_store.proofs.Machine.{machine_before}
-use Rattle.gb_build.proofs.FaultyLemmas.{Refused, faulty, memory_alone}
+use Rattle.gb_ask_command.proofs.FaultyLemmas.{Refused, faulty, memory_alone}
 use Rattle.gb_build.proofs.PlaceLemmas.{places_good}
 use Rattle.gb_build.proofs.SaidLemmas.{handed, scripts_here, scripts_refused}
 use Rattle.gb_build.specs.Scripts.{script_places}
-use Rattle.gb_build.proofs.faulty.read_fault.Goals as goal
+use Rattle.gb_ask_command.proofs.faulty.read_fault.Goals as goal
 
 pub read_scripts-requires : goal.read_scripts-requires
 read_scripts-requires g c = record {

@@ -13,7 +13,7 @@ use Rattle.gb_report.specs.declared.fault.Fault.{Fault}
 use Rattle.gb_report.specs.declared.fault.Fault.TheVariants as faults
 use Rattle.gb_script.specs.declared.script.Statement.{Statement}
 use Rattle.gb_store.specs.Faults.{IsOfMachine}
-use Rattle.gb_build.specs.Faulty.{IsFaulty}
+use Rattle.gb_ask_command.specs.Faulty.{IsFaulty}
 use Rattle.gb_build.specs.Scripts.{FolderSays, ScriptsSay, SettingsSay, script_places}
 
 module _ {M F Z S A : Type 0} (tables : Tables M F Z S A) (files : Files) where

@@ -3,11 +3,10 @@ ghost use Rattle.std.specs.Prelude.{◌⊎◌, ◌≡◌, ℕ, Err, IfErr, IfOk,
 ghost use Rattle.gb_folder.specs.Calls.{Requests, no_change};
 ghost use Rattle.gb_registry.specs.Tables.{tables_of};
 ghost use Rattle.gb_store.specs.Faults.{IsOfMachine};
-ghost use Rattle.gb_build.specs.Faulty.{IsFaulty};
+ghost use Rattle.gb_ask_command.specs.Faulty.{IsFaulty};
 ghost use Rattle.gb_build.specs.Scripts.{FolderSays};
 
-use crate::each_script::read_scripts;
-use crate::reading::read_settings_of;
+use gb_build::scripts::{read_scripts, read_settings_of};
 use gb_action::actions::Actions;
 use gb_folder::folder::Folder;
 use gb_provider::transforms::Transforms;
