@@ -57,7 +57,7 @@ pub fn read_registry<'a, A: Actions, T: Transforms, F: Folder>(
 }
 
 /// The settings of a folder.
-fn read_settings_of<F: Folder>(alloc: Global, folder: &mut F) -> Result<Settings, Fault>
+pub fn read_settings_of<F: Folder>(alloc: Global, folder: &mut F) -> Result<Settings, Fault>
     ensures requests { Requests F.failures F.may_leave F.allowed no_change folder.old folder.new }
     ensures blame { Blames result (F.failures folder.old) (F.failures folder.new) }
     ensures blamed { BlamesOnly (is_at settings_place) result }
