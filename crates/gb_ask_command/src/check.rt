@@ -23,10 +23,10 @@ ghost use Rattle.gb_ask_command.specs.Check.{RepliesCheck, check_status, check_t
 ghost use Rattle.gb_ask_command.specs.Reply.{Reply as Replied, reply_text};
 
 use crate::check_json::check_json;
+use crate::faulty::read_fault;
 use crate::reply::{Reply, push_reply};
 use crate::unread::warn_unread;
 use gb_action::actions::Actions;
-use crate::faulty::read_fault;
 use gb_build::reading::read_registry;
 use gb_check::finding::find;
 use gb_check::findings::{Cause, Finding, Findings, Spot};

@@ -6,8 +6,8 @@ ghost use Rattle.gb_store.specs.Faults.{IsOfMachine};
 ghost use Rattle.gb_ask_command.specs.Faulty.{IsFaulty};
 ghost use Rattle.gb_build.specs.Scripts.{FolderSays};
 
-use gb_build::scripts::{read_scripts, read_settings_of};
 use gb_action::actions::Actions;
+use gb_build::scripts::{read_scripts, read_settings_of};
 use gb_folder::folder::Folder;
 use gb_provider::transforms::Transforms;
 use gb_registry::faulty::{FaultAt, first_fault};
