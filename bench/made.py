@@ -184,11 +184,22 @@ def crates_page():
     return "".join(section(part) for part in parts)
 
 
+def quoted_head(crate):
+    """The head of a crate's first file, as a quotation."""
+    first = "lib.rt" if "lib.rt" in files_in(f"crates/{crate}/src", ".rt") else "main.rt"
+    return [plain(f"> {line}").rstrip() for line in head_of(f"crates/{crate}/src/{first}", "//!")]
+
+
 def section(part):
     name = re.match(r"## (gb\w*)\n", part)
     if not name:
         return part
-    lines, at = without_tables(part.rstrip("\n").split("\n"))
+    lines, at = without_tables([line for line in part.rstrip("\n").split("\n") if not line.startswith(">")])
+    while lines[1:2] == [""]:
+        del lines[1]
+        at -= 1
+    lines[1:1] = ["", *quoted_head(name[1]), ""]
+    at += len(quoted_head(name[1])) + 2
     before, after = "\n".join(lines[:at]).rstrip("\n"), "\n".join(lines[at:]).strip("\n")
     return "\n\n".join(text for text in (before, "\n".join(tables(name[1])), after) if text) + "\n\n"
 

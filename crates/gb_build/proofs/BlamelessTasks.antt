@@ -15,7 +15,7 @@ use Rattle.gb_plan.specs.declared.task.Output.{Output}
 use Rattle.gb_plan.specs.declared.task.TaskDeclaration.{TaskDeclaration}
 use Rattle.gb_declare.specs.Declaring.{block_scope, call_faults, clash, clash_faults, clause_faults, clauses_faults, condition_faults, declared, declaring_faults, faults_within, files_faults, heading, is_misshapen, main_faults, pattern_faults, shape_faults, trees_faults, unless}
 use Rattle.gb_declare.specs.Joined.{Joined, Made, Named, joined}
-use Rattle.gb_declare.specs.Realised.{Endless, Plain, Trouble, action_of, and_then, answered, as_flag, as_place, allowed, built, each_of, entry_of, evaluated, files_under, first_or, fitting, given_by, is_enabled, no_output, output_under, passes, place_of, present, realised, realised_at, realised_if, refused, required, reported, truth_of, unknown_output, value_under}
+use Rattle.gb_declare.specs.Realised.{Endless, Plain, Trouble, action_of, and_then, answered, as_flag, as_place, asked, built, each_of, entry_of, evaluated, files_under, first_or, fitting, given_by, is_enabled, no_output, output_under, passes, place_of, present, realised, realised_at, realised_if, refused, required, reported, truth_of, unknown_output, value_under}
 use Rattle.gb_declare.specs.Spots.{Spot}
 use Rattle.gb_declare.specs.Whole.{build_folder, spots, table_of}
 use Rattle.gb_provider.specs.Answers.{value_of}
@@ -193,11 +193,11 @@ module _ {M F Z S A : Type 0} (tables : Tables M F Z S A) (source : Source) wher
   -- ---- A task
 
   module _ (at : Registered) (all : List Spot) (table : List (Expression M F Z)) where
-    asked_calm : (tree : Tree) → IsCalm (allowed tables source at all table tree)
+    asked_calm : (tree : Tree) → IsCalm (asked tables source at all table tree)
     asked_calm tree = given_calm (entry_of tables source at all table tree) (value_of tables.means table (entry_of tables source at all table tree))
 
     required_calm : (name : List ℕ) (tree : Tree) → IsCalm (required tables source at all table name tree)
-    required_calm name tree = then_calm (allowed tables source at all table tree) (present at.path name) (asked_calm tree) (present_calm at.path name)
+    required_calm name tree = then_calm (asked tables source at all table tree) (present at.path name) (asked_calm tree) (present_calm at.path name)
 
     place_of_calm : (name : List ℕ) (tree : Tree) → IsCalm (place_of tables source at all table name tree)
     place_of_calm name tree = then_calm (required tables source at all table name tree) (as_place name) (required_calm name tree) (place_calm name)
@@ -214,7 +214,7 @@ module _ {M F Z S A : Type 0} (tables : Tables M F Z S A) (source : Source) wher
 
     passes_calm : (condition : Condition) → IsCalm (passes tables source at all table condition)
     passes_calm condition =
-        then_calm (allowed tables source at all table condition.value) (truth_of tables source at all table condition.test (test_named tables.functions condition.test.name))
+        then_calm (asked tables source at all table condition.value) (truth_of tables source at all table condition.test (test_named tables.functions condition.test.name))
         (asked_calm condition.value) (truth_calm condition.test (test_named tables.functions condition.test.name))
 
     value_calm : (value : Named Tree) → IsCalm (value_under tables source at all table value)

@@ -14,7 +14,7 @@ use Rattle.gb_meaning.specs.Kinds.{Kinds}
 use Rattle.gb_meaning.specs.Label.{Moment}
 use Rattle.gb_meaning.specs.Memory.{Memory, World}
 use Rattle.gb_meaning.specs.TrueRecord.{memory_contents, outside}
-use Rattle.gb_meaning.specs.Execution.{Builds, Guard, HoldsRecords as At}
+use Rattle.gb_meaning.specs.Execution.{Builds, Guard, WorldState as At}
 use Rattle.gb_meaning.proofs.Lemmas.Clear.{separate_of_fewer}
 use Rattle.gb_meaning.proofs.Lemmas.Plain.{Spreads, plain_builds}
 use Rattle.gb_meaning.proofs.Lemmas.Observed.{remembered_was_observed}

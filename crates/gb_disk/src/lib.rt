@@ -17,15 +17,14 @@
 //! earlier, until something is missing or a call fails; and a read trusts the length of a file that
 //! is the only one listed by the preceding call.
 //!
-//! A folder for one build ([`for_one_build`](disk::DiskFolder::for_one_build)) also remembers what
-//! it answered: the last eight listings of at most 65,536 places, and the bytes of files below 64
-//! KiB that were read up to their end, 16 MiB at most. A call that they answer asks nothing of the
-//! system. A write or a removal forgets the listings of its place, of roots above and under it and
-//! of `.gb`, and all bytes; a failure forgets everything. So the build sees each change of its own.
-//! What others change meanwhile it may not see, as if it had read the file earlier. Records are of
-//! the bytes that were worked on, so the next build finds the difference. It has to ask the system
-//! again: a folder with a memory is for one build only, and one that serves many builds
-//! ([`new`](disk::DiskFolder::new)) remembers no answer.
+//! A folder for one build ([`for_one_build`](disk::DiskFolder::for_one_build)) also remembers the
+//! last eight listings, of at most 65,536 places each: a hundred tasks that each take their part of
+//! one folder list it once. A write or a removal forgets the listings of its place, of roots above
+//! and under it and of `.gb`; a failure forgets all. So the build finds each change of its own. What
+//! others add or remove meanwhile it may not find, as if the folder had been listed earlier. A record
+//! has what was worked on, so the next build finds the difference. It has to ask the system again,
+//! so it needs a new folder; one that serves many builds ([`new`](disk::DiskFolder::new)) remembers
+//! no listing.
 //!
 //! All bytes that a read returns come from one open file. A small file is complete if it has
 //! exactly the listed length. For a larger file and for a part, length and time of the open file
@@ -48,12 +47,10 @@
 
 mod bytes;
 mod calls;
-mod contents;
 mod device;
 pub mod disk;
 mod entry;
 mod listings;
-mod memory;
 pub mod names;
 mod path;
 mod putting;

@@ -1,12 +1,16 @@
 //! The listings of a folder that are remembered during one build.
-ghost use Rattle.std.specs.Prelude.{◌≡◌, IfOk, IfSome};
+ghost use Rattle.std.specs.Prelude.{◌≡◌, IfErr, IfOk, IfSome};
 ghost use Rattle.std.specs.List.Sorted.{IsStrictlySortedBy, IsStrictlySortedBy-prop};
 ghost use Rattle.gb_core.specs.Lists.{byte_order};
-ghost use Rattle.gb_disk.specs.Disk.{AllUnder};
+ghost use Rattle.gb_disk.specs.Disk.{AllUnder, IsOfListing};
 
+use crate::device::Device;
+use crate::trail::Trail;
 use gb_core::place::Place;
+use gb_folder::folder::FolderFault;
 use gb_folder::own::is_own;
 use std::alloc::{AllocError, Global};
+use std::fs::Files;
 
 /// The maximum number of listings.
 const MOST: usize = 8;
@@ -49,8 +53,31 @@ impl Listings {
         }
     }
 
+    /// The places of the files at or under the root, in byte order, as they are or as they are
+    /// remembered. After a remembered listing no file counts as listed by the preceding call: none
+    /// was looked up now.
+    pub fn list<R: Files>(
+        &mut self,
+        alloc: Global,
+        device: &Device<R>,
+        trail: &mut Trail,
+        root: &Place,
+    ) -> Result<Vec<Place>, FolderFault>
+        ensures under { IfOk result (λ places. AllUnder root.now places.items) }
+        ensures ordered { IfOk result (λ places. IsStrictlySortedBy byte_order places.items) }
+        ensures err { IfErr result IsOfListing }
+    {
+        if let Some(places) = self.find(alloc, root)? {
+            trail.forget_listed();
+            return Ok(places);
+        }
+        let places = device.list(alloc, trail, root)?;
+        self.remember(root, places.as_slice());
+        Ok(places)
+    }
+
     /// The places that a root was listed with, if that is remembered.
-    pub fn find(&mut self, alloc: Global, root: &Place) -> Result<Option<Vec<Place>>, AllocError>
+    fn find(&mut self, alloc: Global, root: &Place) -> Result<Option<Vec<Place>>, AllocError>
         ensures under { IfOk result
             (λ found. IfSome found (λ places. AllUnder root.now places.items)) }
         ensures ordered { IfOk result
@@ -74,7 +101,7 @@ impl Listings {
     }
 
     /// Remembers a listing of a root, unless it is too large or memory runs out.
-    pub fn remember(&mut self, root: &Place, places: &[Place])
+    fn remember(&mut self, root: &Place, places: &[Place])
         requires under { AllUnder root.now places.now }
         requires ordered { IsStrictlySortedBy byte_order places.now }
     {

@@ -13,7 +13,7 @@ use Rattle.gb_meaning.specs.Kinds.{Kinds}
 use Rattle.gb_meaning.specs.Label.{Moment}
 use Rattle.gb_meaning.specs.Memory.{Memory, World, folder_contents, recalled}
 use Rattle.gb_meaning.specs.TrueRecord.{outside}
-use Rattle.gb_meaning.specs.Execution.{Guard, Rules, HoldsRecords as Exists, Execution, Executions, first_moment, moment_after}
+use Rattle.gb_meaning.specs.Execution.{Guard, Rules, WorldState as Exists, Execution, Executions, first_moment, moment_after}
 use Rattle.gb_meaning.proofs.Lemmas.Clear.{Among, in_left, in_one, in_right, existed}
 use Rattle.gb_meaning.proofs.Lemmas.Success.{folder_where}
 use Rattle.gb_plan.specs.Graph.{Plan, order, some_overlap}

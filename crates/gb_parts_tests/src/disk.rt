@@ -55,7 +55,6 @@ fn answer<F: Folder>(
         "read4" => folder.read(alloc, place, 4),
         "read9" => folder.read(alloc, place, 9),
         "part" => folder.read_part(alloc, place, 3, 9),
-        "start" => folder.read_part(alloc, place, 0, 5),
         "far" => folder.read_part(alloc, place, u64::MAX, u64::MAX),
         _ => wrote(alloc, write(folder, word, place)),
     }
@@ -174,7 +173,7 @@ fn on_disk(rt: &HostRuntime, path: &str, steps: &str) -> Result<Vec<u8>, Fail> {
     Ok(all)
 }
 
-/// The results of steps on the folder at a path, if it remembers what it answered.
+/// The results of steps on the folder at a path, if it remembers listings.
 fn in_one_build(rt: &HostRuntime, path: &str, steps: &str) -> Result<Vec<u8>, Fail> {
     let mut folder = DiskFolder::for_one_build(rt, String::from_str(rt.alloc(), path)?);
     let mut all = Vec::new(rt.alloc());
@@ -407,51 +406,8 @@ fn changes_from_outside_are_observed(rt: HostRuntime) -> Result<(), Fail> {
 /// Steps, and their expected results on a folder that remembers and on one that does not.
 type RememberedRow = (&'static str, &'static str, &'static str);
 
-const REMEMBERED: [RememberedRow; 18] = [
-    // A file is as it was when it was read, whole or in a part up to its end.
-    (
-        "!put a one;read a;!put a three;read a;part a;list a",
-        "one;one;;a ;",
-        "one;three;ee;a ;",
-    ),
-    (
-        "!put a one;start a;!put a two;start a;read a",
-        "one;one;one;",
-        "one;two;two;",
-    ),
-    // A part that has as many bytes as were asked for is not remembered.
-    (
-        "!put a three;start a;!put a other;start a",
-        "three;other;",
-        "three;other;",
-    ),
-    // A file that is remembered with too many bytes is read again.
-    (
-        "!put a three;read a;!put a one;read4 a;read a",
-        "three;one;one;",
-        "three;one;one;",
-    ),
-    // Any change by the folder, and any failure, ends this.
-    (
-        "!put a one;read a;!put a two;read a;write b;read a",
-        "one;one;ok;two;",
-        "one;two;ok;two;",
-    ),
-    (
-        "!put a one;!put b two;read a;!put a three;read a;remove b;read a",
-        "one;one;ok;three;",
-        "one;three;ok;three;",
-    ),
-    (
-        "!put a one;read a;!put a two;write4 b;read a",
-        "one;13;two;",
-        "one;13;two;",
-    ),
-    (
-        "!put a one;read a;list a;!put a two;read b;read a",
-        "one;a ;11;two;",
-        "one;a ;11;two;",
-    ),
+const REMEMBERED: [RememberedRow; 9] = [
+    // A failure ends it for every listing.
     (
         "!make o;!put o/a x;list o;!unlink o/a;list o;read o/a;list o",
         "o/a ;o/a ;11;;",
@@ -498,8 +454,6 @@ const REMEMBERED: [RememberedRow; 18] = [
         ";;;;;;;;;;;b ;",
         ";;;;;;;;;;a ;b ;",
     ),
-    // An empty file is remembered too.
-    ("!put a;read a;!put a one;read a;part a", ";;;", ";one;;"),
     // A file is looked up for a read after a listing that was remembered.
     (
         "!put a one;!put b two;list a;list a;!unlink a;!link a b;read a",

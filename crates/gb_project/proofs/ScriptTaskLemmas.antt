@@ -110,7 +110,7 @@ in_project project script (statements.Named c ∷ rest) = in_project project scr
 in_project project script (statements.Register r ∷ rest) = (refl, in_project project script rest)
 
 -- names that occur once are all stored
-put_separate : (known names : List (List ℕ)) → separate.AreCollisionFree known names → with_paths known names ≡ known ++ names
+put_separate : (known names : List (List ℕ)) → separate.AreDistinct known names → with_paths known names ≡ known ++ names
 put_separate known [] once = sym (append-nil known)
 put_separate known (name ∷ names) once =
     ap (λ b. with_paths (cond b known (known ++ name ∷ [])) names) once.0 ∙ put_separate (known ++ name ∷ []) names once.1 ∙ append_assoc known (name ∷ []) names
@@ -145,7 +145,7 @@ module _ {M F Z S A : Type 0} (tables : Tables M F Z S A) (source : Source) wher
       own_names : with_paths [] (filter_map declared_property script.1) ≡ filter_map declared_property script.1
       own_names =
           put_separate [] (filter_map declared_property script.1)
-          (subst (λ known. separate.AreCollisionFree known (filter_map declared_property script.1)) (ap (filter_map declared_property) none) (separate.names_distinct tables script.0 done script.1 good))
+          (subst (λ known. separate.AreDistinct known (filter_map declared_property script.1)) (ap (filter_map declared_property) none) (separate.names_distinct tables script.0 done script.1 good))
 
       tasks_ready : script_of source.said script.0 ≡ script.1 → (ats : List Registered) → AllByRecursion (λ (at : Registered). at.project ≡ script.0) ats → AllByRecursion (IsReady own_site script.1) ats
       tasks_ready own [] all = tt

@@ -19,7 +19,7 @@ use Rattle.gb_meaning.specs.Kinds.{Kinds}
 use Rattle.gb_meaning.specs.Label.{IsLabel, Moment, changes_from, early_case}
 use Rattle.gb_meaning.specs.Memory.{Entry, World, recalled}
 use Rattle.gb_meaning.specs.TrueRecord.{IsMade, outside}
-use Rattle.gb_meaning.specs.Execution.{IsOfMachine, HoldsRecords as Exists, StartedExecution}
+use Rattle.gb_meaning.specs.Execution.{IsOfMachine, WorldState as Exists, StartedExecution}
 use Rattle.gb_meaning.proofs.Common.{none_some}
 use Rattle.gb_plan.specs.Graph.{Plan}
 use Rattle.gb_plan.specs.declared.task.TaskDeclaration.{TaskDeclaration as Task}

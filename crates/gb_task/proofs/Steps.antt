@@ -21,7 +21,7 @@ use Rattle.gb_meaning.specs.Memory.{Entry, Memory, World, entry_of, forget, reca
 use Rattle.gb_meaning.specs.Run.{Ended}
 use Rattle.gb_meaning.specs.Tree.{has_no_source, listing_faults, reported_of_tree, trees_of}
 use Rattle.gb_meaning.specs.TrueRecord.{outside, record_of}
-use Rattle.gb_meaning.specs.Execution.{ByMachine, HasEnded, InventsNothing, IsWritten, KeepsRightFiles, HoldsRecords as Exists, TouchesRecordIn, cause_of, lines_of, memory_after}
+use Rattle.gb_meaning.specs.Execution.{ByMachine, HasEnded, InventsNothing, IsWritten, KeepsRightFiles, WorldState as Exists, TouchesRecordIn, cause_of, lines_of, memory_after}
 use Rattle.gb_meaning.proofs.Common.{none_some}
 use Rattle.gb_meaning.proofs.Lemmas.Files.{at-put_over, or_else}
 use Rattle.gb_meaning.proofs.Lemmas.Making.{made_of_is_right}
