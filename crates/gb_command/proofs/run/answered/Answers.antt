@@ -33,7 +33,7 @@ module _ {F S : Type 0} (failures : F → ℕ) (may_leave : F → Tearing) (allo
 
 pub returns-in-Ok-clause-requests : goal.returns-in-Ok-clause-requests
 returns-in-Ok-clause-requests g c =
-    requests_for g.F.Folder.failures g.F.Folder.may_leave g.F.Folder.allowed g.A.Actions.meanings c.args.tables.now.actions _ c.in-Ok.allowed c.in-Ok.ensures c.invoke.result c.args.folder.now c.invoke.new.folder c.invoke.ensures.requests
+    requests_for g.F.Folder.failures g.F.Folder.may_leave g.F.Folder.allowed g.A.Actions.meanings c.args.tables.now.actions _ c.in-Ok.invocation c.in-Ok.ensures c.invoke.result c.args.folder.now c.invoke.new.folder c.invoke.ensures.requests
 
 pub returns-in-Err-clause-requests : goal.returns-in-Err-clause-requests
 returns-in-Err-clause-requests g c = requests_nothing c.args.folder.now
