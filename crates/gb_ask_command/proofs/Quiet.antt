@@ -115,8 +115,8 @@ module _ {M F Z S A : Type 0} (tables : Tables M F Z S A) where
 -- the finding of a statement, too
 pub found_at_same : {M F Z S A : Type 0} (tables : Tables M F Z S A) (faithful : Bool) (old new : Files) → (IsTrue faithful → new ≡ old) → (findings : Findings)
     → IsFoundAt tables faithful new findings → IsFoundAt tables faithful old findings
-found_at_same tables faithful old new same findings (at, faulty, (spot, (lines, are, is), only)) = (
+found_at_same tables faithful old new same findings (at, faulty, (spot, (lines, are, is), alone, none)) = (
   at,
   λ reported. subst (λ (files : Files). IsFaulty tables files at) (same reported) (faulty reported),
-  (spot, (lines, λ reported. subst (λ (files : Files). AreLinesAt files (script_of_project at.project) lines) (same reported) (are reported), is), only),
+  (spot, (lines, λ reported. subst (λ (files : Files). AreLinesAt files (script_of_project at.project) lines) (same reported) (are reported), is), alone, none),
 )

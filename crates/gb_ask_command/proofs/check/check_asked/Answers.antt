@@ -10,7 +10,7 @@ use Rattle.gb_registry.specs.Tables.{tables_of}
 use Rattle.gb_registry.specs.declared.tables.Tables as tables_of_code
 use Rattle.gb_report.specs.declared.fault.Fault.{Fault}
 use Rattle.gb_script.specs.declared.script.Statement.{Statement}
-use Rattle.gb_store.proofs.Machine.{machine_before}
+use Rattle.gb_store.proofs.Machine.{machine_after, machine_before}
 use Rattle.gb_store.specs.Faults.{IsOfMachine}
 use Rattle.gb_ask_command.specs.Check.{AreFindingsOf, IsChecked, IsFoundAt}
 use Rattle.gb_ask_command.proofs.Again.{match_of, none_again}
@@ -73,7 +73,7 @@ returns-in-Err-clause-reply g c =
     (λ fault faithful same.
     subst Worse (sym same)
     (elim (subst (λ values. Refused values refused) (c.into_vec-given.ensures ∙ c.in_ok-copied.ensures) (c.in-Err.ensures.said faithful)) as (λ _. Worse refused) [
-      | inl machine ↦ inl (machine_before before between after refused c.read_registry.ensures.requests.count c.check_statements.ensures.requests.count machine)
+      | inl machine ↦ inl (machine_after before between after refused c.check_statements.ensures.requests.count machine)
       | inr says ↦ inr says
     ]))
     c.check_statements.ensures.found

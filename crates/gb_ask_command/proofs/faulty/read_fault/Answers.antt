@@ -24,7 +24,7 @@ returns-in_err-settings-clause-err g c = λ faithful.
     let tables = tables_of g.T.Transforms.meanings g.A.Actions.meanings c.args.tables.now in
     let Bad = Refused tables files (F.failures c.args.folder.now) (F.failures c.read_settings_of.new.folder) in
     let fault = c.in_err-settings.field-0.0 in
-    handed _ Bad c.from_residual-in_err-settings.result fault c.from_residual-in_err-settings.ensures.1
+    handed _ Bad c.from_residual.result fault c.from_residual.ensures.1
     (λ given. elim (c.in_err-settings.ensures.said faithful) [
       | inl machine ↦ inl machine
       | inr bad ↦ inr (inl (inl bad))

@@ -10,12 +10,12 @@ pub returns-clause-reply : goal.returns-clause-reply
 returns-clause-reply g c =
     let F = g.F.Folder in
     let tables = tables_of g.T.Transforms.meanings g.A.Actions.meanings c.args.tables.now in
-    let shown : Shown = shows (F.contents c.predicted.new.folder) (F.failures c.predicted.new.folder) in
+    let shown : Shown = shows (F.contents c.predicted-predicted.new.folder) (F.failures c.predicted-predicted.new.folder) in
     record {
       shown = shown;
-      same = c.predicted.ensures.same;
-      predicted = c.predicted.result.items;
-      are_predicted = c.predicted.ensures.predicted;
+      same = c.predicted-predicted.ensures.same;
+      predicted = c.predicted-predicted.result.items;
+      are_predicted = c.predicted-predicted.ensures.predicted;
       reply_is =
           subst (λ (predicted : List Prediction). IsGraphReply tables F.faithful shown (F.failures c.draw.new.folder) c.args.style predicted c.args.invocation.now c.draw.result)
           c.as_slice.ensures.value c.draw.ensures.reply;
