@@ -47,10 +47,6 @@ const BROKEN: &str = "register a {}\nregister {}\n";
 /// `a` is changed after it is final.
 const FINAL: &str = "property a\nset a =\n    \"1\" disallowChanges a\nset a = \"2\"\nset b = a\n";
 
-/// A task in a value is looked up after all statements.
-const MISSING: &str =
-    "property a\nproperty b\nset b = task(\"gen\").flatMap(output(\"out\"))\nset a = \"1\"\n";
-
 const UNREAD: &str = "[{\"file\":\"build.gb\",\"kind\":\"fault\",\"line\":2,\"number\":20,\
      \"text\":\"20 syntax build.gb:2\"}]\n";
 
@@ -102,13 +98,6 @@ fn all_hold<A: Actions, T: Transforms>(alloc: Global, tables: &Tables<A, T>) -> 
             1,
         ),
         (Notation::Lines, FINAL, "", "build.gb:4: 35 final a\n", 1),
-        (
-            Notation::Lines,
-            MISSING,
-            "",
-            "build.gb:3: 52 task not found gen\n",
-            1,
-        ),
         (Notation::Json, BROKEN, "", UNREAD, 1),
         (Notation::Json, "", "-Pv=1", VALUE, 0),
     ];

@@ -28,11 +28,11 @@ mod hearing;
 #[cfg(test)]
 mod listening;
 #[cfg(test)]
+mod notifying;
+#[cfg(test)]
 mod noting;
 #[cfg(test)]
 mod offering;
-#[cfg(test)]
-mod predicting;
 #[cfg(test)]
 mod printing;
 #[cfg(test)]

@@ -6,7 +6,7 @@ use crate::building::is_reported;
 use crate::listening::heard_by_each;
 use gb_core::path::TaskPath;
 use gb_exec::listener::{Recorder, TaskListener};
-use gb_exec::predicting::predicted;
+use gb_exec::notifying::notify;
 use gb_report::report::{Heard, Outcome};
 use std::alloc::{AllocError, Global};
 use std::test::Fail;
@@ -55,8 +55,8 @@ fn reported<L: TaskListener>(
     listeners: &mut Vec<L>,
     task: &TaskPath,
 ) -> Result<(), Fail> {
-    let is_start_heard = predicted(alloc, listeners, task, None);
-    let is_end_heard = predicted(alloc, listeners, task, Some(&Outcome::Executed));
+    let is_start_heard = notify(alloc, listeners, task, None);
+    let is_end_heard = notify(alloc, listeners, task, Some(&Outcome::Executed));
     if is_start_heard || is_end_heard {
         Err(Fail::new("heard by all"))
     } else {
