@@ -150,4 +150,5 @@ module _ {M F Z S A : Type 0} (tables : Tables M F Z S A) (faithful : Bool) wher
   abbrev pub RepliesCheck : Given → Contents → ℕ → ℕ → CheckReply → Type 0
   RepliesCheck given contents before after reply =
       ((fault : Fault) × AreRefused given fault × (reply ≡ Err fault))
-      ⊎ ((invocation : Invocation) × AskFor given invocation × IsCheckReply invocation contents before after reply)
+      ⊎ ((invocation : Invocation) × AskFor given invocation
+      × IsCheckReply invocation contents before after reply)

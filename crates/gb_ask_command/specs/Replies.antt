@@ -51,7 +51,8 @@ module _ {M F Z S A : Type 0} (tables : Tables M F Z S A) (faithful : Bool) (old
 
   -- a text about the tasks that the scripts register, or the fault for which they cannot be read
   abbrev pub IsReplyOf : (Registry → List ℕ → Type 0) → Invocation → Reply → Type 0
-  IsReplyOf IsTextOf invocation (Ok text) = IsOfScripts invocation (λ registry. IsTextOf registry (string_bytes text))
+  IsReplyOf IsTextOf invocation (Ok text) = IsOfScripts invocation
+      (λ registry. IsTextOf registry (string_bytes text))
   IsReplyOf IsTextOf invocation (Err fault) = AreRead invocation (Err fault)
 
   -- ---- Each question
@@ -68,7 +69,8 @@ module _ {M F Z S A : Type 0} (tables : Tables M F Z S A) (faithful : Bool) (old
       IsDrawing style predicted registry invocation.requested invocation.excluded (string_bytes text))
   IsGraphReply style predicted invocation (Err fault) =
       AreRead invocation (Err fault)
-      ⊎ IsOfScripts invocation (λ registry. IsRefusalOf registry invocation.requested invocation.excluded fault)
+      ⊎ IsOfScripts invocation (λ registry. IsRefusalOf registry invocation.requested invocation.excluded
+      fault)
 
   -- exactly the relations between registered tasks and this place, or the fault that no place is requested
   abbrev pub IsReplyAbout : Notation → Relation → Result Place Fault → Invocation → Reply → Type 0

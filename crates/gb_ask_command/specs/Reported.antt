@@ -73,7 +73,8 @@ pub record AreReportedOn {S : Type 0} (meanings : Meanings S) (rows : Rows S) (o
 -- Over any folder: the tasks of the plan are reported in its order; a task that is executed for reasons has a
 -- reason; and each task is marked with the first one that may change what it reads. If contents are known,
 -- the reports are right.
-pub record AreReported {S : Type 0} (faithful : Bool) (meanings : Meanings S) (rows : Rows S) (options : Options)
+pub record AreReported {S : Type 0} (faithful : Bool) (meanings : Meanings S) (rows : Rows S)
+    (options : Options)
     (old : Shown) (after : ℕ) (plan : Plan) (reported : List Prediction) : Type 0 where
   pub paths : map (λ one. one.path) reported ≡ order plan
   pub reasoned : AllByRecursion (λ one. IsReasoned one.coming) reported
@@ -117,7 +118,8 @@ module _ {M F Z S A : Type 0} (tables : Tables M F Z S A) (faithful : Bool) wher
     pub is_registry : IsRegistry registry
     pub scripts : IsTrue faithful
         → registers_in tables (outside old.contents).files invocation.properties (Ok registry)
-    pub reported_of : AreReportedOf faithful tables.shapes tables.kinds registry invocation.requested invocation.excluded
+    pub reported_of : AreReportedOf faithful tables.shapes tables.kinds registry invocation.requested
+        invocation.excluded
         invocation.options old after reported
 
   -- the request is reported; or if contents are known, a build of it is refused for this fault
@@ -128,4 +130,5 @@ module _ {M F Z S A : Type 0} (tables : Tables M F Z S A) (faithful : Bool) wher
 
   -- the arguments are refused, or they make a request, and this is the answer to it
   abbrev pub Answers : Given → Shown → Answer → ℕ → Type 0
-  Answers given old answer after = Replies (λ invocation reply. IsAnswerTo invocation old reply after) given answer
+  Answers given old answer after = Replies (λ invocation reply. IsAnswerTo invocation old reply after)
+      given answer

@@ -13,7 +13,8 @@ use Rattle.gb_plan.specs.Ready.{Rows}
 use Rattle.gb_build.specs.InvocationAsked.{InvocationRequests}
 
 -- no call, or one call and no other
-abbrev pub RequestsOnce : {F : Type 0} → (F → Call → F → Type 0) → (Result (Unit {0}) FolderFault → Call) → F → F
+abbrev pub RequestsOnce : {F : Type 0} → (F → Call → F → Type 0) → (Result (Unit {0}) FolderFault → Call)
+    → F → F
     → Type 0
 RequestsOnce allowed call old new =
     (new ≡ old) ⊎ ((answer : Result (Unit {0}) FolderFault) × allowed old (call answer) new)
@@ -29,7 +30,8 @@ EventRequests failures may_leave allowed meanings rows (events.Remove place) ans
     RequestsOnce allowed (Removes place) old new
 EventRequests failures may_leave allowed meanings rows events.Lost answer old new =
     Requests failures may_leave allowed (takes_at is_own) old new
-EventRequests failures may_leave allowed meanings rows (events.Invoke invocation) (answers.Built report) old new =
+EventRequests failures may_leave allowed meanings rows (events.Invoke invocation) (answers.Built report)
+    old new =
     InvocationRequests failures may_leave allowed meanings rows invocation (Ok report) old new
 EventRequests failures may_leave allowed meanings rows (events.Invoke invocation) answer old new =
     Requests failures may_leave allowed no_change old new

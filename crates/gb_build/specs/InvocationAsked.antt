@@ -11,7 +11,8 @@ use Rattle.gb_report.specs.declared.report.Report.{Report}
 use Rattle.gb_build.specs.RequestAsked.{PlanRequests}
 
 -- a refused build requests no change; another makes the calls of the plan of its outline
-abbrev pub InvocationRequests : {F S : Type 0} → (F → ℕ) → (F → Tearing) → (F → Call → F → Type 0) → Meanings S
+abbrev pub InvocationRequests : {F S : Type 0} → (F → ℕ) → (F → Tearing) → (F → Call → F → Type 0)
+    → Meanings S
     → Rows S
     → Invocation → Result Report Fault → F → F → Type 0
 InvocationRequests failures may_leave allowed meanings rows invocation (Err fault) old new =

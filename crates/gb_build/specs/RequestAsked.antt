@@ -27,7 +27,8 @@ pub record PlanRequests {F S : Type 0} (failures : F → ℕ) (may_leave : F →
   pub first : Requests failures may_leave allowed no_change old begun
   pub answered : options.dry_run ≡ false
       → AllZip (WasAnswered failures may_leave allowed old begun) (order plan) records
-  pub executions : ExecutionsRequest failures may_leave allowed meanings rows options plan records reports begun new
+  pub executions : ExecutionsRequest failures may_leave allowed meanings rows options plan records reports
+      begun new
 
 -- a refused build requests no change; another makes the calls of its plan
 abbrev pub BuildRequests : {F S : Type 0} → (F → ℕ) → (F → Tearing) → (F → Call → F → Type 0) → Meanings S

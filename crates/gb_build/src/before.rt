@@ -27,7 +27,8 @@ pub fn records_for<F: Folder>(
     ensures requests { Requests F.failures F.may_leave F.allowed no_change folder.old folder.new }
     // Over any folder: each record is what a call at its place returned.
     ensures answered { dry_run ≡ false → IfOk result (λ records. AllZip
-        (WasAnswered F.failures F.may_leave F.allowed folder.old folder.new) (order tasks.now) records.items) }
+        (WasAnswered F.failures F.may_leave F.allowed folder.old folder.new) (order tasks.now)
+        records.items) }
     ensures same { IsTrue F.faithful → F.contents folder.new ≡ F.contents folder.old }
     ensures dry { dry_run ≡ true → folder.new ≡ folder.old }
     ensures read { IsTrue F.faithful → dry_run ≡ false → IfOk result

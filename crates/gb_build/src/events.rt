@@ -97,7 +97,8 @@ fn take<A: Actions, T: Transforms, F: Folder, L: TaskListener>(
 ) -> Answer
     ensures count { F.failures folder.old ≤ F.failures folder.new }
     ensures tearing { SameTearing (F.may_leave folder.old) (F.may_leave folder.new) }
-    ensures requests { EventRequests F.failures F.may_leave F.allowed A.meanings tables.now.actions event.now result
+    ensures requests { EventRequests F.failures F.may_leave F.allowed A.meanings tables.now.actions
+        event.now result
         folder.old folder.new }
     ensures device { HasFailed (times_blamed result) (F.failures folder.old) (F.failures folder.new) }
     ensures heard { HaveHeardAll (result ∷ []) (map L.ear listeners.old.items)

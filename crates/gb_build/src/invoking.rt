@@ -66,7 +66,8 @@ pub fn invoke<A: Actions, T: Transforms, F: Folder, L: TaskListener, P: Printer>
     // Over any folder: it requests a write or a removal only at or under an output of a task of its
     // plan or at the record of one, and the text of such a record is that of a run of the task. A
     // refused build and a dry run request none.
-    ensures requests { InvocationRequests F.failures F.may_leave F.allowed A.meanings tables.now.actions invocation.now
+    ensures requests { InvocationRequests F.failures F.may_leave F.allowed A.meanings tables.now.actions
+        invocation.now
         result folder.old folder.new }
     // Over any folder: it is a build of the plan of what was requested of some registry. Each task
     // of this plan starts, and has an outcome, as the outline permits. A refusal that is attributed

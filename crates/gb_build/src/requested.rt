@@ -67,7 +67,8 @@ pub fn build_requested<A: Actions, F: Folder, L: TaskListener, P: Printer, Ts: T
         → HasFailed (times_blamed (answer_of result)) (F.failures folder.old) (F.failures folder.new) }
     ensures tearing { SameTearing (F.may_leave folder.old) (F.may_leave folder.new) }
     // Over any folder: which changes it requests, and which records it stores.
-    ensures requests { BuildRequests F.failures F.may_leave F.allowed A.meanings table.now (Ts.registry tasks.old)
+    ensures requests { BuildRequests F.failures F.may_leave F.allowed A.meanings table.now
+        (Ts.registry tasks.old)
         invocation.now result folder.old folder.new }
     ensures dry { invocation.now.options.dry_run ≡ true → folder.new ≡ folder.old }
     ensures refused { IsTrue F.faithful → OnErr result (F.contents folder.new ≡ F.contents folder.old) }

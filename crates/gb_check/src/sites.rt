@@ -52,7 +52,8 @@ pub(crate) fn read_sites<F: Folder>(
     ensures requests { Requests F.failures F.may_leave F.allowed no_change folder.old folder.new }
     ensures same { IsTrue F.faithful → F.contents folder.new ≡ F.contents folder.old }
     ensures sites { IfOk result (λ read.
-        AreSites F.faithful (F.contents folder.old).files (scripts_in scripts.now) read.0.items read.1.items) }
+        AreSites F.faithful (F.contents folder.old).files (scripts_in scripts.now) read.0.items
+        read.1.items) }
     ensures err { IsTrue F.faithful → IfErr result (λ fault.
         IsOfMachine (F.failures folder.old) (F.failures folder.new) fault
         ⊎ IsUnread (F.contents folder.old).files (scripts_in scripts.now) fault) }

@@ -46,7 +46,8 @@ IsRefused given old answer new =
 
 -- Over any folder: a report is that of an invocation that the arguments request, which makes the calls that
 -- its answer permits. Where there is no report, no change is requested.
-abbrev pub RequestsFor : {F S : Type 0} → (F → ℕ) → (F → Tearing) → (F → Call → F → Type 0) → Meanings S → Rows S
+abbrev pub RequestsFor : {F S : Type 0} → (F → ℕ) → (F → Tearing) → (F → Call → F → Type 0) → Meanings S
+    → Rows S
     → Given
     → Result Report Fault → F → F → Type 0
 RequestsFor failures may_leave allowed meanings rows given (Err fault) old new =

@@ -49,10 +49,12 @@ guard setting clear old = StillClear setting (IsTrue clear) old
 
 -- From a state to this folder it is a build of the plan, where the contents that were read are
 -- collision-free. If all of these are, the records of what is remembered exist after it.
-pub record HasBuilt (setting : Setting) (clear : Bool) (observed : List Bytes) (options : Options) (plan : Plan)
+pub record HasBuilt (setting : Setting) (clear : Bool) (observed : List Bytes) (options : Options)
+    (plan : Plan)
     (old : State) (reports : List TaskReport) (new : Shown) : Type 0 where
   pub remembered : Memory
-  pub builds : Builds (rules_in setting (own_files old.contents) options plan) (guard setting clear old) observed
+  pub builds : Builds (rules_in setting (own_files old.contents) options plan) (guard setting clear old)
+      observed
       (record { world = world_in old; failures = old.failures }) reports
       (record { world = world_in (state_of new remembered); failures = new.failures })
   pub records : guard setting clear old (observed_with observed old (state_of new remembered))

@@ -67,7 +67,8 @@ pub fn execute<A: Actions, F: Folder, L: TaskListener, P: Printer>(
     ensures tearing { SameTearing (F.may_leave folder.old) (F.may_leave folder.new) }
     // Over any folder: task after task, each from the state in which the one before it ended, makes
     // the calls that its outcome permits.
-    ensures requests { IfOk result (λ report. ExecutionsRequest F.failures F.may_leave F.allowed A.meanings table.now
+    ensures requests { IfOk result (λ report. ExecutionsRequest F.failures F.may_leave F.allowed A.meanings
+        table.now
         options plan.now records.now report.tasks folder.old folder.new) }
     // Faults are attributed to the device no more often than it failed.
     ensures device { IfOk result (λ report.

@@ -47,7 +47,8 @@ pub data Leads {F : Type 0} (allowed : F → Call → F → Type 0) (permit : Pe
 
 -- The requests to a folder between two of its states: if such calls led to the first state, such calls lead
 -- to the second. The device's count of failures never falls. What a stopped call may leave stays the same.
-pub record Requests {F : Type 0} (failures : F → ℕ) (may_leave : F → Tearing) (allowed : F → Call → F → Type 0)
+pub record Requests {F : Type 0} (failures : F → ℕ) (may_leave : F → Tearing)
+    (allowed : F → Call → F → Type 0)
     (permit : Permit) (old new : F) : Type 0 where
   pub count : failures old ≤ failures new
   pub tearing : SameTearing (may_leave old) (may_leave new)

@@ -85,7 +85,8 @@ pub record IsIndexFor (request : Request) (looked_at : List ℕ → Bool) (index
 -- the line exists and is not gone, or it is new
 abbrev pub is_line_of : List ℕ → (List ℕ → Bool) → List ℕ → List ℕ → Bool
 is_line_of existed gone new line =
-    (list_any (bytes_eq line) (lines_of existed) && not (gone line)) || list_any (bytes_eq line) (lines_of new)
+    (list_any (bytes_eq line) (lines_of existed) && not (gone line))
+    || list_any (bytes_eq line) (lines_of new)
 
 -- the changed paths as those of files
 abbrev pub as_files : List Change → Tree

@@ -275,7 +275,8 @@ fn carried_lines(
     new: &[u8],
 ) -> Result<Lines, AllocError>
     ensures { IfOk result (λ lines. (line : _)
-        → contains byte_order lines line ≡ is_line_of existed.now (contains byte_order gone.now) new.now line) }
+        → contains byte_order lines line ≡ is_line_of existed.now (contains byte_order gone.now) new.now
+        line) }
 {
     let mut lines = BTreeSet::new(alloc);
     add_others(alloc, &mut lines, existed, gone)?;

@@ -51,7 +51,8 @@ abbrev pub WasDecided : {F : Type 0} → (F → ℕ) → (F → Tearing) → (F 
 WasDecided failures may_leave allowed old new options task last inputs decisions.UpToDate outputs =
     AreOutputs task outputs × AreOutputsAnswered failures may_leave allowed old new task outputs
     × IsFoundCurrent options task last (prints_read inputs) (prints_read outputs)
-WasDecided failures may_leave allowed old new options task last inputs (decisions.Incremental changes) outputs =
+WasDecided failures may_leave allowed old new options task last inputs (decisions.Incremental changes)
+    outputs =
     AreOutputsAnswered failures may_leave allowed old new task outputs
 WasDecided failures may_leave allowed old new options task last inputs decisions.Full outputs = ⊤
 

@@ -22,7 +22,8 @@ use Rattle.gb_label.specs.declared.deciding.Basis.{Basis}
 use Rattle.gb_label.specs.declared.deciding.Basis.TheVariants as bases
 use Rattle.gb_label.specs.declared.deciding.Cause.{Cause}
 use Rattle.gb_label.specs.declared.deciding.Cause.TheVariants as causes
-use Rattle.gb_label.specs.Reading.{AreOutputs, AreOutputsObserved, Read, digests_in, print_faults, recorded_of}
+use Rattle.gb_label.specs.Reading.{AreOutputs, AreOutputsObserved, Read, digests_in, print_faults}
+use Rattle.gb_label.specs.Reading.{recorded_of}
 
 -- the names of the task's values, file properties and outputs strictly rise
 pub record HasNamesInOrder (task : Task) : Type 0 where
@@ -94,5 +95,6 @@ AreOutputsFor task decisions.Full outputs = ⊤
 -- and they are so in these files
 abbrev pub AreOutputsObservedFor : Task → Files → Decision → List Read → Type 0
 AreOutputsObservedFor task files decisions.UpToDate outputs = ⊤
-AreOutputsObservedFor task files (decisions.Incremental changes) outputs = AreOutputsObserved task files outputs
+AreOutputsObservedFor task files (decisions.Incremental changes) outputs = AreOutputsObserved task files
+    outputs
 AreOutputsObservedFor task files decisions.Full outputs = ⊤

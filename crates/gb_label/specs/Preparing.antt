@@ -30,7 +30,8 @@ MayPrepare task prepared.HasNoActions = (task.runs ≡ true) × (is_empty task.a
 MayPrepare task prepared.HasNoSource =
     (task.runs ≡ true) × (is_empty task.actions ≡ false)
     × (list_any (λ property. property.skip_when_empty) task.files ≡ true)
-MayPrepare task (prepared.Decided decision basis observed) = (task.runs ≡ true) × (is_empty task.actions ≡ false)
+MayPrepare task (prepared.Decided decision basis observed) = (task.runs ≡ true)
+    × (is_empty task.actions ≡ false)
 
 -- what may be decided over any folder, if that is the outcome
 abbrev pub MayDecideAs : Options → Task → Prepared → Type 0

@@ -17,7 +17,8 @@ use Rattle.gb_label.specs.Reading.{Read}
 abbrev pub AreEntriesOf : {F : Type 0} → (F → ℕ) → (F → Tearing) → (F → Call → F → Type 0) → F → F
     → FileProperty → Entries → Type 0
 AreEntriesOf failures may_leave allowed old new property entries =
-    AreEntriesListed failures may_leave allowed property.naming property.roots property.include property.exclude
+    AreEntriesListed failures may_leave allowed property.naming property.roots property.include
+    property.exclude
     old new entries
 
 -- ---- Digests, and the bytes that are kept

@@ -97,7 +97,8 @@ pub fn decided<F: Folder>(
     ensures observed { IsTrue F.faithful → IfOk result
         (λ found. AreOutputsObservedFor task.now (F.contents folder.old).files found.decision
         found.outputs.items) }
-    ensures none_special { IsTrue F.faithful → OnOk result (listing_faults task.now (F.contents folder.old) ≡ []) }
+    ensures none_special { IsTrue F.faithful → OnOk result
+        (listing_faults task.now (F.contents folder.old) ≡ []) }
     ensures err { IsTrue F.faithful → IfErr result (CannotRead (F.failures folder.old) (F.failures folder.new)
         (listing_faults task.now (F.contents folder.old))) }
 {
@@ -126,7 +127,8 @@ fn in_full<F: Folder>(
     ensures same { IsTrue F.faithful → F.contents folder.new ≡ F.contents folder.old }
     ensures full { IfOk result (λ found.
         (found.decision ≡ Decision.Full) × (found.basis ≡ Basis.Recheck cause)) }
-    ensures none_special { IsTrue F.faithful → OnOk result (listing_faults task.now (F.contents folder.old) ≡ []) }
+    ensures none_special { IsTrue F.faithful → OnOk result
+        (listing_faults task.now (F.contents folder.old) ≡ []) }
     ensures err { IsTrue F.faithful → IfErr result (CannotRead (F.failures folder.old) (F.failures folder.new)
         (listing_faults task.now (F.contents folder.old))) }
 {
@@ -167,7 +169,8 @@ fn by_record<F: Folder>(
     ensures observed { IsTrue F.faithful → IfOk result
         (λ found. AreOutputsObservedFor task.now (F.contents folder.old).files found.decision
         found.outputs.items) }
-    ensures none_special { IsTrue F.faithful → OnOk result (listing_faults task.now (F.contents folder.old) ≡ []) }
+    ensures none_special { IsTrue F.faithful → OnOk result
+        (listing_faults task.now (F.contents folder.old) ≡ []) }
     ensures err { IsTrue F.faithful → IfErr result (CannotRead (F.failures folder.old) (F.failures folder.new)
         (listing_faults task.now (F.contents folder.old))) }
 {
@@ -206,7 +209,8 @@ fn read_listed<F: Folder>(
         ≡ prints_in (map (recorded_of (F.contents folder.old).files) task.now.outputs)) }
     ensures observed { IsTrue F.faithful → IfOk result
         (λ found. AreOutputsObserved task.now (F.contents folder.old).files found.items) }
-    ensures none_special { IsTrue F.faithful → OnOk result (listing_faults task.now (F.contents folder.old) ≡ []) }
+    ensures none_special { IsTrue F.faithful → OnOk result
+        (listing_faults task.now (F.contents folder.old) ≡ []) }
     ensures err { IsTrue F.faithful → IfErr result (λ fault.
         (IsGrown fault
         × (is_empty (flat_map (print_faults (F.contents folder.old)) task.now.outputs) ≡ false))
@@ -238,7 +242,8 @@ fn read_checked<F: Folder>(
         ≡ prints_in (map (recorded_of (F.contents folder.old).files) task.now.outputs)) }
     ensures observed { IsTrue F.faithful → IfOk result
         (λ found. AreOutputsObserved task.now (F.contents folder.old).files found.items) }
-    ensures none_special { IsTrue F.faithful → OnOk result (listing_faults task.now (F.contents folder.old) ≡ []) }
+    ensures none_special { IsTrue F.faithful → OnOk result
+        (listing_faults task.now (F.contents folder.old) ≡ []) }
     ensures err { IsTrue F.faithful → IfErr result (λ fault.
         (IsGrown fault
         × (is_empty (flat_map (print_faults (F.contents folder.old)) task.now.outputs) ≡ false))

@@ -36,7 +36,8 @@ fn read_one<F: Folder>(
     ensures same { IsTrue F.faithful → F.contents folder.new ≡ F.contents folder.old }
     ensures named { IfOk result (λ reading. reading.0 ≡ property.now.name) }
     ensures within { IfOk result
-        (λ reading. AllByRecursion (λ observed. IsTrue (is_under_any property.now.roots observed.place)) reading.1) }
+        (λ reading. AllByRecursion (λ observed. IsTrue (is_under_any property.now.roots observed.place))
+        reading.1) }
     ensures answered { IfOk result
         (IsInputAnswered F.failures F.may_leave F.allowed folder.old folder.new property.now) }
     ensures digests { IsTrue F.faithful → IfOk result (λ reading. digests_observed reading.1
@@ -127,7 +128,8 @@ pub fn complete_inputs<F: Folder>(
         → IfOk result (λ inputs. AreInputsRead F.failures F.may_leave F.allowed first folder.new task.now
         inputs.trees) }
     ensures same { IsTrue F.faithful → F.contents folder.new ≡ F.contents folder.old }
-    ensures trees { IsTrue F.faithful → AreInputsObserved task.now (F.contents folder.old).files readings.items
+    ensures trees { IsTrue F.faithful → AreInputsObserved task.now (F.contents folder.old).files
+        readings.items
         → IfOk result (λ inputs. inputs.trees ≡ trees_of task.now (F.contents folder.old).files) }
     ensures err { IsTrue F.faithful → AreInputsObserved task.now (F.contents folder.old).files readings.items
         → IfErr result (IsOfMachine (F.failures folder.old) (F.failures folder.new)) }

@@ -23,7 +23,8 @@ pub fn check_outputs<F: Folder>(
     ensures blame { Blames result (F.failures folder.old) (F.failures folder.new) }
     ensures blamed { BlamesOnly (is_output_of task.now) result }
     ensures same { IsTrue F.faithful → F.contents folder.new ≡ F.contents folder.old }
-    ensures none_special { IsTrue F.faithful → OnOk result (listing_faults task.now (F.contents folder.old) ≡ []) }
+    ensures none_special { IsTrue F.faithful → OnOk result
+        (listing_faults task.now (F.contents folder.old) ≡ []) }
     ensures err { IsTrue F.faithful → IfErr result (CannotRead (F.failures folder.old) (F.failures folder.new)
         (listing_faults task.now (F.contents folder.old))) }
 {

@@ -12,8 +12,10 @@ ghost use Rattle.gb_tree.specs.Prints.{digests_of};
 ghost use Rattle.gb_tree.specs.Reading.{IsObservedIn, digests_observed, entries_observed};
 ghost use Rattle.gb_tree.specs.Tree.{contents_at, files_from, is_among};
 ghost use Rattle.gb_label.specs.ReadingAnswered.{AreOutputsAnswered, AreOutputsRead, IsOutputAnswered};
-ghost use Rattle.gb_label.specs.Reading.{AreOutputs, AreOutputsObserved, CannotRead, IsOutputObserved, print_faults};
-ghost use Rattle.gb_label.specs.Reading.{prints_read, prints_observed, recorded_of, records_with, observed_of};
+ghost use Rattle.gb_label.specs.Reading.{AreOutputs, AreOutputsObserved, CannotRead};
+ghost use Rattle.gb_label.specs.Reading.{IsOutputObserved, print_faults};
+ghost use Rattle.gb_label.specs.Reading.{prints_read, prints_observed, recorded_of, records_with};
+ghost use Rattle.gb_label.specs.Reading.{observed_of};
 
 use crate::completing::complete;
 use crate::fault::reported;
@@ -40,12 +42,14 @@ fn read_one<F: Folder>(
     ensures same { IsTrue F.faithful → F.contents folder.new ≡ F.contents folder.old }
     ensures named { IfOk result (λ reading. reading.0 ≡ output.now.name) }
     ensures within { IfOk result
-        (λ reading. AllByRecursion (λ observed. IsTrue (is_under observed.place output.now.place)) reading.1) }
+        (λ reading. AllByRecursion (λ observed. IsTrue (is_under observed.place output.now.place))
+        reading.1) }
     ensures answered { IfOk result
         (IsOutputAnswered F.failures F.may_leave F.allowed folder.old folder.new output.now) }
     ensures digests { IsTrue F.faithful → IfOk result (λ reading. digests_observed reading.1
         ≡ digests_of (files_from (F.contents folder.old).files output.now.place)) }
-    ensures observed { IsTrue F.faithful → IfOk result (IsOutputObserved (F.contents folder.old).files output.now) }
+    ensures observed { IsTrue F.faithful → IfOk result
+        (IsOutputObserved (F.contents folder.old).files output.now) }
     ensures fit { IsTrue F.faithful → OnOk result (print_faults (F.contents folder.old) output.now ≡ []) }
     ensures err { IsTrue F.faithful → IfErr result
         (CannotRead (F.failures folder.old) (F.failures folder.new) (print_faults
@@ -156,7 +160,8 @@ pub fn complete_outputs<F: Folder>(
         → IfOk result (λ outputs. AreOutputsRead F.failures F.may_leave F.allowed first folder.new task.now
         outputs.observed) }
     ensures same { IsTrue F.faithful → F.contents folder.new ≡ F.contents folder.old }
-    ensures files { IsTrue F.faithful → AreOutputsObserved task.now (F.contents folder.old).files readings.items
+    ensures files { IsTrue F.faithful → AreOutputsObserved task.now (F.contents folder.old).files
+        readings.items
         → IfOk result
         (λ outputs. outputs.observed ≡ map (observed_of (F.contents folder.old).files) task.now.outputs) }
     ensures err { IsTrue F.faithful → AreOutputsObserved task.now (F.contents folder.old).files readings.items

@@ -90,7 +90,8 @@ fence indent sign body =
 abbrev pub is_rule : ℕ → ℕ → List ℕ → Bool
 is_rule sign earlier [] = nat_le 3 earlier
 is_rule sign earlier (b ∷ rest) =
-    if b == sign then is_rule sign (earlier + 1) rest else if is_space b then is_rule sign earlier rest else false
+    if b == sign then is_rule sign (earlier + 1) rest else if is_space b then is_rule sign earlier rest
+    else false
 
 -- an item has its words after one to four spaces, or no words; the width of its sign reaches up to them
 abbrev pub gap_of : ℕ → ℕ

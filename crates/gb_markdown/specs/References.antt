@@ -44,7 +44,8 @@ defined_as label address found =
 abbrev pub after_colon : List ℕ → List ℕ → Option (List ℕ × List ℕ × List ℕ)
 after_colon label [] = None
 after_colon label (b ∷ rest) =
-    if b == 58 then defined_as label (address (following rest)).0 (title (address (following rest)).1) else None
+    if b == 58 then defined_as label (address (following rest)).0 (title (address (following rest)).1)
+    else None
 
 -- a label has words, and no brackets in it except after backslashes
 abbrev pub is_label : List ℕ → Bool

@@ -309,7 +309,8 @@ moment_after moment report new =
 -- The tasks are executed in the order of the plan, each in the world that the one before it left.
 abbrev pub Executions : Rules → Guard → List Bytes → List Planned → Moment → List TaskReport → WorldState
     → Type 0
-Executions rules assumed observed [] moment [] new = (new.world ≡ moment.world) × (moment.failures ≤ new.failures)
+Executions rules assumed observed [] moment [] new = (new.world ≡ moment.world)
+    × (moment.failures ≤ new.failures)
 Executions rules assumed observed [] moment (report ∷ reports) new = ⊥
 Executions rules assumed observed (planned ∷ rest) moment [] new = ⊥
 Executions rules assumed observed (planned ∷ rest) moment (report ∷ reports) new =
@@ -337,7 +338,8 @@ first_moment old = record { world = old.world; outcomes = []; failures = old.fai
 abbrev pub Builds : Rules → Guard → List Bytes → WorldState → List TaskReport → WorldState → Type 0
 Builds rules assumed observed old reports new =
     (IsTrue rules.options.dry_run × (reports ≡ dry_reports rules.plan) × (new.world ≡ old.world))
-    ⊎ ((rules.options.dry_run ≡ false) × Executions rules assumed observed rules.plan (first_moment old) reports
+    ⊎ ((rules.options.dry_run ≡ false) × Executions rules assumed observed rules.plan (first_moment old)
+    reports
     new)
 
 -- ---- What listeners are notified of

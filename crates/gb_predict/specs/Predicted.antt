@@ -73,7 +73,8 @@ Fits (comings.Runs by_changes reasons) outcome = HasRun outcome
 
 -- the machine may fail at any time
 abbrev pub MayFail : Rules → Task → Outcome → Type 0
-MayFail rules task outcome = (moment : Moment) × (new : WorldState) × IsOfMachine rules moment task outcome new
+MayFail rules task outcome = (moment : Moment) × (new : WorldState)
+    × IsOfMachine rules moment task outcome new
 
 -- A task ended as predicted, and if its actions ended, they printed what they print in the world of the
 -- prediction: the lines for the same changes.

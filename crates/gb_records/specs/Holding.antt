@@ -73,4 +73,5 @@ abbrev pub HoldsWith : Path → Entry → Memory → Result (Unit {0}) Unwritten
 HoldsWith path entry memory (Ok done) files = HoldsRecords files (remember memory path entry)
 HoldsWith path entry memory (Err unwritten.OutOfMemory) files = HoldsRecords files memory
 HoldsWith path entry memory (Err unwritten.NotWritten) files =
-    HoldsRecords files memory ⊎ HoldsRecords files (remember memory path entry) ⊎ HoldsRecords files (forget memory path)
+    HoldsRecords files memory ⊎ HoldsRecords files (remember memory path entry)
+    ⊎ HoldsRecords files (forget memory path)

@@ -40,7 +40,8 @@ begun so_far = record so_far { properties = []; finals = [] }
 
 abbrev pub change_faults_so_far : SoFar → List ℕ → List Fault
 change_faults_so_far so_far name =
-    property_faults so_far.properties name ++ (if is_among so_far.finals name then faults.Final name ∷ [] else [])
+    property_faults so_far.properties name ++ (if is_among so_far.finals name then faults.Final name ∷ []
+    else [])
 
 abbrev pub property_faults_so_far : SoFar → List ℕ → List Fault
 property_faults_so_far so_far name =
@@ -60,7 +61,12 @@ module _ {M F Z S A : Type 0} (tables : Tables M F Z S A) (project : Path) where
   abbrev pub value_faults_so_far : SoFar → Tree → List Fault
   value_faults_so_far so_far tree =
       tree_faults tables
-      (record { project = project; properties = so_far.properties; task_faults = task_faults_in None project })
+      (record {
+        project = project;
+        properties = so_far.properties;
+        task_faults = task_faults_in None
+            project;
+      })
       tree
 
   abbrev pub assignment_faults_so_far : SoFar → Assignment → List Fault
@@ -113,4 +119,5 @@ module _ {M F Z S A : Type 0} (tables : Tables M F Z S A) where
 
 abbrev pub scripts_after : SoFar → List (Path × List Statement) → SoFar
 scripts_after so_far [] = so_far
-scripts_after so_far (script ∷ scripts) = scripts_after (script_after script.0 (begun so_far) script.1) scripts
+scripts_after so_far (script ∷ scripts) = scripts_after (script_after script.0 (begun so_far) script.1)
+    scripts

@@ -4,7 +4,8 @@ ghost use Rattle.std.specs.List.{flat_map};
 ghost use Rattle.gb_registry.specs.Configure.{script_missing, statement_missing};
 ghost use Rattle.gb_registry.specs.Faults.{ReportsFirst};
 ghost use Rattle.gb_registry.specs.SoFar.{script_after, scripts_in, script_faults, scripts_after};
-ghost use Rattle.gb_registry.specs.SoFar.{scripts_faults, so_far_after, assignment_faults_so_far, faults_so_far};
+ghost use Rattle.gb_registry.specs.SoFar.{scripts_faults, so_far_after, assignment_faults_so_far};
+ghost use Rattle.gb_registry.specs.SoFar.{faults_so_far};
 ghost use Rattle.gb_registry.specs.SoFar.{value_faults_so_far};
 ghost use Rattle.gb_registry.specs.Tables.{tables_of};
 
@@ -41,7 +42,8 @@ pub(crate) fn check_statement<A: Actions, T: Transforms>(
 ) -> Result<(), Fault>
     ensures ok { OnOk result (so_far.new ≡ so_far_after project.now so_far.old statement.now) }
     ensures faults { ReportsFirst
-        (faults_so_far (tables_of T.meanings A.meanings tables.now) project.now so_far.old statement.now) result }
+        (faults_so_far (tables_of T.meanings A.meanings tables.now) project.now so_far.old statement.now)
+        result }
 {
     match statement {
         Statement::DefaultTasks(_) => Ok(()),

@@ -4,7 +4,8 @@ ghost use Rattle.gb_core.specs.Path.{is_task_path, task_in};
 ghost use Rattle.gb_report.specs.declared.fault.Fault.TheVariants.{OutOfMemory};
 ghost use Rattle.gb_registry.specs.Faults.{ReportsFirst};
 ghost use Rattle.gb_registry.specs.Projects.{with_path};
-ghost use Rattle.gb_registry.specs.SoFar.{begun, change_faults_so_far, named_faults_so_far, property_faults_so_far};
+ghost use Rattle.gb_registry.specs.SoFar.{begun, change_faults_so_far, named_faults_so_far};
+ghost use Rattle.gb_registry.specs.SoFar.{property_faults_so_far};
 ghost use Rattle.gb_registry.specs.SoFar.{task_faults_so_far};
 ghost use Rattle.gb_registry.specs.Wrong.{property_faults};
 

@@ -28,7 +28,8 @@ places_at outputs files = flat_map (λ output. places_under files output.place) 
 
 -- the faults of listing them: entries there that no place can name
 abbrev pub special_faults : List Output → Contents → List Fault
-special_faults outputs folder = map reported_of_tree (special_roots folder (map (λ output. output.place) outputs))
+special_faults outputs folder = map reported_of_tree
+    (special_roots folder (map (λ output. output.place) outputs))
 
 -- The outputs of a task are not emptied. Either an unsupported entry is there and nothing has changed; or the
 -- machine failed, before the first removal or at one, and some first files are gone.

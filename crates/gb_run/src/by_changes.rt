@@ -73,7 +73,8 @@ pub fn run_by_changes<A: Actions, F: Folder>(
         × AreAtOutputs task.now calls × ((kinds : Kinds) → Agrees A.meanings table.now kinds
         → RunsByChanges (increment_of kinds task.now files changes outputs) calls lines.new
         (ending result)) }
-    ensures requests { Requests F.failures F.may_leave F.allowed (changes_at (is_output_of task.now)) folder.old
+    ensures requests { Requests F.failures F.may_leave F.allowed (changes_at (is_output_of task.now))
+        folder.old
         folder.new }
     ensures blame { Blames result (F.failures folder.old) (F.failures folder.new) }
     ensures blamed { BlamesOnly (is_output_of task.now) result }
@@ -83,7 +84,8 @@ pub fn run_by_changes<A: Actions, F: Folder>(
         → (old : Trees) → GoesOn kinds task.now old files changes outputs (F.contents folder.old).files
         → EndsWell (course_of kinds task.now files changes (rest_of task.now (F.contents folder.old).files))
         lines.new (F.contents folder.new).files) }
-    ensures err { IsTrue F.faithful → IfErr result (λ fault. (kinds : Kinds) → Agrees A.meanings table.now kinds
+    ensures err { IsTrue F.faithful → IfErr result
+        (λ fault. (kinds : Kinds) → Agrees A.meanings table.now kinds
         → (old : Trees) → GoesOn kinds task.now old files changes outputs (F.contents folder.old).files
         → Fails (course_of kinds task.now files changes (rest_of task.now (F.contents folder.old).files))
         (ByChanges (F.contents folder.old).files) (F.may_leave folder.old) (F.failures folder.old) fault

@@ -11,7 +11,8 @@ ghost use Rattle.gb_store.specs.Faults.{Blames, BlamesOnly, IsOfMachine};
 ghost use Rattle.gb_plan.specs.Task.{is_output_of};
 ghost use Rattle.gb_meaning.specs.Made.{rest_of};
 ghost use Rattle.gb_meaning.specs.Tree.{listing_faults};
-ghost use Rattle.gb_run.specs.Emptying.{CannotEmpty, Emptying, Listing, is_at_output, special_faults, places_at};
+ghost use Rattle.gb_run.specs.Emptying.{CannotEmpty, Emptying, Listing, is_at_output};
+ghost use Rattle.gb_run.specs.Emptying.{special_faults, places_at};
 ghost use Rattle.gb_run.specs.Work.{ending};
 
 use gb_core::place::Place;
@@ -40,7 +41,8 @@ pub fn empty_outputs<F: Folder>(
         → ChangesOnly (is_output_of task.now) (F.contents folder.old) (F.contents folder.new) }
     ensures ok { IsTrue F.faithful → OnOk result
         ((F.contents folder.new).files ≡ rest_of task.now (F.contents folder.old).files) }
-    ensures none_special { IsTrue F.faithful → OnOk result (listing_faults task.now (F.contents folder.old) ≡ []) }
+    ensures none_special { IsTrue F.faithful → OnOk result
+        (listing_faults task.now (F.contents folder.old) ≡ []) }
     ensures err { IsTrue F.faithful → IfErr result (λ fault.
         CannotEmpty task.now (F.may_leave folder.old) (F.failures folder.old) (F.contents folder.old) fault
         (F.failures folder.new) (F.contents folder.new)) }
@@ -67,7 +69,8 @@ pub fn listed_outputs<F: Folder>(
     ensures same { IsTrue F.faithful → F.contents folder.new ≡ F.contents folder.old }
     ensures listed { IsTrue F.faithful → IfOk result
         (λ places. places.items ≡ places_at outputs.now (F.contents folder.old).files) }
-    ensures none_special { IsTrue F.faithful → OnOk result (special_faults outputs.now (F.contents folder.old) ≡ []) }
+    ensures none_special { IsTrue F.faithful → OnOk result
+        (special_faults outputs.now (F.contents folder.old) ≡ []) }
     ensures special { IsTrue F.faithful → IfErr result
         (λ fault. IsOfMachine (F.failures folder.old) (F.failures folder.new) fault
         ⊎ (first_of (special_faults outputs.now (F.contents folder.old)) ≡ Some fault)) }

@@ -33,7 +33,8 @@ pub fn planned(
     ensures ok { OnOk result
         (faults_beside outputs.now [] (held_after outputs.now observed.now removes.now writes.now) ≡ []) }
     ensures err { IfErr result (λ fault. (fault ≡ Fault.OutOfMemory)
-        ⊎ (first_of (faults_beside outputs.now [] (held_after outputs.now observed.now removes.now writes.now))
+        ⊎ (first_of (faults_beside outputs.now []
+        (held_after outputs.now observed.now removes.now writes.now))
         ≡ Some fault)) }
 {
     check_planned(alloc, outputs, observed, removes, writes)?;
@@ -77,7 +78,8 @@ fn check_planned(
     ensures ok { OnOk result
         (faults_beside outputs.now [] (held_after outputs.now observed.now removes.now writes.now) ≡ []) }
     ensures err { IfErr result (λ fault. (fault ≡ Fault.OutOfMemory)
-        ⊎ (first_of (faults_beside outputs.now [] (held_after outputs.now observed.now removes.now writes.now))
+        ⊎ (first_of (faults_beside outputs.now []
+        (held_after outputs.now observed.now removes.now writes.now))
         ≡ Some fault)) }
 {
     let mut held = BTreeMap::new(alloc);

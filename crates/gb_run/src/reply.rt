@@ -43,7 +43,8 @@ pub fn put_existing<'a>(
     observed: &'a [OutputFiles],
 ) -> Result<(), AllocError>
     ensures { OnOk result
-        (steps_in steps.new ≡ put_steps (steps_in steps.old) (put_files (existing outputs.now observed.now))) }
+        (steps_in steps.new ≡ put_steps (steps_in steps.old)
+        (put_files (existing outputs.now observed.now))) }
 {
     for (output, found) in outputs.iter().zip(observed) {
         put_tree(alloc, steps, &output.place, found.files.as_slice())?;

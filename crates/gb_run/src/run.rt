@@ -52,7 +52,8 @@ pub fn run_in_full<A: Actions, F: Folder>(
     ensures calls { (calls : List Call) × Leads F.device folder.old calls folder.new
         × AreAtOutputs task.now calls × ((kinds : Kinds) → Agrees A.meanings table.now kinds
         → RunsInFull (course_of kinds task.now files changes []) calls lines.new (ending result)) }
-    ensures requests { Requests F.failures F.may_leave F.allowed (changes_at (is_output_of task.now)) folder.old
+    ensures requests { Requests F.failures F.may_leave F.allowed (changes_at (is_output_of task.now))
+        folder.old
         folder.new }
     ensures blame { Blames result (F.failures folder.old) (F.failures folder.new) }
     ensures blamed { BlamesOnly (is_output_of task.now) result }
@@ -61,7 +62,8 @@ pub fn run_in_full<A: Actions, F: Folder>(
     ensures ok { IsTrue F.faithful → OnOk result ((kinds : Kinds) → Agrees A.meanings table.now kinds
         → EndsWell (course_of kinds task.now files changes (F.contents folder.old).files)
         lines.new (F.contents folder.new).files) }
-    ensures err { IsTrue F.faithful → IfErr result (λ fault. (kinds : Kinds) → Agrees A.meanings table.now kinds
+    ensures err { IsTrue F.faithful → IfErr result
+        (λ fault. (kinds : Kinds) → Agrees A.meanings table.now kinds
         → Fails (course_of kinds task.now files changes (F.contents folder.old).files) InFull
         (F.may_leave folder.old) (F.failures folder.old) fault
         lines.new (F.failures folder.new) (F.contents folder.new).files) }

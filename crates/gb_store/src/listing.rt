@@ -29,10 +29,12 @@ pub fn listed_at<F: Folder>(
     ensures same { IsTrue F.faithful → F.contents folder.new ≡ F.contents folder.old }
     ensures listed { IsTrue F.faithful → IfOk result
         (λ places. places.items ≡ places_under (F.contents folder.old).files place.now) }
-    ensures none_special { IsTrue F.faithful → OnOk result (is_special_under (F.contents folder.old) place.now ≡ false) }
+    ensures none_special { IsTrue F.faithful → OnOk result
+        (is_special_under (F.contents folder.old) place.now ≡ false) }
     ensures special { IsTrue F.faithful → IfErr result
         (λ fault. IsOfMachine (F.failures folder.old) (F.failures folder.new) fault
-        ⊎ (IsTrue (is_special_under (F.contents folder.old) place.now) × (fault ≡ Fault.BadFileName place.now))) }
+        ⊎ (IsTrue (is_special_under (F.contents folder.old) place.now)
+        × (fault ≡ Fault.BadFileName place.now))) }
 {
     match folder.list(alloc, place) {
         Ok(places) => Ok(places),

@@ -22,7 +22,8 @@ module _ {F S : Type 0} (failures : F → ℕ) (may_leave : F → Tearing) (allo
   -- if it has actions. A task that failed only read, or was cleared or run up to the call that failed.
   abbrev pub ExecutionRequests : Task → Option Record → Outcome → List Text → F → F → Type 0
   ExecutionRequests task last outcomes.NotRun lines old new = new ≡ old
-  ExecutionRequests task last outcomes.Skipped lines old new = Requests failures may_leave allowed no_change old new
+  ExecutionRequests task last outcomes.Skipped lines old new = Requests failures may_leave allowed
+      no_change old new
   ExecutionRequests task last outcomes.UpToDate lines old new =
       Requests failures may_leave allowed no_change old new
       × IsReportedCurrent failures may_leave allowed options task last old new outcomes.UpToDate

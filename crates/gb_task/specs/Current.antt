@@ -35,7 +35,8 @@ pub record IsCurrentOn {F : Type 0} (failures : F → ℕ) (may_leave : F → Te
   pub outputs_read : AreOutputsRead failures may_leave allowed old new task observed
   pub formed : map (λ output. (output.name, output.form)) observed ≡ given_outputs task.outputs
   pub present : Present
-  pub has : IsPresentOf options task (digests_in trees) (records_with task.outputs (prints_observed observed)) present
+  pub has : IsPresentOf options task (digests_in trees)
+      (records_with task.outputs (prints_observed observed)) present
   pub decides : DecidesFrom run present decisions.UpToDate
 
 -- where a task that has actions is reported as up to date it was found so

@@ -29,7 +29,8 @@ use Rattle.gb_task.specs.Stages.{Clears, FullRun, RunByChanges, Stage}
 abbrev pub AreAnswered : {F : Type 0} → (F → ℕ) → (F → Tearing) → (F → Call → F → Type 0) → F → List Call → F
     → Type 0
 AreAnswered failures may_leave allowed old calls new =
-    Leads (device_of failures may_leave allowed false (λ folder. record { files = []; special = [] })) old calls new
+    Leads (device_of failures may_leave allowed false (λ folder. record { files = []; special = [] })) old
+    calls new
 
 -- Calls returned these trees of the inputs whole since this state of the folder, and nothing was changed.
 pub record HaveRead {F : Type 0} (failures : F → ℕ) (may_leave : F → Tearing)

@@ -37,7 +37,8 @@ pub record AreWholeOutputs (task : Task) (outputs : Outputs) : Type 0 where
 pub record AreDecided (options : Options) (task : Task) (last : Record) (trees : Trees)
     (observed : List OutputFiles) (changes : List Changes) : Type 0 where
   pub present : Present
-  pub is : IsPresentOf options task (digests_in trees) (records_with task.outputs (prints_observed observed)) present
+  pub is : IsPresentOf options task (digests_in trees)
+      (records_with task.outputs (prints_observed observed)) present
   pub decides : DecidesFrom last present (decisions.Incremental changes)
 
 -- how a task is to run, by what was decided

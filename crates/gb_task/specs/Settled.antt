@@ -103,4 +103,5 @@ SettlesExecution setting options plan task moment old after (settled.Sourceless 
     early_case task moment.world.folder ≡ Some HasNoSource
 SettlesExecution setting options plan task moment old after (settled.Due path decision observed) =
     (early_case task moment.world.folder ≡ None) × IsCaseFor setting.kinds options task moment.world decision
-    × IsRunFor setting.kinds options task moment.world decision × IsObservedFor task old.files observed decision
+    × IsRunFor setting.kinds options task moment.world decision
+    × IsObservedFor task old.files observed decision

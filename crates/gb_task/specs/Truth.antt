@@ -48,7 +48,8 @@ pub record IsTextOfTrue {F : Type 0} (failures : F → ℕ) (may_leave : F → T
 
 -- all contents that were read of a task
 abbrev pub contents_read : Trees → List OutputFiles → List Bytes
-contents_read trees observed = contents_in trees ++ contents_in (map (λ output. (output.name, output.files)) observed)
+contents_read trees observed = contents_in trees
+    ++ contents_in (map (λ output. (output.name, output.files)) observed)
 
 -- The record is that of a true entry, and no two contents among those of the entry and these share a digest.
 pub record IsTrueBeside (kinds : Kinds) (last : Record) (contents : List Bytes) : Type 0 where
@@ -86,7 +87,8 @@ RunsByChangesStayTrue {F = F} {S = S} failures may_leave allowed meanings =
     → IsTextOfTrue failures may_leave allowed first kinds task (record_text task.path run)
 
 -- these files are what the task's actions make of these trees
-pub record AreMadeOf (kinds : Kinds) (task : Task) (trees : Trees) (observed : List OutputFiles) : Type 0 where
+pub record AreMadeOf (kinds : Kinds) (task : Task) (trees : Trees) (observed : List OutputFiles)
+    : Type 0 where
   pub files : Files
   pub made : made_of kinds task.actions task.values trees task.outputs ≡ Ok files
   pub exist : observed ≡ map (observed_of files) task.outputs
@@ -97,4 +99,5 @@ abbrev pub UpToDateIsMade : {F : Type 0} → (F → ℕ) → (F → Tearing) →
 UpToDateIsMade {F = F} failures may_leave allowed =
     (kinds : Kinds) (options : Options) (task : Task) (last : Option Record) (old new : F) → AreSeparate task
     → (on : IsCurrentOn failures may_leave allowed options task last old new)
-    → IsTrueBeside kinds on.run (contents_read on.trees on.observed) → AreMadeOf kinds task on.trees on.observed
+    → IsTrueBeside kinds on.run (contents_read on.trees on.observed)
+    → AreMadeOf kinds task on.trees on.observed

@@ -34,7 +34,8 @@ pub fn clear<F: Folder>(
     // Over any folder: by these calls.
     ensures calls { (calls : List Call) × Leads F.device folder.old calls folder.new
         × Clears task.now was_read calls [] result }
-    ensures requests { Requests F.failures F.may_leave F.allowed (takes_at (is_of_execution task.now)) folder.old
+    ensures requests { Requests F.failures F.may_leave F.allowed (takes_at (is_of_execution task.now))
+        folder.old
         folder.new }
     ensures blame { Blames result (F.failures folder.old) (F.failures folder.new) }
     ensures blamed { BlamesOnly (is_output_of task.now) result }

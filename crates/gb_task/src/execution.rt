@@ -69,7 +69,8 @@ pub fn execute_task<A: Actions, F: Folder>(
     // Over any folder: which calls were made, stage by stage, up to the first that failed; with which
     // bytes; and what they were based on. A task that is skipped or up to date requests no change, and
     // it is up to date only if it was found so on what the calls of this execution returned.
-    ensures requests { ExecutionRequests F.failures F.may_leave F.allowed A.meanings table.now options task.now
+    ensures requests { ExecutionRequests F.failures F.may_leave F.allowed A.meanings table.now options
+        task.now
         (option_copied last.entry) result.outcome result.lines folder.old folder.new }
     ensures blame { (place : List ℕ) → result.outcome ≡ Failed (Fault.Device place)
         → HasRisen (F.failures folder.old) (F.failures folder.new) }

@@ -209,7 +209,8 @@ fn make_in_full<A: Actions, F: Folder>(
     requires named { map (λ tree. tree.0) trees ≡ given_files task.now.files }
     requires digests { prints.items ≡ digests_in trees }
     requires no_lines { lines.old ≡ [] }
-    ensures requests { Requests F.failures F.may_leave F.allowed (changes_at (is_output_of task.now)) folder.old
+    ensures requests { Requests F.failures F.may_leave F.allowed (changes_at (is_output_of task.now))
+        folder.old
         folder.new }
     ensures blame { Blames result (F.failures folder.old) (F.failures folder.new) }
     ensures blamed { BlamesOnly (is_output_of task.now) result }
@@ -224,7 +225,8 @@ fn make_in_full<A: Actions, F: Folder>(
     ensures ok { IsTrue F.faithful → OnOk result ((kinds : Kinds) → Agrees A.meanings table.now kinds
         → EndsWell (course_of kinds task.now trees changes (F.contents folder.old).files)
         lines.new (F.contents folder.new).files) }
-    ensures err { IsTrue F.faithful → IfErr result (λ fault. (kinds : Kinds) → Agrees A.meanings table.now kinds
+    ensures err { IsTrue F.faithful → IfErr result
+        (λ fault. (kinds : Kinds) → Agrees A.meanings table.now kinds
         → Fails (course_of kinds task.now trees changes (F.contents folder.old).files) InFull
         (F.may_leave folder.old) (F.failures folder.old) fault
         lines.new (F.failures folder.new) (F.contents folder.new).files) }

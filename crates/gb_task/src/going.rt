@@ -113,13 +113,15 @@ fn make_by_changes<A: Actions, F: Folder>(
         ≡ given_outputs task.now.outputs }
     requires existed { outputs.prints.items ≡ prints_observed outputs.observed }
     requires no_lines { lines.old ≡ [] }
-    ensures requests { Requests F.failures F.may_leave F.allowed (changes_at (is_output_of task.now)) folder.old
+    ensures requests { Requests F.failures F.may_leave F.allowed (changes_at (is_output_of task.now))
+        folder.old
         folder.new }
     ensures blame { Blames result (F.failures folder.old) (F.failures folder.new) }
     ensures blamed { BlamesOnly (is_output_of task.now) result }
     // Over any folder: by these calls, with just the bytes and the lines of the actions.
     ensures calls { (calls : List Call) × (ran : Ending) × Leads F.device folder.old calls folder.new
-        × WritesChanges A.meanings table.now task.now inputs.trees changes outputs.observed calls lines.new ran
+        × WritesChanges A.meanings table.now task.now inputs.trees changes outputs.observed calls lines.new
+        ran
         × HasMade ran (ending result) }
     // Over any folder, whoever else writes in it: the record is true. The premise: what was read at
     // the outputs was made from old trees, and the changes lead from these to the trees of this
@@ -134,7 +136,8 @@ fn make_by_changes<A: Actions, F: Folder>(
         → EndsWell (course_of kinds task.now inputs.trees changes
         (rest_of task.now (F.contents folder.old).files))
         lines.new (F.contents folder.new).files) }
-    ensures err { IsTrue F.faithful → IfErr result (λ fault. (kinds : Kinds) → Agrees A.meanings table.now kinds
+    ensures err { IsTrue F.faithful → IfErr result
+        (λ fault. (kinds : Kinds) → Agrees A.meanings table.now kinds
         → (old : Trees)
         → GoesOn kinds task.now old inputs.trees changes outputs.observed (F.contents folder.old).files
         → Fails (course_of kinds task.now inputs.trees changes

@@ -10,7 +10,8 @@ ghost use Rattle.gb_folder.specs.Calls.{Requests, no_change};
 ghost use Rattle.gb_folder.specs.Files.{is_own};
 ghost use Rattle.gb_label.specs.Deciding.{HasNamesInOrder};
 ghost use Rattle.gb_label.specs.ReadingAnswered.{AreInputsAnswered, AreOutputsAnswered};
-ghost use Rattle.gb_label.specs.Reading.{AreInputs, AreInputsObserved, AreOutputs, AreOutputsObserved, is_input_of};
+ghost use Rattle.gb_label.specs.Reading.{AreInputs, AreInputsObserved, AreOutputs};
+ghost use Rattle.gb_label.specs.Reading.{AreOutputsObserved, is_input_of};
 ghost use Rattle.gb_meaning.specs.Kinds.{Kinds};
 ghost use Rattle.gb_meaning.specs.Memory.{World};
 ghost use Rattle.gb_meaning.specs.TrueRecord.{outside};
@@ -77,7 +78,8 @@ pub(crate) fn recheck_task<F: Folder>(
         → AreOutputsObserved task.now (F.contents folder.old).files observed.outputs.items
         → IsToGoOn kinds options task.now world last.now
         → IfOk result (IsAsBefore kinds options task.now (F.contents folder.old).files world) }
-    ensures err { IsTrue F.faithful → AreInputsObserved task.now (F.contents folder.old).files observed.inputs.items
+    ensures err { IsTrue F.faithful → AreInputsObserved task.now (F.contents folder.old).files
+        observed.inputs.items
         → AreOutputsObserved task.now (F.contents folder.old).files observed.outputs.items
         → IfErr result (IsOfMachine (F.failures folder.old) (F.failures folder.new)) }
 {

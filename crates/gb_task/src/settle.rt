@@ -11,7 +11,8 @@ ghost use Rattle.gb_plan.specs.Graph.{Plan, needs_in};
 ghost use Rattle.gb_report.specs.Outcome.{is_executed};
 ghost use Rattle.gb_task.specs.Case.{IsKnown};
 ghost use Rattle.gb_task.specs.Current.{WasSettled};
-ghost use Rattle.gb_task.specs.Settled.{AnswersAlone, IsOfTask, SettlesExecution, ReportsAnswer, idle_outcome};
+ghost use Rattle.gb_task.specs.Settled.{AnswersAlone, IsOfTask, SettlesExecution, ReportsAnswer};
+ghost use Rattle.gb_task.specs.Settled.{idle_outcome};
 ghost use Rattle.gb_task.specs.Settled.{settled_as, silent_report};
 ghost use Rattle.gb_task.specs.Executing.{Registering, setting_with};
 

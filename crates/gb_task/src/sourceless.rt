@@ -46,7 +46,8 @@ pub fn execute_without_source<F: Folder>(
     // Over any folder: it was cleared by these calls.
     ensures calls { (calls : List Call) × (ended : Ending) × Leads F.device folder.old calls folder.new
         × Clears task.now was_read calls [] ended × (result.outcome ≡ cleared_outcome ended) }
-    ensures requests { Requests F.failures F.may_leave F.allowed (takes_at (is_of_execution task.now)) folder.old
+    ensures requests { Requests F.failures F.may_leave F.allowed (takes_at (is_of_execution task.now))
+        folder.old
         folder.new }
     ensures blame { (place : List ℕ) → result.outcome ≡ Failed (Fault.Device place)
         → HasRisen (F.failures folder.old) (F.failures folder.new) }

@@ -43,14 +43,16 @@ AreOutputEntriesListed failures may_leave allowed old new root entries =
     × (entries ≡ entries_from root places))
 
 -- a call returned the bytes of the file: the digest is theirs, and no others are kept
-abbrev pub WasObserved : {F : Type 0} → (F → ℕ) → (F → Tearing) → (F → Call → F → Type 0) → F → F → ScannedFile
+abbrev pub WasObserved : {F : Type 0} → (F → ℕ) → (F → Tearing) → (F → Call → F → Type 0) → F → F
+    → ScannedFile
     → Type 0
 WasObserved failures may_leave allowed old new observed =
     (bytes : Bytes) × WereRead failures may_leave allowed old new observed.place bytes
     × (observed.digest ≡ sha256 bytes) × KeepsOnly bytes observed.kept
 
 -- the same holds for each file
-abbrev pub WereObserved : {F : Type 0} → (F → ℕ) → (F → Tearing) → (F → Call → F → Type 0) → F → F → List ScannedFile
+abbrev pub WereObserved : {F : Type 0} → (F → ℕ) → (F → Tearing) → (F → Call → F → Type 0) → F → F
+    → List ScannedFile
     → Type 0
 WereObserved failures may_leave allowed old new files =
     AllByRecursion (WasObserved failures may_leave allowed old new) files

@@ -18,7 +18,8 @@ use std::cmp::Ordering;
 pub fn compare(alloc: Global, old: &Prints, new: &Prints) -> Result<ChangeList, AllocError>
     ensures changes { IfOk result (λ changes. changes ≡ changes_between old.now.1 new.now.1) }
     ensures exact { IfOk result (λ changes. (before after : Tree) → old.now.1 ≡ digests_of before
-        → new.now.1 ≡ digests_of after → AreCollisionFree before after → changes ≡ changes_between before after) }
+        → new.now.1 ≡ digests_of after → AreCollisionFree before after
+        → changes ≡ changes_between before after) }
 {
     let (before, after) = (old.as_slice(), new.as_slice());
     let mut changes = ChangeList::new(alloc);

@@ -91,9 +91,12 @@ pub(crate) fn complete_all<F: Folder>(
         → WereObserved F.failures F.may_leave F.allowed first folder.old observed.items
         → IfOk result (λ made. IsTreeRead F.failures F.may_leave F.allowed first folder.new
         (entries_observed observed.items) made.0) }
-    ensures read { IsTrue F.faithful → AllByRecursion (IsObservedIn (F.contents folder.old).files) observed.items
-        → IfOk result (λ made. made.0 ≡ contents_at (F.contents folder.old).files (entries_observed observed.items)) }
-    ensures err { IsTrue F.faithful → AllByRecursion (IsObservedIn (F.contents folder.old).files) observed.items
+    ensures read { IsTrue F.faithful → AllByRecursion (IsObservedIn (F.contents folder.old).files)
+        observed.items
+        → IfOk result (λ made. made.0 ≡ contents_at (F.contents folder.old).files
+        (entries_observed observed.items)) }
+    ensures err { IsTrue F.faithful → AllByRecursion (IsObservedIn (F.contents folder.old).files)
+        observed.items
         → IfErr result (IsTreeFaultOfMachine (F.failures folder.old) (F.failures folder.new)) }
 {
     let mut digests = Vec::with_capacity(alloc, observed.len())?;

@@ -123,7 +123,8 @@ pub fn reading_of<F: Folder>(
         (λ reading. AllByRecursion (λ observed. IsTrue (is_under_any roots.now observed.place)) reading.1) }
     // Over any folder: the files are those that calls returned, and so are the digests and the
     // bytes.
-    ensures listed { IfOk result (λ reading. AreEntriesListed F.failures F.may_leave F.allowed naming roots.now
+    ensures listed { IfOk result (λ reading. AreEntriesListed F.failures F.may_leave F.allowed naming
+        roots.now
         include.now exclude.now folder.old folder.new (entries_observed reading.1)) }
     ensures answered { IfOk result
         (λ reading. WereObserved F.failures F.may_leave F.allowed folder.old folder.new reading.1) }
@@ -167,7 +168,8 @@ fn read_once<F: Folder>(
         (λ reading. AllByRecursion (λ observed. IsTrue (is_under_any roots.now observed.place)) reading.1) }
     // Over any folder: the files are those that calls returned, and so are the digests and the
     // bytes.
-    ensures listed { IfOk result (λ reading. AreEntriesListed F.failures F.may_leave F.allowed naming roots.now
+    ensures listed { IfOk result (λ reading. AreEntriesListed F.failures F.may_leave F.allowed naming
+        roots.now
         include.now exclude.now folder.old folder.new (entries_observed reading.1)) }
     ensures answered { IfOk result
         (λ reading. WereObserved F.failures F.may_leave F.allowed folder.old folder.new reading.1) }

@@ -99,7 +99,8 @@ pub(crate) fn read_all<F: Folder>(
     ensures same { IsTrue F.faithful → F.contents folder.new ≡ F.contents folder.old }
     ensures read { IsTrue F.faithful → IfOk result
         (λ files. files ≡ contents_at (F.contents folder.old).files entries.now) }
-    ensures small { IsTrue F.faithful → OnOk result (too_large (F.contents folder.old).files entries.now ≡ []) }
+    ensures small { IsTrue F.faithful → OnOk result
+        (too_large (F.contents folder.old).files entries.now ≡ []) }
     ensures err { IsTrue F.faithful
         → AllByRecursion (λ entry. IsSome (file_at (F.contents folder.old).files entry.1)) entries.now
         → IfErr result (λ fault.
@@ -189,7 +190,8 @@ pub(crate) fn digest_all<F: Folder>(
     ensures ordered { IfOk result (λ digests. IsTrue (is_sorted byte_order digests.items)) }
     ensures digests { IsTrue F.faithful → IfOk result
         (λ digests. digests.items ≡ digests_of (contents_at (F.contents folder.old).files entries.now)) }
-    ensures small { IsTrue F.faithful → OnOk result (too_large (F.contents folder.old).files entries.now ≡ []) }
+    ensures small { IsTrue F.faithful → OnOk result
+        (too_large (F.contents folder.old).files entries.now ≡ []) }
     ensures err { IsTrue F.faithful
         → AllByRecursion (λ entry. IsSome (file_at (F.contents folder.old).files entry.1)) entries.now
         → IfErr result (λ fault.

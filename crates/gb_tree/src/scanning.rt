@@ -159,7 +159,8 @@ pub(crate) fn scan_all<F: Folder>(
         (λ observed. WereObserved F.failures F.may_leave F.allowed folder.old folder.new observed.items) }
     ensures observed { IsTrue F.faithful → IfOk result
         (λ observed. AllByRecursion (IsObservedIn (F.contents folder.old).files) observed.items) }
-    ensures small { IsTrue F.faithful → OnOk result (too_large (F.contents folder.old).files entries.now ≡ []) }
+    ensures small { IsTrue F.faithful → OnOk result
+        (too_large (F.contents folder.old).files entries.now ≡ []) }
     ensures err { IsTrue F.faithful
         → AllByRecursion (λ entry. IsSome (file_at (F.contents folder.old).files entry.1)) entries.now
         → IfErr result (λ fault.
