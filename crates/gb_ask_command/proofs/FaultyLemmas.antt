@@ -8,7 +8,7 @@ use Rattle.gb_registry.specs.Faulty.{IsFirstAt}
 use Rattle.gb_registry.specs.Projects.{project_paths, projects_of}
 use Rattle.gb_registry.specs.Source.{source_of}
 use Rattle.gb_registry.specs.Tables.{Tables}
-use Rattle.gb_registry.specs.declared.faulty.FaultAt.{FaultAt}
+use Rattle.gb_registry.specs.declared.first_fault.FaultAt.{FaultAt}
 use Rattle.gb_report.specs.declared.fault.Fault.{Fault}
 use Rattle.gb_report.specs.declared.fault.Fault.TheVariants as faults
 use Rattle.gb_script.specs.declared.script.Statement.{Statement}

@@ -12,7 +12,7 @@ use Rattle.gb_check.specs.Sites.{AreLinesAt, AreSites, script_of_project}
 use Rattle.gb_check.specs.Warnings.{bare_roots, declared_in}
 use Rattle.gb_check.specs.declared.findings.Finding.{Finding}
 use Rattle.gb_check.specs.declared.findings.Findings.{Findings}
-use Rattle.gb_check.specs.declared.marks.Mark.{Mark}
+use Rattle.gb_check.specs.declared.clause_lines.Mark.{Mark}
 use Rattle.gb_check.specs.declared.sites.Site.{Site}
 use Rattle.gb_declare.specs.Registered.{registry_said}
 use Rattle.gb_folder.specs.Files.{Contents, Files, Place}

@@ -10,9 +10,9 @@ use Rattle.gb_plan.specs.Graph.{Registry, paths_of}
 use Rattle.gb_predict.specs.declared.coming.Prediction.{Prediction}
 use Rattle.gb_query.specs.Inventory.{AreEntriesOf, IsUnlisted}
 use Rattle.gb_query.specs.Notation.{IsStatusOf}
-use Rattle.gb_query.specs.declared.lines.Activity.{Activity}
+use Rattle.gb_query.specs.declared.answer_lines.Activity.{Activity}
 use Rattle.gb_query.specs.declared.notation.Notation.{Notation}
-use Rattle.gb_query.specs.declared.search.Relation.{Relation}
+use Rattle.gb_query.specs.declared.at_place.Relation.{Relation}
 use Rattle.gb_registry.specs.Source.{Source}
 use Rattle.gb_registry.specs.Tables.{Tables}
 use Rattle.gb_report.specs.declared.fault.Fault.{Fault}

@@ -28,7 +28,7 @@ use Rattle.gb_registry.specs.Projects.{Path}
 use Rattle.gb_registry.specs.Read.{IsRead}
 use Rattle.gb_registry.specs.Source.{Source}
 use Rattle.gb_registry.specs.Tables.{Tables}
-use Rattle.gb_registry.specs.declared.faulty.FaultAt.{FaultAt}
+use Rattle.gb_registry.specs.declared.first_fault.FaultAt.{FaultAt}
 use Rattle.gb_report.specs.Fault.{fault_number}
 use Rattle.gb_report.specs.declared.fault.Fault.{Fault}
 use Rattle.gb_report.specs.declared.fault.Fault.TheVariants as faults

@@ -7,7 +7,7 @@ use Rattle.gb_registry.specs.Faulty.{IsFirstAt}
 use Rattle.gb_registry.specs.Projects.{project_paths, projects_of}
 use Rattle.gb_registry.specs.Source.{source_of}
 use Rattle.gb_registry.specs.Tables.{Tables}
-use Rattle.gb_registry.specs.declared.faulty.FaultAt.{FaultAt}
+use Rattle.gb_registry.specs.declared.first_fault.FaultAt.{FaultAt}
 use Rattle.gb_script.specs.declared.script.Statement.{Statement}
 use Rattle.gb_build.specs.Scripts.{ScriptsSay, SettingsSay, script_places}
 

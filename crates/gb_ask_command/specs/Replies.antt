@@ -13,9 +13,9 @@ use Rattle.gb_query.specs.Asked.{asked_place}
 use Rattle.gb_query.specs.Inventory.{IsUnlisted}
 use Rattle.gb_query.specs.Notation.{IsFoundText, IsStatusOf, IsTasksText}
 use Rattle.gb_query.specs.Search.{found_in}
-use Rattle.gb_query.specs.declared.lines.Activity.{Activity}
+use Rattle.gb_query.specs.declared.answer_lines.Activity.{Activity}
 use Rattle.gb_query.specs.declared.notation.Notation.{Notation}
-use Rattle.gb_query.specs.declared.search.Relation.{Relation}
+use Rattle.gb_query.specs.declared.at_place.Relation.{Relation}
 use Rattle.gb_registry.specs.Source.{Source}
 use Rattle.gb_registry.specs.Tables.{Tables}
 use Rattle.gb_report.specs.declared.fault.Fault.{Fault}

@@ -7,7 +7,7 @@ ghost use Rattle.gb_ask_command.specs.Line.{line_text};
 ghost use Rattle.gb_ask_command.specs.Reply.{reply_status};
 ghost use Rattle.gb_ask_command.specs.Reported.{IsWhyText, IsWritten, why_text};
 
-use crate::line::push_line;
+use crate::task_line::push_line;
 use crate::reply::{Reply, reply_status};
 use crate::why_json::why_json;
 use gb_answer::answer::not_built_text;

@@ -23,11 +23,11 @@ ghost use Rattle.gb_ask_command.specs.Check.{RepliesCheck, check_status, check_t
 ghost use Rattle.gb_ask_command.specs.Reply.{Reply as Replied, reply_text};
 
 use crate::check_json::check_json;
-use crate::faulty::read_fault;
+use crate::first_fault::read_fault;
 use crate::reply::{Reply, push_reply};
 use crate::unread::warn_unread;
 use gb_action::actions::Actions;
-use gb_build::reading::read_registry;
+use gb_build::workspace::read_registry;
 use gb_check::finding::find;
 use gb_check::findings::{Cause, Finding, Findings, Spot};
 use gb_check::found::{push_findings, unread_text};
@@ -43,7 +43,7 @@ use gb_query::inventory::unregistered;
 use gb_query::notation::Notation;
 use gb_registry::checking::Scripted;
 use gb_registry::configured::Configured;
-use gb_registry::faulty::FaultAt;
+use gb_registry::first_fault::FaultAt;
 use gb_registry::tables::Tables;
 use gb_report::fault::Fault;
 use std::alloc::{AllocError, Global};

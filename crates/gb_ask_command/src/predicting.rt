@@ -13,7 +13,7 @@ ghost use Rattle.gb_ask_command.specs.Reported.{AreReported, AreReportedOf, IsAn
 use crate::answer::Answer;
 use gb_action::actions::Actions;
 use gb_action::table::ActionTable;
-use gb_build::reading::read_registry;
+use gb_build::workspace::read_registry;
 use gb_core::name::Name;
 use gb_core::path::TaskPath;
 use gb_core::text::Text;
@@ -25,7 +25,7 @@ use gb_plan::plan::{Planned, paths_of};
 use gb_predict::predict::predict;
 use gb_project::script_tasks::ScriptTasks;
 use gb_provider::transforms::Transforms;
-use gb_records::reading::read_records;
+use gb_records::stored_records::read_records;
 use gb_registry::configured::Configured;
 use gb_registry::tables::Tables;
 use gb_report::report::Options;

@@ -5,7 +5,7 @@ ghost use Rattle.gb_registry.specs.Tables.{tables_of};
 ghost use Rattle.gb_ask_command.specs.Replies.{AreRead};
 
 use gb_action::actions::Actions;
-use gb_build::reading::read_registry;
+use gb_build::workspace::read_registry;
 use gb_folder::folder::Folder;
 use gb_meaning::events::Invocation;
 use gb_provider::transforms::Transforms;

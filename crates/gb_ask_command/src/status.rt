@@ -21,7 +21,7 @@ use gb_meaning::events::Invocation;
 use gb_printer::printer::Printer;
 use gb_provider::transforms::Transforms;
 use gb_query::answers::inventory_text;
-use gb_query::lines::Activity;
+use gb_query::answer_lines::Activity;
 use gb_query::notation::Notation;
 use gb_registry::configured::Configured;
 use gb_registry::tables::Tables;

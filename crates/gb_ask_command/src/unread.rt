@@ -10,7 +10,7 @@ use gb_check::findings::{Cause, Finding, Spot};
 use gb_core::name::Name;
 use gb_core::text::Text;
 use gb_registry::checking::Scripted;
-use gb_registry::walk::{Look, look_along};
+use gb_registry::operands::{Look, look_along};
 use gb_report::fault::Fault;
 use gb_script::expression::{Expression, Source, Step};
 use gb_script::script::{Call, Clause, Statement};

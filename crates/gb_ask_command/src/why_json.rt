@@ -11,7 +11,7 @@ use gb_core::path::TaskPath;
 use gb_predict::coming::{Coming, Prediction};
 use gb_query::objects::{json_line, text_value};
 use gb_reason::reason::Reason;
-use gb_reason::text::push_reason;
+use gb_reason::reason_text::push_reason;
 use gb_report::fault::Fault;
 use serde_json::{Value, json};
 use std::alloc::{AllocError, Global};

@@ -11,7 +11,7 @@ use gb_core::path::TaskPath;
 use gb_folder::folder::Folder;
 use gb_history::record::Record;
 use gb_plan::plan::{Planned, paths_of};
-use gb_records::reading::read_records;
+use gb_records::stored_records::read_records;
 use gb_report::fault::Fault;
 use std::alloc::{AllocError, Global};
 

@@ -19,7 +19,7 @@ ghost use Rattle.gb_build.specs.Refusing.{IsNotBegun};
 ghost use Rattle.gb_build.specs.InvocationAsked.{InvocationRequests};
 ghost use Rattle.gb_build.specs.Registering.{registers_in, setting_of};
 
-use crate::reading::read_registry;
+use crate::workspace::read_registry;
 use crate::requested::build_requested;
 use gb_action::actions::Actions;
 use gb_core::name::Name;

@@ -24,11 +24,11 @@ pub mod laws;
 pub mod nothing;
 mod one_script;
 pub mod plans;
-pub mod reading;
 pub mod records;
 mod requested;
 pub mod scripts;
 pub mod trees;
+pub mod workspace;
 
 pub use crate::events::run_events;
 pub use crate::invoking::invoke;

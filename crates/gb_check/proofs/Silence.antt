@@ -18,7 +18,7 @@ use Rattle.gb_report.specs.declared.fault.Fault.{Fault}
 use Rattle.gb_report.specs.declared.fault.Fault.TheVariants as faults
 use Rattle.gb_check.specs.Found.{IsFound, IsSilent, faults_of, found_of, in_plan, in_tasks, task_found, tasks_found}
 use Rattle.gb_check.specs.declared.findings.Finding.{Finding}
-use Rattle.gb_check.specs.declared.marks.Mark.{Mark}
+use Rattle.gb_check.specs.declared.clause_lines.Mark.{Mark}
 use Rattle.gb_check.specs.declared.sites.Site.{Site}
 
 -- ---- Findings

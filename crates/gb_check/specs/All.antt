@@ -8,7 +8,7 @@ use Rattle.gb_check.specs.Found.{IsFound, IsSilent}
 use Rattle.gb_check.specs.Sites.{AreSites}
 use Rattle.gb_check.specs.Warnings.{AreWarnings}
 use Rattle.gb_check.specs.declared.findings.Findings.{Findings}
-use Rattle.gb_check.specs.declared.marks.Mark.{Mark}
+use Rattle.gb_check.specs.declared.clause_lines.Mark.{Mark}
 use Rattle.gb_check.specs.declared.sites.Site.{Site}
 
 -- The findings for a registry whose tasks these scripts register, with the lines in which they do.

@@ -20,7 +20,7 @@ use Rattle.gb_check.specs.declared.findings.Cause.TheVariants as causes
 use Rattle.gb_check.specs.declared.findings.Finding.{Finding}
 use Rattle.gb_check.specs.declared.findings.Spot.{Spot}
 use Rattle.gb_check.specs.declared.findings.Spot.TheVariants as spots
-use Rattle.gb_check.specs.declared.marks.Mark.{Mark}
+use Rattle.gb_check.specs.declared.clause_lines.Mark.{Mark}
 use Rattle.gb_check.specs.declared.sites.Site.{Site}
 
 -- ---- What is printed

@@ -11,9 +11,9 @@ use Rattle.gb_script.specs.declared.script.Clause.{Clause}
 use Rattle.gb_script.specs.declared.script.Clause.TheVariants as clauses
 use Rattle.gb_script.specs.declared.script.Statement.{Statement}
 use Rattle.gb_script.specs.declared.script.Statement.TheVariants as statements
-use Rattle.gb_check.specs.declared.marks.Mark.{Mark}
-use Rattle.gb_check.specs.declared.marks.Subject.{Subject}
-use Rattle.gb_check.specs.declared.marks.Subject.TheVariants as subjects
+use Rattle.gb_check.specs.declared.clause_lines.Mark.{Mark}
+use Rattle.gb_check.specs.declared.clause_lines.Subject.{Subject}
+use Rattle.gb_check.specs.declared.clause_lines.Subject.TheVariants as subjects
 
 -- the lines of a statement and of its clauses
 abbrev pub Lines : Type 0

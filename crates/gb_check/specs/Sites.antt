@@ -17,7 +17,7 @@ use Rattle.gb_script.specs.declared.script.Statement.{Statement}
 use Rattle.gb_script.specs.declared.script.Statement.TheVariants as statements
 use Rattle.gb_store.specs.Faults.{reported_at}
 use Rattle.gb_check.specs.Marks.{Lines, first_lines, marks_of, other_lines}
-use Rattle.gb_check.specs.declared.marks.Mark.{Mark}
+use Rattle.gb_check.specs.declared.clause_lines.Mark.{Mark}
 use Rattle.gb_check.specs.declared.sites.Site.{Site}
 
 -- the task that a statement in this line registers, if it registers one

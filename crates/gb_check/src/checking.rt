@@ -7,9 +7,9 @@ ghost use Rattle.gb_check.specs.Found.{IsFound, IsSilent, fault_spot, found_of, 
 ghost use Rattle.gb_check.specs.Found.{tasks_found};
 
 use crate::findings::{Cause, Finding, Spot, site_of};
-use crate::marks::Mark;
-use crate::naming::line_for;
-use crate::planning::{check_all, is_out_of_memory};
+use crate::clause_lines::Mark;
+use crate::fault_line::line_for;
+use crate::whole_plan::{check_all, is_out_of_memory};
 use crate::sites::Site;
 use gb_core::path::TaskPath;
 use gb_graph::tasks::Tasks;

@@ -4,7 +4,7 @@ ghost use Rattle.gb_plan.specs.Graph.{declaration_at, paths_of};
 ghost use Rattle.gb_plan.specs.Task.{has_path};
 ghost use Rattle.gb_check.specs.Warnings.{declared_in, declared_of};
 
-use crate::planning::is_out_of_memory;
+use crate::whole_plan::is_out_of_memory;
 use gb_core::path::TaskPath;
 use gb_graph::tasks::Tasks;
 use gb_plan::task::TaskDeclaration;

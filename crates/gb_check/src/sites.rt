@@ -15,7 +15,7 @@ ghost use Rattle.gb_check.specs.Marks.{Lines, first_lines, marks_of, other_lines
 ghost use Rattle.gb_check.specs.Sites.{AreLinesAt, AreSites, HasTextFault, IsUnread, in_file};
 ghost use Rattle.gb_check.specs.Sites.{registered_at, script_of_project, sites_of, unread_at};
 
-use crate::marks::{Mark, push_words};
+use crate::clause_lines::{Mark, push_words};
 use gb_core::name::{Name, NameFault};
 use gb_core::path::{ProjectPath, TaskPath};
 use gb_core::place::{Place, PlaceFault};

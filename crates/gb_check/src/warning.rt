@@ -11,7 +11,7 @@ use crate::between::push_between_all;
 use crate::declared::declarations;
 use crate::findings::Finding;
 use crate::guarded::guarded_in;
-use crate::shared::push_shared;
+use crate::common_roots::push_shared;
 use crate::sites::Site;
 use gb_core::path::TaskPath;
 use gb_folder::folder::Folder;

@@ -25,8 +25,8 @@ use Rattle.gb_provider.specs.declared.fault.Chosen.{Chosen}
 use Rattle.gb_provider.specs.declared.fault.Refusal.{Refusal}
 use Rattle.gb_provider.specs.declared.produced.Produced.{Produced}
 use Rattle.gb_provider.specs.declared.produced.Produced.TheVariants as produced
-use Rattle.gb_provider.specs.declared.reading.Reading.{Reading}
-use Rattle.gb_provider.specs.declared.reading.Reading.TheVariants.{Settles}
+use Rattle.gb_provider.specs.declared.evaluation.Reading.{Reading}
+use Rattle.gb_provider.specs.declared.evaluation.Reading.TheVariants.{Settles}
 use Rattle.gb_provider.proofs.CircleLemmas.{answer_settled}
 use Rattle.gb_provider.proofs.RoundsLemmas.{after_is, answer_found, settled_is}
 use Rattle.gb_declare.specs.Needs.{GivenHasTasks}

@@ -4,7 +4,7 @@ use Rattle.std.specs.Prelude.{Option, Some, None, slice_get, ◌⊎◌}
 use Rattle.std.proofs.lemmas.Option.{slice_get_cases}
 use Rattle.gb_provider.proofs.RoundsLemmas.{after_is, settled_is, answer_found, none_bounded}
 use Rattle.gb_provider.specs.Rounds.{Rule, Answers, Reads, after_operand, reading, settled, and_then, answer_after, answer}
-use Rattle.gb_provider.specs.declared.reading.Reading.TheVariants.{Settles}
+use Rattle.gb_provider.specs.declared.evaluation.Reading.TheVariants.{Settles}
 use Rattle.gb_declare.specs.Parts.{IsLike, ArePart, PartsAnswer, PartsAreEndless}
 
 module _ {A : Type 0} where

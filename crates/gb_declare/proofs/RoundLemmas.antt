@@ -4,8 +4,8 @@ use Rattle.std.specs.Prelude.{Option, Some, None, slice_get}
 use Rattle.gb_provider.proofs.RoundsLemmas.{after_is}
 use Rattle.gb_provider.specs.Circle.{awaited_after}
 use Rattle.gb_provider.specs.Rounds.{Rule, Answers, Reads, after_operand, reading, awaited, and_then, answer, next_awaited}
-use Rattle.gb_provider.specs.declared.reading.Reading.{Reading}
-use Rattle.gb_provider.specs.declared.reading.Reading.TheVariants.{Settles, Waits}
+use Rattle.gb_provider.specs.declared.evaluation.Reading.{Reading}
+use Rattle.gb_provider.specs.declared.evaluation.Reading.TheVariants.{Settles, Waits}
 use Rattle.gb_declare.specs.Parts.{IsLike, ArePart}
 use Rattle.gb_declare.proofs.PartLemmas.{part_answers, part_is_endless}
 

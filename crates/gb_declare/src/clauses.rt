@@ -12,7 +12,7 @@ use gb_action::actions::Actions;
 use gb_core::text::{Text, Texts};
 use gb_provider::transforms::Transforms;
 use gb_registry::names::{Names, check_name};
-use gb_registry::walk::look_along;
+use gb_registry::operands::look_along;
 use gb_registry::wrong::{Scope, check_count, check_task};
 use gb_report::fault::Fault;
 use gb_script::expression::Expressions;

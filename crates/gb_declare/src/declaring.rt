@@ -11,7 +11,7 @@ ghost use Rattle.gb_declare.specs.Views.{joined_of, registered_of, text_faults};
 use crate::clauses::{check_clause, check_main};
 use crate::headings::{clashes, note};
 use crate::registered::{Joined, Registered};
-use crate::shape::check_shape;
+use crate::fitting::check_shape;
 use crate::{joining, naming};
 use gb_action::actions::Actions;
 use gb_core::path::TaskPath;

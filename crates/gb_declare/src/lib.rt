@@ -13,10 +13,10 @@
 
 mod clauses;
 pub mod declaring;
+mod fitting;
 mod headings;
 mod joining;
 pub mod laws;
-mod naming;
+mod named_tasks;
 mod picks;
 pub mod registered;
-mod shape;

@@ -7,7 +7,7 @@ ghost use Rattle.gb_evaluate.specs.Over.{known_names};
 ghost use Rattle.gb_evaluate.specs.Evaluated.{all_hold, enabled_of};
 ghost use Rattle.gb_evaluate.specs.Rows.{Anywhere, AreWithin, IsAt, ReportsOf};
 
-use crate::asking::{passes, require_flag};
+use crate::one_value::{passes, require_flag};
 use crate::context::Context;
 use gb_action::actions::Actions;
 use gb_core::name::{Name, NameFault};

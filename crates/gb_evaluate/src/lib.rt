@@ -10,12 +10,12 @@
 #![tactic(auto)]
 
 mod actions;
-mod asking;
 mod conditions;
 pub mod context;
 pub mod evaluating;
 mod files;
 mod needs;
+mod one_value;
 mod outputs;
 pub mod parts;
 mod reporting;

@@ -12,7 +12,7 @@ ghost use Rattle.gb_evaluate.specs.Over.{known_names};
 ghost use Rattle.gb_evaluate.specs.Evaluated.{IsBuiltIn, outputs_of};
 ghost use Rattle.gb_evaluate.specs.Rows.{AreWithin, ReportsOf};
 
-use crate::asking::require_place;
+use crate::one_value::require_place;
 use crate::context::Context;
 use gb_action::actions::Actions;
 use gb_action::output::Form;

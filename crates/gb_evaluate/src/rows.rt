@@ -6,7 +6,7 @@ ghost use Rattle.gb_evaluate.specs.Given.{place_at, required_at};
 ghost use Rattle.gb_evaluate.specs.Over.{ReportsOver, known_names};
 ghost use Rattle.gb_evaluate.specs.Rows.{AreWithin, HaveValues, numbers_in};
 
-use crate::asking::{require, require_place};
+use crate::one_value::{require, require_place};
 use crate::context::Context;
 use gb_action::actions::Actions;
 use gb_action::values::Arguments;

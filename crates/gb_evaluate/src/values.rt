@@ -6,7 +6,7 @@ ghost use Rattle.gb_evaluate.specs.Over.{known_names};
 ghost use Rattle.gb_evaluate.specs.Evaluated.{values_of};
 ghost use Rattle.gb_evaluate.specs.Rows.{AreWithin, HaveValues, IsAt, ReportsOf};
 
-use crate::asking::require;
+use crate::one_value::require;
 use crate::context::Context;
 use gb_action::actions::Actions;
 use gb_action::values::NamedValues;

@@ -10,8 +10,8 @@ use Rattle.gb_plan.specs.declared.plan.Planned.{Planned}
 use Rattle.gb_report.specs.declared.report.Outcome.{Outcome}
 use Rattle.gb_exec.specs.Plans.{AreEndings, path_at}
 use Rattle.gb_exec.specs.Starts.{ending_in, ending_of}
-use Rattle.gb_exec.specs.declared.starts.Ending.{Ending}
-use Rattle.gb_exec.specs.declared.starts.Ending.TheVariants.{ToCome}
+use Rattle.gb_exec.specs.declared.may_start.Ending.{Ending}
+use Rattle.gb_exec.specs.declared.may_start.Ending.TheVariants.{ToCome}
 
 got_more : {X : Type 0} (xs : List X) (x : X) (k : ℕ) (e : X) → slice_get (xs ++ x ∷ []) k ≡ Some e → (slice_get xs k ≡ Some e) ⊎ ((k ≡ length xs) × (e ≡ x))
 got_more [] x zero e is = inr (refl, sym (some_same is))

@@ -12,7 +12,7 @@ use Rattle.gb_plan.proofs.Tests.{not_false, any_append, at_member, into_filter}
 use Rattle.gb_graph.specs.Ranked.{Numbers, GiveNumbers, number_at, numbers_in}
 use Rattle.gb_graph.proofs.Edges.{of_kept, into_kept, one_number}
 use Rattle.gb_graph.proofs.Numbers.{in_of, of_in}
-use Rattle.gb_exec.specs.declared.starts.Ending.{Ending}
+use Rattle.gb_exec.specs.declared.may_start.Ending.{Ending}
 use Rattle.gb_exec.specs.Starts.{IsWired, mark_at, row}
 use Rattle.gb_exec.specs.Plans.{AreOfPlan, IsNeeded, GiveRows, finalizers_of, needs_of, path_at}
 use Rattle.gb_exec.proofs.Marks.{row_known}

@@ -14,8 +14,8 @@ use Rattle.gb_plan.specs.Graph.{no_repeats, order, needs_in, is_scheduled_in, Re
 use Rattle.gb_plan.proofs.Tests.{not_true, left_of, right_of, in_filter, into_filter, any_map}
 use Rattle.gb_meaning.specs.Label.{Moment, some_outcome}
 use Rattle.gb_meaning.specs.Execution as meant
-use Rattle.gb_exec.specs.declared.starts.Ending.{Ending}
-use Rattle.gb_exec.specs.declared.starts.Ending.TheVariants.{ToCome}
+use Rattle.gb_exec.specs.declared.may_start.Ending.{Ending}
+use Rattle.gb_exec.specs.declared.may_start.Ending.TheVariants.{ToCome}
 use Rattle.gb_exec.specs.Starts.{Progress, IsCalled, Serves, called, needed, ending_in, ending_of, ended_badly, has_started, has_failed, has_executed, has_executed_need, lacks_need, mark_at, row}
 use Rattle.gb_exec.specs.Plans.{AreOfPlan, AreEndings, IsNeeded, NeedsByNumber, StartsByNumber, path_at}
 use Rattle.gb_exec.proofs.Marks.{row_known}

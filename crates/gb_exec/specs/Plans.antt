@@ -9,8 +9,8 @@ use Rattle.gb_plan.specs.Graph.{no_repeats, order, needs_in}
 use Rattle.gb_report.specs.Outcome.{is_executed}
 use Rattle.gb_report.specs.declared.report.Outcome.{Outcome}
 use Rattle.gb_report.specs.declared.report.Options.{Options}
-use Rattle.gb_exec.specs.declared.starts.Ending.{Ending}
-use Rattle.gb_exec.specs.declared.starts.Ending.TheVariants.{ToCome}
+use Rattle.gb_exec.specs.declared.may_start.Ending.{Ending}
+use Rattle.gb_exec.specs.declared.may_start.Ending.TheVariants.{ToCome}
 use Rattle.gb_exec.specs.Starts.{Progress, DoesStart, ending_in, ending_of, has_executed_need, mark_at, row}
 
 -- the path of the task of a number

@@ -5,8 +5,8 @@ use Rattle.std.specs.List.{list_any}
 use Rattle.std.specs.Global.{Global}
 use Rattle.gb_report.specs.declared.report.Outcome.{Outcome}
 use Rattle.gb_report.specs.declared.report.Outcome.TheVariants as outcomes
-use Rattle.gb_exec.specs.declared.starts.Ending.{Ending}
-use Rattle.gb_exec.specs.declared.starts.Ending.TheVariants.{ToCome, Executed, Well, Failed, NotRun}
+use Rattle.gb_exec.specs.declared.may_start.Ending.{Ending}
+use Rattle.gb_exec.specs.declared.may_start.Ending.TheVariants.{ToCome, Executed, Well, Failed, NotRun}
 
 -- rows of numbers, without their allocations
 abbrev pub rows : List (Vec ℕ Global) → List (List ℕ)

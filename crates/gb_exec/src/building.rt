@@ -21,7 +21,7 @@ use crate::dry::dry_reports;
 use crate::executions::execute_tasks;
 use crate::heard_laws::reported_is_heard;
 use crate::listener::TaskListener;
-use crate::one::Build;
+use crate::one_task::Build;
 use crate::plans::starts_of;
 use gb_action::actions::Actions;
 use gb_action::table::ActionTable;

@@ -5,9 +5,9 @@ ghost use Rattle.gb_graph.specs.Ranked.{numbers_in};
 ghost use Rattle.gb_plan.specs.Graph.{no_repeats, order, stuck};
 ghost use Rattle.gb_exec.specs.Plans.{AreOfPlan};
 ghost use Rattle.gb_exec.specs.Starts.{mark_at, row, rows};
-ghost use Rattle.gb_exec.specs.declared.starts.Ending.TheVariants.{ToCome};
+ghost use Rattle.gb_exec.specs.declared.may_start.Ending.TheVariants.{ToCome};
 
-use crate::starts::{Starts, mark_all};
+use crate::may_start::{Starts, mark_all};
 use gb_core::tasks::TaskPaths;
 use gb_graph::by_path::Numbers;
 use gb_graph::ranked::numbers_of;

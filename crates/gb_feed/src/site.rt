@@ -6,7 +6,7 @@ ghost use Rattle.gb_feed.specs.Sites.{is_site, xml, xml_address, xml_byte};
 use gb_action::reply::ActionFault;
 use gb_core::text::Text;
 use gb_markdown::address::{address_of, has_scheme, is_safe};
-use gb_markdown::page::text;
+use gb_markdown::rendered::text;
 use std::alloc::{AllocError, Global};
 
 /// Whether an address may be the address of a site: it is safe, has a scheme and ends in `/`.

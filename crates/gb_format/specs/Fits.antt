@@ -4,7 +4,7 @@ use Rattle.std.specs.Prelude.{length, map}
 use Rattle.std.specs.Prelude.{if◌then◌else◌}
 use Rattle.gb_format.specs.declared.kind.Kind.{Kind}
 use Rattle.gb_format.specs.declared.kind.Kind.TheVariants as kinds
-use Rattle.gb_format.specs.declared.place.Place.{Place}
+use Rattle.gb_format.specs.declared.leading_word.Place.{Place}
 use Rattle.gb_format.specs.declared.fits.Reach.{Reach}
 use Rattle.gb_format.specs.declared.fits.Reach.TheVariants as reaches
 use Rattle.gb_format.specs.declared.fits.Item.{Item}

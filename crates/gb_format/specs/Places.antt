@@ -5,11 +5,11 @@ use Rattle.std.specs.Prelude.{if◌then◌else◌}
 use Rattle.std.specs.Str.{bytes_eq}
 use Rattle.gb_format.specs.declared.kind.Kind.{Kind}
 use Rattle.gb_format.specs.declared.kind.Kind.TheVariants as kinds
-use Rattle.gb_format.specs.declared.place.Awaits.{Awaits}
-use Rattle.gb_format.specs.declared.place.Awaits.TheVariants.{Start, Value, More}
-use Rattle.gb_format.specs.declared.place.Clause.{Clause}
-use Rattle.gb_format.specs.declared.place.Clause.TheVariants.{Condition, Files, Roots, Other}
-use Rattle.gb_format.specs.declared.place.Place.{Place}
+use Rattle.gb_format.specs.declared.leading_word.Awaits.{Awaits}
+use Rattle.gb_format.specs.declared.leading_word.Awaits.TheVariants.{Start, Value, More}
+use Rattle.gb_format.specs.declared.leading_word.Clause.{Clause}
+use Rattle.gb_format.specs.declared.leading_word.Clause.TheVariants.{Condition, Files, Roots, Other}
+use Rattle.gb_format.specs.declared.leading_word.Place.{Place}
 use Rattle.gb_format.specs.Kinds.{kind_of}
 
 abbrev pub at_start : Place

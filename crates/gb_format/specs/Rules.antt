@@ -10,7 +10,7 @@ use Rattle.std.specs.Prelude.{ℕ, ◌+◌, ◌*◌, ◌-◌, Bool, true, false,
 use Rattle.std.specs.Prelude.{length, if◌then◌else◌}
 use Rattle.gb_format.specs.declared.kind.Kind.{Kind}
 use Rattle.gb_format.specs.declared.kind.Kind.TheVariants as kinds
-use Rattle.gb_format.specs.declared.place.Place.{Place}
+use Rattle.gb_format.specs.declared.leading_word.Place.{Place}
 use Rattle.gb_format.specs.declared.fits.Reach.TheVariants as reaches
 use Rattle.gb_format.specs.declared.rule.Spacing.{Spacing}
 use Rattle.gb_format.specs.declared.rule.Spacing.TheVariants.{Beside}

@@ -5,7 +5,7 @@ ghost use Rattle.gb_format.specs.Fits.{fits};
 ghost use Rattle.gb_format.specs.Fits.{fits_from, texts_of};
 
 use crate::kind::{Kind, is_tight, kind_of};
-use crate::place::{Place, after, begins};
+use crate::leading_word::{Place, after, begins};
 use crate::rule::Spacing;
 
 /// A comment or a token of a text.

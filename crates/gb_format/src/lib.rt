@@ -19,7 +19,7 @@ mod cutting;
 mod fits;
 mod formatting;
 mod kind;
-mod place;
+mod leading_word;
 mod rule;
 mod state;
 mod writing;

@@ -10,7 +10,7 @@ ghost use Rattle.gb_format.specs.Rules.{first_state};
 
 use crate::fits::{Item, Reach, fits, fits_from};
 use crate::kind::{Kind, is_open, is_tight, kind_of};
-use crate::place::{Place, after, at_start, begins, deeper, depth, shallower};
+use crate::leading_word::{Place, after, at_start, begins, deeper, depth, shallower};
 use crate::rule::{Rule, Spacing};
 
 /// The state of a layout between two tokens.

@@ -16,10 +16,10 @@ use Rattle.gb_graph.specs.Order.{row, rows}
 use Rattle.gb_graph.specs.Chains.{bit_in}
 use Rattle.gb_graph.proofs.Numbers.{of_in}
 use Rattle.gb_graph.specs.declared.least.Found.{Found}
-use Rattle.gb_graph.specs.declared.met.Search.{Search}
-use Rattle.gb_graph.specs.declared.met.Search.TheVariants.{Overlaps, OwnInputs, Undeclared}
+use Rattle.gb_graph.specs.declared.conflicting.Search.{Search}
+use Rattle.gb_graph.specs.declared.conflicting.Search.TheVariants.{Overlaps, OwnInputs, Undeclared}
 use Rattle.gb_graph.specs.declared.places.TaskPlace.{TaskPlace}
-use Rattle.gb_graph.specs.declared.tables.Tables.{Tables}
+use Rattle.gb_graph.specs.declared.plan_tables.Tables.{Tables}
 use Rattle.gb_graph.specs.Places.{AreSamePlaces, places_from, with_places}
 use Rattle.gb_graph.specs.Conflicts.{AreTables, IsLeast, IsMet, Meets, places_for}
 use Rattle.gb_graph.proofs.Bridges.{At, in_at, at_get, any_in, some_in, parted, of_row}

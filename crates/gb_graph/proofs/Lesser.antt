@@ -15,7 +15,7 @@ use Rattle.gb_graph.proofs.Edges.{take_grows}
 use Rattle.gb_graph.specs.Circle.{path_at}
 use Rattle.gb_graph.specs.declared.least.Found.{Found}
 use Rattle.gb_graph.specs.declared.least.Met.{Met}
-use Rattle.gb_graph.specs.declared.met.Search.{Search}
+use Rattle.gb_graph.specs.declared.conflicting.Search.{Search}
 use Rattle.gb_graph.specs.declared.places.TaskPlace.{TaskPlace}
 use Rattle.gb_graph.specs.Places.{place_at}
 use Rattle.gb_graph.specs.Conflicts.{IsLeast, IsLeastTask, IsMet, IsMetAt, IsWithin, found_by, lesser, conflict_of}

@@ -9,7 +9,7 @@ use Rattle.gb_graph.proofs.Keeping.{not_both}
 use Rattle.gb_graph.specs.Circle.{path_at}
 use Rattle.gb_plan.specs.declared.plan.Planned.{Planned}
 use Rattle.gb_plan.specs.Refusal.{Conflict}
-use Rattle.gb_graph.specs.declared.met.Search.{Search}
+use Rattle.gb_graph.specs.declared.conflicting.Search.{Search}
 use Rattle.gb_graph.specs.declared.places.TaskPlace.{TaskPlace}
 use Rattle.gb_graph.specs.Places.{place_at}
 use Rattle.gb_graph.specs.Conflicts.{IsMet, IsMetAt, IsMetTask, counts}

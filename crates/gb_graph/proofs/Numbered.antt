@@ -18,7 +18,7 @@ use Rattle.gb_graph.specs.Chains.{bit_in}
 use Rattle.gb_graph.specs.Circle.{path_at}
 use Rattle.gb_graph.proofs.Keeping.{not_both}
 use Rattle.gb_graph.proofs.Numbers.{in_of, of_in, both}
-use Rattle.gb_graph.specs.declared.met.Search.TheVariants.{Overlaps, OwnInputs, Undeclared}
+use Rattle.gb_graph.specs.declared.conflicting.Search.TheVariants.{Overlaps, OwnInputs, Undeclared}
 use Rattle.gb_graph.specs.declared.places.TaskPlace.{TaskPlace}
 use Rattle.gb_graph.specs.Places.{AreSamePlaces, with_places, places_from}
 use Rattle.gb_graph.specs.Conflicts.{IsMet, GiveChains}

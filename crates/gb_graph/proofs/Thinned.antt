@@ -11,8 +11,8 @@ use Rattle.gb_graph.specs.Order.{row}
 use Rattle.gb_graph.specs.Chains.{bit_in}
 use Rattle.gb_graph.specs.Circle.{path_at}
 use Rattle.gb_graph.proofs.Numbers.{in_of, of_in}
-use Rattle.gb_graph.specs.declared.met.Search.{Search}
-use Rattle.gb_graph.specs.declared.met.Search.TheVariants.{Overlaps, OwnInputs, Undeclared}
+use Rattle.gb_graph.specs.declared.conflicting.Search.{Search}
+use Rattle.gb_graph.specs.declared.conflicting.Search.TheVariants.{Overlaps, OwnInputs, Undeclared}
 use Rattle.gb_graph.specs.declared.places.TaskPlace.{TaskPlace}
 use Rattle.gb_graph.specs.Conflicts.{IsMet, counts}
 use Rattle.gb_graph.specs.Places.{AreSamePlaces, IsRising, IsSame, IsThinned, OccursTwice, is_before, place_at}

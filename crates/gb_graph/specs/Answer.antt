@@ -6,8 +6,8 @@ use Rattle.gb_plan.specs.Refusal.{Conflict, IsLeastConflict, IsOverlap, IsOwnInp
 use Rattle.gb_plan.specs.Refusal.{IsUndeclared, IsRefused, request_of}
 use Rattle.gb_report.specs.declared.fault.Fault.{Fault}
 use Rattle.gb_report.specs.declared.fault.Fault.TheVariants.{OutOfMemory}
-use Rattle.gb_graph.specs.declared.met.Search.{Search}
-use Rattle.gb_graph.specs.declared.met.Search.TheVariants.{Overlaps, OwnInputs, Undeclared}
+use Rattle.gb_graph.specs.declared.conflicting.Search.{Search}
+use Rattle.gb_graph.specs.declared.conflicting.Search.TheVariants.{Overlaps, OwnInputs, Undeclared}
 use Rattle.gb_graph.specs.declared.refusal.Refusal.{Refusal}
 use Rattle.gb_graph.specs.Conflicts.{conflict_of}
 

@@ -13,10 +13,10 @@ use Rattle.gb_graph.specs.Chains.{bit_in}
 use Rattle.gb_graph.specs.Circle.{path_at}
 use Rattle.gb_graph.specs.declared.least.Found.{Found}
 use Rattle.gb_graph.specs.declared.least.Met.{Met}
-use Rattle.gb_graph.specs.declared.met.Search.{Search}
-use Rattle.gb_graph.specs.declared.met.Search.TheVariants.{Overlaps, OwnInputs, Undeclared}
+use Rattle.gb_graph.specs.declared.conflicting.Search.{Search}
+use Rattle.gb_graph.specs.declared.conflicting.Search.TheVariants.{Overlaps, OwnInputs, Undeclared}
 use Rattle.gb_graph.specs.declared.places.TaskPlace.{TaskPlace}
-use Rattle.gb_graph.specs.declared.tables.Tables.{Tables}
+use Rattle.gb_graph.specs.declared.plan_tables.Tables.{Tables}
 use Rattle.gb_graph.specs.Places.{IsRising, IsThinned, place_at, places_from, with_places}
 
 -- the rows have the tasks that each comes after by a chain

@@ -11,7 +11,7 @@ ghost use Rattle.gb_graph.specs.declared.places.TaskPlace.{TaskPlace};
 ghost use Rattle.gb_graph.specs.Conflicts.{IsLeast, IsLeastTask, IsMet, IsWithin};
 ghost use Rattle.gb_graph.specs.Conflicts.{found_by, lesser, conflict_by};
 
-use crate::met::{Search, met_at};
+use crate::conflicting::{Search, met_at};
 use crate::places::TaskPlace;
 use gb_core::path::TaskPath;
 use gb_core::place::Place;

@@ -2,8 +2,8 @@
 //!
 //! `None` means that the text is in no such form, or that there was no memory. No clause says what
 //! is read: a record counts only where it is printed again as the text that was read.
-use crate::order::digests_rise;
-use crate::reading::in_order;
+use crate::from_json::in_order;
+use crate::in_order::digests_rise;
 use crate::record::{OutputRecord, Record};
 use gb_action::output::Form;
 use gb_action::values::{Arguments, NamedValues};

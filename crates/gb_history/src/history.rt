@@ -13,10 +13,10 @@ ghost use Rattle.gb_history.specs.declared.record.Edition.{Edition as Written};
 ghost use Rattle.gb_history.specs.declared.fault.RecordFault.TheVariants.{OutOfMemory};
 
 use crate::fault::RecordFault;
-use crate::reading::history_from;
+use crate::from_json::history_from;
 use crate::record::{Edition, Record};
-use crate::text::{before_seal, is_same, json_in, sealed_json};
-use crate::writing::write_history;
+use crate::record_text::{before_seal, is_same, json_in, sealed_json};
+use crate::to_json::write_history;
 use gb_core::path::TaskPath;
 use json::Writer;
 use std::alloc::{AllocError, Global};

@@ -15,11 +15,11 @@
 pub mod decide;
 mod direct;
 pub mod fault;
+mod from_json;
 pub mod history;
-mod order;
-pub mod place;
-mod reading;
+mod in_order;
 pub mod record;
+pub mod record_place;
+pub mod record_text;
 pub mod same;
-pub mod text;
-mod writing;
+mod to_json;

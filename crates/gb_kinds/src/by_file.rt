@@ -10,8 +10,8 @@ ghost use Rattle.gb_kinds.specs.ByFile.{file_of, by_file, holds, rewritten};
 ghost use Rattle.gb_kinds.specs.ByFile.{writes_for, removes_for, IsByFile};
 
 use crate::edit::FileMaker;
-use crate::names::{output_name, source_name};
-use crate::source;
+use crate::known_names::{output_name, source_name};
+use crate::request_files;
 use gb_action::change::Change;
 use gb_action::reply::{OutputPath, Removals, Reply, Writes, Written};
 use gb_action::request::Request;

@@ -19,11 +19,11 @@ ghost use Rattle.gb_kinds.specs.Remade.{existing as existing_in};
 ghost use Rattle.gb_kinds.specs.Words.{index_files, path_line, with_path};
 
 use crate::index::{Index, add_path};
-use crate::line::Line;
-use crate::names::{output_name, source_name};
+use crate::line_key::Line;
+use crate::known_names::{output_name, source_name};
 use crate::remade::{Remade, existing};
-use crate::source;
-use crate::words::{Words, words_of};
+use crate::request_files;
+use crate::file_words::{Words, words_of};
 use bstr::ByteSlice;
 use gb_action::change::Change;
 use gb_action::request::Request;

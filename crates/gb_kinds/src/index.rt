@@ -6,7 +6,7 @@ ghost use Rattle.gb_core.specs.Lists.{byte_order};
 ghost use Rattle.gb_action.specs.Files.{file_at};
 ghost use Rattle.gb_kinds.specs.Words.{index_files, index_of, with_path};
 
-use crate::words::{Words, words_of};
+use crate::file_words::{Words, words_of};
 use gb_core::bytes::Bytes;
 use gb_core::place::RelPath;
 use std::alloc::{AllocError, Global};

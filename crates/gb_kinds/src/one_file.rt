@@ -2,7 +2,7 @@
 ghost use Rattle.std.specs.Prelude.{◌≡◌, IfOk};
 ghost use Rattle.gb_kinds.specs.ByFile.{one_file};
 
-use crate::names::output_name;
+use crate::known_names::output_name;
 use gb_action::reply::{Lines, Removals, Reply, Writes, Written};
 use gb_core::bytes::Bytes;
 use gb_core::place::RelPath;

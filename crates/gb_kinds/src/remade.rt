@@ -9,9 +9,9 @@ ghost use Rattle.gb_kinds.specs.Words.{index_files};
 
 use crate::by_file::holds;
 use crate::index::Index;
-use crate::names::{output_name, source_name};
-use crate::source;
-use crate::words::Words;
+use crate::known_names::{output_name, source_name};
+use crate::request_files;
+use crate::file_words::Words;
 use gb_action::reply::{OutputPath, Removals, Reply, Writes, Written};
 use gb_action::request::Request;
 use gb_core::bytes::Bytes;

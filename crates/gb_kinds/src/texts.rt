@@ -4,7 +4,7 @@ ghost use Rattle.gb_action.specs.Shapes.{IsAsked};
 ghost use Rattle.gb_kinds.specs.Builtin.{builtin_shape, builtin_makes, builtin_prints};
 
 use crate::arguments::{copied_first_text, first_text};
-use crate::names::own_path;
+use crate::known_names::own_path;
 use crate::one_file::one_file;
 use crate::shapes::{FAIL, PRINT_LINE, WRITE_TEXT};
 use gb_action::reply::{ActionFault, Lines, Removals, Reply, Writes};

@@ -13,8 +13,8 @@ use Rattle.gb_label.specs.ReadingAnswered.{AreInputsAnswered, AreOutputsAnswered
 use Rattle.gb_label.specs.Reading.{AreInputs, AreOutputs, Read, prints_read, records_with}
 use Rattle.gb_label.specs.Deciding.{IsPresentOf}
 use Rattle.gb_label.specs.Looking.{lacks_source}
-use Rattle.gb_label.specs.declared.look.Look.{Look}
-use Rattle.gb_label.specs.declared.look.Look.TheVariants as looks
+use Rattle.gb_label.specs.declared.early_outcomes.Look.{Look}
+use Rattle.gb_label.specs.declared.early_outcomes.Look.TheVariants as looks
 use Rattle.gb_label.specs.declared.prepare.Prepared.{Prepared}
 use Rattle.gb_label.specs.declared.prepare.Prepared.TheVariants as prepared
 

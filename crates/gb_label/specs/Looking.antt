@@ -10,8 +10,8 @@ use Rattle.gb_plan.specs.declared.task.TaskDeclaration.{TaskDeclaration as Task}
 use Rattle.gb_report.specs.declared.fault.Fault.{Fault}
 use Rattle.gb_store.specs.Faults.{IsOfMachine}
 use Rattle.gb_label.specs.Reading.{AreInputs, AreInputsObserved, digests_in, prints_read}
-use Rattle.gb_label.specs.declared.look.Look.{Look}
-use Rattle.gb_label.specs.declared.look.Look.TheVariants as looks
+use Rattle.gb_label.specs.declared.early_outcomes.Look.{Look}
+use Rattle.gb_label.specs.declared.early_outcomes.Look.TheVariants as looks
 
 -- the property gives its task no source: it does not skip it when empty, or has no files
 abbrev pub gives_no_source : {X : Type 0} → FileProperty × (List ℕ × List X) → Bool

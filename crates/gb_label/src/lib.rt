@@ -12,12 +12,12 @@
 
 mod completing;
 pub mod deciding;
+pub mod early_outcomes;
 mod fault;
 pub mod inputs;
 mod listing;
-pub mod look;
 pub mod outputs;
 pub mod prepare;
 mod present;
 mod prints;
-pub mod record;
+pub mod recorded;

@@ -11,7 +11,7 @@ ghost use Rattle.gb_label.specs.Preparing.{GoesByAs, IsPrepared, IsRead, IsObser
 ghost use Rattle.gb_label.specs.Reading.{is_input_of};
 
 use crate::deciding::{Basis, decided};
-use crate::look::{Look, looked_at};
+use crate::early_outcomes::{Look, looked_at};
 use gb_folder::folder::Folder;
 use gb_history::decide::Decision;
 use gb_history::record::Record;

@@ -6,8 +6,8 @@ use Rattle.std.proofs.lemmas.Bool.Decides.{nat_tests}
 use Rattle.std.proofs.lemmas.List.Elements.{All-nil, All-cons, All-head, All-tail, All-append, All-weaker}
 use Rattle.percent_encoding.specs.Percent.{percent_encode_byte}
 use Rattle.percent_encoding.proofs.PercentLemmas.{IsEscapeByte, All-percent_encode_byte}
-use Rattle.gb_markdown.specs.declared.page.Attribute.{Attribute}
-use Rattle.gb_markdown.specs.declared.page.Attribute.TheVariants as attributes
+use Rattle.gb_markdown.specs.declared.rendered.Attribute.{Attribute}
+use Rattle.gb_markdown.specs.declared.rendered.Attribute.TheVariants as attributes
 use Rattle.gb_markdown.specs.Addresses.{address_of, encoded_byte, has_safe_scheme, has_scheme, is_plain}
 use Rattle.gb_markdown.specs.Addresses.{is_safe}
 use Rattle.gb_markdown.specs.Addresses.{is_visible, is_visible_byte}

@@ -4,10 +4,10 @@ use Rattle.std.proofs.Common.{List}
 use Rattle.std.proofs.Common.{[], ◌∷◌, ◌++◌, codes, length, suc, refl, ap, sym, ◌∙◌}
 use Rattle.std.specs.List.{count_by, flat_map, sum_by}
 use Rattle.std.proofs.lemmas.List.Sums.{sum_by-append}
-use Rattle.gb_markdown.specs.declared.page.Element.{Element}
-use Rattle.gb_markdown.specs.declared.page.Element.TheVariants as elements
-use Rattle.gb_markdown.specs.declared.page.Attribute.{Attribute}
-use Rattle.gb_markdown.specs.declared.page.Attribute.TheVariants as attributes
+use Rattle.gb_markdown.specs.declared.rendered.Element.{Element}
+use Rattle.gb_markdown.specs.declared.rendered.Element.TheVariants as elements
+use Rattle.gb_markdown.specs.declared.rendered.Attribute.{Attribute}
+use Rattle.gb_markdown.specs.declared.rendered.Attribute.TheVariants as attributes
 use Rattle.gb_markdown.specs.Pieces.{Piece, Open, Close, Link, Picture, Listing, Coded, Named, Text}
 use Rattle.gb_markdown.specs.Pieces.{name_of, escaped, escaped_byte, piece_text, tag}
 use Rattle.gb_markdown.specs.Pieces.{attribute_begun, attribute_text, attributes_text, attributes_of, written}

@@ -11,10 +11,10 @@ use Rattle.gb_markdown.specs.Lines.{has, said, words_of}
 use Rattle.gb_markdown.specs.References.{Refs, defined}
 use Rattle.gb_markdown.specs.Tables.{both_ended, inline_of, is_divider, line_end, lines_in, rows_of, table}
 use Rattle.gb_markdown.specs.Tables.{words_in}
-use Rattle.gb_markdown.specs.declared.page.Element.{Element}
-use Rattle.gb_markdown.specs.declared.page.Element.TheVariants as elements
-use Rattle.gb_markdown.specs.declared.line.Fence.{Fence}
-use Rattle.gb_markdown.specs.declared.line.Marker.{Marker}
+use Rattle.gb_markdown.specs.declared.rendered.Element.{Element}
+use Rattle.gb_markdown.specs.declared.rendered.Element.TheVariants as elements
+use Rattle.gb_markdown.specs.declared.line_parsing.Fence.{Fence}
+use Rattle.gb_markdown.specs.declared.line_parsing.Marker.{Marker}
 use Rattle.gb_markdown.specs.declared.blocks.OpenList.{OpenList}
 use Rattle.gb_markdown.specs.declared.blocks.Block.{Block}
 use Rattle.gb_markdown.specs.declared.blocks.Block.TheVariants as blocks

@@ -12,8 +12,8 @@ use Rattle.gb_markdown.specs.Addresses.{has_scheme, is_safe, link_address, page_
 use Rattle.gb_markdown.specs.References.{Refs, referred}
 use Rattle.gb_markdown.specs.Targets.{angle_end, quote_end, target, unescaped}
 use Rattle.gb_markdown.specs.Pieces.{Piece, Open, Close, Link, Picture, Text}
-use Rattle.gb_markdown.specs.declared.page.Element.{Element}
-use Rattle.gb_markdown.specs.declared.page.Element.TheVariants as elements
+use Rattle.gb_markdown.specs.declared.rendered.Element.{Element}
+use Rattle.gb_markdown.specs.declared.rendered.Element.TheVariants as elements
 use Rattle.gb_markdown.specs.declared.inline.Token.{Token}
 use Rattle.gb_markdown.specs.declared.inline.Token.TheVariants as tokens
 use Rattle.gb_markdown.specs.declared.inline.Nested.{Nested}

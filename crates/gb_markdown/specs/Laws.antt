@@ -1,8 +1,8 @@
 -- What holds of every page, whatever its text.
 use Rattle.std.specs.Prelude.{◌≡◌, ℕ, ◌*◌, ◌==◌, Bool, true, false, List, cond, count_by, length, sum_by}
 use Rattle.std.specs.Prelude.{All}
-use Rattle.gb_markdown.specs.declared.page.Attribute.{Attribute}
-use Rattle.gb_markdown.specs.declared.page.Attribute.TheVariants as attributes
+use Rattle.gb_markdown.specs.declared.rendered.Attribute.{Attribute}
+use Rattle.gb_markdown.specs.declared.rendered.Attribute.TheVariants as attributes
 use Rattle.gb_markdown.specs.Addresses.{address_of, is_safe}
 use Rattle.gb_markdown.specs.Pieces.{Piece, Open, Close, Link, Picture, Listing, Coded, Named, Text}
 use Rattle.gb_markdown.specs.Pieces.{attributes_of, written}

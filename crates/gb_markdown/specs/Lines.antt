@@ -5,12 +5,12 @@ use Rattle.std.specs.Prelude.{Some}
 use Rattle.std.specs.List.{prefix_len}
 use Rattle.std.specs.Char.{is_ascii_digit}
 use Rattle.gb_markdown.specs.Runs.{run, is_space, spaces, is_blank, end_of, trimmed}
-use Rattle.gb_markdown.specs.declared.page.Element.{Element}
-use Rattle.gb_markdown.specs.declared.page.Element.TheVariants as elements
-use Rattle.gb_markdown.specs.declared.line.Line.{Line}
-use Rattle.gb_markdown.specs.declared.line.Line.TheVariants as lines
-use Rattle.gb_markdown.specs.declared.line.Fence.{Fence}
-use Rattle.gb_markdown.specs.declared.line.Marker.{Marker}
+use Rattle.gb_markdown.specs.declared.rendered.Element.{Element}
+use Rattle.gb_markdown.specs.declared.rendered.Element.TheVariants as elements
+use Rattle.gb_markdown.specs.declared.line_parsing.Line.{Line}
+use Rattle.gb_markdown.specs.declared.line_parsing.Line.TheVariants as lines
+use Rattle.gb_markdown.specs.declared.line_parsing.Fence.{Fence}
+use Rattle.gb_markdown.specs.declared.line_parsing.Marker.{Marker}
 
 pub data Said : Type 0 where
   Nothing : Said

@@ -1,10 +1,10 @@
 -- What a page is made of, and how it is written.
 use Rattle.std.specs.Prelude.{ℕ, ◌==◌, List, [], ◌∷◌, ◌++◌, if◌then◌else◌, codes}
 use Rattle.std.specs.List.{flat_map}
-use Rattle.gb_markdown.specs.declared.page.Element.{Element}
-use Rattle.gb_markdown.specs.declared.page.Element.TheVariants as elements
-use Rattle.gb_markdown.specs.declared.page.Attribute.{Attribute}
-use Rattle.gb_markdown.specs.declared.page.Attribute.TheVariants as attributes
+use Rattle.gb_markdown.specs.declared.rendered.Element.{Element}
+use Rattle.gb_markdown.specs.declared.rendered.Element.TheVariants as elements
+use Rattle.gb_markdown.specs.declared.rendered.Attribute.{Attribute}
+use Rattle.gb_markdown.specs.declared.rendered.Attribute.TheVariants as attributes
 use Rattle.gb_markdown.specs.Addresses.{is_safe}
 
 -- the beginning or end of an element, the beginning of a link to an address with a title, a picture at an

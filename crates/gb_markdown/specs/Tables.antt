@@ -11,8 +11,8 @@ use Rattle.gb_markdown.specs.Targets.{is_hidden}
 use Rattle.gb_markdown.specs.References.{Refs}
 use Rattle.gb_markdown.specs.Inline.{inline}
 use Rattle.gb_markdown.specs.Pieces.{Piece, Open, Close, Text}
-use Rattle.gb_markdown.specs.declared.page.Element.{Element}
-use Rattle.gb_markdown.specs.declared.page.Element.TheVariants as elements
+use Rattle.gb_markdown.specs.declared.rendered.Element.{Element}
+use Rattle.gb_markdown.specs.declared.rendered.Element.TheVariants as elements
 
 abbrev pub line_end : Piece
 line_end = Text (10 ∷ [])

@@ -16,12 +16,12 @@ ghost use Rattle.gb_markdown.specs.Blocks.{items, indented, quote_begun, quote_e
 ghost use Rattle.gb_markdown.specs.Blocks.{begun_names, finished, id_of, slug, blocks_of, html, with_name};
 
 use crate::gathered::with_labels_taken;
-use crate::line::{Fence, Line, Marker, has, read_line, words_of};
-use crate::page::{Element, close, code, named, numbered, open, text};
+use crate::line_parsing::{Fence, Line, Marker, has, read_line, words_of};
+use crate::rendered::{Element, close, code, named, numbered, open, text};
 use crate::references::Reference;
 use crate::runs::{is_blank, run, trimmed};
 use crate::slug::{Names, add_name, id_of, slug};
-use crate::tables::{end_both, is_divider, rows_of, table, words, words_in};
+use crate::pipe_table::{end_both, is_divider, rows_of, table, words, words_in};
 use bstr::ByteSlice;
 use std::alloc::{AllocError, Global};
 

@@ -9,7 +9,7 @@ ghost use Rattle.gb_markdown.specs.Tables.{lines_in};
 ghost use Rattle.gb_markdown.specs.declared.blocks.Block.TheVariants as blocks;
 
 use crate::blocks::{Block, OpenList, add, after, goes_on, is_code, is_open, unquoted};
-use crate::line::{Line, read_line};
+use crate::line_parsing::{Line, read_line};
 use crate::references::{Reference, defined};
 use bstr::ByteSlice;
 use std::alloc::{AllocError, Global};

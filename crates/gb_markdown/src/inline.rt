@@ -16,7 +16,7 @@ ghost use Rattle.gb_markdown.specs.Inline.{angled, led};
 ghost use Rattle.gb_markdown.specs.declared.inline.Nested.TheVariants as nested;
 
 use crate::address::{has_scheme, is_safe, link_address, page_address};
-use crate::page::{Element, close, link, open, picture, text};
+use crate::rendered::{Element, close, link, open, picture, text};
 use crate::references::{Reference, referred};
 use crate::runs::{is_blank, run};
 use crate::stress::{is_sign, signs_at, write_signs};

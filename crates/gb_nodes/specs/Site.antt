@@ -6,7 +6,7 @@ use Rattle.gb_core.specs.Lists.{byte_order}
 use Rattle.gb_provider.specs.declared.expression.Node.{Node}
 use Rattle.gb_registry.specs.Projects.{Path}
 use Rattle.gb_declare.specs.Joined.{Named}
-use Rattle.gb_nodes.specs.declared.site.Site as handed
+use Rattle.gb_nodes.specs.declared.position.Site as handed
 
 -- the project, its build folder, the node of each of its properties, and the values given by name
 pub record Site : Type 0 where

@@ -12,12 +12,12 @@
 
 pub mod given;
 pub mod laws;
-mod listing;
 mod making;
+pub mod position;
 mod properties;
 pub mod rows;
 pub mod scripts;
-pub mod site;
+mod sequence;
 mod sources;
 mod statements;
 mod steps;

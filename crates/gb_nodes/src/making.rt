@@ -9,7 +9,7 @@ ghost use Rattle.gb_nodes.specs.Nodes.{AreMade, IsMade, link_made, links_made};
 ghost use Rattle.gb_nodes.specs.Nodes.{root_made, tree_made, trees_made};
 ghost use Rattle.gb_nodes.specs.Wrong.{link_faults, making_faults, root_faults};
 
-use crate::site::Site;
+use crate::position::Site;
 use crate::sources::add_source;
 use crate::steps::{add_flat_map, add_map, add_zip};
 use gb_provider::expression::Node;

@@ -8,7 +8,7 @@ ghost use Rattle.gb_nodes.specs.Site.{AreThere};
 ghost use Rattle.gb_nodes.specs.Statements.{IsRun, named_from, statements_faults, statements_made};
 
 use crate::properties::add_properties;
-use crate::site::Site;
+use crate::position::Site;
 use crate::statements::add_statements;
 use gb_core::name::Name;
 use gb_core::place::{Place, PlaceFault};

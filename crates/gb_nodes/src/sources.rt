@@ -11,7 +11,7 @@ ghost use Rattle.gb_nodes.specs.Site.{AreThere, given_under, site_of, property_n
 ghost use Rattle.gb_nodes.specs.Nodes.{IsMade, added, as_text, constant_of, plain_made};
 ghost use Rattle.gb_nodes.specs.Wrong.{constant_faults, known_faults, root_faults};
 
-use crate::site::Site;
+use crate::position::Site;
 use gb_core::name::{Name, NameFault};
 use gb_core::path::TaskPath;
 use gb_core::place::{Place, PlaceFault};

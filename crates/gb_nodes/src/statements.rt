@@ -7,7 +7,7 @@ ghost use Rattle.gb_nodes.specs.Statements.{IsRun, place_of, property_faults, st
 ghost use Rattle.gb_nodes.specs.Statements.{statement_made, statements_faults, statements_made, with_change};
 
 use crate::making::add_tree;
-use crate::site::Site;
+use crate::position::Site;
 use crate::sources::node_of;
 use gb_core::name::Name;
 use gb_provider::expression::Node;

@@ -7,7 +7,7 @@ use Rattle.gb_pages.specs.FrontMatter.{following, cut, parts, up_to}
 use Rattle.gb_pages.specs.declared.contents.Depth.{Depth}
 use Rattle.gb_pages.specs.declared.contents.Depth.TheVariants as depths
 use Rattle.gb_markdown.specs.Pieces.{Piece, Open, Close, Link, Text, written}
-use Rattle.gb_markdown.specs.declared.page.Element.TheVariants as elements
+use Rattle.gb_markdown.specs.declared.rendered.Element.TheVariants as elements
 
 abbrev pub line_end : Piece
 line_end = Text (10 ∷ [])

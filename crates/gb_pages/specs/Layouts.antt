@@ -15,7 +15,7 @@ use Rattle.gb_pages.specs.Paths.{page_path, stem, token, unless_more}
 use Rattle.gb_pages.specs.Contents.{contents}
 use Rattle.gb_markdown.specs.Addresses.{address_of}
 use Rattle.gb_markdown.specs.Pieces.{Piece, Close, Link, Text, escaped, written}
-use Rattle.gb_markdown.specs.declared.page.Element.TheVariants as elements
+use Rattle.gb_markdown.specs.declared.rendered.Element.TheVariants as elements
 
 -- ---- The value that replaces a name
 

@@ -11,7 +11,7 @@ use Rattle.gb_pages.specs.Dates.{and_next, date_of, day_path, message_at, with_e
 use Rattle.gb_pages.specs.FrontMatter.{title_of}
 use Rattle.gb_pages.specs.Paths.{page_path, stem}
 use Rattle.gb_markdown.specs.Pieces.{Piece, Open, Close, Link, Text, written}
-use Rattle.gb_markdown.specs.declared.page.Element.TheVariants as elements
+use Rattle.gb_markdown.specs.declared.rendered.Element.TheVariants as elements
 
 -- the link to an address, under a title
 abbrev pub linked : List ℕ → List ℕ → List Piece

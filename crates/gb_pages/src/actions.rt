@@ -5,7 +5,7 @@ ghost use Rattle.gb_with.specs.declared.both.Either.TheVariants.{First, Second};
 use crate::checked::CheckPages;
 use crate::kinds::Markdown;
 use crate::links::CheckLinks;
-use crate::listing::Index;
+use crate::index::Index;
 use crate::site_pages::SitePages;
 use crate::template::Template;
 use gb_action::actions::Actions;

@@ -10,7 +10,7 @@ use gb_action::values::Arguments;
 use gb_core::bytes::Bytes;
 use gb_core::place::RelPath;
 use gb_core::text::Text;
-use gb_kinds::names::source_name;
+use gb_kinds::known_names::source_name;
 use gb_with::tree_kind::CheckKind;
 use std::alloc::{AllocError, Global};
 use std::str;

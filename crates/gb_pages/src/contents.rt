@@ -10,7 +10,7 @@ ghost use Rattle.gb_pages.specs.declared.contents.Depth.TheVariants as depths;
 
 use crate::front_matter::up_to;
 use bstr::ByteSlice;
-use gb_markdown::page::{Element, close, link, open, text};
+use gb_markdown::rendered::{Element, close, link, open, text};
 use std::alloc::{AllocError, Global};
 
 /// The open lists of the contents.

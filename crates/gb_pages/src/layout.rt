@@ -17,7 +17,7 @@ use gb_action::reply::ActionFault;
 use gb_core::bytes::Bytes;
 use gb_core::place::RelPath;
 use gb_core::text::Text;
-use gb_markdown::page::text;
+use gb_markdown::rendered::text;
 use std::alloc::{AllocError, Global};
 use std::str;
 

@@ -22,7 +22,7 @@ use gb_action::snapshot::Snapshots;
 use gb_action::values::Arguments;
 use gb_core::place::RelPath;
 use gb_core::text::Text;
-use gb_kinds::names::source_name;
+use gb_kinds::known_names::source_name;
 use gb_with::tree_kind::CheckKind;
 use percent_encoding::percent_decode;
 use std::alloc::{AllocError, Global};

@@ -22,9 +22,9 @@ use gb_core::bytes::Bytes;
 use gb_core::name::Name;
 use gb_core::place::RelPath;
 use gb_core::text::Text;
-use gb_kinds::names::source_name;
+use gb_kinds::known_names::source_name;
 use gb_markdown::address::address_of;
-use gb_markdown::page::{Element, close, link, text};
+use gb_markdown::rendered::{Element, close, link, text};
 use gb_with::tree_kind::{TreeKind, files_of};
 use std::alloc::{AllocError, Global};
 

@@ -16,7 +16,7 @@ use gb_core::name::Name;
 use gb_core::place::RelPath;
 use gb_core::text::Text;
 use gb_kinds::arguments::first_text;
-use gb_kinds::names::source_name;
+use gb_kinds::known_names::source_name;
 use gb_kinds::replaced::replaced;
 use gb_with::tree_kind::{TreeKind, files_of};
 use std::alloc::{AllocError, Global};

@@ -5,7 +5,7 @@ use gb_core::name::Name;
 use gb_core::path::TaskPath;
 use gb_history::decide::{Decision, Present, decide};
 use gb_history::record::Record;
-use gb_history::text::read_record;
+use gb_history::record_text::read_record;
 use std::alloc::{AllocError, Global};
 use std::test::Fail;
 

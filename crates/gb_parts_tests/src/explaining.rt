@@ -4,9 +4,9 @@ use crate::steps::is_answered;
 use crate::texts::{ARGUMENT, FILE, FIRST, OUTPUT, VALUE, VERSION};
 use gb_core::path::TaskPath;
 use gb_history::record::Record;
-use gb_history::text::read_record;
+use gb_history::record_text::read_record;
 use gb_reason::explain::explain;
-use gb_reason::text::push_reason;
+use gb_reason::reason_text::push_reason;
 use std::alloc::Global;
 use std::test::Fail;
 

@@ -9,7 +9,7 @@ use crate::texts::{
 use gb_core::path::TaskPath;
 use gb_history::fault::RecordFault;
 use gb_history::history::History;
-use gb_history::text::{read_record, record_text};
+use gb_history::record_text::{read_record, record_text};
 use std::alloc::{AllocError, Global};
 use std::test::Fail;
 

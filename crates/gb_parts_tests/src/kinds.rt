@@ -24,7 +24,7 @@ use gb_core::text::Text;
 use gb_core::value::Value;
 use gb_kinds::builtin::{Builtin, Run, StoredAction};
 use gb_kinds::files::{add_file, concat, copy_files, keep_lines, replace_tokens, sums, word_index};
-use gb_kinds::names::{output_name, source_name};
+use gb_kinds::known_names::{output_name, source_name};
 use gb_kinds::shapes::{
     ADD_FILE, CONCAT, COPY_FILES, FAIL, KEEP_LINES, REPLACE_TOKENS, SUMS, WORD_INDEX, WRITE_TEXT,
     add_file_shape, concat_shape, copy_files_shape, fail_shape, keep_lines_shape,

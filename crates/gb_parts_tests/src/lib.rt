@@ -33,4 +33,4 @@ mod texts;
 #[cfg(test)]
 mod trees;
 #[cfg(test)]
-mod values;
+mod vectors;

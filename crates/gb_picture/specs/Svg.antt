@@ -8,8 +8,8 @@ use Rattle.gb_picture.specs.Shown.{bytes_of, shown}
 use Rattle.gb_picture.specs.declared.graph.Node.{Node}
 use Rattle.gb_picture.specs.declared.graph.Tint.{Tint}
 use Rattle.gb_picture.specs.declared.graph.Tint.TheVariants as tints
-use Rattle.gb_picture.specs.declared.place.Frame.{Frame}
-use Rattle.gb_picture.specs.declared.place.Spot.{Spot}
+use Rattle.gb_picture.specs.declared.columns.Frame.{Frame}
+use Rattle.gb_picture.specs.declared.columns.Spot.{Spot}
 
 -- a text in XML
 abbrev pub xml_text : List ℕ → List ℕ

@@ -3,12 +3,12 @@
 //! Names are shown without control characters and signs of direction, and escaped for each form.
 #![tactic(auto)]
 
+mod columns;
 pub mod dot;
 mod escapes;
 pub mod graph;
 pub mod laws;
 pub mod mermaid;
 pub mod outline;
-mod place;
 pub mod shown;
 pub mod svg;

@@ -9,7 +9,7 @@ ghost use Rattle.gb_picture.specs.Svg.{svg_box, svg_edges, svg_head, svg_node, s
 
 use crate::escapes::push_xml;
 use crate::graph::{Node, Tint, colour_of, is_tinted};
-use crate::place::{Frame, Spot, frame_of, spots};
+use crate::columns::{Frame, Spot, frame_of, spots};
 use std::alloc::{AllocError, Global};
 use std::fmt::Write;
 

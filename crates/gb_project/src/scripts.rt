@@ -25,7 +25,7 @@ use gb_action::actions::Actions;
 use gb_core::path::TaskPath;
 use gb_core::text::Text;
 use gb_nodes::scripts::{Laid, add_script};
-use gb_nodes::site::Site;
+use gb_nodes::position::Site;
 use gb_provider::providers::Providers;
 use gb_provider::transforms::Transforms;
 use gb_registry::checking::Scripted;

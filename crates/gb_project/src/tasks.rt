@@ -24,7 +24,7 @@ use gb_declare::declaring::declare;
 use gb_declare::registered::{Joined, Registered};
 use gb_evaluate::parts::split;
 use gb_nodes::rows::add_task;
-use gb_nodes::site::Site;
+use gb_nodes::position::Site;
 use gb_provider::expression::Node;
 use gb_provider::providers::Providers;
 use gb_provider::transforms::Transforms;

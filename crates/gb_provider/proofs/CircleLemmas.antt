@@ -2,7 +2,7 @@
 use Rattle.std.proofs.Common.{◌≡◌, ℕ, zero, suc, ◌<◌, List, length, refl, ◌∙◌, ap}
 use Rattle.std.specs.Prelude.{Option, Some, None, slice_get}
 use Rattle.gb_provider.specs.Rounds.{Rule, reading, settled, awaited, and_then, answer_after, answer, next_awaited}
-use Rattle.gb_provider.specs.declared.reading.Reading.TheVariants.{Settles}
+use Rattle.gb_provider.specs.declared.evaluation.Reading.TheVariants.{Settles}
 use Rattle.gb_provider.specs.Search.{WaitsFor}
 use Rattle.gb_provider.proofs.RoundsLemmas.{Extends, reading_waits, reading_still_waits, reading_kept, answer_found}
 

@@ -14,7 +14,7 @@ use Rattle.gb_provider.specs.declared.fault.Chosen.{Chosen}
 use Rattle.gb_provider.specs.declared.fault.Refusal.{Refusal}
 use Rattle.gb_provider.specs.declared.produced.Produced.{Produced}
 use Rattle.gb_provider.specs.declared.produced.Produced.TheVariants.{Tasks, Refused, Endless}
-use Rattle.gb_provider.specs.declared.reading.Reading.TheVariants.{Settles}
+use Rattle.gb_provider.specs.declared.evaluation.Reading.TheVariants.{Settles}
 use Rattle.gb_provider.specs.Answers.{IsGot, value_of}
 use Rattle.gb_provider.specs.Called.{Called}
 use Rattle.gb_provider.specs.Meanings.{Meanings, meaning_of}

@@ -4,10 +4,10 @@ use Rattle.std.specs.Prelude.{Option, Some, None, slice_get, option_map}
 use Rattle.std.proofs.lemmas.Option.{slice_get-map, slice_get_read, slice_get-get_or}
 use Rattle.std.proofs.lemmas.List.{length-map}
 use Rattle.gb_provider.specs.declared.expression.Expression as expressions
-use Rattle.gb_provider.specs.declared.reading.Reading.{Reading}
-use Rattle.gb_provider.specs.declared.reading.Reading.TheVariants.{Settles, Waits}
-use Rattle.gb_provider.specs.declared.reading.State.{State}
-use Rattle.gb_provider.specs.declared.reading.State.TheVariants.{New, Open, Known}
+use Rattle.gb_provider.specs.declared.evaluation.Reading.{Reading}
+use Rattle.gb_provider.specs.declared.evaluation.Reading.TheVariants.{Settles, Waits}
+use Rattle.gb_provider.specs.declared.evaluation.State.{State}
+use Rattle.gb_provider.specs.declared.evaluation.State.TheVariants.{New, Open, Known}
 use Rattle.gb_provider.specs.Meanings.{Meanings}
 use Rattle.gb_provider.specs.Rounds.{Rule, Answers, Reads, reading, after_operand, and_then}
 use Rattle.gb_provider.specs.Rules.{rule, rules}

@@ -9,8 +9,8 @@ use Rattle.gb_provider.specs.declared.change.Change.{Change}
 use Rattle.gb_provider.specs.declared.expression.Expression.{Expression}
 use Rattle.gb_provider.specs.declared.expression.Expression.TheVariants.{OfOutput, OfProperty}
 use Rattle.gb_provider.specs.declared.expression.Outcome.{Outcome}
-use Rattle.gb_provider.specs.declared.reading.State.{State}
-use Rattle.gb_provider.specs.declared.reading.Reading.TheVariants.{Settles}
+use Rattle.gb_provider.specs.declared.evaluation.State.{State}
+use Rattle.gb_provider.specs.declared.evaluation.Reading.TheVariants.{Settles}
 use Rattle.gb_provider.specs.Changes.{AreChanged, changed}
 use Rattle.gb_provider.specs.Meanings.{Meanings}
 use Rattle.gb_provider.specs.Remembered.{IsForgotten, IsRemembered}

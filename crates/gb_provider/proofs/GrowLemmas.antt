@@ -15,7 +15,7 @@ use Rattle.gb_provider.specs.declared.expression.Outcome.{Outcome}
 use Rattle.gb_provider.specs.declared.expression.Outcome.TheVariants.{Given, Absent, Refused}
 use Rattle.gb_provider.specs.declared.produced.Produced.{Produced}
 use Rattle.gb_provider.specs.declared.produced.Produced.TheVariants as produced
-use Rattle.gb_provider.specs.declared.reading.State.{State}
+use Rattle.gb_provider.specs.declared.evaluation.State.{State}
 use Rattle.gb_provider.specs.Answers.{value_of}
 use Rattle.gb_provider.specs.Called.{Called}
 use Rattle.gb_provider.specs.Indexed.{IsNoOutput}

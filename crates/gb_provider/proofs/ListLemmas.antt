@@ -10,7 +10,7 @@ use Rattle.gb_provider.specs.declared.expression.Outcome.{Outcome}
 use Rattle.gb_provider.specs.declared.expression.Outcome.TheVariants.{Given, Absent, Refused}
 use Rattle.gb_provider.specs.declared.produced.Produced.{Produced}
 use Rattle.gb_provider.specs.declared.produced.Produced.TheVariants as produced
-use Rattle.gb_provider.specs.declared.reading.Reading.TheVariants.{Waits}
+use Rattle.gb_provider.specs.declared.evaluation.Reading.TheVariants.{Waits}
 use Rattle.gb_provider.specs.Produced.{carry_all, on_tasks}
 use Rattle.gb_core.specs.Tasks.{with_tasks}
 use Rattle.gb_provider.specs.Rounds.{Rule, Answers, Reads, reading}

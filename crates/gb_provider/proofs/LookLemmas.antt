@@ -2,7 +2,7 @@
 use Rattle.std.proofs.Common.{◌≡◌, ℕ, ◌<◌, List, Option, Some, length, map, get_or, refl, sym, ◌∙◌, ap, subst}
 use Rattle.std.specs.Prelude.{slice_get, option_map}
 use Rattle.std.proofs.lemmas.Option.{slice_get-map, slice_get_read}
-use Rattle.gb_provider.specs.declared.reading.Reading.{Reading}
+use Rattle.gb_provider.specs.declared.evaluation.Reading.{Reading}
 use Rattle.gb_provider.specs.Rounds.{Rule, reading}
 use Rattle.gb_provider.specs.Search.{IsLook, IsPast, IsPastAt}
 

@@ -4,8 +4,8 @@ use Rattle.std.specs.Prelude.{Option, Some, None, slice_get}
 use Rattle.std.proofs.lemmas.Bool.{cases_eq}
 use Rattle.gb_provider.specs.Rounds.{Rule, Answers, Reads, and_then}
 use Rattle.gb_provider.specs.Search.{ReadsAfter, IsPast, IsPastAt, known, known_answer}
-use Rattle.gb_provider.specs.declared.reading.State.{State}
-use Rattle.gb_provider.specs.declared.reading.State.TheVariants.{New, Open, Known}
+use Rattle.gb_provider.specs.declared.evaluation.State.{State}
+use Rattle.gb_provider.specs.declared.evaluation.State.TheVariants.{New, Open, Known}
 use Rattle.gb_provider.proofs.RoundsLemmas.{Extends}
 use Rattle.gb_provider.proofs.SearchLemmas.{get_set_other}
 

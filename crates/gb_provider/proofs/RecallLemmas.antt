@@ -6,8 +6,8 @@ use Rattle.gb_provider.specs.declared.fault.ProviderFault.{ProviderFault}
 use Rattle.gb_provider.specs.declared.fault.ProviderFault.TheVariants as faults
 use Rattle.gb_provider.specs.declared.expression.Expression.{Expression}
 use Rattle.gb_provider.specs.declared.expression.Outcome.{Outcome}
-use Rattle.gb_provider.specs.declared.reading.State.{State}
-use Rattle.gb_provider.specs.declared.reading.State.TheVariants.{New, Open}
+use Rattle.gb_provider.specs.declared.evaluation.State.{State}
+use Rattle.gb_provider.specs.declared.evaluation.State.TheVariants.{New, Open}
 use Rattle.gb_provider.specs.Answers.{IsGot}
 use Rattle.gb_provider.specs.Meanings.{Meanings}
 use Rattle.gb_provider.specs.Remembered.{IsReported, IsRemembered}

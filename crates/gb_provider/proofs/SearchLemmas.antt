@@ -6,9 +6,9 @@ use Rattle.std.proofs.Math.Seq.{get_or-append_seam}
 use Rattle.std.proofs.lemmas.Bool.{cases_lt, cases_eq}
 use Rattle.std.proofs.lemmas.Option.{slice_get_within, get_or_from_slice_get}
 use Rattle.std.proofs.lemmas.List.Sums.{sum_by-set}
-use Rattle.gb_provider.specs.declared.reading.State.{State}
-use Rattle.gb_provider.specs.declared.reading.State.TheVariants.{New, Open, Known}
-use Rattle.gb_provider.specs.declared.reading.Reading.TheVariants.{Settles, Waits}
+use Rattle.gb_provider.specs.declared.evaluation.State.{State}
+use Rattle.gb_provider.specs.declared.evaluation.State.TheVariants.{New, Open, Known}
+use Rattle.gb_provider.specs.declared.evaluation.Reading.TheVariants.{Settles, Waits}
 use Rattle.gb_provider.specs.Rounds.{Rule, reading, answer, and_then}
 use Rattle.gb_provider.specs.Search.{AreSettled, WaitsFor, IsSearch, IsSound, known, known_answer, left_at, left}
 use Rattle.gb_provider.proofs.RoundsLemmas.{Extends, reading_kept, reading_waits}

@@ -25,7 +25,7 @@ use Rattle.gb_provider.specs.Names.{IsLeastRound, names_on}
 use Rattle.gb_provider.specs.Remembered.{AreWithin, IsRemembered}
 use Rattle.gb_provider.specs.Rounds.{Rule, Answers, Reads, answer}
 use Rattle.gb_provider.specs.Rules.{rules}
-use Rattle.gb_provider.specs.declared.reading.State.{State}
+use Rattle.gb_provider.specs.declared.evaluation.State.{State}
 use Rattle.gb_core.specs.Tasks.{with_tasks}
 
 -- a value that is a task has itself as its task, and another value has none

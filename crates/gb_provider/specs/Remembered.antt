@@ -6,7 +6,7 @@ use Rattle.gb_provider.specs.declared.fault.ProviderFault.TheVariants as faults
 use Rattle.gb_provider.specs.declared.expression.Expression.{Expression}
 use Rattle.gb_provider.specs.declared.expression.Outcome.{Outcome}
 use Rattle.gb_provider.specs.declared.expression.Outcome.TheVariants.{Given, Absent, Refused}
-use Rattle.gb_provider.specs.declared.reading.State.{State}
+use Rattle.gb_provider.specs.declared.evaluation.State.{State}
 use Rattle.gb_provider.specs.Rounds.{Rule}
 use Rattle.gb_provider.specs.Rules.{OperandsWithin}
 use Rattle.gb_provider.specs.Search.{IsSound, known}

@@ -1,8 +1,8 @@
 -- Answers that depend on one another: each entry of a table has a rule, which reads other entries.
 use Rattle.std.specs.Prelude.{ℕ, List, length, Option, Some, None, slice_get}
 use Rattle.std.proofs.Common.{zero, suc}
-use Rattle.gb_provider.specs.declared.reading.Reading.{Reading}
-use Rattle.gb_provider.specs.declared.reading.Reading.TheVariants.{Settles, Waits}
+use Rattle.gb_provider.specs.declared.evaluation.Reading.{Reading}
+use Rattle.gb_provider.specs.declared.evaluation.Reading.TheVariants.{Settles, Waits}
 
 -- The rule of an entry: an answer, or an operand to read first, whose answer decides how to continue.
 pub data Rule (A : Type 0) : Type 0 where

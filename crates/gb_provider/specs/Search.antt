@@ -8,10 +8,10 @@ use Rattle.gb_provider.specs.declared.produced.Produced.TheVariants as produced
 use Rattle.std.specs.declared.alloc.Global.{Global}
 use Rattle.std.specs.declared.alloc.AllocError.{AllocError}
 use Rattle.gb_provider.specs.Circle.{IsCircle}
-use Rattle.gb_provider.specs.declared.reading.State.{State}
-use Rattle.gb_provider.specs.declared.reading.State.TheVariants.{New, Open, Known}
-use Rattle.gb_provider.specs.declared.reading.Reading.{Reading}
-use Rattle.gb_provider.specs.declared.reading.Reading.TheVariants.{Settles, Waits}
+use Rattle.gb_provider.specs.declared.evaluation.State.{State}
+use Rattle.gb_provider.specs.declared.evaluation.State.TheVariants.{New, Open, Known}
+use Rattle.gb_provider.specs.declared.evaluation.Reading.{Reading}
+use Rattle.gb_provider.specs.declared.evaluation.Reading.TheVariants.{Settles, Waits}
 use Rattle.std.proofs.Common.{zero, suc}
 use Rattle.gb_provider.specs.Rounds.{Rule, Answers, Reads, reading, answer, and_then}
 

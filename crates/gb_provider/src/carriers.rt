@@ -9,15 +9,15 @@ ghost use Rattle.gb_provider.specs.Rules.{OperandsWithin, PlaceWithin, SettingWi
 ghost use Rattle.gb_provider.specs.Search.{AreBefore, IsPast, has_tasks, known, WaitsWithin};
 
 use crate::evaluate::{known_at, refused_by, shared_at};
+use crate::evaluation::{Look, Reading, State};
 use crate::expression::{Call, Expression, Outcome, Property, Setting};
 use crate::expressions::Outputs;
 use crate::fault::{Chosen, TransformFault};
 use crate::produced::Produced;
-use crate::reading::{Look, Reading, State};
 use crate::recall::recall_outcome;
-use crate::search::Entries;
-use crate::shared::Shared;
+use crate::shared_value::Shared;
 use crate::transforms::Transforms;
+use crate::work_list::Entries;
 use gb_core::path::TaskPath;
 use gb_core::tasks::TaskPaths;
 use gb_core::value::Value;

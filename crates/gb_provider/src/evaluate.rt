@@ -12,13 +12,13 @@ ghost use Rattle.gb_provider.specs.Rules.{list_rule, listed, refused, RefusedAs}
 ghost use Rattle.gb_provider.specs.Search.{AreBefore, IsPast, is_given, known, WaitsWithin};
 ghost use Rattle.gb_provider.specs.declared.fault.Refusal.TheVariants.{WrongValue};
 
+use crate::evaluation::{Look, Reading, State};
 use crate::expression::{Call, Expression, Outcome, Property, Setting};
 use crate::expressions::{Outputs, place_of};
 use crate::fault::{Chosen, Refusal, TransformFault, ValueFault};
-use crate::reading::{Look, Reading, State};
-use crate::search::Entries;
-use crate::shared::Shared;
+use crate::shared_value::Shared;
 use crate::transforms::Transforms;
+use crate::work_list::Entries;
 use gb_core::text::{Text, Texts};
 use gb_core::value::Value;
 use std::alloc::{AllocError, Global};

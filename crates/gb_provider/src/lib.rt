@@ -23,18 +23,18 @@
 
 mod carriers;
 pub mod change;
+mod circle_names;
 mod evaluate;
+pub mod evaluation;
 pub mod expression;
 mod expressions;
 pub mod fault;
 pub mod laws;
-mod names;
 pub mod produced;
 mod producing;
 pub mod providers;
-pub mod reading;
 mod recall;
-mod search;
-mod shared;
+mod shared_value;
 pub mod table;
 pub mod transforms;
+mod work_list;

@@ -9,15 +9,15 @@ ghost use Rattle.gb_provider.specs.Search.{IsEvaluated, IsSound, known};
 
 use crate::carriers::TaskReader;
 use crate::evaluate::known_at;
+use crate::evaluation::State;
 use crate::expression::{Expression, Outcome};
 use crate::expressions::Outputs;
 use crate::fault::ProviderFault;
 use crate::produced::Produced;
-use crate::reading::State;
 use crate::recall::{extend, recall, report_circle};
-use crate::search::evaluate;
-use crate::shared::Shared;
+use crate::shared_value::Shared;
 use crate::transforms::Transforms;
+use crate::work_list::evaluate;
 use gb_core::tasks::TaskPaths;
 use std::alloc::{AllocError, Global};
 use std::mem;

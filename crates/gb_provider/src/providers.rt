@@ -11,14 +11,14 @@ ghost use Rattle.gb_provider.specs.Rules.{numbers_of, OperandsWithin, PlaceWithi
 ghost use Rattle.gb_provider.specs.Steps.{IsAdded, IsStep};
 
 use crate::change::Change;
+use crate::evaluation::State;
 use crate::expression::{Call, Expression, Node, Operands, Outcome, Property};
 use crate::expressions::Expressions;
 use crate::fault::{Chosen, Final, ProviderFault, StepFault, TransformFault, ValueFault};
 use crate::produced::Produced;
 use crate::producing::recall_producers;
-use crate::reading::State;
 use crate::recall::{forget, recall};
-use crate::shared::Shared;
+use crate::shared_value::Shared;
 use crate::table::TransformTable;
 use crate::transforms::Transforms;
 use gb_core::name::Name;

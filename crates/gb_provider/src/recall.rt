@@ -8,15 +8,15 @@ ghost use Rattle.gb_provider.specs.Remembered.{AreWithin, IsForgotten, IsRemembe
 ghost use Rattle.gb_provider.specs.Rules.{rules};
 ghost use Rattle.gb_provider.specs.Search.{IsEvaluated, known};
 
+use crate::circle_names::circle_names;
 use crate::evaluate::{ValueReader, known_at, shared_at};
+use crate::evaluation::State;
 use crate::expression::{Expression, Outcome};
 use crate::expressions::Outputs;
 use crate::fault::ProviderFault;
-use crate::names::circle_names;
-use crate::reading::State;
-use crate::search::evaluate;
-use crate::shared::Shared;
+use crate::shared_value::Shared;
 use crate::transforms::Transforms;
+use crate::work_list::evaluate;
 use gb_core::value::Value;
 use std::alloc::{AllocError, Global};
 

@@ -16,10 +16,10 @@ use Rattle.gb_query.specs.Listing.{declared_object, is_default, task_object, tas
 use Rattle.gb_query.specs.Objects.{entry_object, found_data, found_object, status_data}
 use Rattle.gb_query.specs.declared.inventory.Entry.{Entry}
 use Rattle.gb_query.specs.declared.inventory.Entry.TheVariants as entries
-use Rattle.gb_query.specs.declared.lines.Activity.{Activity}
-use Rattle.gb_query.specs.declared.search.Found.{Found}
-use Rattle.gb_query.specs.declared.search.Found.TheVariants as founds
-use Rattle.gb_query.specs.declared.search.Relation.{Relation}
+use Rattle.gb_query.specs.declared.answer_lines.Activity.{Activity}
+use Rattle.gb_query.specs.declared.at_place.Found.{Found}
+use Rattle.gb_query.specs.declared.at_place.Found.TheVariants as founds
+use Rattle.gb_query.specs.declared.at_place.Relation.{Relation}
 
 pub items_low : {X : Type 0} (f : X → Data) (n : ℕ) → ((x : X) → depth (f x) ≤ n) → (xs : List X) → items_depth (items_of (map f xs)) ≤ n
 items_low f n low [] = omega arith

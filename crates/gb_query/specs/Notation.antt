@@ -8,11 +8,11 @@ use Rattle.gb_query.specs.Lines.{found_text, status_text}
 use Rattle.gb_query.specs.Listing.{tasks_data, tasks_text}
 use Rattle.gb_query.specs.Objects.{IsJsonOf, found_data, status_data}
 use Rattle.gb_query.specs.declared.inventory.Entry.{Entry}
-use Rattle.gb_query.specs.declared.lines.Activity.{Activity}
+use Rattle.gb_query.specs.declared.answer_lines.Activity.{Activity}
 use Rattle.gb_query.specs.declared.notation.Notation.{Notation}
 use Rattle.gb_query.specs.declared.notation.Notation.TheVariants as notations
-use Rattle.gb_query.specs.declared.search.Found.{Found}
-use Rattle.gb_query.specs.declared.search.Relation.{Relation}
+use Rattle.gb_query.specs.declared.at_place.Found.{Found}
+use Rattle.gb_query.specs.declared.at_place.Relation.{Relation}
 
 -- the text of registered tasks
 abbrev pub IsTasksText : Notation → Registry → List ℕ → Type 0

@@ -7,12 +7,12 @@ use Rattle.gb_report.specs.Fault.{fault_text}
 use Rattle.gb_report.specs.Report.{line}
 use Rattle.gb_query.specs.declared.inventory.Entry.{Entry}
 use Rattle.gb_query.specs.declared.inventory.Entry.TheVariants as entries
-use Rattle.gb_query.specs.declared.lines.Activity.{Activity}
-use Rattle.gb_query.specs.declared.lines.Activity.TheVariants as activities
-use Rattle.gb_query.specs.declared.search.Found.{Found}
-use Rattle.gb_query.specs.declared.search.Found.TheVariants as founds
-use Rattle.gb_query.specs.declared.search.Relation.{Relation}
-use Rattle.gb_query.specs.declared.search.Relation.TheVariants as relations
+use Rattle.gb_query.specs.declared.answer_lines.Activity.{Activity}
+use Rattle.gb_query.specs.declared.answer_lines.Activity.TheVariants as activities
+use Rattle.gb_query.specs.declared.at_place.Found.{Found}
+use Rattle.gb_query.specs.declared.at_place.Found.TheVariants as founds
+use Rattle.gb_query.specs.declared.at_place.Relation.{Relation}
+use Rattle.gb_query.specs.declared.at_place.Relation.TheVariants as relations
 
 -- the text is a line of JSON that reads back as this
 abbrev pub IsJsonOf : Data → List ℕ → Type 0

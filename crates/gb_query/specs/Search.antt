@@ -10,10 +10,10 @@ use Rattle.gb_plan.specs.declared.task.Output.{Output}
 use Rattle.gb_plan.specs.declared.task.TaskDeclaration.{TaskDeclaration}
 use Rattle.gb_report.specs.declared.fault.Fault.{Fault}
 use Rattle.gb_query.specs.Membership.{takes_in}
-use Rattle.gb_query.specs.declared.search.Found.{Found}
-use Rattle.gb_query.specs.declared.search.Found.TheVariants as founds
-use Rattle.gb_query.specs.declared.search.Relation.{Relation}
-use Rattle.gb_query.specs.declared.search.Relation.TheVariants as relations
+use Rattle.gb_query.specs.declared.at_place.Found.{Found}
+use Rattle.gb_query.specs.declared.at_place.Found.TheVariants as founds
+use Rattle.gb_query.specs.declared.at_place.Relation.{Relation}
+use Rattle.gb_query.specs.declared.at_place.Relation.TheVariants as relations
 
 -- a property of the task that includes the place
 abbrev pub reader_in : Path → Place → FileProperty → List Found

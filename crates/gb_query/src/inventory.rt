@@ -16,7 +16,7 @@ use crate::owner::owner_of;
 use gb_core::path::TaskPath;
 use gb_core::place::{Place, PlaceFault};
 use gb_folder::folder::Folder;
-use gb_records::reading::read_records;
+use gb_records::stored_records::read_records;
 use gb_report::fault::Fault;
 use gb_store::listing::listed_at;
 use std::alloc::{AllocError, Global};

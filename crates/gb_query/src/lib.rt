@@ -9,17 +9,17 @@
 //! the same definition by which builds read files.
 #![tactic(auto)]
 
+pub mod answer_lines;
 pub mod answers;
+pub mod at_place;
+pub mod defaults;
 pub mod drawn;
 pub mod inventory;
 pub mod laws;
-pub mod lines;
-pub mod listing;
 pub mod listing_lines;
 pub mod listing_objects;
 pub mod membership;
 pub mod notation;
 pub mod objects;
 pub mod owner;
-pub mod requested;
-pub mod search;
+pub mod query_place;

@@ -6,7 +6,7 @@ ghost use Rattle.gb_plan.specs.Task.{has_path};
 ghost use Rattle.gb_query.specs.Listing.{default_text, kind_text, made_text, output_text, task_line};
 ghost use Rattle.gb_query.specs.Listing.{tasks_text};
 
-use crate::listing::is_default;
+use crate::defaults::is_default;
 use gb_core::path::TaskPath;
 use gb_core::text::Text;
 use gb_graph::tasks::Tasks;

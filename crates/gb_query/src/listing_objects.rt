@@ -8,7 +8,7 @@ ghost use Rattle.gb_query.specs.Listing.{declared_object, fault_object, made_obj
 ghost use Rattle.gb_query.specs.Listing.{task_object, tasks_data};
 ghost use Rattle.gb_query.specs.Objects.{IsJsonOf};
 
-use crate::listing::is_default;
+use crate::defaults::is_default;
 use crate::objects::{json_line, text_value};
 use gb_core::path::TaskPath;
 use gb_graph::tasks::Tasks;

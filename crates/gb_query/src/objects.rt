@@ -8,8 +8,8 @@ ghost use Rattle.gb_query.specs.Objects.{IsJsonOf, activity_word, entry_object, 
 ghost use Rattle.gb_query.specs.Objects.{found_object, pair, relation_key, status_data};
 
 use crate::inventory::Entry;
-use crate::lines::Activity;
-use crate::search::{Found, Relation};
+use crate::answer_lines::Activity;
+use crate::at_place::{Found, Relation};
 use gb_report::fault::Fault;
 use serde_json::{Value, json};
 use std::alloc::{AllocError, Global};

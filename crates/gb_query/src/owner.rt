@@ -8,7 +8,7 @@ ghost use Rattle.gb_query.specs.Owner.{IsOwner, coloned};
 use gb_core::name::NameFault;
 use gb_core::path::TaskPath;
 use gb_core::place::{Place, PlaceFault};
-use gb_history::place::record_place;
+use gb_history::record_place::record_place;
 use std::alloc::{AllocError, Global};
 
 /// The task whose record belongs at this place, if there is one.

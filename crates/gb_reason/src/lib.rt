@@ -7,4 +7,4 @@ mod differing;
 pub mod explain;
 pub mod laws;
 pub mod reason;
-pub mod text;
+pub mod reason_text;

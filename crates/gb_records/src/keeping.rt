@@ -16,13 +16,13 @@ ghost use Rattle.gb_records.specs.Holding.{ComesToNothing, HoldsRecords, HoldsWi
 ghost use Rattle.gb_records.specs.Holding.{HoldsWith, taken_out, written_in};
 
 use crate::fault::{Unwritten, unwritten_by};
-use crate::reading::MAX_RECORD;
+use crate::stored_records::MAX_RECORD;
 use gb_core::path::TaskPath;
 use gb_core::place::{Place, PlaceFault};
 use gb_folder::folder::{Folder, FolderFault};
-use gb_history::place::record_place;
+use gb_history::record_place::record_place;
 use gb_history::record::Record;
-use gb_history::text::record_text;
+use gb_history::record_text::record_text;
 use std::alloc::Global;
 
 /// Deletes the record of a task, if one was read.

@@ -8,4 +8,4 @@
 pub mod fault;
 pub mod keeping;
 pub mod laws;
-pub mod reading;
+pub mod stored_records;

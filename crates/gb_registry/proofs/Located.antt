@@ -6,7 +6,7 @@ use Rattle.std.proofs.lemmas.List.{append-nil}
 use Rattle.std.proofs.lemmas.List.Concat.{flat_map-append}
 use Rattle.gb_report.specs.declared.fault.Fault.{Fault}
 use Rattle.gb_script.specs.declared.script.Statement.{Statement}
-use Rattle.gb_registry.specs.declared.faulty.FaultAt.{FaultAt}
+use Rattle.gb_registry.specs.declared.first_fault.FaultAt.{FaultAt}
 use Rattle.gb_registry.specs.declared.so_far.SoFar.{SoFar}
 use Rattle.gb_registry.specs.Configure.{each_after, missing_tasks, script_missing, statement_faults, statement_missing}
 use Rattle.gb_registry.specs.Faults.{first_of}

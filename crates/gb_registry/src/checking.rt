@@ -14,7 +14,7 @@ use crate::names::Names;
 use crate::project::Project;
 use crate::so_far::SoFar;
 use crate::tables::Tables;
-use crate::walk::look_along;
+use crate::operands::look_along;
 use crate::wrong::Scope;
 use gb_action::actions::Actions;
 use gb_provider::transforms::Transforms;

@@ -14,10 +14,11 @@
 pub mod checking;
 mod configure;
 pub mod configured;
-pub mod faulty;
+pub mod first_fault;
 pub mod laws;
 mod missing;
 pub mod names;
+pub mod operands;
 pub mod paths;
 pub mod project;
 pub mod projects;
@@ -26,5 +27,4 @@ mod so_far;
 pub mod tables;
 mod tasks;
 pub mod texts;
-pub mod walk;
 pub mod wrong;

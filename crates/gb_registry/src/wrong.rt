@@ -8,7 +8,7 @@ use crate::names::{Names, check_name};
 use crate::project::Project;
 use crate::tables::Tables;
 use crate::texts::TextSet;
-use crate::walk::Look;
+use crate::operands::Look;
 use gb_action::actions::Actions;
 use gb_core::name::Name;
 use gb_core::text::Text;

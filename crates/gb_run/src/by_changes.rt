@@ -22,10 +22,10 @@ ghost use Rattle.gb_run.specs.Failing.{ByChanges, Fails};
 ghost use Rattle.gb_run.specs.Work.{AreAtOutputs, ending};
 ghost use Rattle.gb_run.specs.WorkByChanges.{RunsByChanges, increment_of};
 
-use crate::parts::do_parts;
 use crate::run::ended;
 use crate::work::Work;
 use crate::work_by_changes::work_by_changes;
+use crate::work_parts::do_parts;
 use gb_action::actions::Actions;
 use gb_action::change::ChangeLists;
 use gb_action::output::OutputSnapshots;

@@ -20,22 +20,22 @@
 //! right files if the run is stopped.
 #![tactic(auto)]
 
-mod asking;
-pub mod asking_changes;
+mod after_reply;
 pub mod by_changes;
+mod calling;
+pub mod calling_changes;
 pub mod change_laws;
-mod checking;
 mod digests;
 mod doing;
 pub mod emptying;
 mod existing;
 pub mod laws;
-mod parts;
 mod path;
 mod placing;
 mod planning;
 mod reply;
 pub mod run;
-mod turns;
+mod step_order;
 pub mod work;
 pub mod work_by_changes;
+mod work_parts;

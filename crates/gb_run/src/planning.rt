@@ -7,9 +7,9 @@ ghost use Rattle.gb_run.specs.Named.{held_after, steps_of};
 ghost use Rattle.gb_run.specs.Steps.{in_turn};
 ghost use Rattle.gb_run.specs.ChangeTexts.{shown_steps, steps_in};
 
-use crate::checking::check_held;
+use crate::after_reply::check_held;
 use crate::reply::{put_existing, put_reply};
-use crate::turns::in_turn;
+use crate::step_order::in_turn;
 use gb_action::output::OutputFiles;
 use gb_action::reply::{OutputPath, Written};
 use gb_core::bytes::Bytes;

@@ -15,8 +15,8 @@ ghost use Rattle.gb_run.specs.Digests.{prints_at};
 ghost use Rattle.gb_run.specs.Failing.{Fails, InFull};
 ghost use Rattle.gb_run.specs.Work.{AreAtOutputs, RunsInFull, ending, or_made};
 
-use crate::parts::do_parts;
 use crate::work::{Work, work_in_full};
+use crate::work_parts::do_parts;
 use gb_action::actions::Actions;
 use gb_action::change::ChangeLists;
 use gb_action::snapshot::Snapshots;

@@ -18,7 +18,7 @@ ghost use Rattle.gb_run.specs.Step.{IsKept};
 ghost use Rattle.gb_run.specs.Work.{part_of, work_of};
 ghost use Rattle.gb_run.specs.Worked.{AreStepsAt, part_held, work_held};
 
-use crate::asking::{ask, full_request};
+use crate::calling::{ask, full_request};
 use crate::digests::Digests;
 use crate::placing::take_places;
 use gb_action::actions::Actions;

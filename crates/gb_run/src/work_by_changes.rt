@@ -22,8 +22,8 @@ ghost use Rattle.gb_run.specs.Execution.{IsItsExecution, Makes};
 ghost use Rattle.gb_run.specs.WorkByChanges.{FailsWith, IsPart, IsWorkByChanges, increment_of};
 ghost use Rattle.gb_run.specs.Worked.{AreStepsAt, part_held, work_held};
 
-use crate::asking::full_request;
-use crate::asking_changes::{ask, is_writer};
+use crate::calling::full_request;
+use crate::calling_changes::{ask, is_writer};
 use crate::digests::Digests;
 use crate::existing::digests_existed;
 use crate::planning::planned;

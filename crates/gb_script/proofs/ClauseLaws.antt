@@ -5,10 +5,10 @@ use Rattle.std.specs.List.{AllByRecursion, flat_map}
 use Rattle.gb_script.specs.declared.token.Sign.TheVariants.{OpenBrace, CloseBrace, OpenParen, CloseParen, Comma, Dot, Equals}
 use Rattle.gb_script.specs.declared.token.Token.{Token}
 use Rattle.gb_script.specs.declared.token.Token.TheVariants.{Word, Mark}
-use Rattle.gb_script.specs.declared.words.ClauseWord.{ClauseWord}
-use Rattle.gb_script.specs.declared.words.ClauseWord.TheVariants as words
-use Rattle.gb_script.specs.declared.words.OrderWord.TheVariants as orders
-use Rattle.gb_script.specs.declared.words.RunWord.TheVariants as runs
+use Rattle.gb_script.specs.declared.keywords.ClauseWord.{ClauseWord}
+use Rattle.gb_script.specs.declared.keywords.ClauseWord.TheVariants as words
+use Rattle.gb_script.specs.declared.keywords.OrderWord.TheVariants as orders
+use Rattle.gb_script.specs.declared.keywords.RunWord.TheVariants as runs
 use Rattle.gb_script.specs.declared.script.Call.{Call}
 use Rattle.gb_script.specs.declared.script.Assignment.{Assignment}
 use Rattle.gb_script.specs.declared.script.Condition.{Condition}

@@ -5,7 +5,7 @@ use Rattle.std.proofs.lemmas.List.{append-nil}
 use Rattle.gb_script.specs.declared.token.Sign.{Sign}
 use Rattle.gb_script.specs.declared.token.Token.{Token}
 use Rattle.gb_script.specs.declared.token.Token.TheVariants.{Word, Mark}
-use Rattle.gb_script.specs.declared.stop.Fault.TheVariants.{Stray, Deep}
+use Rattle.gb_script.specs.declared.token_fault.Fault.TheVariants.{Stray, Deep}
 use Rattle.gb_script.specs.Lexing.{begins}
 use Rattle.gb_script.specs.Grammar.{Leveled, tokens_of, said_spelled}
 use Rattle.gb_script.specs.Reading.{Reader, ◌>>=◌, is_word, skip_at, maybe_at, past_at, pair_at, made_at, closed_at, opened_at, said_at}

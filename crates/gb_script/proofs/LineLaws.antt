@@ -1,13 +1,13 @@
 -- Reading lines gives the lines of what is read.
 use Rattle.std.proofs.Common.{◌≡◌, ℕ, zero, suc, ◌+◌, ◌-◌, Bool, true, false, cond, List, [], ◌∷◌, length, Option, None, Some, Result, Ok, Err, refl, sym, ap, ◌∙◌, arith, inl, inr, eqb, length-append}
 use Rattle.std.proofs.lemmas.List.{length-map}
-use Rattle.gb_script.specs.declared.stop.Fault.{Fault}
+use Rattle.gb_script.specs.declared.token_fault.Fault.{Fault}
 use Rattle.gb_script.specs.declared.token.Sign.TheVariants.{OpenBrace, CloseBrace}
 use Rattle.gb_script.specs.declared.token.Token.{Token}
 use Rattle.gb_script.specs.declared.token.Token.TheVariants.{Word, Text, Mark, Wrong}
-use Rattle.gb_script.specs.declared.words.StatementWord.{StatementWord}
-use Rattle.gb_script.specs.declared.words.StatementWord.TheVariants as words
-use Rattle.gb_script.specs.declared.words.PropertyWord.TheVariants as properties
+use Rattle.gb_script.specs.declared.keywords.StatementWord.{StatementWord}
+use Rattle.gb_script.specs.declared.keywords.StatementWord.TheVariants as words
+use Rattle.gb_script.specs.declared.keywords.PropertyWord.TheVariants as properties
 use Rattle.gb_script.specs.declared.script.Call.{Call}
 use Rattle.gb_script.specs.declared.script.Clause.{Clause}
 use Rattle.gb_script.specs.declared.script.Statement.{Statement}

@@ -1,9 +1,9 @@
 -- A loop that reads one after another gives what many_at gives.
 use Rattle.std.proofs.Common.{◌≡◌, ℕ, zero, suc, ◌+◌, ◌<◌, Bool, true, false, List, [], ◌∷◌, ◌++◌, length, map, Result, Ok, Err, refl, sym, ap, ◌∙◌, append_assoc, arith, length-append}
 use Rattle.std.proofs.lemmas.List.{append-nil, map-append}
-use Rattle.gb_script.specs.declared.stop.Fault.{Fault}
-use Rattle.gb_script.specs.declared.stop.Stop.{Stop}
-use Rattle.gb_script.specs.declared.stop.Stop.TheVariants as stops
+use Rattle.gb_script.specs.declared.token_fault.Fault.{Fault}
+use Rattle.gb_script.specs.declared.token_fault.Stop.{Stop}
+use Rattle.gb_script.specs.declared.token_fault.Stop.TheVariants as stops
 use Rattle.gb_script.specs.declared.token.Sign.TheVariants.{Comma}
 use Rattle.gb_script.specs.declared.token.Token.{Token}
 use Rattle.gb_script.specs.Lexing.{begins}

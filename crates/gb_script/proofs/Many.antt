@@ -4,8 +4,8 @@ use Rattle.std.specs.Prelude.{◌&&◌}
 use Rattle.std.specs.List.{flat_map}
 use Rattle.std.proofs.lemmas.List.{append-nil}
 use Rattle.gb_script.specs.declared.token.Token.{Token}
-use Rattle.gb_script.specs.declared.stop.Fault.{Fault}
-use Rattle.gb_script.specs.declared.stop.Fault.TheVariants.{Stray, Deep}
+use Rattle.gb_script.specs.declared.token_fault.Fault.{Fault}
+use Rattle.gb_script.specs.declared.token_fault.Fault.TheVariants.{Stray, Deep}
 use Rattle.gb_script.specs.Lexing.{begins}
 use Rattle.gb_script.specs.Grammar.{Leveled, tokens_of}
 use Rattle.gb_script.specs.Reading.{Reader, ◌>>=◌, many_at}

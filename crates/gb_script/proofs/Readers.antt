@@ -1,8 +1,8 @@
 -- What a reader reads, law by law, and that readers in sequence keep the laws.
 use Rattle.std.proofs.Common.{◌≡◌, ℕ, Bool, true, false, cond, List, [], ◌∷◌, ◌++◌, length, Option, Some, None, Result, Ok, Err, refl, sym, ap, subst, ◌∙◌, append_assoc, ◌⊎◌, inl, inr}
 use Rattle.std.proofs.lemmas.List.{append-nil, map-append}
-use Rattle.gb_script.specs.declared.stop.Fault.{Fault}
-use Rattle.gb_script.specs.declared.stop.Fault.TheVariants.{Stray, Deep}
+use Rattle.gb_script.specs.declared.token_fault.Fault.{Fault}
+use Rattle.gb_script.specs.declared.token_fault.Fault.TheVariants.{Stray, Deep}
 use Rattle.gb_script.specs.declared.token.Token.{Token}
 use Rattle.gb_script.specs.Grammar.{Leveled, tokens_of}
 use Rattle.gb_script.specs.Verdict.{is_over, AllWithin}

@@ -6,10 +6,10 @@ use Rattle.std.proofs.lemmas.Str.{is_utf8-from_IsUtf8, IsUtf8-from_is_utf8}
 use Rattle.std.specs.Prelude.{IsUtf8, nat_lt}
 use Rattle.std.specs.Str.{is_utf8}
 use Rattle.gb_script.specs.declared.token.Token.{Token}
-use Rattle.gb_script.specs.declared.stop.Fault.{Fault}
-use Rattle.gb_script.specs.declared.stop.Fault.TheVariants.{Stray, Deep}
-use Rattle.gb_script.specs.declared.stop.Stop.{Stop}
-use Rattle.gb_script.specs.declared.stop.Stop.TheVariants as stops
+use Rattle.gb_script.specs.declared.token_fault.Fault.{Fault}
+use Rattle.gb_script.specs.declared.token_fault.Fault.TheVariants.{Stray, Deep}
+use Rattle.gb_script.specs.declared.token_fault.Stop.{Stop}
+use Rattle.gb_script.specs.declared.token_fault.Stop.TheVariants as stops
 use Rattle.gb_script.specs.declared.fault.ScriptFault.{ScriptFault}
 use Rattle.gb_script.specs.declared.fault.ScriptFault.TheVariants.{OutOfMemory, Syntax, TooLong, TooDeep, NotUtf8}
 use Rattle.gb_script.specs.Lexing.{Placed, HasTokens, newlines}

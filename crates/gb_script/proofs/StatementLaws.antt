@@ -3,9 +3,9 @@ use Rattle.std.proofs.Common.{◌≡◌, ℕ, ◌+◌, Bool, true, false, List, 
 use Rattle.gb_script.specs.declared.token.Sign.TheVariants.{OpenBrace, Colon, Comma, Dot}
 use Rattle.gb_script.specs.declared.token.Token.{Token}
 use Rattle.gb_script.specs.declared.token.Token.TheVariants.{Word, Mark}
-use Rattle.gb_script.specs.declared.words.StatementWord.{StatementWord}
-use Rattle.gb_script.specs.declared.words.StatementWord.TheVariants as words
-use Rattle.gb_script.specs.declared.words.PropertyWord.TheVariants as properties
+use Rattle.gb_script.specs.declared.keywords.StatementWord.{StatementWord}
+use Rattle.gb_script.specs.declared.keywords.StatementWord.TheVariants as words
+use Rattle.gb_script.specs.declared.keywords.PropertyWord.TheVariants as properties
 use Rattle.gb_script.specs.declared.script.Call.{Call}
 use Rattle.gb_script.specs.declared.script.Assignment.{Assignment}
 use Rattle.gb_script.specs.declared.script.Registration.{Registration}

@@ -1,12 +1,12 @@
 -- The steps that have a value of their own, read one part after the other.
 use Rattle.std.proofs.Common.{◌≡◌, ℕ, suc, ◌+◌, Bool, List, Result, Ok, Err, refl, ap, ◌∙◌, arith}
-use Rattle.gb_script.specs.declared.stop.Fault.{Fault}
-use Rattle.gb_script.specs.declared.stop.Stop.{Stop}
-use Rattle.gb_script.specs.declared.stop.Stop.TheVariants as stops
+use Rattle.gb_script.specs.declared.token_fault.Fault.{Fault}
+use Rattle.gb_script.specs.declared.token_fault.Stop.{Stop}
+use Rattle.gb_script.specs.declared.token_fault.Stop.TheVariants as stops
 use Rattle.gb_script.specs.declared.token.Sign.TheVariants.{OpenParen, CloseParen, Comma}
 use Rattle.gb_script.specs.declared.token.Token.{Token}
 use Rattle.gb_script.specs.declared.function.Function.{Function}
-use Rattle.gb_script.specs.declared.words.StepWord.TheVariants as steps
+use Rattle.gb_script.specs.declared.keywords.StepWord.TheVariants as steps
 use Rattle.gb_script.specs.Tree.{Tree, Link, ZipBy, Else}
 use Rattle.gb_script.specs.Reading.{◌>>=◌, Fails, is_sign, skip_at, open_at, past_at, closed_at}
 use Rattle.gb_script.specs.Readers.{function_at, zip_from, link_of_at, inside_at, tree_at}

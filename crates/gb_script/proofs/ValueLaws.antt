@@ -7,10 +7,10 @@ use Rattle.gb_script.specs.declared.token.Sign.{Sign}
 use Rattle.gb_script.specs.declared.token.Sign.TheVariants.{OpenParen, CloseParen, OpenBracket, CloseBracket, Comma, Dot}
 use Rattle.gb_script.specs.declared.token.Token.{Token}
 use Rattle.gb_script.specs.declared.token.Token.TheVariants.{Word, Text, Mark, Wrong}
-use Rattle.gb_script.specs.declared.words.SourceWord.{SourceWord}
-use Rattle.gb_script.specs.declared.words.SourceWord.TheVariants as sources
-use Rattle.gb_script.specs.declared.words.StepWord.{StepWord}
-use Rattle.gb_script.specs.declared.words.StepWord.TheVariants as steps
+use Rattle.gb_script.specs.declared.keywords.SourceWord.{SourceWord}
+use Rattle.gb_script.specs.declared.keywords.SourceWord.TheVariants as sources
+use Rattle.gb_script.specs.declared.keywords.StepWord.{StepWord}
+use Rattle.gb_script.specs.declared.keywords.StepWord.TheVariants as steps
 use Rattle.gb_script.specs.declared.function.Function.{Function}
 use Rattle.gb_script.specs.Lexing.{begins}
 use Rattle.gb_script.specs.Words.{meaning_in, source_words, step_words, is_reserved}

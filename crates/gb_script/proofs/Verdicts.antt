@@ -1,8 +1,8 @@
 -- The first fault of a row of tokens is a fault of the reader, so reading finds it.
 use Rattle.std.proofs.Common.{◌≡◌, ℕ, ◌≤◌, Bool, true, cond, List, [], ◌∷◌, ◌++◌, length, Option, None, Result, Ok, Err, refl, sym, ap, ◌∙◌, append_assoc, arith, ◌⊎◌, inl, inr, eqb, length-append}
 use Rattle.std.proofs.lemmas.List.{append-nil, map-append}
-use Rattle.gb_script.specs.declared.stop.Fault.{Fault}
-use Rattle.gb_script.specs.declared.stop.Fault.TheVariants.{Stray, Deep}
+use Rattle.gb_script.specs.declared.token_fault.Fault.{Fault}
+use Rattle.gb_script.specs.declared.token_fault.Fault.TheVariants.{Stray, Deep}
 use Rattle.gb_script.specs.declared.token.Token.{Token}
 use Rattle.gb_script.specs.Grammar.{Leveled, tokens_of}
 use Rattle.gb_script.specs.Verdict.{is_over, Begins, IsFirstStray, IsFirstDeep}

@@ -1,8 +1,8 @@
 -- Reading the lines of statements and clauses. A line is a function of how many tokens are left.
 use Rattle.std.specs.Prelude.{ℕ, List, [], length, Ok}
 use Rattle.gb_script.specs.declared.token.Sign.TheVariants.{OpenBrace, CloseBrace}
-use Rattle.gb_script.specs.declared.words.StatementWord.{StatementWord}
-use Rattle.gb_script.specs.declared.words.StatementWord.TheVariants as words
+use Rattle.gb_script.specs.declared.keywords.StatementWord.{StatementWord}
+use Rattle.gb_script.specs.declared.keywords.StatementWord.TheVariants as words
 use Rattle.gb_script.specs.Words.{statement_words}
 use Rattle.gb_script.specs.Reading.{Reader, ◌>>=◌, is_sign, is_any, skip_at, name_at, meaning_at, many_at}
 use Rattle.gb_script.specs.Reading.{no_matter}

@@ -6,20 +6,20 @@ use Rattle.gb_script.specs.declared.token.Sign.TheVariants.{OpenBracket, CloseBr
 use Rattle.gb_script.specs.declared.token.Sign.TheVariants.{Dot, Colon, Equals}
 use Rattle.gb_script.specs.declared.token.Token.{Token}
 use Rattle.gb_script.specs.declared.token.Token.TheVariants.{Word, Text, Mark, Wrong}
-use Rattle.gb_script.specs.declared.words.SourceWord.{SourceWord}
-use Rattle.gb_script.specs.declared.words.SourceWord.TheVariants as sources
-use Rattle.gb_script.specs.declared.words.StepWord.{StepWord}
-use Rattle.gb_script.specs.declared.words.StepWord.TheVariants as steps
-use Rattle.gb_script.specs.declared.words.ClauseWord.{ClauseWord}
-use Rattle.gb_script.specs.declared.words.ClauseWord.TheVariants as words
-use Rattle.gb_script.specs.declared.words.OrderWord.{OrderWord}
-use Rattle.gb_script.specs.declared.words.OrderWord.TheVariants as orders
-use Rattle.gb_script.specs.declared.words.RunWord.{RunWord}
-use Rattle.gb_script.specs.declared.words.RunWord.TheVariants as runs
-use Rattle.gb_script.specs.declared.words.StatementWord.{StatementWord}
-use Rattle.gb_script.specs.declared.words.StatementWord.TheVariants as begins_with
-use Rattle.gb_script.specs.declared.words.PropertyWord.{PropertyWord}
-use Rattle.gb_script.specs.declared.words.PropertyWord.TheVariants as properties
+use Rattle.gb_script.specs.declared.keywords.SourceWord.{SourceWord}
+use Rattle.gb_script.specs.declared.keywords.SourceWord.TheVariants as sources
+use Rattle.gb_script.specs.declared.keywords.StepWord.{StepWord}
+use Rattle.gb_script.specs.declared.keywords.StepWord.TheVariants as steps
+use Rattle.gb_script.specs.declared.keywords.ClauseWord.{ClauseWord}
+use Rattle.gb_script.specs.declared.keywords.ClauseWord.TheVariants as words
+use Rattle.gb_script.specs.declared.keywords.OrderWord.{OrderWord}
+use Rattle.gb_script.specs.declared.keywords.OrderWord.TheVariants as orders
+use Rattle.gb_script.specs.declared.keywords.RunWord.{RunWord}
+use Rattle.gb_script.specs.declared.keywords.RunWord.TheVariants as runs
+use Rattle.gb_script.specs.declared.keywords.StatementWord.{StatementWord}
+use Rattle.gb_script.specs.declared.keywords.StatementWord.TheVariants as begins_with
+use Rattle.gb_script.specs.declared.keywords.PropertyWord.{PropertyWord}
+use Rattle.gb_script.specs.declared.keywords.PropertyWord.TheVariants as properties
 use Rattle.gb_script.specs.declared.function.Function.{Function}
 use Rattle.gb_script.specs.declared.script.Call.{Call}
 use Rattle.gb_script.specs.declared.script.Assignment.{Assignment}

@@ -7,10 +7,10 @@ use Rattle.gb_script.specs.declared.token.Sign.{Sign}
 use Rattle.gb_script.specs.declared.token.Sign.TheVariants.{Comma}
 use Rattle.gb_script.specs.declared.token.Token.{Token}
 use Rattle.gb_script.specs.declared.token.Token.TheVariants.{Word, Text, Mark, Wrong}
-use Rattle.gb_script.specs.declared.stop.Fault.{Fault}
-use Rattle.gb_script.specs.declared.stop.Fault.TheVariants.{Stray, Deep}
-use Rattle.gb_script.specs.declared.stop.Stop.{Stop}
-use Rattle.gb_script.specs.declared.stop.Stop.TheVariants as stops
+use Rattle.gb_script.specs.declared.token_fault.Fault.{Fault}
+use Rattle.gb_script.specs.declared.token_fault.Fault.TheVariants.{Stray, Deep}
+use Rattle.gb_script.specs.declared.token_fault.Stop.{Stop}
+use Rattle.gb_script.specs.declared.token_fault.Stop.TheVariants as stops
 use Rattle.gb_script.specs.Lexing.{begins, sign_byte}
 use Rattle.gb_script.specs.Words.{Meanings, meaning_in, is_reserved}
 

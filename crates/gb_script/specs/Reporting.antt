@@ -3,9 +3,9 @@ use Rattle.std.specs.Prelude.{ℕ, ◌+◌, ◌-◌, ◌<◌, ◌≤◌, List, l
 use Rattle.gb_script.specs.declared.fault.ScriptFault.{ScriptFault}
 use Rattle.gb_script.specs.declared.fault.ScriptFault.TheVariants.{OutOfMemory, Syntax, TooLong, TooDeep}
 use Rattle.gb_script.specs.declared.fault.ScriptFault.TheVariants.{NotUtf8}
-use Rattle.gb_script.specs.declared.stop.Fault.TheVariants.{Stray, Deep}
-use Rattle.gb_script.specs.declared.stop.Stop.{Stop}
-use Rattle.gb_script.specs.declared.stop.Stop.TheVariants as stops
+use Rattle.gb_script.specs.declared.token_fault.Fault.TheVariants.{Stray, Deep}
+use Rattle.gb_script.specs.declared.token_fault.Stop.{Stop}
+use Rattle.gb_script.specs.declared.token_fault.Stop.TheVariants as stops
 use Rattle.gb_script.specs.Lexing.{newlines}
 
 -- the fault of bytes that are not a text of at most 1 MiB

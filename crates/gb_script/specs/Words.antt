@@ -1,17 +1,17 @@
 -- The words that the notation gives a meaning to.
 use Rattle.std.specs.Prelude.{ℕ, Bool, List, [], ◌∷◌, Option, Some, None, is_some, codes, if◌then◌else◌}
 use Rattle.std.specs.Str.{bytes_eq}
-use Rattle.gb_script.specs.declared.words.SourceWord.{SourceWord}
-use Rattle.gb_script.specs.declared.words.SourceWord.TheVariants as sources
-use Rattle.gb_script.specs.declared.words.StepWord.{StepWord}
-use Rattle.gb_script.specs.declared.words.StepWord.TheVariants as steps
-use Rattle.gb_script.specs.declared.words.ClauseWord.{ClauseWord}
-use Rattle.gb_script.specs.declared.words.ClauseWord.TheVariants as clauses
-use Rattle.gb_script.specs.declared.words.OrderWord.TheVariants as orders
-use Rattle.gb_script.specs.declared.words.RunWord.TheVariants as runs
-use Rattle.gb_script.specs.declared.words.StatementWord.{StatementWord}
-use Rattle.gb_script.specs.declared.words.StatementWord.TheVariants as statements
-use Rattle.gb_script.specs.declared.words.PropertyWord.TheVariants as properties
+use Rattle.gb_script.specs.declared.keywords.SourceWord.{SourceWord}
+use Rattle.gb_script.specs.declared.keywords.SourceWord.TheVariants as sources
+use Rattle.gb_script.specs.declared.keywords.StepWord.{StepWord}
+use Rattle.gb_script.specs.declared.keywords.StepWord.TheVariants as steps
+use Rattle.gb_script.specs.declared.keywords.ClauseWord.{ClauseWord}
+use Rattle.gb_script.specs.declared.keywords.ClauseWord.TheVariants as clauses
+use Rattle.gb_script.specs.declared.keywords.OrderWord.TheVariants as orders
+use Rattle.gb_script.specs.declared.keywords.RunWord.TheVariants as runs
+use Rattle.gb_script.specs.declared.keywords.StatementWord.{StatementWord}
+use Rattle.gb_script.specs.declared.keywords.StatementWord.TheVariants as statements
+use Rattle.gb_script.specs.declared.keywords.PropertyWord.TheVariants as properties
 
 -- words, each with its meaning
 abbrev pub Meanings : Type 0 → Type 0

@@ -11,14 +11,14 @@ ghost use Rattle.gb_script.specs.Readers.{clause_of_at, clause_at, block_at};
 
 use crate::expression::{Expression, Expressions};
 use crate::function::Function;
-use crate::reading::{
+use crate::keywords::{ClauseWord, OrderWord, RunWord, clause_word};
+use crate::readers::{
     begins, closed, function, name, open, patterns, property, said, skip, skip_word, stray, texts,
 };
 use crate::script::{Assignment, Block, Call, Clause, Condition, InputFiles};
-use crate::stop::Stop;
 use crate::token::{Sign, Token};
+use crate::token_fault::Stop;
 use crate::values::{expression, expressions};
-use crate::words::{ClauseWord, OrderWord, RunWord, clause_word};
 use gb_core::text::Texts;
 use std::alloc::Global;
 

@@ -13,13 +13,13 @@ ghost use Rattle.gb_script.specs.LineReaders.{statement_lines_at, script_lines_a
 
 use crate::clauses::{clause, is_in_block};
 use crate::fault::ScriptFault;
+use crate::keywords::StatementWord;
 use crate::lexing::{Lexed, lex};
-use crate::reading::{closed, name, skip, stray};
+use crate::readers::{closed, name, skip, stray};
 use crate::source::{fault_of, text_of};
 use crate::statements::{MAX_OPEN, action, is_left, read_statement_word, statement_of};
-use crate::stop::Stop;
 use crate::token::{Sign, Token};
-use crate::words::StatementWord;
+use crate::token_fault::Stop;
 use std::alloc::Global;
 use std::marker::Model;
 

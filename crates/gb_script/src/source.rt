@@ -13,7 +13,7 @@ use crate::fault::ScriptFault;
 use crate::lexing::{Lexed, lex};
 use crate::script::{Script, Settings};
 use crate::statements::{whole_script, whole_settings};
-use crate::stop::{Fault, Stop};
+use crate::token_fault::{Fault, Stop};
 use std::alloc::Global;
 
 /// The most bytes that a text may have: 1 MiB.

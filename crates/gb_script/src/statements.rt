@@ -8,11 +8,11 @@ ghost use Rattle.gb_script.specs.Readers.{property_of_at, statement_of_at, state
 ghost use Rattle.gb_script.specs.Readers.{include_at, settings_at};
 
 use crate::clauses::{block, call, property_assignment};
-use crate::reading::{begins, name, property, skip, stray, texts, texts_after};
+use crate::keywords::{PropertyWord, StatementWord, statement_word};
+use crate::readers::{begins, name, property, skip, stray, texts, texts_after};
 use crate::script::{Call, Configuration, Registration, Script, Settings, Statement};
-use crate::stop::Stop;
 use crate::token::{Sign, Token};
-use crate::words::{PropertyWord, StatementWord, statement_word};
+use crate::token_fault::Stop;
 use gb_core::text::Texts;
 use std::alloc::Global;
 

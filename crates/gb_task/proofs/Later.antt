@@ -33,7 +33,7 @@ use Rattle.gb_report.specs.declared.report.TaskReport.{TaskReport}
 use Rattle.gb_label.specs.Reading.{AreInputs, AreInputsObserved, AreOutputs, AreOutputsObserved}
 use Rattle.gb_task.specs.Settled.{AnswersAlone, IsAnsweredAlone}
 use Rattle.gb_task.specs.Executing.{BeginsAt, HasExecuted, IsDue, IsDueByChanges, IsToGoOn, IsReportedOf, Registering, cleared_outcome, outcome_of, setting_with}
-use Rattle.gb_task.specs.declared.settle.Settled.TheVariants as settled
+use Rattle.gb_task.specs.declared.before_changes.Settled.TheVariants as settled
 
 -- ---- which run is due
 

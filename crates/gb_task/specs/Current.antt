@@ -19,8 +19,8 @@ use Rattle.gb_report.specs.declared.report.Outcome.{Outcome}
 use Rattle.gb_report.specs.declared.report.Outcome.TheVariants as outcomes
 use Rattle.gb_task.specs.declared.recheck.Recheck.{Recheck}
 use Rattle.gb_task.specs.declared.recheck.Recheck.TheVariants as recheck
-use Rattle.gb_task.specs.declared.settle.Settled.{Settled}
-use Rattle.gb_task.specs.declared.settle.Settled.TheVariants as settled
+use Rattle.gb_task.specs.declared.before_changes.Settled.{Settled}
+use Rattle.gb_task.specs.declared.before_changes.Settled.TheVariants as settled
 
 -- The record that was read of the task finds it up to date, on trees and files that calls returned.
 pub record IsCurrentOn {F : Type 0} (failures : F → ℕ) (may_leave : F → Tearing)

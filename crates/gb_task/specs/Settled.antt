@@ -24,8 +24,8 @@ use Rattle.gb_report.specs.declared.report.Outcome.TheVariants as outcomes
 use Rattle.gb_report.specs.declared.report.TaskReport.{TaskReport}
 use Rattle.gb_task.specs.Case.{IsCaseFor}
 use Rattle.gb_task.specs.Executions.{IsRunFor}
-use Rattle.gb_task.specs.declared.settle.Settled.{Settled}
-use Rattle.gb_task.specs.declared.settle.Settled.TheVariants as settled
+use Rattle.gb_task.specs.declared.before_changes.Settled.{Settled}
+use Rattle.gb_task.specs.declared.before_changes.Settled.TheVariants as settled
 
 -- the outcome that is reported for a task without actions
 abbrev pub idle_outcome : Bool → Outcome

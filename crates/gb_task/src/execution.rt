@@ -32,7 +32,7 @@ ghost use Rattle.gb_task.specs.Executing.{is_of_execution, outcome_of, setting_w
 
 use crate::changes::execute_by_changes;
 use crate::full::execute_in_full;
-use crate::settle::{Settled, settle};
+use crate::before_changes::{Settled, settle};
 use crate::sourceless::execute_without_source;
 use gb_action::actions::Actions;
 use gb_action::table::ActionTable;
@@ -44,7 +44,7 @@ use gb_label::prepare::Observed;
 use gb_plan::task::TaskDeclaration;
 use gb_report::fault::Fault;
 use gb_report::report::{Options, TaskReport};
-use gb_run::asking_changes::has_one_writer;
+use gb_run::calling_changes::has_one_writer;
 use std::alloc::Global;
 
 /// Executes a started task. `last` is the record that was read of it, and `has_executed_need` says

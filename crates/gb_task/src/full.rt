@@ -42,7 +42,7 @@ use gb_folder::folder::Folder;
 use gb_history::record::Record;
 use gb_label::inputs::{Inputs, complete_inputs};
 use gb_label::outputs::records_of;
-use gb_label::record::record_of;
+use gb_label::recorded::record_of;
 use gb_plan::task::TaskDeclaration;
 use gb_report::fault::Fault;
 use gb_report::report::{Outcome, TaskReport};

@@ -13,14 +13,14 @@
 #![tactic(auto)]
 
 mod adding;
+mod before_changes;
+mod by_changes;
 pub mod case_laws;
 mod changes;
 mod clearing;
 pub mod execution;
 mod full;
-mod going;
 mod keeping;
 pub mod laws;
 mod recheck;
-mod settle;
 mod sourceless;

@@ -14,7 +14,7 @@ use gb_core::bytes::Bytes;
 use gb_core::name::Name;
 use gb_core::place::RelPath;
 use gb_kinds::by_file::holds;
-use gb_kinds::names::output_name;
+use gb_kinds::known_names::output_name;
 use std::alloc::{AllocError, Global};
 use std::collections::BTreeMap;
 

@@ -14,7 +14,7 @@ use gb_action::values::Arguments;
 use gb_core::bytes::Bytes;
 use gb_core::place::RelPath;
 use gb_core::text::Text;
-use gb_kinds::names::source_name;
+use gb_kinds::known_names::source_name;
 use std::alloc::{AllocError, Global};
 use std::collections::BTreeMap;
 use std::marker::PhantomData;

@@ -23,7 +23,7 @@ use gb_core::bytes::Bytes;
 use gb_core::name::Name;
 use gb_core::place::RelPath;
 use gb_core::text::Text;
-use gb_kinds::names::source_name;
+use gb_kinds::known_names::source_name;
 use gb_kinds::shapes::of_files;
 use std::alloc::{AllocError, Global};
 use std::marker::PhantomData;

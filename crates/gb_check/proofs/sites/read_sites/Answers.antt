@@ -8,7 +8,7 @@ use Rattle.gb_report.specs.declared.fault.Fault.{Fault}
 use Rattle.gb_store.specs.Faults.{IsOfMachine}
 use Rattle.gb_check.specs.Sites.{AreLinesAt, AreSites, HasTextFault, IsUnread, script_of_project, sites_of}
 use Rattle.gb_check.specs.Marks.{marks_of}
-use Rattle.gb_check.specs.declared.marks.Mark.{Mark}
+use Rattle.gb_check.specs.declared.clause_lines.Mark.{Mark}
 use Rattle.gb_check.specs.declared.sites.Site.{Site}
 use Rattle.gb_registry.specs.Projects.{Path}
 use Rattle.gb_script.specs.declared.script.Statement.{Statement}

@@ -2,7 +2,7 @@ use Rattle.std.proofs.Common.{◌≡◌, ◌++◌, IsTrue, List, drop}
 use Rattle.gb_folder.specs.Calls.{Requests, no_change}
 use Rattle.gb_registry.specs.SoFar.{scripts_in}
 use Rattle.gb_check.specs.Sites.{AreSites}
-use Rattle.gb_check.specs.declared.marks.Mark.{Mark}
+use Rattle.gb_check.specs.declared.clause_lines.Mark.{Mark}
 use Rattle.gb_check.specs.declared.sites.Site.{Site}
 use Rattle.gb_check.proofs.sites.read_sites.Given as goal
 

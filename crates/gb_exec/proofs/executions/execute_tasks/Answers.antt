@@ -24,8 +24,8 @@ use Rattle.gb_report.specs.declared.report.TaskReport.{TaskReport}
 use Rattle.gb_exec.proofs.ByNumber.{path_is}
 use Rattle.gb_exec.specs.Plans.{AreEndings, AreOfPlan}
 use Rattle.gb_exec.specs.Starts.{Progress, ending_in, ending_of}
-use Rattle.gb_exec.specs.declared.starts.Ending.{Ending}
-use Rattle.gb_exec.specs.declared.starts.Ending.TheVariants.{ToCome}
+use Rattle.gb_exec.specs.declared.may_start.Ending.{Ending}
+use Rattle.gb_exec.specs.declared.may_start.Ending.TheVariants.{ToCome}
 use Rattle.gb_store.specs.Changes.{ChangesOnly}
 use Rattle.gb_store.proofs.Machine.{changes_none}
 use Rattle.gb_task.proofs.Parts.{differs_outside}

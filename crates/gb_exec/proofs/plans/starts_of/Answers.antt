@@ -5,7 +5,7 @@ use Rattle.std.proofs.lemmas.List.{length-map}
 use Rattle.gb_plan.specs.declared.plan.Planned.{Planned}
 use Rattle.gb_exec.specs.Plans.{AreOfPlan, IsNeeded, GiveRows, finalizers_of, needs_of}
 use Rattle.gb_exec.specs.Starts.{Progress, mark_at, row, rows}
-use Rattle.gb_exec.specs.declared.starts.Ending.TheVariants.{ToCome}
+use Rattle.gb_exec.specs.declared.may_start.Ending.TheVariants.{ToCome}
 use Rattle.gb_exec.proofs.Rowed.{give_rows, needs_within, wired, of_plan}
 use Rattle.gb_exec.proofs.plans.starts_of.Goals as goal
 

@@ -1,4 +1,4 @@
-use Rattle.gb_graph.specs.declared.met.Search.TheVariants.{Overlaps, OwnInputs, Undeclared}
+use Rattle.gb_graph.specs.declared.conflicting.Search.TheVariants.{Overlaps, OwnInputs, Undeclared}
 use Rattle.gb_graph.specs.Conflicts.{Meets}
 use Rattle.gb_graph.proofs.Judged.{is_sound}
 use Rattle.gb_graph.proofs.Lesser.{no_conflict, none_meets}

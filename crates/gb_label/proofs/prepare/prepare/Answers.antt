@@ -4,7 +4,7 @@ use Rattle.gb_label.proofs.ReadingAnswering.{inputs_longer}
 use Rattle.gb_label.specs.Reading.{Read}
 use Rattle.gb_label.specs.Answered.{WasDecided, WasLookedAt}
 use Rattle.gb_label.specs.Looking.{MayBe}
-use Rattle.gb_label.specs.declared.look.Look.{Look}
+use Rattle.gb_label.specs.declared.early_outcomes.Look.{Look}
 use Rattle.gb_label.proofs.Answering.{decided_longer}
 use Rattle.gb_label.proofs.prepare.prepare.Goals as goal
 

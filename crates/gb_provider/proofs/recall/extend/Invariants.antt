@@ -1,6 +1,6 @@
 use Rattle.std.proofs.Common.{◌≡◌, ◌≢◌, ℕ, length, Some}
 use Rattle.std.specs.Prelude.{slice_get}
-use Rattle.gb_provider.specs.declared.reading.State.TheVariants.{Open}
+use Rattle.gb_provider.specs.declared.evaluation.State.TheVariants.{Open}
 use Rattle.gb_provider.specs.Search.{known}
 use Rattle.gb_provider.proofs.recall.extend.Given as goal
 

@@ -1,0 +1,149 @@
+//! The execution of one task of a plan.
+ghost use Rattle.std.specs.Prelude.{◌≡◌, ◌<◌, [], ◌∷◌, ℕ, List, None, Some, false, map, length};
+ghost use Rattle.std.specs.Prelude.{slice_get, slice_index_or, IsTrue};
+ghost use Rattle.gb_folder.specs.Files.{HasRisen};
+ghost use Rattle.gb_meaning.specs.Kinds.{Kinds};
+ghost use Rattle.gb_meaning.specs.Label.{Moment};
+ghost use Rattle.gb_meaning.specs.Outline.{IsOutline};
+ghost use Rattle.gb_meaning.specs.TrueRecord.{outside};
+ghost use Rattle.gb_meaning.specs.Execution.{heard_of};
+ghost use Rattle.gb_plan.specs.declared.plan.Planned.{Planned};
+ghost use Rattle.gb_records.specs.Assumed.{IsAssumed};
+ghost use Rattle.gb_records.specs.Holding.{HoldsRecords};
+ghost use Rattle.gb_report.specs.declared.report.Outcome.TheVariants.{Failed, NotRun};
+ghost use Rattle.gb_store.specs.Changes.{ChangesOnly};
+ghost use Rattle.gb_task.specs.Case.{IsKnown};
+ghost use Rattle.gb_task.specs.ByOutcome.{ExecutionRequests};
+ghost use Rattle.gb_task.specs.Executing.{Registering, is_of_execution, setting_with};
+ghost use Rattle.gb_exec.specs.Notifying.{AllReported};
+ghost use Rattle.gb_exec.specs.Plans.{AreEndings, AreOfPlan};
+ghost use Rattle.gb_exec.specs.Building.{CanBuild};
+ghost use Rattle.gb_exec.specs.Built.{IsExecutionOf};
+ghost use Rattle.gb_exec.specs.Reports.{IsOf, report_with};
+
+use crate::heard_laws::reported_more;
+use crate::listener::TaskListener;
+use crate::notifying::notify;
+use crate::start_laws::{needs_by_number, starts_by_number};
+use crate::may_start::Starts;
+use gb_action::actions::Actions;
+use gb_action::table::ActionTable;
+use gb_core::path::TaskPath;
+use gb_core::text::Texts;
+use gb_folder::folder::Folder;
+use gb_history::record::Record;
+use gb_plan::plan::Planned;
+use gb_report::fault::Fault;
+use gb_report::report::{Options, Outcome, TaskReport};
+use gb_task::execution::execute_task;
+use std::alloc::Global;
+
+/// The input of a build: its tasks in their order, what is stored of their actions, the record that
+/// was read of each task, and the options of the build.
+#[derive(Drop)]
+pub(crate) struct Build<'a, S> {
+    pub(crate) tasks: &'a [Planned],
+    pub(crate) table: &'a ActionTable<S>,
+    pub(crate) records: &'a [Option<Record>],
+    pub(crate) options: Options,
+}
+
+/// The report of a task, and whether all listeners were notified of it.
+#[derive(Drop)]
+pub(crate) struct Taken {
+    pub(crate) report: TaskReport,
+    pub(crate) all_heard: bool,
+}
+
+/// The report of a task that does not start.
+fn passed(alloc: Global, planned: &Planned, path: TaskPath) -> TaskReport
+    requires { path ≡ planned.now.task.path }
+    ensures { result ≡ report_with NotRun planned.now }
+{
+    TaskReport {
+        path,
+        outcome: Outcome::NotRun,
+        has_actions: !planned.task.actions.is_empty(),
+        lines: Texts::new(alloc),
+    }
+}
+
+/// Executes the task of a number, if it starts. The path is the task's own.
+pub(crate) fn take_one<A: Actions, F: Folder, L: TaskListener>(
+    alloc: Global,
+    folder: &mut F,
+    build: &Build<'_, A::Stored>,
+    starts: &mut Starts,
+    index: usize,
+    path: TaskPath,
+    listeners: &mut Vec<L>,
+) -> Taken
+    requires can { CanBuild A.meanings build.now.table.now build.now.tasks.now }
+    requires of_plan { AreOfPlan build.now.tasks.now starts.old }
+    requires index { index < length build.now.tasks.now }
+    requires each { length build.now.records.now ≡ length build.now.tasks.now }
+    requires path { (planned : Planned) → slice_get build.now.tasks.now index ≡ Some planned
+        → path ≡ planned.task.path }
+    ensures starts { starts.new ≡ starts.old }
+    ensures of_task { (planned : Planned) → slice_get build.now.tasks.now index ≡ Some planned
+        → IsOf planned result.report }
+    ensures heard { AllReported (heard_of false (result.report ∷ [])) result.all_heard
+        (map L.ear listeners.old.items) (map L.ear listeners.new.items) }
+    // Over any folder: it makes the calls that its outcome permits.
+    ensures requests { (planned : Planned) → slice_get build.now.tasks.now index ≡ Some planned
+        → ExecutionRequests F.failures F.may_leave F.allowed A.meanings build.now.table.now build.now.options
+        planned.task (slice_index_or build.now.records.now index None) result.report.outcome
+        result.report.lines folder.old folder.new }
+    ensures blame { (place : List ℕ) → result.report.outcome ≡ Failed (Fault.Device place)
+        → HasRisen (F.failures folder.old) (F.failures folder.new) }
+    ensures changes { IsTrue F.faithful → (planned : Planned)
+        → slice_get build.now.tasks.now index ≡ Some planned
+        → ChangesOnly (is_of_execution planned.task) (F.contents folder.old) (F.contents folder.new) }
+    // Over any folder, at each moment with the outcomes so far, its report is one that the outline
+    // permits.
+    ensures outline { (moment : Moment) (planned : Planned)
+        → slice_get build.now.tasks.now index ≡ Some planned
+        → AreEndings build.now.tasks.now moment.outcomes starts.old.endings
+        → IsOutline build.now.options build.now.tasks.now moment planned result.report }
+    // Where the record that was read of the task is known of it, this is its execution.
+    ensures execution { IsTrue F.faithful → (kinds : Kinds) (registry_of : Registering) (moment : Moment)
+        (planned : Planned) → slice_get build.now.tasks.now index ≡ Some planned
+        → IsAssumed A.meanings build.now.table.now kinds (F.may_leave folder.old)
+        → moment.world.folder ≡ outside (F.contents folder.old)
+        → moment.failures ≡ F.failures folder.old
+        → HoldsRecords (F.contents folder.old).files moment.world.memory
+        → AreEndings build.now.tasks.now moment.outcomes starts.old.endings
+        → IsKnown kinds planned.task moment.world (slice_index_or build.now.records.now index None)
+        → IsExecutionOf (setting_with kinds registry_of (F.may_leave folder.old)) build.now.options
+        build.now.tasks.now moment planned result.report (F.contents folder.old) (F.failures folder.new)
+        (F.contents folder.new) }
+{
+    starts_by_number();
+    needs_by_number();
+    reported_more();
+    let planned = &build.tasks[index];
+    if !starts.does_start(index, build.options.keep_going) {
+        return Taken {
+            report: passed(alloc, planned, path),
+            all_heard: true,
+        };
+    }
+    let need = starts.has_executed_need(index);
+    let last = build.records[index].as_ref();
+    let begun = notify(alloc, listeners, &planned.task.path, None);
+    let report = execute_task::<A, F>(
+        alloc,
+        folder,
+        &planned.task,
+        path,
+        build.table,
+        build.options,
+        last,
+        need,
+    );
+    let ended = notify(alloc, listeners, &planned.task.path, Some(&report.outcome));
+    Taken {
+        report,
+        all_heard: begun && ended,
+    }
+}

@@ -1,5 +1,0 @@
-use Rattle.gb_history.proofs.Places.{separate}
-use Rattle.gb_history.proofs.place.places_are_distinct.Goals as goal
-
-pub returns : goal.returns
-returns c = separate

@@ -1,0 +1,186 @@
+//! The text of a record, the record with a text, and what these share with a whole history.
+ghost use Rattle.std.specs.Prelude.{◌≡◌, [], List, ℕ, IfOk, OnOk, IsTrue, IsSomeAnd, IfSome};
+ghost use Rattle.std.specs.Prelude.{OnSome, MatchResult, ◌↔◌};
+ghost use Rattle.std.specs.List.{AllByRecursion};
+ghost use Rattle.std.specs.Str.{IsUtf8};
+ghost use Rattle.serde_json.specs.View.{view};
+ghost use Rattle.serde_json.specs.Written.{compact_text};
+ghost use Rattle.gb_history.specs.Record.{Record as Recorded, IsWellFormed, IsSaid};
+ghost use Rattle.gb_history.specs.Text.{history_json, record_json, record_text, text_in, history_text_in};
+ghost use Rattle.gb_history.specs.Text.{sealed, FitsEdition, IsTextOf, TextsSayOneRecord, TextsSayOneHistory};
+ghost use Rattle.gb_history.specs.Tokens.{data_tokens};
+ghost use Rattle.gb_history.specs.declared.record.Edition.{Edition as Written};
+ghost use Rattle.gb_history.specs.declared.fault.RecordFault.TheVariants.{OutOfMemory};
+
+use crate::direct::record_in;
+use crate::fault::RecordFault;
+use crate::from_json::{edition_from, json_from, record_from};
+use crate::record::{Edition, Record};
+use crate::to_json::{digits_of, write_record};
+use gb_core::path::TaskPath;
+use json::Writer;
+use serde_json::Value as Json;
+use sha2::{Digest, Sha256};
+use std::alloc::{AllocError, Global};
+
+/// An upper bound for the length of most records' texts.
+const USUAL_LENGTH: usize = 1024;
+
+/// A JSON text, a line feed, its digest in hex, a line feed.
+fn sealed_text(json: Vec<u8>) -> Result<Vec<u8>, AllocError>
+    ensures { IfOk result (λ text. text.items ≡ sealed json.items) }
+{
+    let digits = digits_of(Sha256::digest(json.as_slice()));
+    let mut text = json;
+    text.push(b'\n')?;
+    text.extend_from_slice(&digits)?;
+    text.push(b'\n')?;
+    Ok(text)
+}
+
+/// The sealed text of records as JSON.
+pub(crate) fn sealed_json(writer: Writer) -> Result<Vec<u8>, AllocError>
+    ensures { (edition : Written) (records : List (List ℕ × Recorded)) → writer.before ≡ []
+        → writer.tokens ≡ data_tokens (history_json edition records)
+        → IfOk result (λ text. text.items ≡ history_text_in edition records) }
+{
+    sealed_text(writer.into_inner())
+}
+
+/// The text of the record of a task in an edition, with room for so many bytes from the start.
+fn text_in(
+    alloc: Global,
+    edition: Edition,
+    path: &TaskPath,
+    run: &Record,
+    room: usize,
+) -> Result<Vec<u8>, AllocError>
+    ensures text { IfOk result (λ text. text.items ≡ text_in edition path.now run.now) }
+    ensures held { OnOk result (IsWellFormed run.now) }
+    ensures utf8 { OnOk result (IsUtf8 path.now) }
+{
+    let mut writer = Writer::new(Vec::with_capacity(alloc, room)?);
+    write_record(&mut writer, edition, path, run)?;
+    sealed_json(writer)
+}
+
+/// The text of the record of a task.
+pub fn record_text(alloc: Global, path: &TaskPath, run: &Record) -> Result<Vec<u8>, AllocError>
+    ensures text { IfOk result (λ text. text.items ≡ record_text path.now run.now) }
+    ensures held { OnOk result (IsWellFormed run.now) }
+    ensures utf8 { OnOk result (IsUtf8 path.now) }
+{
+    text_in(alloc, Edition::Second, path, run, USUAL_LENGTH)
+}
+
+/// Whether two texts have the same bytes.
+pub fn is_same(left: &[u8], right: &[u8]) -> bool
+    ensures { IsTrue result ↔ (left.now ≡ right.now) }
+{
+    left == right
+}
+
+/// The bytes before the seal, where there is room for one.
+pub(crate) fn before_seal(bytes: &[u8]) -> Option<&[u8]>
+    ensures { (json : List ℕ) → bytes.now ≡ sealed json → IsSomeAnd result (λ text. text.now ≡ json) }
+{
+    if bytes.len() < 66 {
+        return None;
+    }
+    Some(&bytes[..bytes.len() - 66])
+}
+
+/// A JSON text, and the edition that it declares.
+pub(crate) fn json_in(alloc: Global, json: &[u8]) -> Result<(Edition, Json), RecordFault>
+    ensures { (edition : Written) (records : List (List ℕ × Recorded)) → AllByRecursion IsSaid records
+        → json.now ≡ compact_text (history_json edition records)
+        → MatchResult result (λ got. (got.0 ≡ edition) × (view got.1 ≡ history_json edition records))
+        (λ e. e ≡ OutOfMemory) }
+{
+    let json = json_from(alloc, json)?;
+    let Some(edition) = edition_from(&json) else {
+        return Err(RecordFault::NotARecord);
+    };
+    Ok((edition, json))
+}
+
+/// The edition and the record that a JSON text encodes.
+fn parsed(alloc: Global, json: &[u8]) -> Result<(Edition, Record), RecordFault>
+    ensures read { (edition : Written) (path : List ℕ) (run : Recorded) → IsUtf8 path → IsWellFormed run
+        → AllByRecursion (FitsEdition edition) run.actions
+        → json.now ≡ compact_text (record_json edition path run)
+        → MatchResult result (λ got. (got.0 ≡ edition) × (got.1 ≡ run)) (λ e. e ≡ OutOfMemory) }
+    ensures fits { IfOk result (λ got. AllByRecursion (FitsEdition got.0) got.1.actions) }
+{
+    let said = json_in(alloc, json)?;
+    let found = record_from(alloc, said.0, &said.1)?;
+    Ok((said.0, found))
+}
+
+/// The record that is read without a tree, where this is its text in today's form.
+fn read_directly(alloc: Global, path: &TaskPath, bytes: &[u8]) -> Option<Record>
+    ensures exact { IfSome result (λ run. bytes.now ≡ record_text path.now run) }
+    ensures utf8 { OnSome result (IsUtf8 path.now) }
+    ensures held { IfSome result IsWellFormed }
+{
+    let found = record_in(alloc, before_seal(bytes)?)?;
+    let text = text_in(alloc, Edition::Second, path, &found, bytes.len()).ok()?;
+    if is_same(text.as_slice(), bytes) {
+        Some(found)
+    } else {
+        None
+    }
+}
+
+/// The record that is read by a tree of its JSON, in either edition.
+fn read_by_tree(alloc: Global, path: &TaskPath, bytes: &[u8]) -> Result<Record, RecordFault>
+    ensures exact { IfOk result (λ run. IsTextOf path.now run bytes.now) }
+    ensures utf8 { OnOk result (IsUtf8 path.now) }
+    ensures held { IfOk result IsWellFormed }
+    ensures back { (run : Recorded) → IsUtf8 path.now → IsWellFormed run → IsTextOf path.now run bytes.now
+        → MatchResult result (λ got. got ≡ run) (λ e. e ≡ OutOfMemory) }
+{
+    let Some(json) = before_seal(bytes) else {
+        return Err(RecordFault::NotARecord);
+    };
+    let (edition, found) = parsed(alloc, json)?;
+    let text = text_in(alloc, edition, path, &found, bytes.len())?;
+    if !is_same(text.as_slice(), bytes) {
+        return Err(RecordFault::NotARecord);
+    }
+    Ok(found)
+}
+
+/// The record of a task with this text, in either edition; any other text gives 80.
+pub fn read_record(alloc: Global, path: &TaskPath, bytes: &[u8]) -> Result<Record, RecordFault>
+    // The record that is read has the text.
+    ensures exact { IfOk result (λ run. IsTextOf path.now run bytes.now) }
+    ensures utf8 { OnOk result (IsUtf8 path.now) }
+    ensures held { IfOk result IsWellFormed }
+    // The text of a record of the task is read as that record.
+    ensures back { (run : Recorded) → IsUtf8 path.now → IsWellFormed run → IsTextOf path.now run bytes.now
+        → MatchResult result (λ got. got ≡ run) (λ e. e ≡ OutOfMemory) }
+{
+    match read_directly(alloc, path, bytes) {
+        Some(found) => Ok(found),
+        None => read_by_tree(alloc, path, bytes),
+    }
+}
+
+/// Writes a record as its text and reads it back; the result is the same record.
+pub fn through_text(alloc: Global, path: &TaskPath, run: &Record) -> Result<Record, RecordFault>
+    ensures { MatchResult result (λ got. got ≡ run.now) (λ e. e ≡ OutOfMemory) }
+{
+    let text = record_text(alloc, path, run)?;
+    read_record(alloc, path, text.as_slice())
+}
+
+/// A text is that of at most one record of a task.
+pub fn texts_say_one_record()
+    ensures { TextsSayOneRecord }
+{}
+
+/// A text is that of at most one history.
+pub fn texts_say_one_history()
+    ensures { TextsSayOneHistory }
+{}

@@ -1,0 +1,52 @@
+use Rattle.std.proofs.Common.{◌≡◌, ◌<◌, ℕ, List, true, Err, None, IfOk, length, ap, subst, sym, ◌∙◌}
+use Rattle.std.specs.Prelude.{IsSomeAnd, Ok}
+use Rattle.gb_folder.specs.Files.{file_at, is_blocked}
+use Rattle.gb_history.specs.Places.{record_place}
+use Rattle.gb_meaning.specs.Events.{max_record}
+use Rattle.gb_records.specs.Said.{IsReadAt}
+use Rattle.gb_records.proofs.Calls.{read_of, placeless_read}
+use Rattle.gb_records.specs.Answered.{WasAnswered}
+use Rattle.gb_records.proofs.Answering.{answered_here, none_placed, none_existed}
+use Rattle.gb_folder.specs.Calls.{Reads, answered}
+use Rattle.gb_records.proofs.stored_records.read_at.Goals as goal
+
+pub returns-in-Err-clause-read : goal.returns-in-Err-clause-read
+returns-in-Err-clause-read g c = λ faithful.
+    placeless_read (g.F.Folder.contents c.args.folder.now).files c.args.path.now c.in-Err.fault c.placeless.result (g.met.F.Folder.placed c.args.folder.now)
+    (λ e. c.record_place.ensures.bad (c.in-Err.is ∙ ap Err e)) c.placeless.ensures.bad c.placeless.ensures.out
+
+pub returns-in-Err-read-clause-read : goal.returns-in-Err-read-clause-read
+returns-in-Err-read-clause-read g c = λ faithful.
+    let files = (g.F.Folder.contents c.args.folder.now).files in
+    let path = c.args.path.now in
+    let at : c.in-Ok.place ≡ record_place path = c.in-Ok.ensures.place in
+    let allowed = c.read.ensures in
+    subst (λ r. IfOk r (IsReadAt files path)) (sym c.unless_none.ensures)
+    (read_of files path c.in-Ok.place c.in-Err-read.fault (g.met.F.Folder.sound c.args.folder.now)
+    (λ e. subst (λ p. file_at files p ≡ None) at (allowed.missing faithful (c.in-Err-read.is ∙ ap Err e)))
+    (λ e. subst (λ p. is_blocked files p ≡ true) at (allowed.blocked faithful (c.in-Err-read.is ∙ ap Err e)))
+    (λ e. subst (λ p. IsSomeAnd (file_at files p) (λ bytes. max_record < length bytes)) at (allowed.large faithful (c.in-Err-read.is ∙ ap Err e)))
+    (λ e. allowed.not_named (c.in-Err-read.is ∙ ap Err e)))
+
+pub returns-in-Err-clause-answered : goal.returns-in-Err-clause-answered
+returns-in-Err-clause-answered g c =
+    let F = g.F.Folder in
+    none_placed F.failures F.may_leave F.allowed c.args.folder.now c.args.folder.now c.args.path.now c.in-Err.fault c.placeless.result c.placeless.ensures.bad c.placeless.ensures.out
+
+pub returns-in-Err-read-clause-answered : goal.returns-in-Err-read-clause-answered
+returns-in-Err-read-clause-answered g c =
+    let F = g.F.Folder in
+    subst (λ r. IfOk r (WasAnswered F.failures F.may_leave F.allowed c.args.folder.now c.read.new.self c.args.path.now)) (sym c.unless_none.ensures)
+    (none_existed F.failures F.may_leave F.allowed c.args.folder.now c.read.new.self c.args.path.now c.in-Ok.place c.in-Err-read.fault)
+
+pub returns-in-Ok-read-clause-answered : goal.returns-in-Ok-read-clause-answered
+returns-in-Ok-read-clause-answered g c =
+    let F = g.F.Folder in
+    let path = c.args.path.now in
+    let old = c.args.folder.now in
+    let new = c.read.new.self in
+    let call : F.allowed old (Reads (record_place path) max_record (Ok c.as_slice.result.now)) new =
+    subst (λ (bytes : List ℕ). F.allowed old (Reads (record_place path) max_record (Ok bytes)) new) (sym c.as_slice.ensures.value)
+    (subst (λ (place : List ℕ). F.allowed old (Reads place max_record (Ok c.in-Ok-read.bytes.items)) new) c.in-Ok.ensures.place
+    (subst (λ r. F.allowed old (Reads c.in-Ok.place max_record (answered r)) new) c.in-Ok-read.is c.read.ensures.call)) in
+    answered_here c.args.folder.now c.read.new.self c.args.path.now c.as_slice.result.now c.record_in.result c.read.ensures.requests call c.record_in.ensures.read

@@ -1,0 +1,49 @@
+use Rattle.std.proofs.Common.{option_copied, sym, subst}
+use Rattle.gb_folder.specs.Files.{is_empty}
+use Rattle.gb_task.specs.Settled.{AnswersAlone, IsOfTask, SettlesExecution, ReportsAnswer}
+use Rattle.gb_task.specs.Executing.{setting_with}
+use Rattle.gb_task.specs.declared.before_changes.Settled.{Settled}
+use Rattle.gb_task.proofs.Answering.{faithful as reports_answer}
+use Rattle.gb_task.proofs.Idle.{alone, of_task, settles}
+use Rattle.gb_task.specs.Current.{WasSettled}
+use Rattle.gb_task.proofs.Answered.{was_settled}
+use Rattle.gb_task.proofs.before_changes.settle.Goals as goal
+
+pub returns-clause-of_task : goal.returns-clause-of_task
+returns-clause-of_task g c =
+    let F = g.F.Folder in
+    let found = c.prepare-prepared in
+    subst (λ (s : Settled). IsOfTask c.args.task.now (F.failures c.args.folder.now) (F.failures found.new.folder) s) (sym c.settled_by.ensures)
+    (of_task c.args.task.now c.args.path c.requires.path (F.failures c.args.folder.now) (F.failures found.new.folder) c.args.has_executed_need found.result found.ensures.may_be found.ensures.read found.ensures.blame
+    found.ensures.blamed)
+
+pub returns-clause-alone : goal.returns-clause-alone
+returns-clause-alone g c =
+    let F = g.F.Folder in
+    let found = c.prepare-prepared in
+    subst (λ (s : Settled). AnswersAlone c.args.task.now.runs (is_empty c.args.task.now.actions) c.args.has_executed_need s) (sym c.settled_by.ensures)
+    (alone c.args.task.now c.args.path c.requires.path (F.failures c.args.folder.now) (F.failures found.new.folder) c.args.has_executed_need found.result found.ensures.may_be found.ensures.reads)
+
+pub returns-clause-answer : goal.returns-clause-answer
+returns-clause-answer g c =
+    let found = c.prepare-prepared in
+    subst (λ (s : Settled). ReportsAnswer c.args.options c.args.task.now s) (sym c.settled_by.ensures)
+    (reports_answer c.args.options c.args.task.now c.args.path c.args.has_executed_need found.result found.ensures.may_be found.ensures.may_decide)
+
+pub returns-clause-settled : goal.returns-clause-settled
+returns-clause-settled g c = λ faithful kinds registry_of plan moment folder count needed known.
+    let F = g.F.Folder in
+    let start = c.args.folder.now in
+    let found = c.prepare-prepared in
+    let now = found.new.folder in
+    subst (λ (s : Settled). SettlesExecution (setting_with kinds registry_of (F.may_leave start)) c.args.options plan c.args.task.now moment (F.contents start) (F.failures now) s) (sym c.settled_by.ensures)
+    (settles (setting_with kinds registry_of (F.may_leave start)) c.args.options plan c.args.task.now c.args.path moment (F.contents start) (F.failures start) (F.failures now) c.args.has_executed_need
+    (option_copied c.args.last) c.requires.not_own folder count needed known c.outside_is_enough.ensures c.prepared_is_case.ensures c.idle_executions_are_executions.ensures c.runs_are_of_case.ensures
+    found.result (found.ensures.prepared faithful) (found.ensures.observed faithful) (found.ensures.err faithful) found.ensures.reads found.ensures.blamed)
+
+pub returns-clause-answered : goal.returns-clause-answered
+returns-clause-answered g c =
+    let F = g.F.Folder in
+    let found = c.prepare-prepared in
+    subst (λ (s : Settled). WasSettled F.failures F.may_leave F.allowed c.args.folder.now found.new.folder c.args.options c.args.task.now (option_copied c.args.last) s) (sym c.settled_by.ensures)
+    (was_settled F.failures F.may_leave F.allowed c.args.folder.now found.new.folder c.args.options c.args.task.now (option_copied c.args.last) c.args.path c.args.has_executed_need found.result found.ensures.may_be found.ensures.answered)
