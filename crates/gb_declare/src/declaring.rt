@@ -9,10 +9,10 @@ ghost use Rattle.gb_declare.specs.Joined.{joined};
 ghost use Rattle.gb_declare.specs.Views.{joined_of, registered_of, text_faults};
 
 use crate::clauses::{check_clause, check_main};
+use crate::fitting::check_shape;
 use crate::headings::{clashes, note};
 use crate::registered::{Joined, Registered};
-use crate::fitting::check_shape;
-use crate::{joining, naming};
+use crate::{joining, named_tasks};
 use gb_action::actions::Actions;
 use gb_core::path::TaskPath;
 use gb_provider::transforms::Transforms;
@@ -48,9 +48,9 @@ fn join<'a>(alloc: Global, task: &Registered<'a>) -> Result<Joined<'a>, Fault>
     ensures joined { IfOk result (λ said. joined_of said ≡ joined (registered_of task.now)) }
     ensures faults { ReportsFirst (text_faults (registered_of task.now)) result }
 {
-    let depends_on = naming::depends_on(alloc, task.project, &task.clauses)?;
-    let must_run_after = naming::must_run_after(alloc, task.project, &task.clauses)?;
-    let finalizers = naming::finalized_by(alloc, task.project, &task.clauses)?;
+    let depends_on = named_tasks::depends_on(alloc, task.project, &task.clauses)?;
+    let must_run_after = named_tasks::must_run_after(alloc, task.project, &task.clauses)?;
+    let finalizers = named_tasks::finalized_by(alloc, task.project, &task.clauses)?;
     Ok(Joined {
         enabled: joining::enabled(&task.clauses),
         only_if: joining::only_if(alloc, &task.clauses)?,

@@ -29,9 +29,9 @@ pub fn reply_by_file<E: FileMaker>(
     ensures ordered { IfOk result (λ _. IsTrue (is_sorted byte_order (tree_at request.now.files source_is))) }
 {
     let name = source_name(alloc)?;
-    let files = source::files_of(request, &name);
-    let changes = source::changes_of(request, &name);
-    let lines = source::change_lines(alloc, changes)?;
+    let files = request_files::files_of(request, &name);
+    let changes = request_files::changes_of(request, &name);
+    let lines = request_files::change_lines(alloc, changes)?;
     if request.changes.is_incremental() {
         Ok(Reply {
             removes: removals(alloc, changes)?,
@@ -95,7 +95,7 @@ fn changed_writes<E: FileMaker>(
         match change {
             Change::Added(path) | Change::Modified(path) => {
                 let existing = request.outputs.file_at(&output, path);
-                let contents = source::file_of(request, &name, path);
+                let contents = request_files::file_of(request, &name, path);
                 rewrite(alloc, &mut writes, edit, path, existing, contents)?;
             }
             Change::Removed(_) => {}

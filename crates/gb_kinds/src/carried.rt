@@ -18,12 +18,12 @@ ghost use Rattle.gb_kinds.specs.Carried.{lines_where, path_of, IsCarried, IsEntr
 ghost use Rattle.gb_kinds.specs.Remade.{existing as existing_in};
 ghost use Rattle.gb_kinds.specs.Words.{index_files, path_line, with_path};
 
+use crate::file_words::{Words, words_of};
 use crate::index::{Index, add_path};
-use crate::line_key::Line;
 use crate::known_names::{output_name, source_name};
+use crate::line_key::Line;
 use crate::remade::{Remade, existing};
 use crate::request_files;
-use crate::file_words::{Words, words_of};
 use bstr::ByteSlice;
 use gb_action::change::Change;
 use gb_action::request::Request;
@@ -58,8 +58,8 @@ pub fn carried_index(alloc: Global, request: &Request) -> Result<Remade, AllocEr
 {
     let name = source_name(alloc)?;
     let output = output_name(alloc)?;
-    meet_paths(source::files_of(request, &name));
-    let changed = changed_of(alloc, request, source::changes_of(request, &name))?;
+    meet_paths(request_files::files_of(request, &name));
+    let changed = changed_of(alloc, request, request_files::changes_of(request, &name))?;
     let Changed {
         lines,
         words: mut looked_at,
@@ -106,7 +106,7 @@ fn changed_of(alloc: Global, request: &Request, changes: &[Change]) -> Result<Ch
             alloc,
             &mut changed,
             path,
-            source::file_of(request, &name, path),
+            request_files::file_of(request, &name, path),
         )?;
     }
     Ok(changed)

@@ -8,10 +8,10 @@ ghost use Rattle.gb_kinds.specs.Remade.{as_made, outdated, renewed, IsRemade};
 ghost use Rattle.gb_kinds.specs.Words.{index_files};
 
 use crate::by_file::holds;
+use crate::file_words::Words;
 use crate::index::Index;
 use crate::known_names::{output_name, source_name};
 use crate::request_files;
-use crate::file_words::Words;
 use gb_action::reply::{OutputPath, Removals, Reply, Writes, Written};
 use gb_action::request::Request;
 use gb_core::bytes::Bytes;
@@ -35,7 +35,7 @@ pub fn reply_remade(alloc: Global, request: &Request, remade: Remade) -> Result<
 {
     let Remade { looked_at, made } = remade;
     let name = source_name(alloc)?;
-    let lines = source::change_lines(alloc, source::changes_of(request, &name))?;
+    let lines = request_files::change_lines(alloc, request_files::changes_of(request, &name))?;
     if request.changes.is_incremental() {
         Ok(Reply {
             removes: outdated(alloc, request, &made, &looked_at)?,
