@@ -7,8 +7,8 @@ ghost use Rattle.gb_ask_command.specs.Line.{line_text};
 ghost use Rattle.gb_ask_command.specs.Reply.{reply_status};
 ghost use Rattle.gb_ask_command.specs.Reported.{IsWhyText, IsWritten, why_text};
 
-use crate::task_line::push_line;
 use crate::reply::{Reply, reply_status};
+use crate::task_line::push_line;
 use crate::why_json::why_json;
 use gb_answer::answer::not_built_text;
 use gb_predict::coming::Prediction;

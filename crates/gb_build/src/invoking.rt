@@ -19,8 +19,8 @@ ghost use Rattle.gb_build.specs.Refusing.{IsNotBegun};
 ghost use Rattle.gb_build.specs.InvocationAsked.{InvocationRequests};
 ghost use Rattle.gb_build.specs.Registering.{registers_in, setting_of};
 
-use crate::workspace::read_registry;
 use crate::requested::build_requested;
+use crate::workspace::read_registry;
 use gb_action::actions::Actions;
 use gb_core::name::Name;
 use gb_core::text::Text;

@@ -6,11 +6,11 @@ ghost use Rattle.gb_plan.specs.Task.{has_path};
 ghost use Rattle.gb_check.specs.Found.{IsFound, IsSilent, fault_spot, found_of, line_spot, task_found};
 ghost use Rattle.gb_check.specs.Found.{tasks_found};
 
-use crate::findings::{Cause, Finding, Spot, site_of};
 use crate::clause_lines::Mark;
 use crate::fault_line::line_for;
-use crate::whole_plan::{check_all, is_out_of_memory};
+use crate::findings::{Cause, Finding, Spot, site_of};
 use crate::sites::Site;
+use crate::whole_plan::{check_all, is_out_of_memory};
 use gb_core::path::TaskPath;
 use gb_graph::tasks::Tasks;
 use gb_report::fault::Fault;

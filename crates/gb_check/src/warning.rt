@@ -8,10 +8,10 @@ ghost use Rattle.gb_check.specs.Warnings.{AreWarnings, declared_warnings};
 
 use crate::bare::warn_bare;
 use crate::between::push_between_all;
+use crate::common_roots::push_shared;
 use crate::declared::declarations;
 use crate::findings::Finding;
 use crate::guarded::guarded_in;
-use crate::common_roots::push_shared;
 use crate::sites::Site;
 use gb_core::path::TaskPath;
 use gb_folder::folder::Folder;

@@ -7,8 +7,8 @@ ghost use Rattle.gb_evaluate.specs.Over.{known_names};
 ghost use Rattle.gb_evaluate.specs.Evaluated.{all_hold, enabled_of};
 ghost use Rattle.gb_evaluate.specs.Rows.{Anywhere, AreWithin, IsAt, ReportsOf};
 
-use crate::one_value::{passes, require_flag};
 use crate::context::Context;
+use crate::one_value::{passes, require_flag};
 use gb_action::actions::Actions;
 use gb_core::name::{Name, NameFault};
 use gb_core::path::TaskPath;

@@ -9,8 +9,8 @@ ghost use Rattle.gb_evaluate.specs.Over.{IsOver, known_names};
 ghost use Rattle.gb_evaluate.specs.Parts.{AreAllWithin, HaveAllValues};
 ghost use Rattle.gb_evaluate.specs.Rows.{AreWithin, HaveValues, numbers_in};
 
-use crate::one_value::producers;
 use crate::context::Context;
+use crate::one_value::producers;
 use crate::parts::Parts;
 use gb_action::actions::Actions;
 use gb_core::tasks::TaskPaths;

@@ -12,8 +12,8 @@ ghost use Rattle.gb_evaluate.specs.Over.{known_names};
 ghost use Rattle.gb_evaluate.specs.Evaluated.{IsBuiltIn, outputs_of};
 ghost use Rattle.gb_evaluate.specs.Rows.{AreWithin, ReportsOf};
 
-use crate::one_value::require_place;
 use crate::context::Context;
+use crate::one_value::require_place;
 use gb_action::actions::Actions;
 use gb_action::output::Form;
 use gb_core::name::Name;

@@ -6,8 +6,8 @@ ghost use Rattle.gb_evaluate.specs.Given.{place_at, required_at};
 ghost use Rattle.gb_evaluate.specs.Over.{ReportsOver, known_names};
 ghost use Rattle.gb_evaluate.specs.Rows.{AreWithin, HaveValues, numbers_in};
 
-use crate::one_value::{require, require_place};
 use crate::context::Context;
+use crate::one_value::{require, require_place};
 use gb_action::actions::Actions;
 use gb_action::values::Arguments;
 use gb_core::name::Name;

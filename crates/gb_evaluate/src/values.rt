@@ -6,8 +6,8 @@ ghost use Rattle.gb_evaluate.specs.Over.{known_names};
 ghost use Rattle.gb_evaluate.specs.Evaluated.{values_of};
 ghost use Rattle.gb_evaluate.specs.Rows.{AreWithin, HaveValues, IsAt, ReportsOf};
 
-use crate::one_value::require;
 use crate::context::Context;
+use crate::one_value::require;
 use gb_action::actions::Actions;
 use gb_action::values::NamedValues;
 use gb_core::name::Name;

@@ -27,8 +27,8 @@ ghost use Rattle.gb_exec.specs.Reports.{IsOf};
 
 use crate::heard_laws::reported_more;
 use crate::listener::TaskListener;
-use crate::one_task::{Build, take_one};
 use crate::may_start::Starts;
+use crate::one_task::{Build, take_one};
 use gb_action::actions::Actions;
 use gb_core::path::TaskPath;
 use gb_folder::folder::Folder;

@@ -23,9 +23,9 @@ ghost use Rattle.gb_exec.specs.Reports.{IsOf, report_with};
 
 use crate::heard_laws::reported_more;
 use crate::listener::TaskListener;
+use crate::may_start::Starts;
 use crate::notifying::notify;
 use crate::start_laws::{needs_by_number, starts_by_number};
-use crate::may_start::Starts;
 use gb_action::actions::Actions;
 use gb_action::table::ActionTable;
 use gb_core::path::TaskPath;

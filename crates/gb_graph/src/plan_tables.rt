@@ -4,8 +4,8 @@ ghost use Rattle.gb_plan.specs.Graph.{order, no_repeats, stuck};
 ghost use Rattle.gb_graph.specs.Conflicts.{AreTables, IsLeast, Meets, places_for};
 
 use crate::chained::chains_in;
-use crate::least::{Found, least_met};
 use crate::conflicting::Search;
+use crate::least::{Found, least_met};
 use crate::places::{TaskPlace, outputs_of, roots_of, sort_by_place, sort_by_task, thinned};
 use gb_plan::plan::Planned;
 use std::alloc::{AllocError, Global};

@@ -5,8 +5,8 @@ ghost use Rattle.gb_plan.specs.Refusal.{IsScheduleFault};
 ghost use Rattle.gb_graph.specs.Answer.{IsFirst, IsJudged};
 ghost use Rattle.gb_graph.specs.Conflicts.{conflict_of};
 
-use crate::least::Found;
 use crate::conflicting::Search;
+use crate::least::Found;
 use crate::plan_tables::{least_of, tables_of};
 use gb_plan::plan::Planned;
 use gb_report::fault::Fault;

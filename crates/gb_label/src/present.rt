@@ -3,7 +3,7 @@ ghost use Rattle.std.specs.Prelude.{◌≡◌, ◌++◌, ◌∷◌, [], map, IfO
 ghost use Rattle.gb_history.specs.Record.{prints_in};
 ghost use Rattle.gb_label.specs.Deciding.{HasNamesInOrder, IsPresentOf, incremental_names};
 
-use crate::recorded::record_of;
+use crate::new_record::record_of;
 use gb_core::name::Name;
 use gb_history::decide::Present;
 use gb_history::record::OutputRecord;

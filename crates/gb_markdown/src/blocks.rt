@@ -17,11 +17,11 @@ ghost use Rattle.gb_markdown.specs.Blocks.{begun_names, finished, id_of, slug, b
 
 use crate::gathered::with_labels_taken;
 use crate::line_parsing::{Fence, Line, Marker, has, read_line, words_of};
-use crate::rendered::{Element, close, code, named, numbered, open, text};
+use crate::pipe_table::{end_both, is_divider, rows_of, table, words, words_in};
 use crate::references::Reference;
+use crate::rendered::{Element, close, code, named, numbered, open, text};
 use crate::runs::{is_blank, run, trimmed};
 use crate::slug::{Names, add_name, id_of, slug};
-use crate::pipe_table::{end_both, is_divider, rows_of, table, words, words_in};
 use bstr::ByteSlice;
 use std::alloc::{AllocError, Global};
 

@@ -16,8 +16,8 @@ ghost use Rattle.gb_markdown.specs.Inline.{angled, led};
 ghost use Rattle.gb_markdown.specs.declared.inline.Nested.TheVariants as nested;
 
 use crate::address::{has_scheme, is_safe, link_address, page_address};
-use crate::rendered::{Element, close, link, open, picture, text};
 use crate::references::{Reference, referred};
+use crate::rendered::{Element, close, link, open, picture, text};
 use crate::runs::{is_blank, run};
 use crate::stress::{is_sign, signs_at, write_signs};
 use crate::target::{Target, angle_end, quote_end, read_target, unescaped};

@@ -10,8 +10,8 @@ ghost use Rattle.gb_markdown.specs.Tables.{words_in};
 
 use crate::inline::inline;
 use crate::line_parsing::{without_signs, words_of};
-use crate::rendered::{Element, close, open, text};
 use crate::references::Reference;
+use crate::rendered::{Element, close, open, text};
 use crate::runs::{is_space, trimmed};
 use crate::target::is_hidden;
 use bstr::ByteSlice;

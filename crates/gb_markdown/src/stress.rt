@@ -9,8 +9,8 @@ ghost use Rattle.gb_markdown.specs.Inline.{signs_by, signs_step, stop_of, stress
 ghost use Rattle.gb_markdown.specs.Inline.{with_left, with_signs};
 
 use crate::inline::{angled, byte_after, hidden, linked};
-use crate::rendered::{Element, close, open, text};
 use crate::references::Reference;
+use crate::rendered::{Element, close, open, text};
 use crate::runs::{is_space, run};
 use std::alloc::{AllocError, Global};
 

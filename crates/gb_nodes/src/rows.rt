@@ -10,9 +10,9 @@ ghost use Rattle.gb_nodes.specs.Site.{AreThere, site_of};
 ghost use Rattle.gb_nodes.specs.Nodes.{AreMade, trees_made};
 ghost use Rattle.gb_nodes.specs.Wrong.{link_faults, root_faults};
 
-use crate::sequence::expressions_of;
 use crate::making::add_tree;
 use crate::position::Site;
+use crate::sequence::expressions_of;
 use gb_declare::registered::Joined;
 use gb_provider::expression::Node;
 use gb_provider::providers::Providers;

@@ -7,8 +7,8 @@ ghost use Rattle.gb_nodes.specs.Scripts.{build_faults, laid_site, script_faults,
 ghost use Rattle.gb_nodes.specs.Site.{AreThere};
 ghost use Rattle.gb_nodes.specs.Statements.{IsRun, named_from, statements_faults, statements_made};
 
-use crate::properties::add_properties;
 use crate::position::Site;
+use crate::properties::add_properties;
 use crate::statements::add_statements;
 use gb_core::name::Name;
 use gb_core::place::{Place, PlaceFault};

@@ -3,9 +3,9 @@ ghost use Rattle.std.specs.Prelude.{◌≡◌, ◌∷◌, [], codes, IfOk};
 ghost use Rattle.gb_with.specs.declared.both.Either.TheVariants.{First, Second};
 
 use crate::checked::CheckPages;
+use crate::index::Index;
 use crate::kinds::Markdown;
 use crate::links::CheckLinks;
-use crate::index::Index;
 use crate::site_pages::SitePages;
 use crate::template::Template;
 use gb_action::actions::Actions;

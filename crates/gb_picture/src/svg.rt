@@ -7,9 +7,9 @@ ghost use Rattle.gb_picture.specs.Svg.{curve, curve_begun, curve_bent, curve_end
 ghost use Rattle.gb_picture.specs.Svg.{rect_begun, spot_at, svg_begun};
 ghost use Rattle.gb_picture.specs.Svg.{svg_box, svg_edges, svg_head, svg_node, svg_text};
 
+use crate::columns::{Frame, Spot, frame_of, spots};
 use crate::escapes::push_xml;
 use crate::graph::{Node, Tint, colour_of, is_tinted};
-use crate::columns::{Frame, Spot, frame_of, spots};
 use std::alloc::{AllocError, Global};
 use std::fmt::Write;
 

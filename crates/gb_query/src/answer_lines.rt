@@ -3,8 +3,8 @@ ghost use Rattle.std.specs.Prelude.{◌≡◌, ◌++◌, IfOk, OnOk, string_byte
 ghost use Rattle.gb_report.specs.Report.{line};
 ghost use Rattle.gb_query.specs.Lines.{activity_text, entry_text, found_line, found_text, status_text};
 
-use crate::inventory::Entry;
 use crate::at_place::Found;
+use crate::inventory::Entry;
 use gb_core::place::Place;
 use gb_picture::shown::push_shown;
 use std::alloc::{AllocError, Global};

@@ -6,12 +6,12 @@ ghost use Rattle.gb_query.specs.Inventory.{IsUnlisted};
 ghost use Rattle.gb_query.specs.Notation.{IsFoundText, IsStatusOf, IsTasksText};
 ghost use Rattle.gb_query.specs.Search.{found_in};
 
-use crate::inventory::inventory;
 use crate::answer_lines::Activity;
+use crate::at_place::{Relation, search};
+use crate::inventory::inventory;
 use crate::listing_lines::tasks_text;
 use crate::listing_objects::tasks_json;
 use crate::notation::{Notation, write_found, write_status};
-use crate::at_place::{Relation, search};
 use gb_core::path::TaskPath;
 use gb_core::place::Place;
 use gb_folder::folder::Folder;

@@ -2,10 +2,10 @@
 ghost use Rattle.std.specs.Prelude.{IfOk, string_bytes};
 ghost use Rattle.gb_query.specs.Notation.{IsFoundText, IsStatusText};
 
-use crate::inventory::Entry;
 use crate::answer_lines::{Activity, found_text, status_text};
-use crate::objects::{found_json, status_json};
 use crate::at_place::{Found, Relation};
+use crate::inventory::Entry;
+use crate::objects::{found_json, status_json};
 use std::alloc::{AllocError, Global};
 
 /// How an answer is written.

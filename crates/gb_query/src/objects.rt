@@ -7,9 +7,9 @@ ghost use Rattle.gb_report.specs.Fault.{fault_text};
 ghost use Rattle.gb_query.specs.Objects.{IsJsonOf, activity_word, entry_object, found_data};
 ghost use Rattle.gb_query.specs.Objects.{found_object, pair, relation_key, status_data};
 
-use crate::inventory::Entry;
 use crate::answer_lines::Activity;
 use crate::at_place::{Found, Relation};
+use crate::inventory::Entry;
 use gb_report::fault::Fault;
 use serde_json::{Value, json};
 use std::alloc::{AllocError, Global};

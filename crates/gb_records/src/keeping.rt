@@ -20,8 +20,8 @@ use crate::stored_records::MAX_RECORD;
 use gb_core::path::TaskPath;
 use gb_core::place::{Place, PlaceFault};
 use gb_folder::folder::{Folder, FolderFault};
-use gb_history::record_place::record_place;
 use gb_history::record::Record;
+use gb_history::record_place::record_place;
 use gb_history::record_text::record_text;
 use std::alloc::Global;
 

@@ -11,10 +11,10 @@ ghost use Rattle.gb_registry.specs.Tables.{tables_of};
 
 use crate::missing::Missing;
 use crate::names::Names;
+use crate::operands::look_along;
 use crate::project::Project;
 use crate::so_far::SoFar;
 use crate::tables::Tables;
-use crate::operands::look_along;
 use crate::wrong::Scope;
 use gb_action::actions::Actions;
 use gb_provider::transforms::Transforms;

@@ -1,7 +1,7 @@
 //! Tasks that expressions name and that do not exist.
 use crate::names::Names;
-use crate::project::Project;
 use crate::operands::Look;
+use crate::project::Project;
 use gb_report::fault::Fault;
 use gb_script::expression::{Source, Step};
 use std::alloc::Global;

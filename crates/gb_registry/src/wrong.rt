@@ -5,10 +5,10 @@ ghost use Rattle.gb_registry.specs.Faults.{ReportsFirst};
 ghost use Rattle.gb_registry.specs.Wrong.{count_faults, property_faults, task_faults_in};
 
 use crate::names::{Names, check_name};
+use crate::operands::Look;
 use crate::project::Project;
 use crate::tables::Tables;
 use crate::texts::TextSet;
-use crate::operands::Look;
 use gb_action::actions::Actions;
 use gb_core::name::Name;
 use gb_core::text::Text;

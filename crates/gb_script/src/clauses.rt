@@ -12,7 +12,7 @@ ghost use Rattle.gb_script.specs.Readers.{clause_of_at, clause_at, block_at};
 use crate::expression::{Expression, Expressions};
 use crate::function::Function;
 use crate::keywords::{ClauseWord, OrderWord, RunWord, clause_word};
-use crate::readers::{
+use crate::part_readers::{
     begins, closed, function, name, open, patterns, property, said, skip, skip_word, stray, texts,
 };
 use crate::script::{Assignment, Block, Call, Clause, Condition, InputFiles};

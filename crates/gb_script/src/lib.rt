@@ -23,7 +23,7 @@ mod keywords;
 pub mod laws;
 pub mod lexing;
 mod lines;
-mod readers;
+mod part_readers;
 pub mod script;
 mod source;
 mod statements;

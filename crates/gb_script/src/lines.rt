@@ -15,7 +15,7 @@ use crate::clauses::{clause, is_in_block};
 use crate::fault::ScriptFault;
 use crate::keywords::StatementWord;
 use crate::lexing::{Lexed, lex};
-use crate::readers::{closed, name, skip, stray};
+use crate::part_readers::{closed, name, skip, stray};
 use crate::source::{fault_of, text_of};
 use crate::statements::{MAX_OPEN, action, is_left, read_statement_word, statement_of};
 use crate::token::{Sign, Token};

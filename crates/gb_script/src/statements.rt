@@ -9,7 +9,7 @@ ghost use Rattle.gb_script.specs.Readers.{include_at, settings_at};
 
 use crate::clauses::{block, call, property_assignment};
 use crate::keywords::{PropertyWord, StatementWord, statement_word};
-use crate::readers::{begins, name, property, skip, stray, texts, texts_after};
+use crate::part_readers::{begins, name, property, skip, stray, texts, texts_after};
 use crate::script::{Call, Configuration, Registration, Script, Settings, Statement};
 use crate::token::{Sign, Token};
 use crate::token_fault::Stop;

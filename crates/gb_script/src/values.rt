@@ -11,7 +11,7 @@ ghost use Rattle.gb_script.specs.Readers.{link_of_at, link_at, inside_at, tree_a
 use crate::expression::{Expression, Source, Step};
 use crate::function::Function;
 use crate::keywords::{SourceWord, StepWord, source_word, step_word};
-use crate::readers::{begins, bracketed_text, closed, function, open, property, skip, stray};
+use crate::part_readers::{begins, bracketed_text, closed, function, open, property, skip, stray};
 use crate::token::{Sign, Token};
 use crate::token_fault::{Fault, Stop};
 use std::alloc::Global;

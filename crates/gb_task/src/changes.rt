@@ -21,8 +21,8 @@ ghost use Rattle.gb_task.specs.Ran.{EndsAs, OnlyRead, RanFrom};
 ghost use Rattle.gb_task.specs.Executing.{BeginsAt, HasExecuted, IsToGoOn, IsReportedOf, Registering};
 ghost use Rattle.gb_task.specs.Executing.{is_of_execution, outcome_of, report_of, setting_with};
 
-use crate::full::{outcome_of, run_on};
 use crate::by_changes::go_by;
+use crate::full::{outcome_of, run_on};
 use crate::recheck::{Recheck, recheck_task};
 use gb_action::actions::Actions;
 use gb_action::table::ActionTable;

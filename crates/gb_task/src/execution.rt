@@ -30,9 +30,9 @@ ghost use Rattle.gb_task.specs.Settled.{IsAnswer, IsAnsweredAlone};
 ghost use Rattle.gb_task.specs.Executing.{BeginsAt, HasExecuted, IsReportedOf, Registering};
 ghost use Rattle.gb_task.specs.Executing.{is_of_execution, outcome_of, setting_with};
 
+use crate::before_changes::{Settled, settle};
 use crate::changes::execute_by_changes;
 use crate::full::execute_in_full;
-use crate::before_changes::{Settled, settle};
 use crate::sourceless::execute_without_source;
 use gb_action::actions::Actions;
 use gb_action::table::ActionTable;

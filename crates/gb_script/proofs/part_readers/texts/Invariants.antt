@@ -2,7 +2,7 @@ use Rattle.std.proofs.Common.{◌≡◌, ◌+◌, ◌-◌, ◌<◌, ◌≤◌, l
 use Rattle.gb_script.specs.declared.token.Sign.TheVariants.{Comma}
 use Rattle.gb_script.specs.Reading.{is_sign, past_at, text_at, many_at, list_at, no_matter}
 use Rattle.gb_script.proofs.Loop.{with_prefix}
-use Rattle.gb_script.proofs.readers.texts.Given as goal
+use Rattle.gb_script.proofs.part_readers.texts.Given as goal
 
 abbrev pub invariant-others : goal.invariant-others
 invariant-others l = record {

@@ -1,7 +1,7 @@
 use Rattle.std.proofs.Common.{◌∷◌, [], ◌++◌, List, append_assoc, append-nil, sym, ap, ◌∙◌}
 use Rattle.std.specs.VecDeque.Iter.{deque_iter_rest}
 use Rattle.gb_plan.specs.declared.task.Action.{Action}
-use Rattle.gb_label.proofs.recorded.actions_of.Goals as goal
+use Rattle.gb_label.proofs.new_record.actions_of.Goals as goal
 use Rattle.gb_run.proofs.Endings.{none_left}
 
 pub loop-action-preserved : goal.loop-action-preserved

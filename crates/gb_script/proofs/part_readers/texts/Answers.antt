@@ -4,7 +4,7 @@ use Rattle.gb_script.specs.Lexing.{begins}
 use Rattle.gb_script.specs.Reading.{is_sign, past_at, text_at, no_matter}
 use Rattle.gb_script.specs.declared.token.Sign.TheVariants.{Comma}
 use Rattle.gb_script.proofs.Loop.{goes_on, ends, is_done, begins_some, one_longer, starts_list, list_fails}
-use Rattle.gb_script.proofs.readers.texts.Goals as goal
+use Rattle.gb_script.proofs.part_readers.texts.Goals as goal
 
 pub returns-in_err-first-clause-exact : goal.returns-in_err-first-clause-exact
 returns-in_err-first-clause-exact c =

@@ -1,7 +1,7 @@
 use Rattle.std.proofs.Common.{map, ap}
 use Rattle.gb_history.specs.Record.{prints_in}
 use Rattle.gb_label.proofs.Names.{in_order}
-use Rattle.gb_label.proofs.recorded.record_of.Goals as goal
+use Rattle.gb_label.proofs.new_record.record_of.Goals as goal
 
 pub new-requires-clause-values : goal.new-requires-clause-values
 new-requires-clause-values c =
