@@ -4,8 +4,8 @@ use Rattle.serde_json.specs.Data.{depth, items_depth}
 use Rattle.serde_json.specs.Read.{max_depth}
 use Rattle.serde_json.specs.View.{items_of}
 use Rattle.gb_check.specs.Findings.{unread_spot}
-use Rattle.gb_check.specs.declared.findings.Cause.{Cause}
-use Rattle.gb_check.specs.declared.findings.Cause.TheVariants as causes
+use Rattle.gb_check.specs.declared.findings.Problem.{Problem}
+use Rattle.gb_check.specs.declared.findings.Problem.TheVariants as problems
 use Rattle.gb_check.specs.declared.findings.Finding.{Finding}
 use Rattle.gb_check.specs.declared.findings.Findings.{Findings}
 use Rattle.gb_check.specs.declared.findings.Spot.{Spot}
@@ -24,14 +24,14 @@ line_low (spots.Line script line) = omega arith
 line_low (spots.Value name) = omega arith
 line_low spots.Unknown = omega arith
 
-number_low : (cause : Cause) → depth (number_data cause) ≤ 0
-number_low (causes.Fault fault) = omega arith
-number_low (causes.Shared first second) = omega arith
-number_low (causes.Unneeded root maker) = omega arith
-number_low (causes.Stale maker reader) = omega arith
-number_low (causes.Bare root) = omega arith
-number_low causes.Unread = omega arith
-number_low (causes.Unregistered path) = omega arith
+number_low : (cause : Problem) → depth (number_data cause) ≤ 0
+number_low (problems.Fault fault) = omega arith
+number_low (problems.Shared first second) = omega arith
+number_low (problems.Unneeded root maker) = omega arith
+number_low (problems.Stale maker reader) = omega arith
+number_low (problems.Bare root) = omega arith
+number_low problems.Unread = omega arith
+number_low (problems.Unregistered path) = omega arith
 
 finding_low : (finding : Finding) → depth (finding_object finding) ≤ 1
 finding_low finding =

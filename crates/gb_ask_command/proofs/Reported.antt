@@ -5,7 +5,7 @@ use Rattle.std.proofs.Common.{subst, arith}
 use Rattle.gb_action.specs.Meanings.{Meanings}
 use Rattle.gb_folder.specs.Files.{Contents}
 use Rattle.gb_predict.specs.Prediction.{ArePredictedOf, IsPredictedOf}
-use Rattle.gb_predict.specs.declared.coming.Prediction.{Prediction}
+use Rattle.gb_predict.specs.declared.predicted_outcome.Prediction.{Prediction}
 use Rattle.gb_predict.proofs.Predicting.{all_related, prediction_wider}
 use Rattle.gb_history.specs.Record.{Record}
 use Rattle.gb_build.proofs.Keeping.{begun_before}

@@ -3,14 +3,14 @@ use Rattle.std.proofs.Common.{ℕ, ◌≤◌, List, [], ◌∷◌, Option, Some,
 use Rattle.serde_json.specs.Data.{Data, array, depth, items_depth}
 use Rattle.serde_json.specs.Read.{max_depth}
 use Rattle.serde_json.specs.View.{items_of}
-use Rattle.gb_predict.specs.declared.coming.Coming.{Coming}
-use Rattle.gb_predict.specs.declared.coming.Coming.TheVariants as comings
-use Rattle.gb_predict.specs.declared.coming.Prediction.{Prediction}
+use Rattle.gb_predict.specs.declared.predicted_outcome.PredictedOutcome.{PredictedOutcome}
+use Rattle.gb_predict.specs.declared.predicted_outcome.PredictedOutcome.TheVariants as comings
+use Rattle.gb_predict.specs.declared.predicted_outcome.Prediction.{Prediction}
 use Rattle.gb_plan.specs.Task.{Path}
 use Rattle.gb_query.proofs.Depths.{items_low}
 use Rattle.gb_ask_command.specs.WhyJson.{reason_data, reasons_data, task_data, why_data, why_object}
 
-reasons_low : (coming : Coming) → items_depth (items_of (reasons_data coming)) ≤ 0
+reasons_low : (coming : PredictedOutcome) → items_depth (items_of (reasons_data coming)) ≤ 0
 reasons_low comings.Skips = omega arith
 reasons_low comings.HasNoActions = omega arith
 reasons_low (comings.HasNoSource removes) = omega arith
@@ -26,7 +26,7 @@ task_low None = omega arith
 object_low : (reported : Prediction) → depth (why_object reported) ≤ 2
 object_low reported =
     let reasons = reasons_low reported.coming in
-    let needs = task_low reported.needs in
+    let needs = task_low reported.kept_by in
     let after = task_low reported.after in
     omega arith
 

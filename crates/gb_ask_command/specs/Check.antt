@@ -7,7 +7,7 @@ use Rattle.gb_build.specs.Scripts.{FolderSays}
 use Rattle.gb_check.specs.All.{AreFindings}
 use Rattle.gb_check.specs.Found.{findings_text, unread_text}
 use Rattle.gb_check.specs.Statement.{IsStatementSpot}
-use Rattle.gb_check.specs.declared.findings.Cause.TheVariants as causes
+use Rattle.gb_check.specs.declared.findings.Problem.TheVariants as problems
 use Rattle.gb_check.specs.declared.findings.Finding.{Finding}
 use Rattle.gb_check.specs.declared.findings.Findings.{Findings}
 use Rattle.gb_check.specs.declared.findings.Spot.{Spot}
@@ -71,15 +71,15 @@ written_status status (Err fault) = 1
 
 -- ---- Records of tasks that are not registered
 
-abbrev pub left_of : Path → Finding
-left_of path = record { spot = spots.Unknown; cause = causes.Unregistered path }
+abbrev pub unregistered_of : Path → Finding
+unregistered_of path = record { spot = spots.Unknown; cause = problems.Unregistered path }
 
 -- A warning for each of some tasks: if the contents of the folder are known, for exactly those that have
 -- records in it and are not registered.
 abbrev pub AreLeft : Bool → Contents → List Path → List Finding → Type 0
 AreLeft faithful contents registered found =
     (left : List Path) × (IsTrue faithful → AreUnregistered contents registered left)
-    × (found ≡ map left_of left)
+    × (found ≡ map unregistered_of left)
 
 -- ---- Silence
 
@@ -106,7 +106,7 @@ module _ {M F Z S A : Type 0} (tables : Tables M F Z S A) where
 abbrev pub IsFindingAt : Bool → Files → FaultAt → Findings → Type 0
 IsFindingAt faithful files at found =
     (spot : Spot) × IsStatementSpot faithful files at.project at.statement spot
-    × (found.faults.items ≡ record { spot = spot; cause = causes.Fault at.fault } ∷ [])
+    × (found.faults.items ≡ record { spot = spot; cause = problems.Fault at.fault } ∷ [])
     × (found.warnings.items ≡ [])
 
 -- ---- The reply

@@ -4,8 +4,8 @@ use Rattle.serde_json.specs.Data.{Data, array, member, no_members, null, number,
 use Rattle.serde_json.specs.View.{items_of}
 use Rattle.gb_check.specs.Findings.{unread_spot}
 use Rattle.gb_check.specs.Found.{cause_text}
-use Rattle.gb_check.specs.declared.findings.Cause.{Cause}
-use Rattle.gb_check.specs.declared.findings.Cause.TheVariants as causes
+use Rattle.gb_check.specs.declared.findings.Problem.{Problem}
+use Rattle.gb_check.specs.declared.findings.Problem.TheVariants as problems
 use Rattle.gb_check.specs.declared.findings.Finding.{Finding}
 use Rattle.gb_check.specs.declared.findings.Findings.{Findings}
 use Rattle.gb_check.specs.declared.findings.Spot.{Spot}
@@ -22,13 +22,13 @@ abbrev pub line_data : Spot → Data
 line_data (spots.Line script line) = number (unsigned line)
 line_data other = null
 
-abbrev pub kind_word : Cause → List ℕ
-kind_word (causes.Fault fault) = codes "fault"
+abbrev pub kind_word : Problem → List ℕ
+kind_word (problems.Fault fault) = codes "fault"
 kind_word other = codes "warning"
 
 -- the number of a fault, or null
-abbrev pub number_data : Cause → Data
-number_data (causes.Fault fault) = number (unsigned (fault_number fault))
+abbrev pub number_data : Problem → Data
+number_data (problems.Fault fault) = number (unsigned (fault_number fault))
 number_data other = null
 
 -- the name of the value that a finding is about, if it is about one

@@ -11,7 +11,7 @@ use Rattle.gb_picture.specs.declared.graph.Tint.TheVariants as tints
 use Rattle.gb_plan.specs.Graph.{Plan, Registry, is_scheduled_in, needs_in, order, orders_in}
 use Rattle.gb_plan.specs.Task.{Path, Text}
 use Rattle.gb_plan.specs.declared.plan.Planned.{Planned}
-use Rattle.gb_predict.specs.declared.coming.Prediction.{Prediction}
+use Rattle.gb_predict.specs.declared.predicted_outcome.Prediction.{Prediction}
 use Rattle.gb_query.specs.Drawn.{graph_data}
 use Rattle.gb_query.specs.Objects.{IsJsonOf}
 use Rattle.gb_ask_command.specs.Tints.{with_tints}

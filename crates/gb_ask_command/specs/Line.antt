@@ -1,9 +1,9 @@
 -- The line of a task: the outcome of executing it now, and the reasons for an execution.
 use Rattle.std.specs.Prelude.{ℕ, ◌==◌, Bool, List, [], ◌∷◌, ◌++◌, Option, Some, None, if◌then◌else◌}
 use Rattle.std.specs.Prelude.{codes, decimal, length}
-use Rattle.gb_predict.specs.declared.coming.Coming.{Coming}
-use Rattle.gb_predict.specs.declared.coming.Coming.TheVariants as comings
-use Rattle.gb_predict.specs.declared.coming.Prediction.{Prediction}
+use Rattle.gb_predict.specs.declared.predicted_outcome.PredictedOutcome.{PredictedOutcome}
+use Rattle.gb_predict.specs.declared.predicted_outcome.PredictedOutcome.TheVariants as comings
+use Rattle.gb_predict.specs.declared.predicted_outcome.Prediction.{Prediction}
 use Rattle.gb_plan.specs.Task.{Path}
 use Rattle.gb_reason.specs.Text.{reason_text}
 use Rattle.gb_reason.specs.declared.reason.Reason.{Reason}
@@ -27,7 +27,7 @@ abbrev pub runs_text : Bool → List Reason → List ℕ
 runs_text by_changes reasons = way by_changes ++ reasons_text reasons
 
 -- what is printed after the path of a task
-abbrev pub coming_text : Coming → List ℕ
+abbrev pub coming_text : PredictedOutcome → List ℕ
 coming_text comings.Skips = codes " SKIPPED: onlyIf is false"
 coming_text comings.HasNoActions = codes " has no actions"
 coming_text (comings.HasNoSource removes) = codes " NO-SOURCE"
@@ -43,5 +43,5 @@ mark_text None (Some path) = codes " (after " ++ path ++ codes ")"
 mark_text None None = []
 
 abbrev pub line_text : Prediction → List ℕ
-line_text reported = line (reported.path ++ coming_text reported.coming ++ mark_text reported.needs
+line_text reported = line (reported.path ++ coming_text reported.coming ++ mark_text reported.kept_by
     reported.after)

@@ -8,7 +8,7 @@ use Rattle.gb_graph.specs.Answer.{IsRefusalOf}
 use Rattle.gb_meaning.specs.Edits.{Shown}
 use Rattle.gb_meaning.specs.declared.events.Invocation.{Invocation}
 use Rattle.gb_plan.specs.Graph.{Registry, paths_of}
-use Rattle.gb_predict.specs.declared.coming.Prediction.{Prediction}
+use Rattle.gb_predict.specs.declared.predicted_outcome.Prediction.{Prediction}
 use Rattle.gb_query.specs.Asked.{asked_place}
 use Rattle.gb_query.specs.Inventory.{IsUnlisted}
 use Rattle.gb_query.specs.Notation.{IsFoundText, IsStatusOf, IsTasksText}

@@ -9,7 +9,7 @@ use Rattle.gb_answer.specs.Answer.{not_built_text}
 use Rattle.gb_command.specs.Answered.{Given}
 use Rattle.gb_predict.specs.Prediction.{ArePredictedOf, IsReasoned}
 use Rattle.gb_predict.specs.Marks.{AreMarked}
-use Rattle.gb_predict.specs.declared.coming.Prediction.{Prediction}
+use Rattle.gb_predict.specs.declared.predicted_outcome.Prediction.{Prediction}
 use Rattle.gb_graph.specs.Answer.{IsPlanOf, IsRefusalOf}
 use Rattle.gb_history.specs.Record.{Record}
 use Rattle.gb_build.specs.Registering.{registers_in}

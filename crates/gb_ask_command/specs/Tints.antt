@@ -4,12 +4,12 @@ use Rattle.gb_picture.specs.declared.graph.Node.{Node}
 use Rattle.gb_picture.specs.declared.graph.Tint.{Tint}
 use Rattle.gb_picture.specs.declared.graph.Tint.TheVariants as tints
 use Rattle.gb_plan.specs.Task.{Path}
-use Rattle.gb_predict.specs.declared.coming.Coming.{Coming}
-use Rattle.gb_predict.specs.declared.coming.Coming.TheVariants as comings
-use Rattle.gb_predict.specs.declared.coming.Prediction.{Prediction}
+use Rattle.gb_predict.specs.declared.predicted_outcome.PredictedOutcome.{PredictedOutcome}
+use Rattle.gb_predict.specs.declared.predicted_outcome.PredictedOutcome.TheVariants as comings
+use Rattle.gb_predict.specs.declared.predicted_outcome.Prediction.{Prediction}
 
 -- the colour of an outcome; none if it cannot be predicted
-abbrev pub tint_of_coming : Coming → Tint
+abbrev pub tint_of_coming : PredictedOutcome → Tint
 tint_of_coming comings.Skips = tints.Idle
 tint_of_coming comings.HasNoActions = tints.Idle
 tint_of_coming (comings.HasNoSource removes) = tints.Idle
@@ -26,7 +26,7 @@ marked_tint None None tint = tint
 
 -- the colour of a prediction
 abbrev pub tint_of : Prediction → Tint
-tint_of prediction = marked_tint prediction.needs prediction.after (tint_of_coming prediction.coming)
+tint_of prediction = marked_tint prediction.kept_by prediction.after (tint_of_coming prediction.coming)
 
 -- a node with the colour of a prediction, if it is for a task of its name
 abbrev pub tinted : Node → Prediction → Node

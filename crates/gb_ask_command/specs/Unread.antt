@@ -2,7 +2,7 @@
 use Rattle.std.specs.Prelude.{◌||◌, Bool, false, not, List, [], ◌∷◌, Option, Some, None, bytes_eq}
 use Rattle.std.specs.Prelude.{if◌then◌else◌}
 use Rattle.std.specs.List.{flat_map, list_any}
-use Rattle.gb_check.specs.declared.findings.Cause.TheVariants as causes
+use Rattle.gb_check.specs.declared.findings.Problem.TheVariants as problems
 use Rattle.gb_check.specs.declared.findings.Finding.{Finding}
 use Rattle.gb_check.specs.declared.findings.Spot.TheVariants as spots
 use Rattle.gb_folder.specs.Files.{is_empty}
@@ -67,7 +67,7 @@ abbrev pub is_read : List (Path × List Statement) → Text → Bool
 is_read scripts name = list_any (λ script. list_any (is_read_by name) script.1) scripts
 
 abbrev pub unread : Text → Finding
-unread name = record { spot = spots.Value name; cause = causes.Unread }
+unread name = record { spot = spots.Value name; cause = problems.Unread }
 
 abbrev pub unread_value : List (Path × List Statement) → Text × Text → List Finding
 unread_value scripts given = if is_read scripts given.0 then [] else unread given.0 ∷ []

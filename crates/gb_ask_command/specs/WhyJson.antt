@@ -2,16 +2,16 @@
 use Rattle.std.specs.Prelude.{ℕ, Bool, List, [], ◌∷◌, Option, Some, None, codes, if◌then◌else◌, map}
 use Rattle.serde_json.specs.Data.{Data, array, member, no_members, null, object, string}
 use Rattle.serde_json.specs.View.{items_of}
-use Rattle.gb_predict.specs.declared.coming.Coming.{Coming}
-use Rattle.gb_predict.specs.declared.coming.Coming.TheVariants as comings
-use Rattle.gb_predict.specs.declared.coming.Prediction.{Prediction}
+use Rattle.gb_predict.specs.declared.predicted_outcome.PredictedOutcome.{PredictedOutcome}
+use Rattle.gb_predict.specs.declared.predicted_outcome.PredictedOutcome.TheVariants as comings
+use Rattle.gb_predict.specs.declared.predicted_outcome.Prediction.{Prediction}
 use Rattle.gb_plan.specs.Task.{Path}
 use Rattle.gb_reason.specs.Text.{reason_text}
 use Rattle.gb_reason.specs.declared.reason.Reason.{Reason}
 use Rattle.gb_report.specs.Fault.{fault_text}
 
 -- the outcome, in the words of its line
-abbrev pub outcome_word : Coming → List ℕ
+abbrev pub outcome_word : PredictedOutcome → List ℕ
 outcome_word comings.Skips = codes "SKIPPED"
 outcome_word comings.HasNoActions = codes "has no actions"
 outcome_word (comings.HasNoSource removes) = codes "NO-SOURCE"
@@ -24,7 +24,7 @@ abbrev pub reason_data : Reason → Data
 reason_data reason = string (reason_text reason)
 
 -- all reasons for the outcome, in the words of its line
-abbrev pub reasons_data : Coming → List Data
+abbrev pub reasons_data : PredictedOutcome → List Data
 reasons_data comings.Skips = string (codes "onlyIf is false") ∷ []
 reasons_data comings.HasNoActions = []
 reasons_data (comings.HasNoSource removes) = []
@@ -51,7 +51,7 @@ abbrev pub why_object : Prediction → Data
 why_object reported =
     outcome_object reported.path (outcome_word reported.coming) (array (items_of (reasons_data
     reported.coming)))
-    (task_data reported.needs) (task_data reported.after)
+    (task_data reported.kept_by) (task_data reported.after)
 
 -- all tasks, in the order of the plan
 abbrev pub why_data : List Prediction → Data

@@ -11,7 +11,7 @@ use crate::reply::{Reply, reply_status};
 use crate::task_line::push_line;
 use crate::why_json::why_json;
 use gb_answer::answer::not_built_text;
-use gb_predict::coming::Prediction;
+use gb_predict::predicted_outcome::Prediction;
 use gb_printer::printer::Printer;
 use gb_query::notation::Notation;
 use gb_report::fault::Fault;

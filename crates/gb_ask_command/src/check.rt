@@ -19,7 +19,7 @@ ghost use Rattle.gb_check.specs.Found.{findings_text};
 ghost use Rattle.gb_check.specs.Sites.{IsUnread};
 ghost use Rattle.gb_ask_command.specs.Check.{AreFindingsOf, AreLeft, CheckReply, IsCheckReply, IsCheckText};
 ghost use Rattle.gb_ask_command.specs.Check.{IsCheckWritten, IsFindingAt, IsFoundAt};
-ghost use Rattle.gb_ask_command.specs.Check.{RepliesCheck, check_status, check_text, left_of, written_status};
+ghost use Rattle.gb_ask_command.specs.Check.{RepliesCheck, check_status, check_text, unregistered_of, written_status};
 ghost use Rattle.gb_ask_command.specs.Reply.{Reply as Replied, reply_text};
 
 use crate::check_json::check_json;
@@ -28,9 +28,9 @@ use crate::reply::{Reply, push_reply};
 use crate::unread::warn_unread;
 use gb_action::actions::Actions;
 use gb_build::workspace::read_registry;
-use gb_check::finding::find;
-use gb_check::findings::{Cause, Finding, Findings, Spot};
-use gb_check::found::{push_findings, unread_text};
+use gb_check::find::find;
+use gb_check::finding_text::{push_findings, unread_text};
+use gb_check::findings::{Finding, Findings, Problem, Spot};
 use gb_check::statement::statement_spot;
 use gb_command::run::asked_by;
 use gb_core::path::TaskPath;
@@ -272,7 +272,7 @@ fn found_at<F: Folder>(alloc: Global, folder: &mut F, at: FaultAt) -> Result<Fin
     } = at;
     match statement_spot(alloc, folder, &project, statement) {
         Ok(spot) => {
-            let cause = Cause::Fault(fault);
+            let cause = Problem::Fault(fault);
             Ok(found_alone(alloc, Finding { spot, cause })?)
         }
         Err(other) => {
@@ -312,7 +312,7 @@ fn check_configured<A: Actions, T: Transforms, F: Folder>(
     let scripts = registry.scripts();
     let unread = warn_unread(alloc, scripts, registry.given())?;
     let found = check_tasks(alloc, folder, configured, scripts)?;
-    let left = warn_left(alloc, folder, configured)?;
+    let left = warn_unregistered(alloc, folder, configured)?;
     Ok(with_warnings(unread, found, left)?)
 }
 
@@ -337,7 +337,7 @@ fn with_warnings(
 }
 
 /// A warning for each task that has a record, but is not registered.
-fn warn_left<A: Actions, T: Transforms, F: Folder>(
+fn warn_unregistered<A: Actions, T: Transforms, F: Folder>(
     alloc: Global,
     folder: &mut F,
     configured: &Configured<'_, A, T>,
@@ -353,16 +353,16 @@ fn warn_left<A: Actions, T: Transforms, F: Folder>(
     let _registered = configured.registry.tasks();
     let names = configured.registry.names(alloc)?;
     let left = unregistered(alloc, folder, names.as_slice())?;
-    Ok(left_found(alloc, left.as_slice())?)
+    Ok(unregistered_found(alloc, left.as_slice())?)
 }
 
-fn left_found(alloc: Global, paths: &[TaskPath]) -> Result<Vec<Finding>, AllocError>
-    ensures { IfOk result (λ found. found.items ≡ map left_of paths.now) }
+fn unregistered_found(alloc: Global, paths: &[TaskPath]) -> Result<Vec<Finding>, AllocError>
+    ensures { IfOk result (λ found. found.items ≡ map unregistered_of paths.now) }
 {
     let mut found = Vec::new(alloc);
     for path in paths {
         let spot = Spot::Unknown;
-        let cause = Cause::Unregistered(path.copy()?);
+        let cause = Problem::Unregistered(path.copy()?);
         found.push(Finding { spot, cause })?;
     }
     Ok(found)

@@ -6,8 +6,8 @@ ghost use Rattle.gb_ask_command.specs.CheckJson.{check_data, check_objects, file
 ghost use Rattle.gb_ask_command.specs.CheckJson.{kind_word, line_data, number_data, object_of};
 ghost use Rattle.gb_ask_command.specs.CheckJson.{unread_object, value_text, words_of};
 
-use gb_check::findings::{Cause, Finding, Findings, Spot};
-use gb_check::found::{push_cause, unread_spot};
+use gb_check::finding_text::{push_cause, unread_spot};
+use gb_check::findings::{Finding, Findings, Problem, Spot};
 use gb_query::objects::{json_line, text_value};
 use gb_report::fault::Fault;
 use serde_json::{Value, json};
@@ -92,21 +92,21 @@ fn push_value(text: &mut String, spot: &Spot) -> Result<(), AllocError>
     }
 }
 
-fn kind_word(cause: &Cause) -> &'static str
+fn kind_word(cause: &Problem) -> &'static str
     ensures { result.now ≡ kind_word cause.now }
 {
     match cause {
-        Cause::Fault(_) => "fault",
+        Problem::Fault(_) => "fault",
         _ => "warning",
     }
 }
 
 /// The number of a fault, or null.
-fn number_value(cause: &Cause) -> Value
+fn number_value(cause: &Problem) -> Value
     ensures { view result ≡ number_data cause.now }
 {
     match cause {
-        Cause::Fault(fault) => Value::from(fault.number()),
+        Problem::Fault(fault) => Value::from(fault.number()),
         _ => Value::Null,
     }
 }

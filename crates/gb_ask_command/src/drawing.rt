@@ -15,7 +15,7 @@ use gb_picture::graph::Node;
 use gb_picture::mermaid::mermaid_of;
 use gb_picture::outline::outline_of;
 use gb_picture::svg::svg_of;
-use gb_predict::coming::Prediction;
+use gb_predict::predicted_outcome::Prediction;
 use gb_query::drawn::graph_json;
 use std::alloc::{AllocError, Global};
 

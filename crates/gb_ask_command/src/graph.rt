@@ -21,7 +21,7 @@ use gb_action::actions::Actions;
 use gb_command::run::asked_by;
 use gb_folder::folder::Folder;
 use gb_meaning::events::Invocation;
-use gb_predict::coming::Prediction;
+use gb_predict::predicted_outcome::Prediction;
 use gb_printer::printer::Printer;
 use gb_project::script_tasks::ScriptTasks;
 use gb_provider::transforms::Transforms;

@@ -4,7 +4,7 @@ ghost use Rattle.gb_ask_command.specs.Line.{coming_text, line_text, mark_text, m
 ghost use Rattle.gb_ask_command.specs.Line.{runs_text, way};
 
 use gb_core::path::TaskPath;
-use gb_predict::coming::{Coming, Prediction};
+use gb_predict::predicted_outcome::{PredictedOutcome, Prediction};
 use gb_reason::reason::Reason;
 use gb_reason::reason_text::push_reason;
 use std::alloc::AllocError;
@@ -17,22 +17,26 @@ pub(crate) fn push_line(text: &mut String, reported: &Prediction) -> Result<(), 
     let path = &reported.path;
     write!(text, "{path}")?;
     push_coming(text, &reported.coming)?;
-    push_mark(text, &reported.needs, &reported.after)?;
+    push_mark(text, &reported.kept_by, &reported.after)?;
     text.push('\n')
 }
 
 /// The outcome of a task.
-fn push_coming(text: &mut String, coming: &Coming) -> Result<(), AllocError>
+fn push_coming(text: &mut String, coming: &PredictedOutcome) -> Result<(), AllocError>
     ensures { OnOk result (string_bytes text.new ≡ string_bytes text.old ++ coming_text coming.now) }
 {
     match coming {
-        Coming::Skips => write!(text, " SKIPPED: onlyIf is false"),
-        Coming::HasNoActions => write!(text, " has no actions"),
-        Coming::HasNoSource(_) => write!(text, " NO-SOURCE"),
-        Coming::CannotRead(fault) => write!(text, " cannot be read: {fault}"),
-        Coming::UpToDate => write!(text, " UP-TO-DATE"),
-        Coming::HasGrown => write!(text, " runs: outputs are too large or too many"),
-        Coming::Runs(by_changes, reasons) => push_runs(text, *by_changes, reasons.as_slice()),
+        PredictedOutcome::Skips => write!(text, " SKIPPED: onlyIf is false"),
+        PredictedOutcome::HasNoActions => write!(text, " has no actions"),
+        PredictedOutcome::HasNoSource(_) => write!(text, " NO-SOURCE"),
+        PredictedOutcome::CannotRead(fault) => write!(text, " cannot be read: {fault}"),
+        PredictedOutcome::UpToDate => write!(text, " UP-TO-DATE"),
+        PredictedOutcome::HasGrown => write!(text, " runs: outputs are too large or too many"),
+        PredictedOutcome::Runs(by_changes, reasons) => push_runs(
+            text,
+            *by_changes,
+            reasons.as_slice(),
+        ),
     }
 }
 

@@ -4,7 +4,7 @@ ghost use Rattle.gb_ask_command.specs.Tints.{first_tinted, other_predictions, ti
 ghost use Rattle.gb_ask_command.specs.Tints.{tinted, with_tints};
 
 use gb_picture::graph::{Node, Tint};
-use gb_predict::coming::{Coming, Prediction};
+use gb_predict::predicted_outcome::{PredictedOutcome, Prediction};
 use std::alloc::{AllocError, Global};
 
 /// These nodes, each with the colour of the prediction in its place if that is for a task of its
@@ -65,7 +65,7 @@ fn tinted(node: Node, prediction: &Prediction) -> Node
 fn tint_of(prediction: &Prediction) -> Tint
     ensures { result ≡ tint_of prediction.now }
 {
-    match (&prediction.needs, &prediction.after) {
+    match (&prediction.kept_by, &prediction.after) {
         (Some(_), _) => Tint::Plain,
         (None, Some(_)) => Tint::Open,
         (None, None) => tint_of_coming(&prediction.coming),
@@ -73,13 +73,15 @@ fn tint_of(prediction: &Prediction) -> Tint
 }
 
 /// The colour of an outcome; none if it cannot be predicted.
-fn tint_of_coming(coming: &Coming) -> Tint
+fn tint_of_coming(coming: &PredictedOutcome) -> Tint
     ensures { result ≡ tint_of_coming coming.now }
 {
     match coming {
-        Coming::Skips | Coming::HasNoActions | Coming::HasNoSource(_) => Tint::Idle,
-        Coming::CannotRead(_) => Tint::Plain,
-        Coming::UpToDate => Tint::Done,
-        Coming::HasGrown | Coming::Runs(_, _) => Tint::Runs,
+        PredictedOutcome::Skips
+        | PredictedOutcome::HasNoActions
+        | PredictedOutcome::HasNoSource(_) => Tint::Idle,
+        PredictedOutcome::CannotRead(_) => Tint::Plain,
+        PredictedOutcome::UpToDate => Tint::Done,
+        PredictedOutcome::HasGrown | PredictedOutcome::Runs(_, _) => Tint::Runs,
     }
 }

@@ -6,7 +6,7 @@ ghost use Rattle.gb_registry.specs.SoFar.{scripts_in};
 ghost use Rattle.gb_ask_command.specs.Unread.{is_read, is_read_by, is_read_by_call, is_read_by_clause};
 ghost use Rattle.gb_ask_command.specs.Unread.{is_read_in, unread, unread_value, unread_values};
 
-use gb_check::findings::{Cause, Finding, Spot};
+use gb_check::findings::{Finding, Problem, Spot};
 use gb_core::name::Name;
 use gb_core::text::Text;
 use gb_registry::checking::Scripted;
@@ -80,7 +80,7 @@ fn push_unread(found: &mut Vec<Finding>, name: &Name) -> Result<(), AllocError>
     ensures { OnOk result (found.new.items ≡ found.old.items ++ unread name.now ∷ []) }
 {
     let spot = Spot::Value(name.copy()?);
-    let cause = Cause::Unread;
+    let cause = Problem::Unread;
     found.push(Finding { spot, cause })?;
     Ok(())
 }

@@ -8,7 +8,7 @@ ghost use Rattle.gb_ask_command.specs.WhyJson.{outcome_object, outcome_word, rea
 ghost use Rattle.gb_ask_command.specs.WhyJson.{task_data, why_data, why_object};
 
 use gb_core::path::TaskPath;
-use gb_predict::coming::{Coming, Prediction};
+use gb_predict::predicted_outcome::{PredictedOutcome, Prediction};
 use gb_query::objects::{json_line, text_value};
 use gb_reason::reason::Reason;
 use gb_reason::reason_text::push_reason;
@@ -47,9 +47,9 @@ fn why_object(alloc: Global, reported: &Prediction) -> Result<Value, AllocError>
 fn with_reasons(alloc: Global, reported: &Prediction, reasons: &Value) -> Result<Value, AllocError>
     ensures { IfOk result (λ value. view value ≡ outcome_object reported.now.path
         (outcome_word reported.now.coming) (view reasons.now)
-        (task_data reported.now.needs) (task_data reported.now.after)) }
+        (task_data reported.now.kept_by) (task_data reported.now.after)) }
 {
-    let needs = task_value(alloc, &reported.needs)?;
+    let needs = task_value(alloc, &reported.kept_by)?;
     let value = with_needs(alloc, reported, reasons, &needs);
     drop(needs);
     value
@@ -109,31 +109,33 @@ fn task_value(alloc: Global, task: &Option<TaskPath>) -> Result<Value, AllocErro
     }
 }
 
-fn outcome_word(coming: &Coming) -> &'static str
+fn outcome_word(coming: &PredictedOutcome) -> &'static str
     ensures { result.now ≡ outcome_word coming.now }
 {
     match coming {
-        Coming::Skips => "SKIPPED",
-        Coming::HasNoActions => "has no actions",
-        Coming::HasNoSource(_) => "NO-SOURCE",
-        Coming::CannotRead(_) => "cannot be read",
-        Coming::UpToDate => "UP-TO-DATE",
-        Coming::HasGrown => "runs",
-        Coming::Runs(true, _) => "runs by changes",
-        Coming::Runs(false, _) => "runs",
+        PredictedOutcome::Skips => "SKIPPED",
+        PredictedOutcome::HasNoActions => "has no actions",
+        PredictedOutcome::HasNoSource(_) => "NO-SOURCE",
+        PredictedOutcome::CannotRead(_) => "cannot be read",
+        PredictedOutcome::UpToDate => "UP-TO-DATE",
+        PredictedOutcome::HasGrown => "runs",
+        PredictedOutcome::Runs(true, _) => "runs by changes",
+        PredictedOutcome::Runs(false, _) => "runs",
     }
 }
 
 /// All reasons for an outcome.
-fn reasons(alloc: Global, coming: &Coming) -> Result<Vec<Value>, AllocError>
+fn reasons(alloc: Global, coming: &PredictedOutcome) -> Result<Vec<Value>, AllocError>
     ensures { IfOk result (λ values. map view values.items ≡ reasons_data coming.now) }
 {
     match coming {
-        Coming::Skips => one_text(alloc, "onlyIf is false"),
-        Coming::CannotRead(fault) => fault_reason(alloc, fault),
-        Coming::HasGrown => one_text(alloc, "outputs are too large or too many"),
-        Coming::Runs(_, reasons) => reason_values(alloc, reasons.as_slice()),
-        Coming::HasNoActions | Coming::HasNoSource(_) | Coming::UpToDate => Ok(Vec::new(alloc)),
+        PredictedOutcome::Skips => one_text(alloc, "onlyIf is false"),
+        PredictedOutcome::CannotRead(fault) => fault_reason(alloc, fault),
+        PredictedOutcome::HasGrown => one_text(alloc, "outputs are too large or too many"),
+        PredictedOutcome::Runs(_, reasons) => reason_values(alloc, reasons.as_slice()),
+        PredictedOutcome::HasNoActions
+        | PredictedOutcome::HasNoSource(_)
+        | PredictedOutcome::UpToDate => Ok(Vec::new(alloc)),
     }
 }
 

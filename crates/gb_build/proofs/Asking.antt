@@ -30,6 +30,6 @@ module _ {F S : Type 0} {failures : F → ℕ} {may_leave : F → Tearing} {allo
     records = by.records;
     begun = by.begun;
     first = requests_then before by.first;
-    answered = λ wet. all_answered_longer first old by.begun by.begun before (requests_nothing by.begun) (order plan) by.records (by.answered wet);
+    answered = λ not_dry. all_answered_longer first old by.begun by.begun before (requests_nothing by.begun) (order plan) by.records (by.answered not_dry);
     executions = by.executions;
   }

@@ -106,7 +106,7 @@ module _ (kinds : Kinds) (registry_of : Registering) (may_leave : Tearing) (regi
           let all = success_follows one (assumed clear remembered) (spreads clear remembered) (λ files properties other is. subst IsRegistry (ap (said_or registry) is) sound)
           (state_of old remembered) (worth given.0).0 invocation plan planned_so (may_occur setting (own_files old.contents) invocation.options) observed end.failures
           (world_in (state_of end memory)) report.tasks given none builds in
-          (λ wet. all.0 (sym dry_run ∙ wet), all.1);
+          (λ not_dry. all.0 (sym dry_run ∙ not_dry), all.1);
     };
     exists = λ given. (
       holds_for_memory kinds end.contents memory is_folder
@@ -183,11 +183,11 @@ module _ (kinds : Kinds) (registry_of : Registering) (may_leave : Tearing) (regi
 
     wet_leads : IsBuiltFrom → invocation.options.dry_run ≡ false
         → LeadsTo setting clear observed (state_of old remembered) (events.Invoke invocation) (answer_of (Ok report)) end
-    wet_leads built wet =
+    wet_leads built not_dry =
         let own : Files = own_files old.contents in
         let first : World = world_in (state_of old remembered) in
         let last : World = world_in (state_of end built.remembered) in
-        let ready : IsTrue clear → IsTrue reads = λ is_clear. both_true clear (not invocation.options.dry_run) is_clear (ap not wet) in
+        let ready : IsTrue clear → IsTrue reads = λ is_clear. both_true clear (not invocation.options.dry_run) is_clear (ap not not_dry) in
         assembled remembered built.remembered clear observed worth
         (builds_fewer (rules_in setting own invocation.options plan) (assumed clear remembered) (spreads clear remembered) observed
         (record { world = first; failures = old.failures }) report.tasks (record { world = last; failures = end.failures })
@@ -212,4 +212,4 @@ module _ (kinds : Kinds) (registry_of : Registering) (may_leave : Tearing) (regi
         by : (b : Bool) → invocation.options.dry_run ≡ b
             → LeadsTo setting clear observed (state_of old remembered) (events.Invoke invocation) (answer_of (Ok report)) end
         by true is_dry = dry_leads built_from is_dry
-        by false wet = wet_leads built_from wet
+        by false not_dry = wet_leads built_from not_dry

@@ -56,10 +56,10 @@ own_records (path ∷ paths) = (texts_are_records.own path, own_records paths)
 -- a fault of the machine, reported at a record, is why records could not be read
 pub unread : {T : Type 0} (call : Result T Fault) (fault reported : Fault) (paths : List Path) (before after : ℕ) → call ≡ Err fault → reported ≡ fault
     → BlamesOnly (λ place. list_any (λ path. is_at (record_place path) place) paths) call → IsOfMachine before after fault → (dry_run : Bool) → dry_run ≡ false → IsUnread dry_run before after reported
-unread call fault reported paths before after was same blamed (inl out) dry_run wet = inl (same ∙ out)
-unread call fault reported paths before after was same blamed (inr device) dry_run wet =
+unread call fault reported paths before after was same blamed (inl out) dry_run not_dry = inl (same ∙ out)
+unread call fault reported paths before after was same blamed (inr device) dry_run not_dry =
     let own : is_own device.0 ≡ true = among_passes record_place is_own paths device.0 (own_records paths) (blamed device.0 (was ∙ ap Err device.1)) in
-    subst (λ b. IsUnread b before after reported) (sym wet) (inr (device.0, both (is_own device.0) own, (device.2, same ∙ device.1)))
+    subst (λ b. IsUnread b before after reported) (sym not_dry) (inr (device.0, both (is_own device.0) own, (device.2, same ∙ device.1)))
   where
     both : (b : Bool) → b ≡ true → (b && true) ≡ true
     both true e = refl

@@ -15,8 +15,8 @@ use Rattle.gb_report.specs.declared.fault.Fault.{Fault}
 use Rattle.gb_report.specs.declared.fault.Fault.TheVariants as faults
 use Rattle.gb_check.specs.Findings.{spot_at, unread_spot}
 use Rattle.gb_check.specs.Marks.{line_for}
-use Rattle.gb_check.specs.declared.findings.Cause.{Cause}
-use Rattle.gb_check.specs.declared.findings.Cause.TheVariants as causes
+use Rattle.gb_check.specs.declared.findings.Problem.{Problem}
+use Rattle.gb_check.specs.declared.findings.Problem.TheVariants as problems
 use Rattle.gb_check.specs.declared.findings.Finding.{Finding}
 use Rattle.gb_check.specs.declared.findings.Spot.{Spot}
 use Rattle.gb_check.specs.declared.findings.Spot.TheVariants as spots
@@ -34,21 +34,21 @@ spot_text (spots.Line script line) = line_text script line
 spot_text (spots.Value name) = codes "-P" ++ name ++ codes ": "
 spot_text spots.Unknown = []
 
-abbrev pub kind_text : Cause → List ℕ
-kind_text (causes.Fault fault) = []
+abbrev pub kind_text : Problem → List ℕ
+kind_text (problems.Fault fault) = []
 kind_text other = codes "warning: "
 
 -- a fault with its number, or the words of a warning
-abbrev pub cause_text : Cause → List ℕ
-cause_text (causes.Fault fault) = fault_text fault
-cause_text (causes.Shared first second) = first ++ codes " and " ++ second ++ codes " read one folder"
-cause_text (causes.Unneeded root maker) =
+abbrev pub cause_text : Problem → List ℕ
+cause_text (problems.Fault fault) = fault_text fault
+cause_text (problems.Shared first second) = first ++ codes " and " ++ second ++ codes " read one folder"
+cause_text (problems.Unneeded root maker) =
     root ++ codes " overlaps an output of " ++ maker ++ codes ", which is not needed directly"
-cause_text (causes.Stale maker reader) =
+cause_text (problems.Stale maker reader) =
     codes "where " ++ maker ++ codes " is skipped, " ++ reader ++ codes " reads its old output"
-cause_text (causes.Bare root) = codes "no file is at " ++ root
-cause_text causes.Unread = codes "nothing reads it"
-cause_text (causes.Unregistered path) =
+cause_text (problems.Bare root) = codes "no file is at " ++ root
+cause_text problems.Unread = codes "nothing reads it"
+cause_text (problems.Unregistered path) =
     codes "a record of " ++ path ++ codes " is kept, which no script registers"
 
 abbrev pub finding_text : Finding → List ℕ
@@ -81,7 +81,7 @@ fault_spot sites marks path fault =
 -- a fault of the task at a path
 abbrev pub found_of : List Site → List Mark → Path → Fault → Finding
 found_of sites marks path fault =
-    record { spot = fault_spot sites marks path fault; cause = causes.Fault fault }
+    record { spot = fault_spot sites marks path fault; cause = problems.Fault fault }
 
 abbrev pub faults_of : Option (Result TaskDeclaration Fault) → List Fault
 faults_of (Some (Err fault)) = fault ∷ []
@@ -112,7 +112,7 @@ named_by other = None
 -- the fault of a plan
 abbrev pub plan_found : List Site → Fault → Finding
 plan_found sites fault =
-    record { spot = option_map_or (spot_at sites) (named_by fault) spots.Unknown; cause = causes.Fault fault }
+    record { spot = option_map_or (spot_at sites) (named_by fault) spots.Unknown; cause = problems.Fault fault }
 
 -- the findings for the plan of these words: none, or why there is no plan
 abbrev pub IsFoundInPlan : List Site → Registry → List Text → List Finding → Type 0

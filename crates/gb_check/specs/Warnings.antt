@@ -15,7 +15,7 @@ use Rattle.gb_script.specs.declared.script.Clause.TheVariants as clauses
 use Rattle.gb_script.specs.declared.script.Statement.{Statement}
 use Rattle.gb_script.specs.declared.script.Statement.TheVariants as statements
 use Rattle.gb_check.specs.Findings.{warning}
-use Rattle.gb_check.specs.declared.findings.Cause.TheVariants as causes
+use Rattle.gb_check.specs.declared.findings.Problem.TheVariants as problems
 use Rattle.gb_check.specs.declared.findings.Finding.{Finding}
 use Rattle.gb_check.specs.declared.places.Rooted.{Rooted}
 use Rattle.gb_check.specs.declared.sites.Site.{Site}
@@ -38,7 +38,7 @@ share_root first second = list_any (λ root. has_path second.roots root) first.r
 
 abbrev pub pair_of : List Site → Path → FileProperty → FileProperty → List Finding
 pair_of sites path first second =
-    if share_root first second then warning sites path (causes.Shared first.name second.name) ∷ [] else []
+    if share_root first second then warning sites path (problems.Shared first.name second.name) ∷ [] else []
 
 -- each two of these that have a root in common
 abbrev pub pairs_in : List Site → Path → List FileProperty → List Finding
@@ -83,7 +83,7 @@ reads_from reader maker =
 -- a root at an output of a task that the reader does not need
 abbrev pub unneeded_at : List Site → Path → TaskDeclaration → Place → List Finding
 unneeded_at sites reader maker root =
-    if makes_at root maker then warning sites reader (causes.Unneeded root maker.path) ∷ [] else []
+    if makes_at root maker then warning sites reader (problems.Unneeded root maker.path) ∷ [] else []
 
 -- all such roots of a property
 abbrev pub unneeded_in : List Site → Path → TaskDeclaration → FileProperty → List Finding
@@ -98,7 +98,7 @@ unneeded_from sites reader maker =
 -- an output that stays if its task, which may be skipped, is skipped
 abbrev pub stale_of : List Site → List Path → Path → Path → List Finding
 stale_of sites guarded reader maker =
-    if has_path guarded maker then warning sites maker (causes.Stale maker reader) ∷ [] else []
+    if has_path guarded maker then warning sites maker (problems.Stale maker reader) ∷ [] else []
 
 -- for a reader and another task, if it reads an output of that one
 abbrev pub between : List Site → List Path → TaskDeclaration → TaskDeclaration → List Finding
@@ -135,7 +135,7 @@ is_bare contents outputs root =
 abbrev pub bare_root : List Site → Contents → List Place → Rooted → List Finding
 bare_root sites contents outputs rooted =
     if is_bare contents outputs rooted.root
-    then warning sites rooted.path (causes.Bare rooted.root) ∷ [] else []
+    then warning sites rooted.path (problems.Bare rooted.root) ∷ [] else []
 
 -- the roots that have no files
 abbrev pub bare_roots : List Site → Contents → List TaskDeclaration → List Finding

@@ -8,7 +8,7 @@ ghost use Rattle.gb_store.specs.Faults.{IsOfMachine};
 ghost use Rattle.gb_check.specs.Findings.{warning};
 ghost use Rattle.gb_check.specs.Warnings.{bare_root, bare_roots, is_bare};
 
-use crate::findings::{Cause, Finding, push_warning};
+use crate::findings::{Finding, Problem, push_warning};
 use crate::places::{Rooted, all_outputs, all_roots};
 use crate::sites::Site;
 use gb_core::place::Place;
@@ -83,9 +83,14 @@ fn push_rooted<F: Folder>(
 
 fn push_bare(found: &mut Vec<Finding>, sites: &[Site], rooted: &Rooted) -> Result<(), AllocError>
     ensures { OnOk result (found.new.items
-        ≡ found.old.items ++ warning sites.now rooted.now.path (Cause.Bare rooted.now.root) ∷ []) }
+        ≡ found.old.items ++ warning sites.now rooted.now.path (Problem.Bare rooted.now.root) ∷ []) }
 {
-    push_warning(found, sites, &rooted.path, Cause::Bare(rooted.root.copy()?))
+    push_warning(
+        found,
+        sites,
+        &rooted.path,
+        Problem::Bare(rooted.root.copy()?),
+    )
 }
 
 /// Whether nothing is at a root or under it, and no task makes anything there.

@@ -6,7 +6,7 @@ ghost use Rattle.gb_check.specs.Findings.{warning};
 ghost use Rattle.gb_check.specs.Warnings.{between, between_all, makes_at, reads_from, stale_of};
 ghost use Rattle.gb_check.specs.Warnings.{unneeded_at, unneeded_from, unneeded_in};
 
-use crate::findings::{Cause, Finding, push_warning};
+use crate::findings::{Finding, Problem, push_warning};
 use crate::sites::Site;
 use gb_core::path::TaskPath;
 use gb_core::place::Place;
@@ -160,12 +160,12 @@ fn push_root(
     }
 }
 
-fn unneeded(root: &Place, maker: &TaskPath) -> Result<Cause, AllocError>
-    ensures { IfOk result (λ cause. cause ≡ Cause.Unneeded root.now maker.now) }
+fn unneeded(root: &Place, maker: &TaskPath) -> Result<Problem, AllocError>
+    ensures { IfOk result (λ cause. cause ≡ Problem.Unneeded root.now maker.now) }
 {
     let root = root.copy()?;
     let maker = maker.copy()?;
-    Ok(Cause::Unneeded(root, maker))
+    Ok(Problem::Unneeded(root, maker))
 }
 
 /// Adds a warning if the maker may be skipped.
@@ -187,12 +187,12 @@ fn push_stale(
     }
 }
 
-fn stale(maker: &TaskPath, reader: &TaskPath) -> Result<Cause, AllocError>
-    ensures { IfOk result (λ cause. cause ≡ Cause.Stale maker.now reader.now) }
+fn stale(maker: &TaskPath, reader: &TaskPath) -> Result<Problem, AllocError>
+    ensures { IfOk result (λ cause. cause ≡ Problem.Stale maker.now reader.now) }
 {
     let maker = maker.copy()?;
     let reader = reader.copy()?;
-    Ok(Cause::Stale(maker, reader))
+    Ok(Problem::Stale(maker, reader))
 }
 
 fn is_among(paths: &[TaskPath], path: &TaskPath) -> bool

@@ -8,7 +8,7 @@ ghost use Rattle.gb_check.specs.Found.{tasks_found};
 
 use crate::clause_lines::Mark;
 use crate::fault_line::line_for;
-use crate::findings::{Cause, Finding, Spot, site_of};
+use crate::findings::{Finding, Problem, Spot, site_of};
 use crate::sites::Site;
 use crate::whole_plan::{check_all, is_out_of_memory};
 use gb_core::path::TaskPath;
@@ -105,7 +105,7 @@ fn push_fault(
     }
     match fault_spot(alloc, marks, path, &fault, site_of(sites, path)) {
         Ok(spot) => {
-            let cause = Cause::Fault(fault);
+            let cause = Problem::Fault(fault);
             found.push(Finding { spot, cause })?;
             Ok(())
         }

@@ -4,7 +4,7 @@ ghost use Rattle.std.specs.List.{flat_map};
 ghost use Rattle.gb_plan.specs.Task.{has_path};
 ghost use Rattle.gb_check.specs.Warnings.{pair_of, pairs_in, share_root, shared_in};
 
-use crate::findings::{Cause, Finding, push_warning};
+use crate::findings::{Finding, Problem, push_warning};
 use crate::sites::Site;
 use gb_core::name::Name;
 use gb_core::path::TaskPath;
@@ -79,12 +79,12 @@ fn push_pair(
     }
 }
 
-fn shared_by(first: &Name, second: &Name) -> Result<Cause, AllocError>
-    ensures { IfOk result (λ cause. cause ≡ Cause.Shared first.now second.now) }
+fn shared_by(first: &Name, second: &Name) -> Result<Problem, AllocError>
+    ensures { IfOk result (λ cause. cause ≡ Problem.Shared first.now second.now) }
 {
     let first = first.copy()?;
     let second = second.copy()?;
-    Ok(Cause::Shared(first, second))
+    Ok(Problem::Shared(first, second))
 }
 
 /// Whether the two have a root in common.

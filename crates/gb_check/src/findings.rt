@@ -23,7 +23,7 @@ pub enum Spot {
 
 /// What is found.
 #[derive(Drop)]
-pub enum Cause {
+pub enum Problem {
     /// A fault, which keeps builds from starting.
     Fault(Fault),
     /// These two file properties of the task have a root in common.
@@ -46,7 +46,7 @@ pub struct Finding {
     /// Where it is.
     pub spot: Spot,
     /// What it is.
-    pub cause: Cause,
+    pub cause: Problem,
 }
 
 /// All findings.
@@ -63,7 +63,7 @@ pub(crate) fn push_warning(
     found: &mut Vec<Finding>,
     sites: &[Site],
     path: &TaskPath,
-    cause: Cause,
+    cause: Problem,
 ) -> Result<(), AllocError>
     ensures { OnOk result
         (found.new.items ≡ found.old.items ++ warning sites.now path.now cause ∷ []) }

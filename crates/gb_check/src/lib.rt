@@ -1,7 +1,7 @@
 //! What is wrong with registered tasks, found before any of them is requested: their faults, and
 //! warnings.
 //!
-//! The promise of [`find`](crate::finding::find): the faults are exactly those of the tasks, in the
+//! The promise of [`find`](crate::find::find): the faults are exactly those of the tasks, in the
 //! order of registration; where no task has one, exactly why there is no plan of all of them. Where
 //! no fault is found, no build is refused for a task, whatever is requested. The warnings are
 //! exactly those of four sorts, over the tasks without a fault.
@@ -18,9 +18,9 @@ pub mod clause_lines;
 mod common_roots;
 mod declared;
 mod fault_line;
-pub mod finding;
+pub mod find;
+pub mod finding_text;
 pub mod findings;
-pub mod found;
 mod guarded;
 mod places;
 pub mod sites;

@@ -4,7 +4,7 @@ ghost use Rattle.std.specs.Option.{option_copied, option_map_or};
 ghost use Rattle.gb_check.specs.Findings.{spot_at};
 ghost use Rattle.gb_check.specs.Found.{IsFoundInAll, IsFoundInPlan, named_by, plan_found};
 
-use crate::findings::{Cause, Finding, Spot, spot_at};
+use crate::findings::{Finding, Problem, Spot, spot_at};
 use crate::sites::Site;
 use gb_core::path::TaskPath;
 use gb_core::text::Text;
@@ -75,7 +75,7 @@ fn plan_found(alloc: Global, sites: &[Site], fault: Fault) -> Result<Vec<Finding
     }
     match named_spot(sites, named_by(&fault)) {
         Ok(spot) => {
-            let cause = Cause::Fault(fault);
+            let cause = Problem::Fault(fault);
             let mut found = Vec::new(alloc);
             found.push(Finding { spot, cause })?;
             Ok(found)

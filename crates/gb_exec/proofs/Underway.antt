@@ -260,10 +260,10 @@ module _ (kinds : Kinds) (registry_of : Registering) (may_leave : Tearing) (clea
   -- ---- After the last execution
 
   pub built : (done : List TaskReport) (new : Shown) → options.dry_run ≡ false → IsUnderway plan [] done new → HasBuilt setting clear observed options plan old done new
-  built done new wet u = record {
+  built done new not_dry u = record {
     remembered = u.moment.world.memory;
     builds = inr (
-      wet,
+      not_dry,
       subst (λ (all : List TaskReport). Executions rules assumed observed plan (first_moment (record { world = world_in old; failures = old.failures })) all last) (none_after done)
           (u.joins [] last (ap (λ (folder : Contents). let w : World = record { folder = folder; memory = u.moment.world.memory } in w) (sym u.folder), at_most u.failures)),
     );

@@ -6,7 +6,7 @@ use Rattle.std.specs.Global.{Global}
 use Rattle.gb_report.specs.declared.report.Outcome.{Outcome}
 use Rattle.gb_report.specs.declared.report.Outcome.TheVariants as outcomes
 use Rattle.gb_exec.specs.declared.may_start.Ending.{Ending}
-use Rattle.gb_exec.specs.declared.may_start.Ending.TheVariants.{ToCome, Executed, Well, Failed, NotRun}
+use Rattle.gb_exec.specs.declared.may_start.Ending.TheVariants.{ToCome, Executed, NothingDone, Failed, NotRun}
 
 -- rows of numbers, without their allocations
 abbrev pub rows : List (Vec ℕ Global) → List (List ℕ)
@@ -41,14 +41,14 @@ abbrev pub ending_of : Outcome → Ending
 ending_of (outcomes.Failed fault) = Failed
 ending_of outcomes.NotRun = NotRun
 ending_of outcomes.Executed = Executed
-ending_of outcomes.UpToDate = Well
-ending_of outcomes.Skipped = Well
-ending_of outcomes.NoSource = Well
+ending_of outcomes.UpToDate = NothingDone
+ending_of outcomes.Skipped = NothingDone
+ending_of outcomes.NoSource = NothingDone
 
 abbrev pub has_started : Ending → Bool
 has_started ToCome = false
 has_started Executed = true
-has_started Well = true
+has_started NothingDone = true
 has_started Failed = true
 has_started NotRun = false
 
@@ -60,7 +60,7 @@ has_failed other = false
 abbrev pub ended_badly : Ending → Bool
 ended_badly ToCome = false
 ended_badly Executed = false
-ended_badly Well = false
+ended_badly NothingDone = false
 ended_badly Failed = true
 ended_badly NotRun = true
 

@@ -28,7 +28,7 @@ ghost use Rattle.gb_exec.specs.Reports.{IsOf};
 use crate::heard_laws::reported_more;
 use crate::listener::TaskListener;
 use crate::may_start::Starts;
-use crate::one_task::{Build, take_one};
+use crate::one_task::{Build, execute_one};
 use gb_action::actions::Actions;
 use gb_core::path::TaskPath;
 use gb_folder::folder::Folder;
@@ -64,7 +64,7 @@ pub(crate) fn execute_tasks<A: Actions, F: Folder, L: TaskListener, P: Printer>(
     reports: &mut Vec<TaskReport>,
 ) -> bool
     requires can { CanBuild A.meanings build.now.table.now build.now.tasks.now }
-    requires wet { build.now.options.dry_run ≡ false }
+    requires not_dry { build.now.options.dry_run ≡ false }
     requires of_plan { AreOfPlan build.now.tasks.now starts.old }
     requires to_come { starts.old.endings ≡ replicate (length build.now.tasks.now) ToCome }
     requires each { length build.now.records.now ≡ length build.now.tasks.now }
@@ -106,7 +106,7 @@ pub(crate) fn execute_tasks<A: Actions, F: Folder, L: TaskListener, P: Printer>(
     for path in paths {
         // Records exist only for paths of tasks; this shows that the path is one.
         let _path = path.as_str();
-        let taken = take_one::<A, F, L>(alloc, folder, build, starts, index, path, listeners);
+        let taken = execute_one::<A, F, L>(alloc, folder, build, starts, index, path, listeners);
         all_heard = all_heard && taken.all_heard;
         printer.print_task(alloc, &taken.report);
         starts.end(index, &taken.report.outcome);

@@ -18,7 +18,7 @@ pub enum Ending {
     /// Its actions ran to their end, or it has none and a task that it needs was executed.
     Executed,
     /// It was started, was not executed, and did not fail.
-    Well,
+    NothingDone,
     /// Its execution ended in a fault.
     Failed,
     /// It was not started, and will not be.
@@ -37,7 +37,7 @@ impl Ending {
         } else if outcome.is_executed() {
             Ending::Executed
         } else if outcome.is_started() {
-            Ending::Well
+            Ending::NothingDone
         } else {
             Ending::NotRun
         }
@@ -52,7 +52,10 @@ impl Ending {
     fn has_started(self) -> bool
         ensures { result ≡ has_started self }
     {
-        matches!(self, Ending::Executed | Ending::Well | Ending::Failed)
+        matches!(
+            self,
+            Ending::Executed | Ending::NothingDone | Ending::Failed
+        )
     }
 }
 

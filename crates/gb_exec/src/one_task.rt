@@ -50,13 +50,13 @@ pub(crate) struct Build<'a, S> {
 
 /// The report of a task, and whether all listeners were notified of it.
 #[derive(Drop)]
-pub(crate) struct Taken {
+pub(crate) struct OneEnded {
     pub(crate) report: TaskReport,
     pub(crate) all_heard: bool,
 }
 
 /// The report of a task that does not start.
-fn passed(alloc: Global, planned: &Planned, path: TaskPath) -> TaskReport
+fn not_run_report(alloc: Global, planned: &Planned, path: TaskPath) -> TaskReport
     requires { path ≡ planned.now.task.path }
     ensures { result ≡ report_with NotRun planned.now }
 {
@@ -69,7 +69,7 @@ fn passed(alloc: Global, planned: &Planned, path: TaskPath) -> TaskReport
 }
 
 /// Executes the task of a number, if it starts. The path is the task's own.
-pub(crate) fn take_one<A: Actions, F: Folder, L: TaskListener>(
+pub(crate) fn execute_one<A: Actions, F: Folder, L: TaskListener>(
     alloc: Global,
     folder: &mut F,
     build: &Build<'_, A::Stored>,
@@ -77,7 +77,7 @@ pub(crate) fn take_one<A: Actions, F: Folder, L: TaskListener>(
     index: usize,
     path: TaskPath,
     listeners: &mut Vec<L>,
-) -> Taken
+) -> OneEnded
     requires can { CanBuild A.meanings build.now.table.now build.now.tasks.now }
     requires of_plan { AreOfPlan build.now.tasks.now starts.old }
     requires index { index < length build.now.tasks.now }
@@ -123,8 +123,8 @@ pub(crate) fn take_one<A: Actions, F: Folder, L: TaskListener>(
     reported_more();
     let planned = &build.tasks[index];
     if !starts.does_start(index, build.options.keep_going) {
-        return Taken {
-            report: passed(alloc, planned, path),
+        return OneEnded {
+            report: not_run_report(alloc, planned, path),
             all_heard: true,
         };
     }
@@ -142,7 +142,7 @@ pub(crate) fn take_one<A: Actions, F: Folder, L: TaskListener>(
         need,
     );
     let ended = notify(alloc, listeners, &planned.task.path, Some(&report.outcome));
-    Taken {
+    OneEnded {
         report,
         all_heard: begun && ended,
     }

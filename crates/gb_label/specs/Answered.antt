@@ -13,8 +13,8 @@ use Rattle.gb_label.specs.ReadingAnswered.{AreInputsAnswered, AreOutputsAnswered
 use Rattle.gb_label.specs.Reading.{AreInputs, AreOutputs, Read, prints_read, records_with}
 use Rattle.gb_label.specs.Deciding.{IsPresentOf}
 use Rattle.gb_label.specs.Looking.{lacks_source}
-use Rattle.gb_label.specs.declared.early_outcomes.Look.{Look}
-use Rattle.gb_label.specs.declared.early_outcomes.Look.TheVariants as looks
+use Rattle.gb_label.specs.declared.early_outcomes.EarlyCase.{EarlyCase}
+use Rattle.gb_label.specs.declared.early_outcomes.EarlyCase.TheVariants as early_cases
 use Rattle.gb_label.specs.declared.prepare.Prepared.{Prepared}
 use Rattle.gb_label.specs.declared.prepare.Prepared.TheVariants as prepared
 
@@ -26,13 +26,13 @@ WasSourceless failures may_leave allowed old new task =
     × (lacks_source task.files inputs ≡ true)
 
 -- If its record is to decide, its inputs were answered, and if it has no source they were found so.
-abbrev pub WasLookedAt : {F : Type 0} → (F → ℕ) → (F → Tearing) → (F → Call → F → Type 0) → F → F → Task
-    → Look → Type 0
-WasLookedAt failures may_leave allowed old new task looks.Skips = ⊤
-WasLookedAt failures may_leave allowed old new task looks.HasNoActions = ⊤
-WasLookedAt failures may_leave allowed old new task looks.HasNoSource =
+abbrev pub IsEarlyCaseRead : {F : Type 0} → (F → ℕ) → (F → Tearing) → (F → Call → F → Type 0) → F → F → Task
+    → EarlyCase → Type 0
+IsEarlyCaseRead failures may_leave allowed old new task early_cases.Skips = ⊤
+IsEarlyCaseRead failures may_leave allowed old new task early_cases.HasNoActions = ⊤
+IsEarlyCaseRead failures may_leave allowed old new task early_cases.HasNoSource =
     WasSourceless failures may_leave allowed old new task
-WasLookedAt failures may_leave allowed old new task (looks.Goes inputs) =
+IsEarlyCaseRead failures may_leave allowed old new task (early_cases.Open inputs) =
     AreInputsAnswered failures may_leave allowed old new task inputs.items
 
 -- The record that was read finds the task up to date on inputs and outputs with these digests.

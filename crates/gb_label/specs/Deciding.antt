@@ -20,8 +20,8 @@ use Rattle.gb_report.specs.declared.report.Options.{Options}
 use Rattle.gb_report.specs.declared.report.Outcome.TheVariants as outcomes
 use Rattle.gb_label.specs.declared.deciding.Basis.{Basis}
 use Rattle.gb_label.specs.declared.deciding.Basis.TheVariants as bases
-use Rattle.gb_label.specs.declared.deciding.Cause.{Cause}
-use Rattle.gb_label.specs.declared.deciding.Cause.TheVariants as causes
+use Rattle.gb_label.specs.declared.deciding.FullReason.{FullReason}
+use Rattle.gb_label.specs.declared.deciding.FullReason.TheVariants as causes
 use Rattle.gb_label.specs.Reading.{AreOutputs, AreOutputsObserved, Read, digests_in, print_faults}
 use Rattle.gb_label.specs.Reading.{recorded_of}
 
@@ -47,7 +47,7 @@ pub record IsPresentOf (options : Options) (task : Task) (inputs : List Prints) 
   pub stale : present.is_stale ≡ task.is_stale
 
 -- the cause to run in full holds of a task with this record; a record that counts is considered last
-abbrev pub IsCause : Options → Task → Option Record → Cause → Type 0
+abbrev pub IsCause : Options → Task → Option Record → FullReason → Type 0
 IsCause options task None causes.NoRecord = ⊤
 IsCause options task (Some run) causes.Rerun = options.rerun ≡ true
 IsCause options task (Some run) causes.Stale = (options.rerun ≡ false) × (task.is_stale ≡ true)
@@ -55,16 +55,16 @@ IsCause options task (Some run) causes.Grown = (options.rerun ≡ false) × (tas
 IsCause options task old other = ⊥
 
 -- The decision follows from its basis: a cause to run in full, or the record and what the task has now.
-abbrev pub GoesBy : Options → Task → Option Record → Decision → Basis → Type 0
-GoesBy options task old decision (bases.Recheck cause) = (decision ≡ Full) × IsCause options task old cause
-GoesBy options task (Some run) decision (bases.Compared present) = DecidesFrom run present decision
-GoesBy options task None decision (bases.Compared present) = ⊥
+abbrev pub FollowsFrom : Options → Task → Option Record → Decision → Basis → Type 0
+FollowsFrom options task old decision (bases.Forced cause) = (decision ≡ Full) × IsCause options task old cause
+FollowsFrom options task (Some run) decision (bases.Compared present) = DecidesFrom run present decision
+FollowsFrom options task None decision (bases.Compared present) = ⊥
 
 -- The basis holds in this folder: the outputs are such as no execution leaves, or it is what the task has.
 abbrev pub IsBasisIn : Options → Task → Contents → Basis → Type 0
-IsBasisIn options task folder (bases.Recheck causes.Grown) =
+IsBasisIn options task folder (bases.Forced causes.Grown) =
     is_empty (flat_map (print_faults folder) task.outputs) ≡ false
-IsBasisIn options task folder (bases.Recheck other) = ⊤
+IsBasisIn options task folder (bases.Forced other) = ⊤
 IsBasisIn options task folder (bases.Compared present) =
     IsPresentOf options task (digests_in (trees_of task folder.files))
     (map (recorded_of folder.files) task.outputs) present
@@ -72,7 +72,7 @@ IsBasisIn options task folder (bases.Compared present) =
 -- the decision on a task with this record in this folder
 abbrev pub IsDecided : Options → Task → Contents → Option Record → Decision → Type 0
 IsDecided options task folder old decision =
-    (basis : Basis) × GoesBy options task old decision basis × IsBasisIn options task folder basis
+    (basis : Basis) × FollowsFrom options task old decision basis × IsBasisIn options task folder basis
 
 -- what may be decided over any folder: a task is up to date only if it may be reported so
 abbrev pub MayDecide : Options → Task → Decision → Type 0

@@ -10,8 +10,8 @@ use Rattle.gb_plan.specs.declared.task.TaskDeclaration.{TaskDeclaration as Task}
 use Rattle.gb_report.specs.declared.fault.Fault.{Fault}
 use Rattle.gb_store.specs.Faults.{IsOfMachine}
 use Rattle.gb_label.specs.Reading.{AreInputs, AreInputsObserved, digests_in, prints_read}
-use Rattle.gb_label.specs.declared.early_outcomes.Look.{Look}
-use Rattle.gb_label.specs.declared.early_outcomes.Look.TheVariants as looks
+use Rattle.gb_label.specs.declared.early_outcomes.EarlyCase.{EarlyCase}
+use Rattle.gb_label.specs.declared.early_outcomes.EarlyCase.TheVariants as early_cases
 
 -- the property gives its task no source: it does not skip it when empty, or has no files
 abbrev pub gives_no_source : {X : Type 0} → FileProperty × (List ℕ × List X) → Bool
@@ -25,23 +25,23 @@ lacks_source properties inputs =
 
 -- What is found is the task's case. If its record is to decide, its inputs can be read and give it a source,
 -- and their digests are found. Nothing is claimed about what is at its outputs.
-abbrev pub IsCase : Task → Contents → Look → Type 0
-IsCase task folder looks.Skips = early_case task folder ≡ Some Skips
-IsCase task folder looks.HasNoActions = early_case task folder ≡ Some HasNoActions
-IsCase task folder looks.HasNoSource = early_case task folder ≡ Some HasNoSource
-IsCase task folder (looks.Goes inputs) =
+abbrev pub IsCase : Task → Contents → EarlyCase → Type 0
+IsCase task folder early_cases.Skips = early_case task folder ≡ Some Skips
+IsCase task folder early_cases.HasNoActions = early_case task folder ≡ Some HasNoActions
+IsCase task folder early_cases.HasNoSource = early_case task folder ≡ Some HasNoSource
+IsCase task folder (early_cases.Open inputs) =
     (input_faults task folder ≡ []) × (has_no_source task folder.files ≡ false)
     × (prints_read inputs.items ≡ digests_in (trees_of task folder.files))
     × AreInputsObserved task folder.files inputs.items
 
 -- what may be found of the task over any folder
-abbrev pub MayBe : Task → Look → Type 0
-MayBe task looks.Skips = task.runs ≡ false
-MayBe task looks.HasNoActions = (task.runs ≡ true) × (is_empty task.actions ≡ true)
-MayBe task looks.HasNoSource =
+abbrev pub MayBe : Task → EarlyCase → Type 0
+MayBe task early_cases.Skips = task.runs ≡ false
+MayBe task early_cases.HasNoActions = (task.runs ≡ true) × (is_empty task.actions ≡ true)
+MayBe task early_cases.HasNoSource =
     (task.runs ≡ true) × (is_empty task.actions ≡ false)
     × (list_any (λ property. property.skip_when_empty) task.files ≡ true)
-MayBe task (looks.Goes inputs) =
+MayBe task (early_cases.Open inputs) =
     (task.runs ≡ true) × (is_empty task.actions ≡ false)
     × AreInputs task inputs.items
 

@@ -9,7 +9,7 @@ use Rattle.gb_meaning.specs.Label.{HasNoActions, HasNoSource, Skips, early_case}
 use Rattle.gb_plan.specs.declared.task.TaskDeclaration.{TaskDeclaration as Task}
 use Rattle.gb_report.specs.declared.report.Options.{Options}
 use Rattle.gb_label.specs.Reading.{AreInputs, AreInputsObserved, AreOutputs, AreOutputsObserved}
-use Rattle.gb_label.specs.Deciding.{GoesBy, IsBasisIn, MayDecide}
+use Rattle.gb_label.specs.Deciding.{FollowsFrom, IsBasisIn, MayDecide}
 use Rattle.gb_label.specs.declared.prepare.Prepared.{Prepared}
 use Rattle.gb_label.specs.declared.prepare.Prepared.TheVariants as prepared
 use Rattle.gb_label.specs.declared.prepare.Observed.{Observed}
@@ -20,7 +20,7 @@ IsPrepared options task folder run prepared.Skips = early_case task folder ≡ S
 IsPrepared options task folder run prepared.HasNoActions = early_case task folder ≡ Some HasNoActions
 IsPrepared options task folder run prepared.HasNoSource = early_case task folder ≡ Some HasNoSource
 IsPrepared options task folder run (prepared.Decided decision basis observed) =
-    (early_case task folder ≡ None) × GoesBy options task run decision basis
+    (early_case task folder ≡ None) × FollowsFrom options task run decision basis
     × IsBasisIn options task folder basis
 
 -- what it may be over any folder
@@ -41,11 +41,11 @@ MayDecideAs options task prepared.HasNoSource = ⊤
 MayDecideAs options task (prepared.Decided decision basis observed) = MayDecide options task decision
 
 -- over any folder a decision follows from what it is based on
-abbrev pub GoesByAs : Options → Task → Option Record → Prepared → Type 0
-GoesByAs options task run prepared.Skips = ⊤
-GoesByAs options task run prepared.HasNoActions = ⊤
-GoesByAs options task run prepared.HasNoSource = ⊤
-GoesByAs options task run (prepared.Decided decision basis observed) = GoesBy options task run decision basis
+abbrev pub FollowsFromAs : Options → Task → Option Record → Prepared → Type 0
+FollowsFromAs options task run prepared.Skips = ⊤
+FollowsFromAs options task run prepared.HasNoActions = ⊤
+FollowsFromAs options task run prepared.HasNoSource = ⊤
+FollowsFromAs options task run (prepared.Decided decision basis observed) = FollowsFrom options task run decision basis
 
 -- What a run is based on was read: its inputs if it is due, and its outputs if it may execute incrementally.
 abbrev pub IsReadFor : Task → Observed → Decision → Type 0

@@ -9,7 +9,7 @@ ghost use Rattle.gb_meaning.specs.Tree.{listing_faults, trees_of};
 ghost use Rattle.gb_plan.specs.Task.{is_output_of};
 ghost use Rattle.gb_store.specs.Faults.{Blames, BlamesOnly};
 ghost use Rattle.gb_label.specs.Answered.{WasDecided};
-ghost use Rattle.gb_label.specs.Deciding.{AreOutputsFor, AreOutputsObservedFor, GoesBy, HasNamesInOrder};
+ghost use Rattle.gb_label.specs.Deciding.{AreOutputsFor, AreOutputsObservedFor, FollowsFrom, HasNamesInOrder};
 ghost use Rattle.gb_label.specs.Deciding.{IsBasisIn, IsGrown, IsPresentOf, MayDecide};
 ghost use Rattle.gb_label.specs.ReadingAnswered.{AreOutputsAnswered};
 ghost use Rattle.gb_label.specs.Reading.{AreOutputs, AreOutputsObserved, CannotRead};
@@ -32,7 +32,7 @@ use std::alloc::{AllocError, Global};
 
 /// Why a task runs in full, whatever its record says.
 #[derive(Clone, Copy)]
-pub enum Cause {
+pub enum FullReason {
     /// It has no record.
     NoRecord,
     /// Every task is to run.
@@ -47,7 +47,7 @@ pub enum Cause {
 #[derive(Drop)]
 pub enum Basis {
     /// This cause alone.
-    Recheck(Cause),
+    Forced(FullReason),
     /// Its record, compared with this.
     Compared(Present),
 }
@@ -83,7 +83,7 @@ pub fn decided<F: Folder>(
     ensures blamed { BlamesOnly (is_output_of task.now) result }
     // Over any folder: the decision follows from what it is based on.
     ensures goes_by { IfOk result (λ found.
-        GoesBy options task.now (option_copied old.entry) found.decision found.basis) }
+        FollowsFrom options task.now (option_copied old.entry) found.decision found.basis) }
     // Over any folder: what is up to date has outputs, is not stale, and no rerun is requested.
     ensures may_decide { IfOk result (λ found. MayDecide options task.now found.decision) }
     // Over any folder: if it may execute incrementally, its outputs were read.
@@ -103,13 +103,13 @@ pub fn decided<F: Folder>(
         (listing_faults task.now (F.contents folder.old))) }
 {
     let Some(run) = old else {
-        return in_full(alloc, folder, task, Cause::NoRecord);
+        return in_full(alloc, folder, task, FullReason::NoRecord);
     };
     if options.rerun {
-        return in_full(alloc, folder, task, Cause::Rerun);
+        return in_full(alloc, folder, task, FullReason::Rerun);
     }
     if task.is_stale {
-        return in_full(alloc, folder, task, Cause::Stale);
+        return in_full(alloc, folder, task, FullReason::Stale);
     }
     by_record(alloc, folder, task, options, run, inputs, room)
 }
@@ -119,14 +119,14 @@ fn in_full<F: Folder>(
     alloc: Global,
     folder: &mut F,
     task: &TaskDeclaration,
-    cause: Cause,
+    cause: FullReason,
 ) -> Result<Verdict, Fault>
     ensures requests { Requests F.failures F.may_leave F.allowed no_change folder.old folder.new }
     ensures blame { Blames result (F.failures folder.old) (F.failures folder.new) }
     ensures blamed { BlamesOnly (is_output_of task.now) result }
     ensures same { IsTrue F.faithful → F.contents folder.new ≡ F.contents folder.old }
     ensures full { IfOk result (λ found.
-        (found.decision ≡ Decision.Full) × (found.basis ≡ Basis.Recheck cause)) }
+        (found.decision ≡ Decision.Full) × (found.basis ≡ Basis.Forced cause)) }
     ensures none_special { IsTrue F.faithful → OnOk result
         (listing_faults task.now (F.contents folder.old) ≡ []) }
     ensures err { IsTrue F.faithful → IfErr result (CannotRead (F.failures folder.old) (F.failures folder.new)
@@ -135,7 +135,7 @@ fn in_full<F: Folder>(
     check_outputs(alloc, folder, task)?;
     Ok(Verdict {
         decision: Decision::Full,
-        basis: Basis::Recheck(cause),
+        basis: Basis::Forced(cause),
         outputs: Vec::new(alloc),
     })
 }
@@ -157,7 +157,7 @@ fn by_record<F: Folder>(
     ensures blame { Blames result (F.failures folder.old) (F.failures folder.new) }
     ensures blamed { BlamesOnly (is_output_of task.now) result }
     ensures goes_by { IfOk result (λ found.
-        GoesBy options task.now (Some run.now) found.decision found.basis) }
+        FollowsFrom options task.now (Some run.now) found.decision found.basis) }
     ensures may_decide { IfOk result (λ found. MayDecide options task.now found.decision) }
     ensures read { IfOk result (λ found. AreOutputsFor task.now found.decision found.outputs.items) }
     ensures answered { IfOk result (λ found. WasDecided F.failures F.may_leave F.allowed folder.old folder.new
@@ -174,7 +174,7 @@ fn by_record<F: Folder>(
     ensures err { IsTrue F.faithful → IfErr result (CannotRead (F.failures folder.old) (F.failures folder.new)
         (listing_faults task.now (F.contents folder.old))) }
 {
-    match read_listed(alloc, folder, task, room) {
+    match read_outputs_now(alloc, folder, task, room) {
         Ok(outputs) => {
             let on = decide_by(alloc, task, options, run, inputs, outputs.as_slice())?;
             Ok(Verdict {
@@ -185,14 +185,14 @@ fn by_record<F: Folder>(
         }
         Err(fault) => {
             check_grown(fault)?;
-            in_full(alloc, folder, task, Cause::Grown)
+            in_full(alloc, folder, task, FullReason::Grown)
         }
     }
 }
 
 /// The outputs of a task as they are. An error is the machine's, the first unsupported entry there,
 /// or that of outputs such as no execution leaves, after which unsupported entries may follow.
-fn read_listed<F: Folder>(
+fn read_outputs_now<F: Folder>(
     alloc: Global,
     folder: &mut F,
     task: &TaskDeclaration,
@@ -218,14 +218,14 @@ fn read_listed<F: Folder>(
         (listing_faults task.now (F.contents folder.old)) fault) }
 {
     if has_own(task.outputs.as_slice()) {
-        return read_checked(alloc, folder, task, room);
+        return list_and_read(alloc, folder, task, room);
     }
     read_outputs(alloc, folder, task, &mut room)
 }
 
 /// The same if some outputs are in the tool's own folder, where nothing is read: all are listed
 /// first.
-fn read_checked<F: Folder>(
+fn list_and_read<F: Folder>(
     alloc: Global,
     folder: &mut F,
     task: &TaskDeclaration,

@@ -5,7 +5,7 @@ ghost use Rattle.gb_folder.specs.Calls.{Requests, no_change};
 ghost use Rattle.gb_folder.specs.Files.{is_empty};
 ghost use Rattle.gb_plan.specs.Task.{is_output_of};
 ghost use Rattle.gb_store.specs.Faults.{Blames, BlamesOnly};
-ghost use Rattle.gb_label.specs.Answered.{WasLookedAt};
+ghost use Rattle.gb_label.specs.Answered.{IsEarlyCaseRead};
 ghost use Rattle.gb_label.specs.Looking.{IsCase, IsHindered, MayBe, gives_no_source, lacks_source};
 ghost use Rattle.gb_label.specs.Reading.{is_input_of};
 
@@ -19,7 +19,7 @@ use std::alloc::Global;
 
 /// What a task is found to be before its record is considered.
 #[derive(Drop)]
-pub enum Look {
+pub enum EarlyCase {
     /// `enabled` or a test is false.
     Skips,
     /// It runs nothing.
@@ -27,7 +27,7 @@ pub enum Look {
     /// All file properties that skip the task when empty are empty.
     HasNoSource,
     /// None of these, but its outputs have not been listed. So its file properties were read.
-    Goes(Vec<Reading>),
+    Open(Vec<Reading>),
 }
 
 /// Whether there are properties that skip a task when empty.
@@ -71,7 +71,7 @@ fn look_at_files<F: Folder>(
     folder: &mut F,
     task: &TaskDeclaration,
     mut room: u64,
-) -> Result<Look, Fault>
+) -> Result<EarlyCase, Fault>
     requires runs { task.now.runs ≡ true }
     requires acts { is_empty task.now.actions ≡ false }
     ensures requests { Requests F.failures F.may_leave F.allowed no_change folder.old folder.new }
@@ -79,7 +79,7 @@ fn look_at_files<F: Folder>(
     ensures blamed { BlamesOnly (λ place. is_input_of task.now place || is_output_of task.now place) result }
     ensures may_be { IfOk result (MayBe task.now) }
     ensures answered { IfOk result
-        (WasLookedAt F.failures F.may_leave F.allowed folder.old folder.new task.now) }
+        (IsEarlyCaseRead F.failures F.may_leave F.allowed folder.old folder.new task.now) }
     ensures same { IsTrue F.faithful → F.contents folder.new ≡ F.contents folder.old }
     ensures case { IsTrue F.faithful → IfOk result (IsCase task.now (F.contents folder.old)) }
     ensures err { IsTrue F.faithful → IfErr result
@@ -88,20 +88,20 @@ fn look_at_files<F: Folder>(
     let inputs = read_inputs(alloc, folder, task, &mut room)?;
     if is_without_source(task.files.as_slice(), inputs.as_slice()) {
         check_outputs(alloc, folder, task)?;
-        return Ok(Look::HasNoSource);
+        return Ok(EarlyCase::HasNoSource);
     }
-    Ok(Look::Goes(inputs))
+    Ok(EarlyCase::Open(inputs))
 }
 
 /// What a task is found to be before its record is considered. The bytes of its inputs are kept
 /// while there is `room` for them. Nothing is changed, also not by an error: the first fault of
 /// reading its inputs or, if it has no source, of listing its outputs; or the machine's.
-pub fn looked_at<F: Folder>(
+pub fn early_case_of<F: Folder>(
     alloc: Global,
     folder: &mut F,
     task: &TaskDeclaration,
     room: u64,
-) -> Result<Look, Fault>
+) -> Result<EarlyCase, Fault>
     ensures requests { Requests F.failures F.may_leave F.allowed no_change folder.old folder.new }
     ensures blame { Blames result (F.failures folder.old) (F.failures folder.new) }
     ensures blamed { BlamesOnly (λ place. is_input_of task.now place || is_output_of task.now place) result }
@@ -109,7 +109,7 @@ pub fn looked_at<F: Folder>(
     // actions.
     ensures may_be { IfOk result (MayBe task.now) }
     ensures answered { IfOk result
-        (WasLookedAt F.failures F.may_leave F.allowed folder.old folder.new task.now) }
+        (IsEarlyCaseRead F.failures F.may_leave F.allowed folder.old folder.new task.now) }
     ensures reads { OnErr result ((task.now.runs ≡ true) × (is_empty task.now.actions ≡ false)) }
     ensures same { IsTrue F.faithful → F.contents folder.new ≡ F.contents folder.old }
     ensures case { IsTrue F.faithful → IfOk result (IsCase task.now (F.contents folder.old)) }
@@ -117,10 +117,10 @@ pub fn looked_at<F: Folder>(
         (IsHindered task.now (F.contents folder.old) (F.failures folder.old) (F.failures folder.new)) }
 {
     if !task.runs {
-        return Ok(Look::Skips);
+        return Ok(EarlyCase::Skips);
     }
     if task.actions.is_empty() {
-        return Ok(Look::HasNoActions);
+        return Ok(EarlyCase::HasNoActions);
     }
     look_at_files(alloc, folder, task, room)
 }

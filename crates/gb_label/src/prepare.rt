@@ -7,11 +7,11 @@ ghost use Rattle.gb_store.specs.Faults.{Blames, BlamesOnly};
 ghost use Rattle.gb_label.specs.Deciding.{HasNamesInOrder};
 ghost use Rattle.gb_label.specs.Looking.{IsHindered};
 ghost use Rattle.gb_label.specs.Answered.{WasPrepared};
-ghost use Rattle.gb_label.specs.Preparing.{GoesByAs, IsPrepared, IsRead, IsObserved, MayDecideAs, MayPrepare};
+ghost use Rattle.gb_label.specs.Preparing.{FollowsFromAs, IsPrepared, IsRead, IsObserved, MayDecideAs, MayPrepare};
 ghost use Rattle.gb_label.specs.Reading.{is_input_of};
 
 use crate::deciding::{Basis, decided};
-use crate::early_outcomes::{Look, looked_at};
+use crate::early_outcomes::{EarlyCase, early_case_of};
 use gb_folder::folder::Folder;
 use gb_history::decide::Decision;
 use gb_history::record::Record;
@@ -66,7 +66,7 @@ pub fn prepare<F: Folder>(
     // is skipped or has no actions.
     ensures may_be { IfOk result (MayPrepare task.now) }
     ensures may_decide { IfOk result (MayDecideAs options task.now) }
-    ensures goes_by { IfOk result (GoesByAs options task.now (option_copied old.entry)) }
+    ensures goes_by { IfOk result (FollowsFromAs options task.now (option_copied old.entry)) }
     ensures reads { OnErr result ((task.now.runs ≡ true) × (is_empty task.now.actions ≡ false)) }
     ensures same { IsTrue F.faithful → F.contents folder.new ≡ F.contents folder.old }
     // What a run is based on was read; and it is so in a folder whose contents are known.
@@ -82,11 +82,11 @@ pub fn prepare<F: Folder>(
         (IsHindered task.now (F.contents folder.old) (F.failures folder.old) (F.failures folder.new)) }
 {
     let room = input_room(task, options, old, follows);
-    match looked_at(alloc, folder, task, room)? {
-        Look::Skips => Ok(Prepared::Skips),
-        Look::HasNoActions => Ok(Prepared::HasNoActions),
-        Look::HasNoSource => Ok(Prepared::HasNoSource),
-        Look::Goes(inputs) => {
+    match early_case_of(alloc, folder, task, room)? {
+        EarlyCase::Skips => Ok(Prepared::Skips),
+        EarlyCase::HasNoActions => Ok(Prepared::HasNoActions),
+        EarlyCase::HasNoSource => Ok(Prepared::HasNoSource),
+        EarlyCase::Open(inputs) => {
             let room = output_room(task.files.as_slice(), follows);
             let found = decided(alloc, folder, task, options, old, inputs.as_slice(), room)?;
             let outputs = found.outputs;

@@ -7,7 +7,7 @@ use Rattle.gb_history.specs.Record.{Record}
 use Rattle.gb_history.specs.declared.decide.Decision.{Decision}
 use Rattle.gb_history.specs.declared.decide.Decision.TheVariants as decisions
 use Rattle.gb_action.specs.Changes.{Changes}
-use Rattle.gb_label.specs.Deciding.{GoesBy, IsBasisIn, IsDecided}
+use Rattle.gb_label.specs.Deciding.{FollowsFrom, IsBasisIn, IsDecided}
 use Rattle.gb_label.specs.declared.deciding.Basis.{Basis}
 use Rattle.gb_label.specs.declared.deciding.Basis.TheVariants as bases
 use Rattle.gb_label.specs.Reading.{recorded_of}
@@ -30,22 +30,22 @@ use Rattle.gb_report.specs.declared.report.Options.{Options}
 use Rattle.gb_run.proofs.Owned.{narrowed}
 use Rattle.gb_task.specs.Case.{DecidedOutside, DecisionIsCase, IsCaseFor, IsKnown}
 use Rattle.gb_task.specs.Known.{AreWorth, WhatIsReadIsKnown}
-use Rattle.gb_task.specs.Executions.{IsRunFor, RunsAreOfCase, goes_by_changes}
+use Rattle.gb_task.specs.Executions.{IsRunFor, RunsAreOfCase, is_by_changes}
 use Rattle.gb_task.proofs.Outside.{early_outside}
 use Rattle.gb_task.proofs.Own.{is_kept, kept_at}
 use Rattle.gb_predict.specs.Prediction.{AreReasons, IsPredictedOf}
 use Rattle.gb_predict.specs.Predicted.{FolderPredictionsAreKept, IsOfFolder, IsPredicted, RunsThisWay, world_of}
-use Rattle.gb_predict.specs.declared.coming.Coming.{Coming}
-use Rattle.gb_predict.specs.declared.coming.Coming.TheVariants as comings
-use Rattle.gb_predict.specs.declared.coming.Prediction.{Prediction}
+use Rattle.gb_predict.specs.declared.predicted_outcome.PredictedOutcome.{PredictedOutcome}
+use Rattle.gb_predict.specs.declared.predicted_outcome.PredictedOutcome.TheVariants as comings
+use Rattle.gb_predict.specs.declared.predicted_outcome.Prediction.{Prediction}
 use Rattle.gb_predict.proofs.Keeping.{predictions_are_kept}
 use Rattle.gb_predict.proofs.Predicting.{by_machine, empty_mapped}
 
 -- if the decision is to run incrementally, the reasons are the changes
 by_basis : ChangesAreReasons → (options : Options) (task : Task) (folder : Contents) (read : Option Record) (changes : List Changes) (why : List Reason) (basis : Basis)
-    → GoesBy options task read (decisions.Incremental changes) basis → IsBasisIn options task folder basis → AreReasons options task folder read why
+    → FollowsFrom options task read (decisions.Incremental changes) basis → IsBasisIn options task folder basis → AreReasons options task folder read why
     → is_empty task.outputs ≡ false → why ≡ change_reasons changes
-by_basis law options task folder read changes why (bases.Recheck cause) goes so are outputs = absurd (let e = goes.0 in (cc))
+by_basis law options task folder read changes why (bases.Forced cause) goes so are outputs = absurd (let e = goes.0 in (cc))
 by_basis law options task folder None changes why (bases.Compared present) goes so are outputs = absurd goes
 by_basis law options task folder (Some run) changes why (bases.Compared present) goes so are outputs =
     are present so
@@ -64,7 +64,7 @@ module _ (decision_is_case : DecisionIsCase) (decided_outside : DecidedOutside) 
   world = world_of folder memory
 
   module _ (out : list_any (λ (output : Output). is_own output.place) task.outputs ≡ false) (read : Option Record) (known : IsKnown kinds task (world_of folder memory) read) where
-    way : (decision : Decision) (by_changes : Bool) (why : List Reason) → goes_by_changes kinds task decision ≡ by_changes
+    way : (decision : Decision) (by_changes : Bool) (why : List Reason) → is_by_changes kinds task decision ≡ by_changes
         → IsDecided options task folder read decision → AreReasons options task folder read why → IsCaseFor kinds options task (world_of folder memory) decision
         → IsRunFor kinds options task (world_of folder memory) decision → RunsThisWay kinds options task (world_of folder memory) by_changes why
     way decision false why goes decided are case run = (run.not_current, run.full goes)
@@ -89,7 +89,7 @@ module _ (decision_is_case : DecisionIsCase) (decided_outside : DecidedOutside) 
         let early = early_outside task folder ∙ none in
         (early, decision_is_case kinds options task (world_of folder memory) read decision known early (decided_outside options task folder read decision out decided))
 
-    pub predicted_of : (before after : ℕ) (coming : Coming) → IsOfFolder coming → IsPredictedOf kinds options task folder read before after coming
+    pub predicted_of : (before after : ℕ) (coming : PredictedOutcome) → IsOfFolder coming → IsPredictedOf kinds options task folder read before after coming
         → IsPredicted kinds options task (world_of folder memory) coming
     predicted_of before after comings.Skips of is = early_outside task folder ∙ is
     predicted_of before after comings.HasNoActions of is = early_outside task folder ∙ is

@@ -24,8 +24,8 @@ use Rattle.gb_report.specs.declared.report.Outcome.{Outcome}
 use Rattle.gb_report.specs.declared.report.Outcome.TheVariants as outcomes
 use Rattle.gb_predict.specs.Marks.{reads_files}
 use Rattle.gb_predict.specs.Predicted.{Fits, HasRun, IsPredicted, RunsThisWay}
-use Rattle.gb_predict.specs.declared.coming.Coming.{Coming}
-use Rattle.gb_predict.specs.declared.coming.Coming.TheVariants as comings
+use Rattle.gb_predict.specs.declared.predicted_outcome.PredictedOutcome.{PredictedOutcome}
+use Rattle.gb_predict.specs.declared.predicted_outcome.PredictedOutcome.TheVariants as comings
 
 -- ---- The same files for a task
 
@@ -177,7 +177,7 @@ module _ (kinds : Kinds) (options : Options) (task : Task) (one other : World) w
     λ since. is.1 (incremental_too task other one (turned_round task one other finds) kinds options since),
   )
 
-  pub predicted_too : (coming : Coming) → (reads_files coming ≡ true → FindsSame task one other) → IsPredicted kinds options task one coming → IsPredicted kinds options task other coming
+  pub predicted_too : (coming : PredictedOutcome) → (reads_files coming ≡ true → FindsSame task one other) → IsPredicted kinds options task one coming → IsPredicted kinds options task other coming
   predicted_too comings.Skips finds is =
       still_skips task.runs (is_empty task.actions) (has_no_source task one.folder.files) (has_no_source task other.folder.files)
       (input_faults task one.folder ++ listing_faults task one.folder) (input_faults task other.folder ++ listing_faults task other.folder) is
@@ -221,7 +221,7 @@ module _ (kinds : Kinds) (options : Options) (plan : Plan) (task : Task) (moment
   up_to_date current (inr run) = absurd (run.0 current)
 
   -- the label of a task is its predicted outcome
-  pub fits : (coming : Coming) → IsPredicted kinds options task moment.world coming → IsLabel kinds options plan task moment outcome → Fits coming outcome
+  pub fits : (coming : PredictedOutcome) → IsPredicted kinds options task moment.world coming → IsLabel kinds options plan task moment outcome → Fits coming outcome
   fits comings.Skips is label = at_case (Some Skips) is label
   fits comings.HasNoActions is label = idle (some_outcome is_executed moment (needs_in plan task)) (at_case (Some HasNoActions) is label)
   fits (comings.HasNoSource removes) is label = at_case (Some HasNoSource) is.0 label

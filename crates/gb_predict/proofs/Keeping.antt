@@ -34,9 +34,9 @@ use Rattle.gb_run.proofs.Owned.{narrowed}
 use Rattle.gb_task.proofs.Memories.{recalled-forget, recalled-remember}
 use Rattle.gb_predict.specs.Marks.{AreMarkedAfter, changes_files, changes_for, mark, may_change, reads_files}
 use Rattle.gb_predict.specs.Predicted.{AreKept, Fits, IsKept, IsPredicted, PredictionsAreKept}
-use Rattle.gb_predict.specs.declared.coming.Coming.{Coming}
-use Rattle.gb_predict.specs.declared.coming.Coming.TheVariants as comings
-use Rattle.gb_predict.specs.declared.coming.Prediction.{Prediction}
+use Rattle.gb_predict.specs.declared.predicted_outcome.PredictedOutcome.{PredictedOutcome}
+use Rattle.gb_predict.specs.declared.predicted_outcome.PredictedOutcome.TheVariants as comings
+use Rattle.gb_predict.specs.declared.predicted_outcome.Prediction.{Prediction}
 use Rattle.gb_predict.proofs.Finding.{FindsSame, fits, no_actions, predicted_too, prints_nothing, prints_too, turned_round}
 
 abbrev pub Pairs : Type 0
@@ -247,7 +247,7 @@ module _ (kinds : Kinds) (options : Options) (task : Task) (old new : World) whe
   idle_leaves none (inr ended) = not_true (sym ended.0 ∙ none)
 
   -- an execution that is predicted to change no file changes none
-  pub unchanged : (coming : Coming) → changes_files coming ≡ false → IsPredicted kinds options task old coming → (outcome : Outcome) → is_failed outcome ≡ false
+  pub unchanged : (coming : PredictedOutcome) → changes_files coming ≡ false → IsPredicted kinds options task old coming → (outcome : Outcome) → is_failed outcome ≡ false
       → Fits coming outcome → LeavesBy outcome → files_in new ≡ files_in old
   unchanged comings.Skips none is outcome well fits leaves = ap files_in (subst LeavesBy fits leaves)
   unchanged comings.HasNoActions none is outcome well (inl up) leaves = ap files_in (subst LeavesBy up leaves)
@@ -344,7 +344,7 @@ module _ (rules : Rules) (once : no_repeats (order rules.plan) ≡ true) (sound 
 
             skips : one.coming ≡ comings.Skips → ⊥
             skips is = elim started.label [
-              | inl label ↦ other (subst (λ (c : Coming). Fits c report.outcome) is (fits_there unmarked label))
+              | inl label ↦ other (subst (λ (c : PredictedOutcome). Fits c report.outcome) is (fits_there unmarked label))
               | inr machine ↦ not_failed machine (ap is_failed executed)
             ]
               where
@@ -359,9 +359,9 @@ module _ (rules : Rules) (once : no_repeats (order rules.plan) ≡ true) (sound 
             idle is =
                 prints_nothing rules.kinds rules.options planned.task moment.world now
                 (no_actions planned.task moment.world.folder
-                (subst (λ (c : Coming). IsPredicted rules.kinds rules.options planned.task moment.world c) is (predicted_there unmarked))) report.lines prints
+                (subst (λ (c : PredictedOutcome). IsPredicted rules.kinds rules.options planned.task moment.world c) is (predicted_there unmarked))) report.lines prints
 
-            by_coming : (coming : Coming) → one.coming ≡ coming → Prints rules.kinds rules.options planned.task now outcomes.Executed report.lines
+            by_coming : (coming : PredictedOutcome) → one.coming ≡ coming → Prints rules.kinds rules.options planned.task now outcomes.Executed report.lines
             by_coming comings.Skips is = absurd (skips is)
             by_coming comings.HasNoActions is = idle is
             by_coming (comings.HasNoSource removes) is = by_files (ap reads_files is)

@@ -20,7 +20,7 @@ use Rattle.gb_plan.specs.declared.task.FileProperty.{FileProperty}
 use Rattle.gb_plan.specs.declared.task.TaskDeclaration.{TaskDeclaration as Task}
 use Rattle.gb_predict.specs.Least.{ByOne, IsChanged, IsLeast, IsReadAt, IsReadBy, lesser}
 use Rattle.gb_predict.specs.Marks.{changes_for, may_change}
-use Rattle.gb_predict.specs.declared.coming.Prediction.{Prediction}
+use Rattle.gb_predict.specs.declared.predicted_outcome.Prediction.{Prediction}
 
 pub least_as : (P Q : ℕ → Type 0) → ((n : ℕ) → P n → Q n) → ((n : ℕ) → Q n → P n) → (o : Option ℕ) → IsLeast P o → IsLeast Q o
 least_as P Q to from None is = λ n q. is n (from n q)

@@ -3,9 +3,9 @@ use Rattle.std.specs.Prelude.{ℕ, zero, suc, ◌≡◌, ◌<◌, ◌+◌, ◌&&
 use Rattle.std.proofs.Common.{refl, sym, ap, subst, ◌∙◌, arith, true≢false}
 use Rattle.gb_graph.specs.Ranked.{number_at}
 use Rattle.gb_plan.specs.Task.{Path}
-use Rattle.gb_predict.specs.Least.{AreLost, IsBelow, culprit_of}
+use Rattle.gb_predict.specs.Least.{AreNotStarting, IsBelow, culprit_of}
 use Rattle.gb_predict.specs.Marks.{culprit, culprit_at, first_culprit, or_else}
-use Rattle.gb_predict.specs.declared.coming.Prediction.{Prediction}
+use Rattle.gb_predict.specs.declared.predicted_outcome.Prediction.{Prediction}
 
 or_none : (o : Option Path) → or_else o None ≡ o
 or_none None = refl
@@ -43,8 +43,8 @@ long_push : {X : Type 0} (xs : List X) (x : X) → length (xs ++ x ∷ []) ≡ l
 long_push [] x = refl
 long_push (y ∷ xs) x = let rest = long_push xs x in omega (arith, rest)
 
-module _ (reported : List Prediction) (one : Prediction) (lost new : List (List ℕ × ℕ)) (are : AreLost reported lost)
-    (noted : (other : Path) → number_at new other ≡ cond (is_some (culprit one) && bytes_eq one.path other) (Some (length reported)) (number_at lost other)) where
+module _ (reported : List Prediction) (one : Prediction) (not_starting new : List (List ℕ × ℕ)) (are : AreNotStarting reported not_starting)
+    (noted : (other : Path) → number_at new other ≡ cond (is_some (culprit one) && bytes_eq one.path other) (Some (length reported)) (number_at not_starting other)) where
   below : (o : Option ℕ) → IsBelow (length reported) o → IsBelow (length (reported ++ one ∷ [])) o
   below None low = tt
   below (Some n) low = let long = long_push reported one in omega (arith, low, long)
@@ -56,20 +56,20 @@ module _ (reported : List Prediction) (one : Prediction) (lost new : List (List 
   now_last : length reported < length (reported ++ one ∷ [])
   now_last = let long = long_push reported one in omega (arith, long)
 
-  by_low : (path : Path) (b : Bool) → IsBelow (length (reported ++ one ∷ [])) (cond b (Some (length reported)) (number_at lost path))
+  by_low : (path : Path) (b : Bool) → IsBelow (length (reported ++ one ∷ [])) (cond b (Some (length reported)) (number_at not_starting path))
   by_low path true = now_last
-  by_low path false = below (number_at lost path) (are.low path)
+  by_low path false = below (number_at not_starting path) (are.low path)
 
   by_culprit : (path : Path) (has own : Bool) → is_some (culprit one) ≡ has → bytes_eq one.path path ≡ own
-      → culprit_of (reported ++ one ∷ []) (cond (has && own) (Some (length reported)) (number_at lost path)) ≡ culprit_at (reported ++ one ∷ []) path
+      → culprit_of (reported ++ one ∷ []) (cond (has && own) (Some (length reported)) (number_at not_starting path)) ≡ culprit_at (reported ++ one ∷ []) path
   by_culprit path true true has own =
       ap (option_and_then culprit) (get_last reported one) ∙ sym (or_some (culprit one) (culprit_at reported path) has)
       ∙ ap (λ b. or_else (cond b (culprit one) None) (culprit_at reported path)) (sym own) ∙ sym (culprit_push reported one path)
   by_culprit path true false has own =
-      earlier (number_at lost path) (are.low path) ∙ are.culprits path
+      earlier (number_at not_starting path) (are.low path) ∙ are.culprits path
       ∙ ap (λ b. or_else (cond b (culprit one) None) (culprit_at reported path)) (sym own) ∙ sym (culprit_push reported one path)
   by_culprit path false own has is =
-      earlier (number_at lost path) (are.low path) ∙ are.culprits path
+      earlier (number_at not_starting path) (are.low path) ∙ are.culprits path
       ∙ ap (λ o. or_else o (culprit_at reported path)) (sym (none (bytes_eq one.path path))) ∙ sym (culprit_push reported one path)
     where
       none : (b : Bool) → cond b (culprit one) None ≡ None
@@ -77,15 +77,15 @@ module _ (reported : List Prediction) (one : Prediction) (lost new : List (List 
       none false = refl
 
   -- one task more
-  pub lost_more : AreLost (reported ++ one ∷ []) new
+  pub lost_more : AreNotStarting (reported ++ one ∷ []) new
   lost_more = record {
     low = λ path. subst (IsBelow (length (reported ++ one ∷ []))) (sym (noted path)) (by_low path (is_some (culprit one) && bytes_eq one.path path));
     culprits = λ path. ap (culprit_of (reported ++ one ∷ [])) (noted path) ∙ by_culprit path (is_some (culprit one)) (bytes_eq one.path path) refl refl;
   }
 
 -- no task yet
-pub none_lost : (lost : List (List ℕ × ℕ)) → lost ≡ [] → AreLost [] lost
-none_lost lost none = subst (AreLost []) (sym none) (record { low = λ path. tt; culprits = λ path. refl })
+pub none_lost : (not_starting : List (List ℕ × ℕ)) → not_starting ≡ [] → AreNotStarting [] not_starting
+none_lost not_starting none = subst (AreNotStarting []) (sym none) (record { low = λ path. tt; culprits = λ path. refl })
 
 -- ---- One need after another
 

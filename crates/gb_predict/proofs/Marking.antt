@@ -4,8 +4,8 @@ use Rattle.std.specs.List.{AllZip, zip}
 use Rattle.std.proofs.Common.{refl, sym, ap, subst, ◌∙◌, arith, append_assoc}
 use Rattle.std.proofs.lemmas.List.{map-append, take_all, take_more}
 use Rattle.gb_plan.specs.declared.plan.Planned.{Planned}
-use Rattle.gb_predict.specs.Marks.{AreMarkedAfter, lack, mark}
-use Rattle.gb_predict.specs.declared.coming.Prediction.{Prediction}
+use Rattle.gb_predict.specs.Marks.{AreMarkedAfter, keeper, mark}
+use Rattle.gb_predict.specs.declared.predicted_outcome.Prediction.{Prediction}
 
 one_later : (n : ℕ) → suc n + 1 ≡ suc (n + 1)
 one_later n = omega arith
@@ -25,10 +25,10 @@ abbrev reported_in : List (Planned × Prediction) → List Prediction
 reported_in pairs = map (λ (pair : Planned × Prediction). pair.1) pairs
 
 marked_push : (before pairs : List (Planned × Prediction)) (pair : Planned × Prediction) → AreMarkedAfter before pairs
-    → pair.1.after ≡ mark (before ++ pairs) pair.0.task pair.1.coming → pair.1.needs ≡ lack pair.0.task (reported_in (before ++ pairs))
+    → pair.1.after ≡ mark (before ++ pairs) pair.0.task pair.1.coming → pair.1.kept_by ≡ keeper pair.0.task (reported_in (before ++ pairs))
     → AreMarkedAfter before (pairs ++ pair ∷ [])
 marked_push before [] pair all is lacks =
-    (is ∙ ap (λ ps. mark ps pair.0.task pair.1.coming) (append_nil before), lacks ∙ ap (λ ps. lack pair.0.task (reported_in ps)) (append_nil before), tt)
+    (is ∙ ap (λ ps. mark ps pair.0.task pair.1.coming) (append_nil before), lacks ∙ ap (λ ps. keeper pair.0.task (reported_in ps)) (append_nil before), tt)
   where
     append_nil : (ps : List (Planned × Prediction)) → ps ++ [] ≡ ps
     append_nil [] = refl
@@ -37,7 +37,7 @@ marked_push before (p ∷ pairs) pair all is lacks = (
   all.0,
   all.1,
   marked_push (before ++ p ∷ []) pairs pair all.2 (is ∙ ap (λ ps. mark ps pair.0.task pair.1.coming) (sym (append_assoc before (p ∷ []) pairs)))
-      (lacks ∙ ap (λ ps. lack pair.0.task (reported_in ps)) (sym (append_assoc before (p ∷ []) pairs))),
+      (lacks ∙ ap (λ ps. keeper pair.0.task (reported_in ps)) (sym (append_assoc before (p ∷ []) pairs))),
 )
 
 prefix_long : {X : Type 0} (xs : List X) (i : ℕ) → i < length xs → length (take i xs) ≡ i
@@ -64,11 +64,11 @@ seconds (x ∷ xs) (y ∷ ys) long = ap (λ (l : List _). y ∷ l) (seconds xs y
 -- one task more is marked
 pub marked_more : (plan : List Planned) (reported : List Prediction) (i : ℕ) (planned : Planned) (one : Prediction) → i < length plan → length reported ≡ i
     → planned ≡ get_or plan i planned → AreMarkedAfter [] (zip (take i plan) reported) → one.after ≡ mark (zip (take i plan) reported) planned.task one.coming
-    → one.needs ≡ lack planned.task reported → AreMarkedAfter [] (zip (take (i + 1) plan) (reported ++ one ∷ []))
+    → one.kept_by ≡ keeper planned.task reported → AreMarkedAfter [] (zip (take (i + 1) plan) (reported ++ one ∷ []))
 marked_more plan reported i planned one less long is all here lacks =
     subst (AreMarkedAfter []) (sym (zip_more plan reported i planned one less long is))
     (marked_push [] (zip (take i plan) reported) (planned, one) all here
-    (lacks ∙ ap (lack planned.task) (sym (seconds (take i plan) reported (long ∙ sym (prefix_long plan i less))))))
+    (lacks ∙ ap (keeper planned.task) (sym (seconds (take i plan) reported (long ∙ sym (prefix_long plan i less))))))
 
 -- one pair's third more
 pub related_more : {X Y Z : Type 0} (R : X × Y → Z → Type 0) (xs : List X) (ys : List Y) (zs : List Z) (i : ℕ) (x : X) (y : Y) (z : Z)

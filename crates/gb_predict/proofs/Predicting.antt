@@ -10,11 +10,11 @@ use Rattle.gb_history.specs.declared.decide.Decision.{Decision}
 use Rattle.gb_history.specs.declared.decide.Decision.TheVariants as decisions
 use Rattle.gb_history.specs.declared.decide.Present.{Present}
 use Rattle.gb_history.specs.declared.record.OutputRecord.{OutputRecord}
-use Rattle.gb_label.specs.Deciding.{GoesBy, IsBasisIn, IsDecided, IsPresentOf}
+use Rattle.gb_label.specs.Deciding.{FollowsFrom, IsBasisIn, IsDecided, IsPresentOf}
 use Rattle.gb_label.specs.Reading.{CannotRead, recorded_of}
 use Rattle.gb_label.specs.declared.deciding.Basis.{Basis}
 use Rattle.gb_label.specs.declared.deciding.Basis.TheVariants as bases
-use Rattle.gb_label.specs.declared.deciding.Cause.TheVariants as causes
+use Rattle.gb_label.specs.declared.deciding.FullReason.TheVariants as causes
 use Rattle.gb_meaning.specs.Kinds.{Kinds}
 use Rattle.gb_meaning.specs.Label.{HasNoSource, early_case}
 use Rattle.gb_meaning.specs.Memory.{output_files}
@@ -32,8 +32,8 @@ use Rattle.gb_store.proofs.Machine.{machine_after, machine_before}
 use Rattle.gb_predict.proofs.Finding.{case_by}
 use Rattle.gb_predict.specs.Explained.{IsCompared, IsExplained, why_without}
 use Rattle.gb_predict.specs.Prediction.{AreReasons, IsPredictedOf, IsFound, IsReasoned, RunsFor, is_of_machine, reported_of}
-use Rattle.gb_predict.specs.declared.coming.Coming.{Coming}
-use Rattle.gb_predict.specs.declared.coming.Coming.TheVariants as comings
+use Rattle.gb_predict.specs.declared.predicted_outcome.PredictedOutcome.{PredictedOutcome}
+use Rattle.gb_predict.specs.declared.predicted_outcome.PredictedOutcome.TheVariants as comings
 
 -- ---- Reasons
 
@@ -62,7 +62,7 @@ full_runs e = cc
 -- ---- What is found
 
 module _ (kinds : Kinds) (options : Options) (task : Task) (folder : Contents) where
-  runs_found : (old : Option Record) (reason : Reason) (coming : Coming) → RunsFor reason coming
+  runs_found : (old : Option Record) (reason : Reason) (coming : PredictedOutcome) → RunsFor reason coming
       → IsDecided options task folder old decisions.Full → AreReasons options task folder old (reason ∷ [])
       → IsFound kinds options task folder old coming
   runs_found old reason comings.Skips never full why = absurd never
@@ -82,26 +82,26 @@ module _ (kinds : Kinds) (options : Options) (task : Task) (folder : Contents) w
   abbrev without : Bool → Reason
   without none = if none then reasons.NoOutputs else reasons.NoRecord
 
-  forgotten_found : (coming : Coming) → RunsFor (why_without task) coming → IsFound kinds options task folder None coming
+  forgotten_found : (coming : PredictedOutcome) → RunsFor (why_without task) coming → IsFound kinds options task folder None coming
   forgotten_found coming is =
-      runs_found None (why_without task) coming is (bases.Recheck causes.NoRecord, (refl, tt), tt)
+      runs_found None (why_without task) coming is (bases.Forced causes.NoRecord, (refl, tt), tt)
       (λ present is_present. ap (λ none. without none ∷ [])
       (sym (ap (λ (now : Record). is_empty now.outputs) is_present.now ∙ empty_mapped (recorded_of folder.files) task.outputs)))
 
-  rerun_found : (run : Record) (coming : Coming) → options.rerun ≡ true → RunsFor reasons.Rerun coming
+  rerun_found : (run : Record) (coming : PredictedOutcome) → options.rerun ≡ true → RunsFor reasons.Rerun coming
       → IsFound kinds options task folder (Some run) coming
   rerun_found run coming allowed is =
-      runs_found (Some run) reasons.Rerun coming is (bases.Recheck causes.Rerun, (refl, allowed), tt)
+      runs_found (Some run) reasons.Rerun coming is (bases.Forced causes.Rerun, (refl, allowed), tt)
       (λ present is_present. sym (ap (λ rerun. by_parts run present.now rerun present.is_stale) (is_present.rerun ∙ allowed)))
 
-  stale_found : (run : Record) (coming : Coming) → options.rerun ≡ false → task.is_stale ≡ true → RunsFor reasons.Stale coming
+  stale_found : (run : Record) (coming : PredictedOutcome) → options.rerun ≡ false → task.is_stale ≡ true → RunsFor reasons.Stale coming
       → IsFound kinds options task folder (Some run) coming
   stale_found run coming none stale is =
-      runs_found (Some run) reasons.Stale coming is (bases.Recheck causes.Stale, (refl, (none, stale)), tt)
+      runs_found (Some run) reasons.Stale coming is (bases.Forced causes.Stale, (refl, (none, stale)), tt)
       (λ present is_present. sym (ap (λ rerun. by_parts run present.now rerun present.is_stale) (is_present.rerun ∙ none)
       ∙ ap (λ b. by_parts run present.now false b) (is_present.stale ∙ stale)))
 
-  compared_found : (run : Record) (decision : Decision) (present : Present) (coming : Coming) → DecidesFrom run present decision
+  compared_found : (run : Record) (decision : Decision) (present : Present) (coming : PredictedOutcome) → DecidesFrom run present decision
       → IsBasisIn options task folder (bases.Compared present) → IsCompared kinds task (Some run) decision present coming
       → IsFound kinds options task folder (Some run) coming
   compared_found run decision present comings.Skips goes so never = absurd never
@@ -120,25 +120,25 @@ module _ (kinds : Kinds) (options : Options) (task : Task) (folder : Contents) w
   }
 
   -- what is explained by the basis of a decision is found so
-  pub found_by : (old : Option Record) (decision : Decision) (basis : Basis) (coming : Coming) → GoesBy options task old decision basis
+  pub found_by : (old : Option Record) (decision : Decision) (basis : Basis) (coming : PredictedOutcome) → FollowsFrom options task old decision basis
       → IsBasisIn options task folder basis → IsExplained kinds task old decision basis coming → IsFound kinds options task folder old coming
-  found_by None decision (bases.Recheck causes.NoRecord) coming goes so is = forgotten_found coming is
-  found_by None decision (bases.Recheck causes.Rerun) coming goes so is = absurd goes.1
-  found_by None decision (bases.Recheck causes.Stale) coming goes so is = absurd goes.1
-  found_by None decision (bases.Recheck causes.Grown) coming goes so is = absurd goes.1
+  found_by None decision (bases.Forced causes.NoRecord) coming goes so is = forgotten_found coming is
+  found_by None decision (bases.Forced causes.Rerun) coming goes so is = absurd goes.1
+  found_by None decision (bases.Forced causes.Stale) coming goes so is = absurd goes.1
+  found_by None decision (bases.Forced causes.Grown) coming goes so is = absurd goes.1
   found_by None decision (bases.Compared present) coming goes so is = absurd goes
-  found_by (Some run) decision (bases.Recheck causes.NoRecord) coming goes so is = absurd goes.1
-  found_by (Some run) decision (bases.Recheck causes.Rerun) coming goes so is = rerun_found run coming goes.1 is
-  found_by (Some run) decision (bases.Recheck causes.Stale) coming goes so is = stale_found run coming goes.1.0 goes.1.1 is
-  found_by (Some run) decision (bases.Recheck causes.Grown) coming goes so is =
-      subst (λ (c : Coming). IsFound kinds options task folder (Some run) c) (sym is)
-      ((bases.Recheck causes.Grown, (refl, goes.1), so), so)
+  found_by (Some run) decision (bases.Forced causes.NoRecord) coming goes so is = absurd goes.1
+  found_by (Some run) decision (bases.Forced causes.Rerun) coming goes so is = rerun_found run coming goes.1 is
+  found_by (Some run) decision (bases.Forced causes.Stale) coming goes so is = stale_found run coming goes.1.0 goes.1.1 is
+  found_by (Some run) decision (bases.Forced causes.Grown) coming goes so is =
+      subst (λ (c : PredictedOutcome). IsFound kinds options task folder (Some run) c) (sym is)
+      ((bases.Forced causes.Grown, (refl, goes.1), so), so)
   found_by (Some run) decision (bases.Compared present) coming goes so is = compared_found run decision present coming goes so is
 
   -- ---- What is predicted
 
   module _ (old : Option Record) where
-    prediction_of : (before after : ℕ) (coming : Coming) → early_case task folder ≡ None → IsFound kinds options task folder old coming
+    prediction_of : (before after : ℕ) (coming : PredictedOutcome) → early_case task folder ≡ None → IsFound kinds options task folder old coming
         → IsPredictedOf kinds options task folder old before after coming
     prediction_of before after comings.Skips none never = absurd never
     prediction_of before after comings.HasNoActions none never = absurd never
@@ -149,12 +149,12 @@ module _ (kinds : Kinds) (options : Options) (task : Task) (folder : Contents) w
     prediction_of before after (comings.Runs by_changes reported) none found = (none, found)
 
     -- what is found of a task that has a source is predicted, unless memory is out
-    pub decided_prediction : (before after : ℕ) (decision : Decision) (basis : Basis) (coming : Coming) → early_case task folder ≡ None
-        → GoesBy options task old decision basis → IsBasisIn options task folder basis
+    pub decided_prediction : (before after : ℕ) (decision : Decision) (basis : Basis) (coming : PredictedOutcome) → early_case task folder ≡ None
+        → FollowsFrom options task old decision basis → IsBasisIn options task folder basis
         → (coming ≡ comings.CannotRead faults.OutOfMemory) ⊎ IsExplained kinds task old decision basis coming
         → IsPredictedOf kinds options task folder old before after coming
     decided_prediction before after decision basis coming none goes so (inl full) =
-        subst (λ (c : Coming). IsPredictedOf kinds options task folder old before after c) (sym full) (inl (inl refl))
+        subst (λ (c : PredictedOutcome). IsPredictedOf kinds options task folder old before after c) (sym full) (inl (inl refl))
     decided_prediction before after decision basis coming none goes so (inr is) =
         prediction_of before after coming none (found_by old decision basis coming goes so is)
 
@@ -169,18 +169,18 @@ module _ (kinds : Kinds) (options : Options) (task : Task) (folder : Contents) w
     last_none (x ∷ xs) ys e = absurd (cc)
 
     -- whether files are removed of a task without source, or the faults of listing its outputs
-    pub sourceless_prediction : (before mid after : ℕ) (found : Result Coming Fault) → before ≤ mid → mid ≤ after → early_case task folder ≡ Some HasNoSource
+    pub sourceless_prediction : (before mid after : ℕ) (found : Result PredictedOutcome Fault) → before ≤ mid → mid ≤ after → early_case task folder ≡ Some HasNoSource
         → IfOk found (λ coming. (removes : Bool) × (coming ≡ comings.HasNoSource removes) × (removes ≡ not (is_empty (output_files task folder.files))))
         → IfErr found (CannotRead mid after (listing_faults task folder)) → IsPredictedOf kinds options task folder old before after (reported_of found)
     sourceless_prediction before mid after (Ok coming) le more case is err =
-        subst (λ (c : Coming). IsPredictedOf kinds options task folder old before after c) (sym is.1) (case, is.2)
+        subst (λ (c : PredictedOutcome). IsPredictedOf kinds options task folder old before after c) (sym is.1) (case, is.2)
     sourceless_prediction before mid after (Err fault) le more case is (inl machine) = inl (machine_before before mid after fault le more machine)
     sourceless_prediction before mid after (Err fault) le more case is (inr first) =
         none_some (sym (ap first_of (last_none (input_faults task folder) (listing_faults task folder)
         (no_hindrance task.runs (is_empty task.actions) (has_no_source task folder.files) (input_faults task folder ++ listing_faults task folder) case))) ∙ first)
 
     -- the machine's counts before and after other calls
-    pub prediction_wider : (first second third fourth : ℕ) (coming : Coming) → first ≤ second → second ≤ third → third ≤ fourth
+    pub prediction_wider : (first second third fourth : ℕ) (coming : PredictedOutcome) → first ≤ second → second ≤ third → third ≤ fourth
         → IsPredictedOf kinds options task folder old second third coming → IsPredictedOf kinds options task folder old first fourth coming
     prediction_wider first second third fourth comings.Skips ab bc cd is = is
     prediction_wider first second third fourth comings.HasNoActions ab bc cd is = is
@@ -193,7 +193,7 @@ module _ (kinds : Kinds) (options : Options) (task : Task) (folder : Contents) w
     prediction_wider first second third fourth (comings.Runs by_changes reported) ab bc cd is = is
 
 -- a run for a reason has one
-pub runs_reasoned : (reason : Reason) (coming : Coming) → RunsFor reason coming → IsReasoned coming
+pub runs_reasoned : (reason : Reason) (coming : PredictedOutcome) → RunsFor reason coming → IsReasoned coming
 runs_reasoned reason comings.Skips never = absurd never
 runs_reasoned reason comings.HasNoActions never = absurd never
 runs_reasoned reason (comings.HasNoSource removes) never = absurd never
@@ -205,7 +205,7 @@ runs_reasoned reason (comings.Runs by_changes reported) is = λ none. some (sym 
     some : reason ∷ [] ≡ [] → ⊥
     some e = cc
 
-pub reported_reasoned : (found : Result Coming Fault) → IfOk found IsReasoned → IsReasoned (reported_of found)
+pub reported_reasoned : (found : Result PredictedOutcome Fault) → IfOk found IsReasoned → IsReasoned (reported_of found)
 reported_reasoned (Ok coming) is = is
 reported_reasoned (Err fault) is = tt
 
@@ -218,7 +218,7 @@ all_related R S follows (x ∷ xs) (y ∷ ys) all = (follows x y all.0, all_rela
 
 -- what a record decides it decides
 pub decides_by : (options : Options) (task : Task) (old : Option Record) (decision : Decision) (present : Present)
-    → GoesBy options task old decision (bases.Compared present) → Decides old present decision
+    → FollowsFrom options task old decision (bases.Compared present) → Decides old present decision
 decides_by options task None decision present goes = absurd goes
 decides_by options task (Some run) decision present goes = goes
 

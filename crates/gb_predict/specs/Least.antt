@@ -9,7 +9,7 @@ use Rattle.gb_plan.specs.declared.task.FileProperty.{FileProperty}
 use Rattle.gb_graph.specs.Ranked.{number_at}
 use Rattle.gb_plan.specs.Task.{Path}
 use Rattle.gb_predict.specs.Marks.{culprit, culprit_at, may_change}
-use Rattle.gb_predict.specs.declared.coming.Prediction.{Prediction}
+use Rattle.gb_predict.specs.declared.predicted_outcome.Prediction.{Prediction}
 
 -- it is the least number for which this holds; or it holds for none
 abbrev pub IsLeast : (ℕ → Type 0) → Option ℕ → Type 0
@@ -52,6 +52,6 @@ IsBelow long None = ⊤
 IsBelow long (Some number) = number < long
 
 -- the numbers of those that have a culprit, by their paths
-pub record AreLost (reported : List Prediction) (lost : List (List ℕ × ℕ)) : Type 0 where
-  pub low : (path : Path) → IsBelow (length reported) (number_at lost path)
-  pub culprits : (path : Path) → culprit_of reported (number_at lost path) ≡ culprit_at reported path
+pub record AreNotStarting (reported : List Prediction) (not_starting : List (List ℕ × ℕ)) : Type 0 where
+  pub low : (path : Path) → IsBelow (length reported) (number_at not_starting path)
+  pub culprits : (path : Path) → culprit_of reported (number_at not_starting path) ≡ culprit_at reported path

@@ -26,9 +26,9 @@ use Rattle.gb_records.specs.Said.{IsReadAt}
 use Rattle.gb_task.specs.Known.{AreWorth}
 use Rattle.gb_predict.specs.Prediction.{ArePredictedOf, is_of_machine}
 use Rattle.gb_predict.specs.Marks.{AreMarked}
-use Rattle.gb_predict.specs.declared.coming.Coming.{Coming}
-use Rattle.gb_predict.specs.declared.coming.Coming.TheVariants as comings
-use Rattle.gb_predict.specs.declared.coming.Prediction.{Prediction}
+use Rattle.gb_predict.specs.declared.predicted_outcome.PredictedOutcome.{PredictedOutcome}
+use Rattle.gb_predict.specs.declared.predicted_outcome.PredictedOutcome.TheVariants as comings
+use Rattle.gb_predict.specs.declared.predicted_outcome.Prediction.{Prediction}
 
 -- The task runs: incrementally, and the reasons are exactly the changes that its actions get; or in full.
 abbrev pub RunsThisWay : Kinds → Options → Task → World → Bool → List Reason → Type 0
@@ -40,7 +40,7 @@ RunsThisWay kinds options task world false reasons =
     (¬ IsCurrent options task world) × (¬ IsIncremental kinds options task world)
 
 -- how the execution of the task ends, if it starts in this world
-abbrev pub IsPredicted : Kinds → Options → Task → World → Coming → Type 0
+abbrev pub IsPredicted : Kinds → Options → Task → World → PredictedOutcome → Type 0
 IsPredicted kinds options task world comings.Skips = early_case task world.folder ≡ Some Skips
 IsPredicted kinds options task world comings.HasNoActions =
     early_case task world.folder ≡ Some HasNoActions
@@ -62,7 +62,7 @@ abbrev pub HasRun : Outcome → Type 0
 HasRun outcome = (outcome ≡ outcomes.Executed) ⊎ ((fault : Fault) × (outcome ≡ outcomes.Failed fault))
 
 -- the outcome is the predicted one
-abbrev pub Fits : Coming → Outcome → Type 0
+abbrev pub Fits : PredictedOutcome → Outcome → Type 0
 Fits comings.Skips outcome = outcome ≡ outcomes.Skipped
 Fits comings.HasNoActions outcome = (outcome ≡ outcomes.UpToDate) ⊎ (outcome ≡ outcomes.Executed)
 Fits (comings.HasNoSource removes) outcome = outcome ≡ outcomes.NoSource
@@ -78,7 +78,7 @@ MayFail rules task outcome = (moment : Moment) × (new : WorldState)
 
 -- A task ended as predicted, and if its actions ended, they printed what they print in the world of the
 -- prediction: the lines for the same changes.
-pub record IsKept (rules : Rules) (now : World) (task : Task) (coming : Coming)
+pub record IsKept (rules : Rules) (now : World) (task : Task) (coming : PredictedOutcome)
     (report : TaskReport) : Type 0 where
   pub ends : Fits coming report.outcome ⊎ MayFail rules task report.outcome
   pub prints : report.outcome ≡ outcomes.Executed
@@ -106,7 +106,7 @@ PredictionsAreKept rules =
 -- ---- By the records of a folder
 
 -- the machine did not fail during the prediction
-abbrev pub IsOfFolder : Coming → Type 0
+abbrev pub IsOfFolder : PredictedOutcome → Type 0
 IsOfFolder (comings.CannotRead fault) = is_of_machine fault ≡ false
 IsOfFolder other = ⊤
 

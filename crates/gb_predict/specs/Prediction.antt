@@ -2,7 +2,7 @@
 use Rattle.std.specs.Prelude.{ℕ, ◌≡◌, ◌≢◌, Bool, false, true, not, List, []}
 use Rattle.std.specs.Prelude.{◌∷◌, map, Option, Some, None, Result, Ok, Err, ⊤}
 use Rattle.std.specs.List.{AllZip, flat_map, zip}
-use Rattle.gb_task.specs.Executions.{goes_by_changes}
+use Rattle.gb_task.specs.Executions.{is_by_changes}
 use Rattle.gb_folder.specs.Files.{Contents, is_empty}
 use Rattle.gb_history.specs.Record.{Record}
 use Rattle.gb_history.specs.declared.decide.Decision.{Decision}
@@ -22,9 +22,9 @@ use Rattle.gb_report.specs.declared.fault.Fault.{Fault}
 use Rattle.gb_report.specs.declared.fault.Fault.TheVariants as faults
 use Rattle.gb_report.specs.declared.report.Options.{Options}
 use Rattle.gb_label.specs.Reading.{digests_in, print_faults, recorded_of}
-use Rattle.gb_predict.specs.declared.coming.Coming.{Coming}
-use Rattle.gb_predict.specs.declared.coming.Coming.TheVariants as comings
-use Rattle.gb_predict.specs.declared.coming.Prediction.{Prediction}
+use Rattle.gb_predict.specs.declared.predicted_outcome.PredictedOutcome.{PredictedOutcome}
+use Rattle.gb_predict.specs.declared.predicted_outcome.PredictedOutcome.TheVariants as comings
+use Rattle.gb_predict.specs.declared.predicted_outcome.Prediction.{Prediction}
 
 -- the reasons are those of what the task has now
 abbrev pub AreReasons : Options → Task → Contents → Option Record → List Reason → Type 0
@@ -38,11 +38,11 @@ pub record IsRun (kinds : Kinds) (options : Options) (task : Task) (folder : Con
   pub decision : Decision
   pub decided : IsDecided options task folder old decision
   pub due : decision ≢ decisions.UpToDate
-  pub by_changes : goes_by_changes kinds task decision ≡ goes_on
+  pub by_changes : is_by_changes kinds task decision ≡ goes_on
   pub reasons : AreReasons options task folder old reported
 
 -- What is found of a task that has a source.
-abbrev pub IsFound : Kinds → Options → Task → Contents → Option Record → Coming → Type 0
+abbrev pub IsFound : Kinds → Options → Task → Contents → Option Record → PredictedOutcome → Type 0
 IsFound kinds options task folder old comings.UpToDate = IsDecided options task folder old decisions.UpToDate
 IsFound kinds options task folder old comings.HasGrown =
     IsDecided options task folder old decisions.Full
@@ -53,7 +53,7 @@ IsFound kinds options task folder old other = ⊥
 
 -- It is the outcome of the task, which has this record, on the folder; the machine may fail between these
 -- counts.
-abbrev pub IsPredictedOf : Kinds → Options → Task → Contents → Option Record → ℕ → ℕ → Coming → Type 0
+abbrev pub IsPredictedOf : Kinds → Options → Task → Contents → Option Record → ℕ → ℕ → PredictedOutcome → Type 0
 IsPredictedOf kinds options task folder old before after comings.Skips = early_case task folder ≡ Some Skips
 IsPredictedOf kinds options task folder old before after comings.HasNoActions =
     early_case task folder ≡ Some HasNoActions
@@ -66,7 +66,7 @@ IsPredictedOf kinds options task folder old before after other =
     (early_case task folder ≡ None) × IsFound kinds options task folder old other
 
 -- it runs in full for this reason alone
-abbrev pub RunsFor : Reason → Coming → Type 0
+abbrev pub RunsFor : Reason → PredictedOutcome → Type 0
 RunsFor reason (comings.Runs by_changes reasons) = (by_changes ≡ false) × (reasons.items ≡ reason ∷ [])
 RunsFor reason other = ⊥
 
@@ -77,12 +77,12 @@ is_of_machine (faults.Device place) = true
 is_of_machine other = false
 
 -- there is a reason if the task runs for reasons
-abbrev pub IsReasoned : Coming → Type 0
+abbrev pub IsReasoned : PredictedOutcome → Type 0
 IsReasoned (comings.Runs by_changes reasons) = reasons.items ≢ []
 IsReasoned other = ⊤
 
 -- the prediction for a task, from the result of reading it
-abbrev pub reported_of : Result Coming Fault → Coming
+abbrev pub reported_of : Result PredictedOutcome Fault → PredictedOutcome
 reported_of (Ok coming) = coming
 reported_of (Err fault) = comings.CannotRead fault
 

@@ -3,23 +3,23 @@ ghost use Rattle.std.specs.Prelude.{◌≡◌, ◌≢◌, ◌⊎◌, IfOk, optio
 ghost use Rattle.gb_predict.specs.Explained.{IsCompared, IsExplained, why_without};
 ghost use Rattle.gb_predict.specs.Prediction.{IsReasoned, RunsFor};
 ghost use Rattle.gb_history.specs.Decision.{Decides};
-ghost use Rattle.gb_label.specs.Deciding.{GoesBy};
+ghost use Rattle.gb_label.specs.Deciding.{FollowsFrom};
 ghost use Rattle.gb_meaning.specs.Headline.{Agrees};
 ghost use Rattle.gb_meaning.specs.Kinds.{Kinds};
 ghost use Rattle.gb_plan.specs.Ready.{IsReady};
 ghost use Rattle.gb_report.specs.declared.report.Options.{Options};
 
-use crate::coming::Coming;
+use crate::predicted_outcome::PredictedOutcome;
 use gb_action::actions::Actions;
 use gb_action::table::ActionTable;
 use gb_history::decide::{Decision, Present};
 use gb_history::record::Record;
-use gb_label::deciding::{Basis, Cause};
+use gb_label::deciding::{Basis, FullReason};
 use gb_plan::task::TaskDeclaration;
 use gb_reason::explain::explain;
 use gb_reason::reason::Reason;
 use gb_report::fault::Fault;
-use gb_task::execution::goes_by_changes;
+use gb_task::execution::is_by_changes;
 use std::alloc::{AllocError, Global};
 
 /// The prediction for a task with this decision; or that memory is out, if it is.
@@ -30,18 +30,18 @@ pub(crate) fn explained<A: Actions>(
     old: Option<&Record>,
     decision: &Decision,
     basis: &Basis,
-) -> Coming
+) -> PredictedOutcome
     requires ready { IsReady A.meanings table.now task.now }
     requires goes_by { (options : Options)
-        × GoesBy options task.now (option_copied old) decision.now basis.now }
+        × FollowsFrom options task.now (option_copied old) decision.now basis.now }
     ensures reasoned { IsReasoned result }
     ensures explained { (kinds : Kinds) → Agrees A.meanings table.now kinds
-        → (result ≡ Coming.CannotRead Fault.OutOfMemory)
+        → (result ≡ PredictedOutcome.CannotRead Fault.OutOfMemory)
         ⊎ IsExplained kinds task.now (option_copied old.entry) decision.now basis.now result }
 {
     match by_basis::<A>(alloc, task, table, old, decision, basis) {
         Ok(coming) => coming,
-        Err(_) => Coming::CannotRead(Fault::OutOfMemory),
+        Err(_) => PredictedOutcome::CannotRead(Fault::OutOfMemory),
     }
 }
 
@@ -53,28 +53,28 @@ fn by_basis<A: Actions>(
     old: Option<&Record>,
     decision: &Decision,
     basis: &Basis,
-) -> Result<Coming, AllocError>
+) -> Result<PredictedOutcome, AllocError>
     requires ready { IsReady A.meanings table.now task.now }
     requires goes_by { (options : Options)
-        × GoesBy options task.now (option_copied old) decision.now basis.now }
+        × FollowsFrom options task.now (option_copied old) decision.now basis.now }
     ensures reasoned { IfOk result IsReasoned }
     ensures explained { (kinds : Kinds) → Agrees A.meanings table.now kinds
         → IfOk result (IsExplained kinds task.now (option_copied old.entry) decision.now basis.now) }
 {
     match basis {
-        Basis::Recheck(Cause::NoRecord) => runs_for(alloc, reason_without(task)),
-        Basis::Recheck(Cause::Rerun) => runs_for(alloc, Reason::Rerun),
-        Basis::Recheck(Cause::Stale) => runs_for(alloc, Reason::Stale),
-        Basis::Recheck(Cause::Grown) => Ok(Coming::HasGrown),
+        Basis::Forced(FullReason::NoRecord) => runs_for(alloc, reason_without(task)),
+        Basis::Forced(FullReason::Rerun) => runs_for(alloc, Reason::Rerun),
+        Basis::Forced(FullReason::Stale) => runs_for(alloc, Reason::Stale),
+        Basis::Forced(FullReason::Grown) => Ok(PredictedOutcome::HasGrown),
         Basis::Compared(present) => compared::<A>(alloc, task, table, old, decision, present),
     }
 }
 
 /// The prediction that it runs in full for this one reason, whatever it has.
-fn runs_for(alloc: Global, reason: Reason) -> Result<Coming, AllocError>
+fn runs_for(alloc: Global, reason: Reason) -> Result<PredictedOutcome, AllocError>
     ensures { IfOk result (RunsFor reason) }
 {
-    Ok(Coming::Runs(false, vec![in alloc; reason]?))
+    Ok(PredictedOutcome::Runs(false, vec![in alloc; reason]?))
 }
 
 /// The reason why a task without a record runs.
@@ -96,7 +96,7 @@ fn compared<A: Actions>(
     old: Option<&Record>,
     decision: &Decision,
     present: &Present,
-) -> Result<Coming, AllocError>
+) -> Result<PredictedOutcome, AllocError>
     requires ready { IsReady A.meanings table.now task.now }
     requires decides { Decides (option_copied old) present.now decision.now }
     ensures reasoned { IfOk result IsReasoned }
@@ -104,7 +104,7 @@ fn compared<A: Actions>(
         → IfOk result (IsCompared kinds task.now (option_copied old.entry) decision.now present.entry.now) }
 {
     match decision {
-        Decision::UpToDate => Ok(Coming::UpToDate),
+        Decision::UpToDate => Ok(PredictedOutcome::UpToDate),
         decision => due::<A>(alloc, task, table, old, decision, present),
     }
 }
@@ -117,7 +117,7 @@ fn due<A: Actions>(
     old: Option<&Record>,
     decision: &Decision,
     present: &Present,
-) -> Result<Coming, AllocError>
+) -> Result<PredictedOutcome, AllocError>
     requires ready { IsReady A.meanings table.now task.now }
     requires due { decision.now ≢ Decision.UpToDate }
     requires decides { Decides (option_copied old) present.now decision.now }
@@ -126,6 +126,6 @@ fn due<A: Actions>(
         → IfOk result (IsCompared kinds task.now (option_copied old.entry) decision.now present.entry.now) }
 {
     let reasons = explain(alloc, old, present)?;
-    let by_changes = goes_by_changes::<A>(table, task, decision);
-    Ok(Coming::Runs(by_changes, reasons))
+    let by_changes = is_by_changes::<A>(table, task, decision);
+    Ok(PredictedOutcome::Runs(by_changes, reasons))
 }

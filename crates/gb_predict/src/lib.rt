@@ -7,9 +7,9 @@
 //! output of an earlier task that may change.
 #![tactic(auto)]
 
-pub mod coming;
 mod explained;
 pub mod laws;
 mod marks;
 pub mod predict;
+pub mod predicted_outcome;
 mod task;

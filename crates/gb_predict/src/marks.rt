@@ -2,13 +2,13 @@
 ghost use Rattle.std.specs.Prelude.{◌≡◌, ◌≤◌, ◌&&◌, [], ℕ, List, Some, IfOk, OnOk, bytes_eq};
 ghost use Rattle.std.specs.Prelude.{if◌then◌else◌, is_some, length, option_copied};
 ghost use Rattle.std.specs.List.{zip};
-ghost use Rattle.gb_predict.specs.Least.{AreLost, ByOne, IsChanged, IsLeast, IsReadAt, IsReadBy, lesser};
-ghost use Rattle.gb_predict.specs.Marks.{culprit, culprit_at, lack, mark};
+ghost use Rattle.gb_predict.specs.Least.{AreNotStarting, ByOne, IsChanged, IsLeast, IsReadAt, IsReadBy, lesser};
+ghost use Rattle.gb_predict.specs.Marks.{culprit, culprit_at, keeper, mark};
 ghost use Rattle.gb_graph.specs.Places.{AreSamePlaces, IsRising, places_from, with_places};
 ghost use Rattle.gb_graph.specs.Ranked.{number_at};
 ghost use Rattle.gb_plan.specs.Task.{output_places};
 
-use crate::coming::{Coming, Prediction};
+use crate::predicted_outcome::{PredictedOutcome, Prediction};
 use gb_core::path::TaskPath;
 use gb_core::place::Place;
 use gb_graph::by_path::Numbers;
@@ -40,7 +40,7 @@ pub(crate) fn mark(
     plan: &[Planned],
     reported: &[Prediction],
     task: &TaskDeclaration,
-    coming: &Coming,
+    coming: &PredictedOutcome,
 ) -> Result<Option<TaskPath>, AllocError>
     requires rising { IsRising row.now }
     requires of_plan { AreSamePlaces (with_places [] (places_from output_places 0 plan.now)) row.now }
@@ -131,17 +131,17 @@ fn lesser(one: Option<usize>, other: Option<usize>) -> Option<usize>
 }
 
 /// The task that cannot be read and keeps this one from starting, by direct or indirect needs.
-/// `lost` has the numbers of the earlier tasks that do not start.
-pub(crate) fn lack(
+/// `not_starting` has the numbers of the earlier tasks that do not start.
+pub(crate) fn keeper(
     task: &TaskDeclaration,
     reported: &[Prediction],
-    lost: &Numbers<'_>,
+    not_starting: &Numbers<'_>,
 ) -> Result<Option<TaskPath>, AllocError>
-    requires { AreLost reported.now lost.now }
-    ensures { IfOk result (λ found. found ≡ lack task.now reported.now) }
+    requires { AreNotStarting reported.now not_starting.now }
+    ensures { IfOk result (λ found. found ≡ keeper task.now reported.now) }
 {
     for path in task.needs.iter() {
-        if let Some(culprit) = culprit_at(reported, lost, path) {
+        if let Some(culprit) = culprit_at(reported, not_starting, path) {
             return Ok(Some(culprit.copy()?));
         }
     }
@@ -151,31 +151,31 @@ pub(crate) fn lack(
 /// The culprit of the task at a path, if it has one.
 fn culprit_at<'a>(
     reported: &'a [Prediction],
-    lost: &Numbers<'_>,
+    not_starting: &Numbers<'_>,
     path: &TaskPath,
 ) -> Option<&'a TaskPath>
-    requires { AreLost reported.now lost.now }
+    requires { AreNotStarting reported.now not_starting.now }
     ensures { option_copied result ≡ culprit_at reported.now path.now }
 {
-    match lost.get(path) {
+    match not_starting.get(path) {
         Some(number) => reported[number].culprit(),
         None => None,
     }
 }
 
 /// Notes the number of a task, if it does not start.
-pub(crate) fn note<'a>(
-    lost: &mut Numbers<'a>,
+pub(crate) fn note_not_starting<'a>(
+    not_starting: &mut Numbers<'a>,
     path: &'a TaskPath,
     number: usize,
     one: &Prediction,
 ) -> Result<(), AllocError>
-    ensures { OnOk result ((other : List ℕ) → number_at lost.new other
+    ensures { OnOk result ((other : List ℕ) → number_at not_starting.new other
         ≡ (if is_some (culprit one.now) && bytes_eq path.now other then Some number
-        else number_at lost.old other)) }
+        else number_at not_starting.old other)) }
 {
     if one.culprit().is_some() {
-        lost.insert(path, number)?;
+        not_starting.insert(path, number)?;
     }
     Ok(())
 }

@@ -4,8 +4,8 @@ ghost use Rattle.std.specs.List.{AllByRecursion, list_any, zip};
 ghost use Rattle.gb_folder.specs.Calls.{Requests, no_change};
 ghost use Rattle.gb_folder.specs.Files.{is_own};
 ghost use Rattle.gb_predict.specs.Prediction.{ArePredictedOf, IsPredictedOf, IsReasoned};
-ghost use Rattle.gb_predict.specs.Least.{AreLost};
-ghost use Rattle.gb_predict.specs.Marks.{AreMarked, lack, mark};
+ghost use Rattle.gb_predict.specs.Least.{AreNotStarting};
+ghost use Rattle.gb_predict.specs.Marks.{AreMarked, keeper, mark};
 ghost use Rattle.gb_label.specs.Deciding.{HasNamesInOrder};
 ghost use Rattle.gb_meaning.specs.Headline.{Agrees};
 ghost use Rattle.gb_meaning.specs.Kinds.{Kinds};
@@ -14,9 +14,9 @@ ghost use Rattle.gb_graph.specs.Places.{AreSamePlaces, IsRising, places_from, wi
 ghost use Rattle.gb_plan.specs.Ready.{IsReady};
 ghost use Rattle.gb_plan.specs.Task.{output_places};
 
-use crate::coming::{Coming, Prediction};
-use crate::marks::{lack, mark, note, outputs_by_place};
-use crate::task::coming_of;
+use crate::marks::{keeper, mark, note_not_starting, outputs_by_place};
+use crate::predicted_outcome::{PredictedOutcome, Prediction};
+use crate::task::predicted_outcome;
 use gb_action::actions::Actions;
 use gb_action::table::ActionTable;
 use gb_core::path::TaskPath;
@@ -57,7 +57,7 @@ pub fn predict<A: Actions, F: Folder>(
 {
     let row = outputs_by_place(alloc, plan)?;
     let mut reported = Vec::new(alloc);
-    let mut lost = Numbers::new(alloc);
+    let mut not_starting = Numbers::new(alloc);
     for (at, planned) in plan.iter().enumerate() {
         let last = records[at].as_ref();
         let one = prediction::<A, F>(
@@ -66,13 +66,13 @@ pub fn predict<A: Actions, F: Folder>(
             row.as_slice(),
             plan,
             reported.as_slice(),
-            &lost,
+            &not_starting,
             planned,
             table,
             options,
             last,
         )?;
-        note(&mut lost, &planned.task.path, at, &one)?;
+        note_not_starting(&mut not_starting, &planned.task.path, at, &one)?;
         reported.push(one)?;
     }
     Ok(reported)
@@ -85,7 +85,7 @@ fn prediction<A: Actions, F: Folder>(
     row: &[TaskPlace],
     plan: &[Planned],
     reported: &[Prediction],
-    lost: &Numbers<'_>,
+    not_starting: &Numbers<'_>,
     planned: &Planned,
     table: &ActionTable<A::Stored>,
     options: Options,
@@ -96,26 +96,34 @@ fn prediction<A: Actions, F: Folder>(
     requires rising { IsRising row.now }
     requires of_plan { AreSamePlaces (with_places [] (places_from output_places 0 plan.now)) row.now }
     requires each { length reported.now ≤ length plan.now }
-    requires lost { AreLost reported.now lost.now }
+    requires not_starting { AreNotStarting reported.now not_starting.now }
     ensures requests { Requests F.failures F.may_leave F.allowed no_change folder.old folder.new }
     ensures same { IsTrue F.faithful → F.contents folder.new ≡ F.contents folder.old }
     ensures path { IfOk result (λ one. one.path ≡ planned.now.task.path) }
     ensures reasoned { IfOk result (λ one. IsReasoned one.coming) }
     ensures marked { IfOk result (λ one.
         one.after ≡ mark (zip plan.now reported.now) planned.now.task one.coming) }
-    ensures needs { IfOk result (λ one. one.needs ≡ lack planned.now.task reported.now) }
+    ensures needs { IfOk result (λ one. one.kept_by ≡ keeper planned.now.task reported.now) }
     ensures prediction { IsTrue F.faithful → (kinds : Kinds) → Agrees A.meanings table.now kinds
         → IfOk result (λ one. IsPredictedOf kinds options planned.now.task (F.contents folder.old)
         (option_copied last.entry) (F.failures folder.old) (F.failures folder.new) one.coming) }
 {
     let path = planned.task.path.copy()?;
-    let coming = coming_of::<A, F>(alloc, folder, &planned.task, table, options, last);
-    match marks(alloc, row, plan, reported, lost, &planned.task, &coming) {
-        Ok((after, needs)) => Ok(Prediction {
+    let coming = predicted_outcome::<A, F>(alloc, folder, &planned.task, table, options, last);
+    match marks(
+        alloc,
+        row,
+        plan,
+        reported,
+        not_starting,
+        &planned.task,
+        &coming,
+    ) {
+        Ok((after, kept_by)) => Ok(Prediction {
             path,
             coming,
             after,
-            needs,
+            kept_by,
         }),
         Err(fault) => {
             drop(coming);
@@ -130,18 +138,18 @@ fn marks(
     row: &[TaskPlace],
     plan: &[Planned],
     reported: &[Prediction],
-    lost: &Numbers<'_>,
+    not_starting: &Numbers<'_>,
     task: &TaskDeclaration,
-    coming: &Coming,
+    coming: &PredictedOutcome,
 ) -> Result<(Option<TaskPath>, Option<TaskPath>), AllocError>
     requires rising { IsRising row.now }
     requires of_plan { AreSamePlaces (with_places [] (places_from output_places 0 plan.now)) row.now }
     requires each { length reported.now ≤ length plan.now }
-    requires lost { AreLost reported.now lost.now }
+    requires not_starting { AreNotStarting reported.now not_starting.now }
     ensures { IfOk result (λ found. (found.0 ≡ mark (zip plan.now reported.now) task.now coming.now)
-        × (found.1 ≡ lack task.now reported.now)) }
+        × (found.1 ≡ keeper task.now reported.now)) }
 {
     let after = mark(alloc, row, plan, reported, task, coming)?;
-    let needs = lack(task, reported, lost)?;
-    Ok((after, needs))
+    let kept_by = keeper(task, reported, not_starting)?;
+    Ok((after, kept_by))
 }

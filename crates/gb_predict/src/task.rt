@@ -11,8 +11,8 @@ ghost use Rattle.gb_meaning.specs.Memory.{output_files};
 ghost use Rattle.gb_meaning.specs.Tree.{listing_faults};
 ghost use Rattle.gb_plan.specs.Ready.{IsReady};
 
-use crate::coming::Coming;
 use crate::explained::explained;
+use crate::predicted_outcome::PredictedOutcome;
 use gb_action::actions::Actions;
 use gb_action::table::ActionTable;
 use gb_folder::folder::Folder;
@@ -25,14 +25,14 @@ use gb_run::emptying::listed_outputs;
 use std::alloc::Global;
 
 /// The outcome of a task on the folder as it is. `old` is the record that was read of it.
-pub(crate) fn coming_of<A: Actions, F: Folder>(
+pub(crate) fn predicted_outcome<A: Actions, F: Folder>(
     alloc: Global,
     folder: &mut F,
     task: &TaskDeclaration,
     table: &ActionTable<A::Stored>,
     options: Options,
     old: Option<&Record>,
-) -> Coming
+) -> PredictedOutcome
     requires ready { IsReady A.meanings table.now task.now }
     requires in_order { HasNamesInOrder task.now }
     ensures requests { Requests F.failures F.may_leave F.allowed no_change folder.old folder.new }
@@ -44,14 +44,14 @@ pub(crate) fn coming_of<A: Actions, F: Folder>(
         (F.failures folder.old) (F.failures folder.new) result }
 {
     match prepare(alloc, folder, task, options, old, false) {
-        Ok(Prepared::Skips) => Coming::Skips,
-        Ok(Prepared::HasNoActions) => Coming::HasNoActions,
+        Ok(Prepared::Skips) => PredictedOutcome::Skips,
+        Ok(Prepared::HasNoActions) => PredictedOutcome::HasNoActions,
         Ok(Prepared::HasNoSource) => reported(sourceless(alloc, folder, task)),
         Ok(Prepared::Decided(decision, basis, observed)) => {
             drop(observed);
             explained::<A>(alloc, task, table, old, &decision, &basis)
         }
-        Err(fault) => Coming::CannotRead(fault),
+        Err(fault) => PredictedOutcome::CannotRead(fault),
     }
 }
 
@@ -60,26 +60,26 @@ fn sourceless<F: Folder>(
     alloc: Global,
     folder: &mut F,
     task: &TaskDeclaration,
-) -> Result<Coming, Fault>
+) -> Result<PredictedOutcome, Fault>
     ensures requests { Requests F.failures F.may_leave F.allowed no_change folder.old folder.new }
     ensures same { IsTrue F.faithful → F.contents folder.new ≡ F.contents folder.old }
     ensures reasoned { IfOk result IsReasoned }
     ensures removes { IsTrue F.faithful → IfOk result (λ coming. (removes : Bool)
-        × (coming ≡ Coming.HasNoSource removes)
+        × (coming ≡ PredictedOutcome.HasNoSource removes)
         × (removes ≡ not (is_empty (output_files task.now (F.contents folder.old).files)))) }
     ensures err { IsTrue F.faithful → IfErr result (CannotRead (F.failures folder.old) (F.failures folder.new)
         (listing_faults task.now (F.contents folder.old))) }
 {
     let places = listed_outputs(alloc, folder, task.outputs.as_slice())?;
-    Ok(Coming::HasNoSource(!places.as_slice().is_empty()))
+    Ok(PredictedOutcome::HasNoSource(!places.as_slice().is_empty()))
 }
 
 /// The prediction for a task, from the result of reading it.
-fn reported(found: Result<Coming, Fault>) -> Coming
+fn reported(found: Result<PredictedOutcome, Fault>) -> PredictedOutcome
     ensures { result ≡ reported_of found }
 {
     match found {
         Ok(coming) => coming,
-        Err(fault) => Coming::CannotRead(fault),
+        Err(fault) => PredictedOutcome::CannotRead(fault),
     }
 }

@@ -66,16 +66,16 @@ fn read_at<F: Folder>(
 {
     let place = match record_place(alloc, path) {
         Ok(place) => place,
-        Err(fault) => return placeless(fault),
+        Err(fault) => return none_if_no_place(fault),
     };
     match folder.read(alloc, &place, MAX_RECORD) {
         Ok(bytes) => record_in(alloc, path, bytes.as_slice()),
-        Err(fault) => unless_none(fault, place),
+        Err(fault) => none_if_missing(fault, place),
     }
 }
 
 /// No record, if there is no place for one.
-fn placeless(fault: PlaceFault) -> Result<Option<Record>, Fault>
+fn none_if_no_place(fault: PlaceFault) -> Result<Option<Record>, Fault>
     ensures bad { fault ≡ PlaceFault.BadPlace → result ≡ Ok None }
     ensures out { fault ≡ PlaceFault.OutOfMemory → result ≡ Err Fault.OutOfMemory }
 {
@@ -86,7 +86,7 @@ fn placeless(fault: PlaceFault) -> Result<Option<Record>, Fault>
 }
 
 /// No record, if there is no file of at most 64 MiB.
-fn unless_none(fault: FolderFault, place: Place) -> Result<Option<Record>, Fault>
+fn none_if_missing(fault: FolderFault, place: Place) -> Result<Option<Record>, Fault>
     ensures { result ≡ none_for place fault }
 {
     match fault {

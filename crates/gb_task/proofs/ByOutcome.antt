@@ -24,14 +24,14 @@ use Rattle.gb_task.specs.Asking.{HasRead, UnreadExecutionsKeep}
 use Rattle.gb_task.specs.ByOutcome.{ExecutionRequests}
 use Rattle.gb_task.specs.Current.{IsReportedCurrent}
 use Rattle.gb_task.specs.Executing.{cleared_outcome, is_of_execution, outcome_of}
-use Rattle.gb_task.specs.Executions.{goes_by_changes}
+use Rattle.gb_task.specs.Executions.{is_by_changes}
 use Rattle.gb_task.specs.Ran.{EndsAs, OnlyRead, RanFrom, WasCleared, WasRun}
 use Rattle.gb_task.proofs.Places.{at_changes, at_clearing, at_full, done_places}
 
 -- an incremental run has one writer
-pub one_writer : (kinds : Kinds) (task : Task) (decision : Decision) (changes : List Changes) → decision ≡ decisions.Incremental changes → goes_by_changes kinds task decision ≡ true
+pub one_writer : (kinds : Kinds) (task : Task) (decision : Decision) (changes : List Changes) → decision ≡ decisions.Incremental changes → is_by_changes kinds task decision ≡ true
     → has_one_writer kinds task.actions ≡ true
-one_writer kinds task decision changes is goes = ap (goes_by_changes kinds task) (sym is) ∙ goes
+one_writer kinds task decision changes is goes = ap (is_by_changes kinds task) (sym is) ∙ goes
 
 module _ {F S : Type 0} (failures : F → ℕ) (may_leave : F → Tearing) (allowed : F → Call → F → Type 0) (meanings : Meanings S) (rows : Rows S) where
   -- a run from a record, where one action writes

@@ -8,7 +8,7 @@ use Rattle.gb_history.specs.declared.record.OutputRecord.{OutputRecord}
 use Rattle.gb_label.specs.Deciding.{IsBasisIn, IsPresentOf}
 use Rattle.gb_label.specs.declared.deciding.Basis.{Basis}
 use Rattle.gb_label.specs.declared.deciding.Basis.TheVariants as bases
-use Rattle.gb_label.specs.declared.deciding.Cause.TheVariants as causes
+use Rattle.gb_label.specs.declared.deciding.FullReason.TheVariants as causes
 use Rattle.gb_label.specs.declared.prepare.Prepared.TheVariants as prepared
 use Rattle.gb_meaning.specs.Tree.{reported_of_tree, trees_of}
 use Rattle.gb_meaning.specs.TrueRecord.{outside}
@@ -67,10 +67,10 @@ module _ (folder : Contents) where
 
 module _ (options : Options) (task : Task) (folder : Contents) (out : list_any (λ (o : Output). is_own o.place) task.outputs ≡ false) where
   basis_outside : (basis : Basis) → IsBasisIn options task folder basis → IsBasisIn options task (outside folder) basis
-  basis_outside (bases.Recheck causes.NoRecord) is = tt
-  basis_outside (bases.Recheck causes.Rerun) is = tt
-  basis_outside (bases.Recheck causes.Stale) is = tt
-  basis_outside (bases.Recheck causes.Grown) large = ap is_empty (printed_outside folder task.outputs out) ∙ large
+  basis_outside (bases.Forced causes.NoRecord) is = tt
+  basis_outside (bases.Forced causes.Rerun) is = tt
+  basis_outside (bases.Forced causes.Stale) is = tt
+  basis_outside (bases.Forced causes.Grown) large = ap is_empty (printed_outside folder task.outputs out) ∙ large
   basis_outside (bases.Compared present) is =
       subst (λ (outputs : List OutputRecord). IsPresentOf options task (digests_in (trees_of task (outside folder).files)) outputs present) (sym (recorded_outside folder task.outputs out))
       (subst (λ (ts : Trees). IsPresentOf options task (digests_in ts) (map (recorded_of folder.files) task.outputs) present) (sym (trees_outside task folder.files)) is)

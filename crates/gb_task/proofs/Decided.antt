@@ -10,10 +10,10 @@ use Rattle.gb_history.specs.declared.decide.Decision.{Decision}
 use Rattle.gb_history.specs.declared.decide.Decision.TheVariants as decisions
 use Rattle.gb_history.specs.declared.decide.Present.{Present}
 use Rattle.gb_label.proofs.Cases.{listed_if_none}
-use Rattle.gb_label.specs.Deciding.{GoesBy, IsBasisIn}
+use Rattle.gb_label.specs.Deciding.{FollowsFrom, IsBasisIn}
 use Rattle.gb_label.specs.declared.deciding.Basis.{Basis}
 use Rattle.gb_label.specs.declared.deciding.Basis.TheVariants as bases
-use Rattle.gb_label.specs.declared.deciding.Cause.TheVariants as causes
+use Rattle.gb_label.specs.declared.deciding.FullReason.TheVariants as causes
 use Rattle.gb_label.specs.declared.prepare.Prepared.TheVariants as prepared
 use Rattle.gb_meaning.specs.Kinds.{Kinds}
 use Rattle.gb_meaning.specs.Label.{changes_from, early_case}
@@ -86,17 +86,17 @@ module _ (kinds : Kinds) (options : Options) (task : Task) (world : World) (deci
   full_case : decision ≡ decisions.Full → IsCaseFor kinds options task world decisions.Full → IsCaseFor kinds options task world decision
   full_case full case = subst (λ (d : Decision). IsCaseFor kinds options task world d) (sym full) case
 
-  pub basis_case : (read : Option Record) (basis : Basis) → IsKnown kinds task world read → GoesBy options task read decision basis
+  pub basis_case : (read : Option Record) (basis : Basis) → IsKnown kinds task world read → FollowsFrom options task read decision basis
       → IsBasisIn options task world.folder basis → IsCaseFor kinds options task world decision
-  basis_case None (bases.Recheck causes.NoRecord) known goes so = full_case goes.0 (forgotten_case kinds options task world known)
-  basis_case None (bases.Recheck causes.Rerun) known goes so = absurd goes.1
-  basis_case None (bases.Recheck causes.Stale) known goes so = absurd goes.1
-  basis_case None (bases.Recheck causes.Grown) known goes so = absurd goes.1
+  basis_case None (bases.Forced causes.NoRecord) known goes so = full_case goes.0 (forgotten_case kinds options task world known)
+  basis_case None (bases.Forced causes.Rerun) known goes so = absurd goes.1
+  basis_case None (bases.Forced causes.Stale) known goes so = absurd goes.1
+  basis_case None (bases.Forced causes.Grown) known goes so = absurd goes.1
   basis_case None (bases.Compared present) known goes so = absurd goes
-  basis_case (Some run) (bases.Recheck causes.NoRecord) known goes so = absurd goes.1
-  basis_case (Some run) (bases.Recheck causes.Rerun) known goes so = full_case goes.0 (recheck_case kinds options task world (inl goes.1))
-  basis_case (Some run) (bases.Recheck causes.Stale) known goes so = full_case goes.0 (recheck_case kinds options task world (inr goes.1.1))
-  basis_case (Some run) (bases.Recheck causes.Grown) known goes so =
+  basis_case (Some run) (bases.Forced causes.NoRecord) known goes so = absurd goes.1
+  basis_case (Some run) (bases.Forced causes.Rerun) known goes so = full_case goes.0 (recheck_case kinds options task world (inl goes.1))
+  basis_case (Some run) (bases.Forced causes.Stale) known goes so = full_case goes.0 (recheck_case kinds options task world (inr goes.1.1))
+  basis_case (Some run) (bases.Forced causes.Grown) known goes so =
       full_case goes.0 (grown_case kinds options task world known.0 known.1 known.3.is_made (listed_if_none task world.folder none) so)
   basis_case (Some run) (bases.Compared present) known goes so =
       by_case kinds options task world run known.0 known.1 known.2 known.3 present (present_is_of_contents options task world.folder.files present so) decision goes

@@ -8,7 +8,7 @@ use Rattle.gb_folder.specs.Files.{Contents, Files, HasRisen, Place, Bytes, SameT
 use Rattle.gb_folder.proofs.Changes.{HasRisen-before}
 use Rattle.gb_action.specs.Changes.{Changes}
 use Rattle.gb_task.specs.Case.{IsCaseFor, IsKnown}
-use Rattle.gb_task.specs.Executions.{IsRunFor, goes_by_changes}
+use Rattle.gb_task.specs.Executions.{IsRunFor, is_by_changes}
 use Rattle.gb_history.specs.Record.{Record}
 use Rattle.gb_history.specs.declared.decide.Decision.{Decision}
 use Rattle.gb_history.specs.declared.decide.Decision.TheVariants as decisions
@@ -38,7 +38,7 @@ use Rattle.gb_task.specs.declared.before_changes.Settled.TheVariants as settled
 -- ---- which run is due
 
 pub due_in_full : (kinds : Kinds) (options : Options) (task : Task) (world : World) (decision : Decision) → early_case task world.folder ≡ None → IsRunFor kinds options task world decision
-    → goes_by_changes kinds task decision ≡ false → IsDue kinds options task world
+    → is_by_changes kinds task decision ≡ false → IsDue kinds options task world
 due_in_full kinds options task world decision case runs none = record { case = case; not_current = runs.not_current; not_incremental = runs.full none }
 
 -- without anything known of it a task has no incremental run
@@ -47,12 +47,12 @@ pub due_recheck : (kinds : Kinds) (options : Options) (task : Task) (world : Wor
 due_recheck kinds options task world decision case runs known = record { case = case; not_current = runs.not_current; not_incremental = λ since. none_some (sym known ∙ since.remembered) }
 
 pub due_to_go_on : (kinds : Kinds) (options : Options) (task : Task) (world : World) (decision : Decision) (changes : List Changes) (last : Record) → decision ≡ decisions.Incremental changes
-    → early_case task world.folder ≡ None → IsCaseFor kinds options task world decision → goes_by_changes kinds task decision ≡ true
+    → early_case task world.folder ≡ None → IsCaseFor kinds options task world decision → is_by_changes kinds task decision ≡ true
     → IsKnown kinds task world (Some last) → IsToGoOn kinds options task world last
 due_to_go_on kinds options task world decision changes last is case case_for one known =
-    by (subst (IsCaseFor kinds options task world) is case_for) (ap (goes_by_changes kinds task) (sym is) ∙ one)
+    by (subst (IsCaseFor kinds options task world) is case_for) (ap (is_by_changes kinds task) (sym is) ∙ one)
   where
-    by : IsCaseFor kinds options task world (decisions.Incremental changes) → goes_by_changes kinds task (decisions.Incremental changes) ≡ true → IsToGoOn kinds options task world last
+    by : IsCaseFor kinds options task world (decisions.Incremental changes) → is_by_changes kinds task (decisions.Incremental changes) ≡ true → IsToGoOn kinds options task world last
     by so goes = record { case = case; not_current = so.0; since = (so.1 goes).0; known = known }
 
 -- what is known of a task is true

@@ -48,9 +48,9 @@ IdleExecutionsAreExecutions =
 -- ---- Runs
 
 -- a run is incremental where that is decided, and one action writes
-abbrev pub goes_by_changes : Kinds → Task → Decision → Bool
-goes_by_changes kinds task (decisions.Incremental changes) = has_one_writer kinds task.actions
-goes_by_changes kinds task other = false
+abbrev pub is_by_changes : Kinds → Task → Decision → Bool
+is_by_changes kinds task (decisions.Incremental changes) = has_one_writer kinds task.actions
+is_by_changes kinds task other = false
 
 -- the changes that a run's actions get: where it is not incremental, every path is added
 abbrev pub reported_changes : Kinds → Task → Files → Decision → List Changes
@@ -64,7 +64,7 @@ pub record IsRunFor (kinds : Kinds) (options : Options) (task : Task) (world : W
     (decision : Decision) : Type 0 where
   pub not_current : ¬ IsCurrent options task world
   pub changes : AreChanges kinds options task world (reported_changes kinds task world.folder.files decision)
-  pub full : goes_by_changes kinds task decision ≡ false → ¬ IsIncremental kinds options task world
+  pub full : is_by_changes kinds task decision ≡ false → ¬ IsIncremental kinds options task world
 
 abbrev pub RunsAreOfCase : Type 0
 RunsAreOfCase =

@@ -45,7 +45,7 @@ use std::alloc::Global;
 
 /// Deletes the record, runs the actions by these changes over the files that are at the outputs,
 /// and stores the new record.
-pub(crate) fn go_by<A: Actions, F: Folder>(
+pub(crate) fn run_by_decided_changes<A: Actions, F: Folder>(
     alloc: Global,
     folder: &mut F,
     task: &TaskDeclaration,

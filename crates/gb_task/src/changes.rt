@@ -21,7 +21,7 @@ ghost use Rattle.gb_task.specs.Ran.{EndsAs, OnlyRead, RanFrom};
 ghost use Rattle.gb_task.specs.Executing.{BeginsAt, HasExecuted, IsToGoOn, IsReportedOf, Registering};
 ghost use Rattle.gb_task.specs.Executing.{is_of_execution, outcome_of, report_of, setting_with};
 
-use crate::by_changes::go_by;
+use crate::by_changes::run_by_decided_changes;
 use crate::full::{outcome_of, run_on};
 use crate::recheck::{Recheck, recheck_task};
 use gb_action::actions::Actions;
@@ -140,7 +140,9 @@ fn go_on<A: Actions, F: Folder>(
 {
     match recheck_task(alloc, folder, task, options, last, observed)? {
         Recheck::ByChanges(inputs, outputs, changes) => {
-            go_by::<A, F>(alloc, folder, task, table, inputs, outputs, changes, lines)
+            run_by_decided_changes::<A, F>(
+                alloc, folder, task, table, inputs, outputs, changes, lines,
+            )
         }
         Recheck::InFull(inputs) => run_on::<A, F>(alloc, folder, task, table, inputs, true, lines),
     }

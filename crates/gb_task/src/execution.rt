@@ -23,7 +23,7 @@ ghost use Rattle.gb_run.specs.AskingChanges.{CanGoOn};
 ghost use Rattle.gb_store.specs.Changes.{ChangesOnly};
 ghost use Rattle.gb_task.specs.Buildable.{IsBuildable};
 ghost use Rattle.gb_task.specs.Case.{IsCaseFor, IsKnown};
-ghost use Rattle.gb_task.specs.Executions.{IsRunFor, goes_by_changes};
+ghost use Rattle.gb_task.specs.Executions.{IsRunFor, is_by_changes};
 ghost use Rattle.gb_task.specs.ByOutcome.{ExecutionRequests};
 ghost use Rattle.gb_task.specs.Ran.{EndsAs, OnlyRead, WasRun};
 ghost use Rattle.gb_task.specs.Settled.{IsAnswer, IsAnsweredAlone};
@@ -156,7 +156,7 @@ fn run<A: Actions, F: Folder>(
         result (F.contents folder.old) (F.failures folder.new) (F.contents folder.new) }
 {
     if let Some(record) = last {
-        if goes_by_changes::<A>(table, task, &decision) {
+        if is_by_changes::<A>(table, task, &decision) {
             return execute_by_changes::<A, F>(
                 alloc, folder, task, path, table, options, record, observed,
             );
@@ -175,14 +175,14 @@ fn run<A: Actions, F: Folder>(
 
 /// Whether a run is incremental: where that was decided, and one action writes that supports
 /// changes.
-pub fn goes_by_changes<A: Actions>(
+pub fn is_by_changes<A: Actions>(
     table: &ActionTable<A::Stored>,
     task: &TaskDeclaration,
     decision: &Decision,
 ) -> bool
     requires { IsReady A.meanings table.now task.now }
     ensures agreed { (kinds : Kinds) → Agrees A.meanings table.now kinds
-        → goes_by_changes kinds task.now decision.now ≡ result }
+        → is_by_changes kinds task.now decision.now ≡ result }
     ensures able { IsTrue result → AllByRecursion (CanGoOn A.meanings table.now) task.now.actions }
     ensures decided { IsTrue result → (changes : List Changes)
         × (decision.now ≡ Decision.Incremental changes) }

@@ -46,8 +46,8 @@ returns-in_err-left-clause-err g c = λ faithful.
     let failures = F.failures in
     let source = c.args.configured.now.registry in
     let Bad : Fault → Type 0 = λ fault.
-    IsOfMachine (failures c.args.folder.now) (failures c.warn_left.new.folder) fault
+    IsOfMachine (failures c.args.folder.now) (failures c.warn_unregistered.new.folder) fault
     ⊎ ((scripts : List (Path × List Statement)) × IsRead source scripts × IsUnread files scripts fault) in
     let fault = c.in_err-left.field-0.0 in
     handed Bad c.from_residual-in_err-left.result fault c.from_residual-in_err-left.ensures.1
-    (inl (machine_before _ _ _ fault c.check_tasks.ensures.requests.count c.warn_left.ensures.requests.count (c.in_err-left.ensures.err faithful)))
+    (inl (machine_before _ _ _ fault c.check_tasks.ensures.requests.count c.warn_unregistered.ensures.requests.count (c.in_err-left.ensures.err faithful)))

@@ -25,8 +25,8 @@ returns-in_err-records-clause-unread g c =
     c.args.dry_run c.if-dry_run.false)
 
 pub returns-clause-read : goal.returns-clause-read
-returns-clause-read g c = λ faithful wet. elim c.if-dry_run.branch [
-  | then-dry_run w ↦ not_true (sym wet ∙ w.if-dry_run.true)
+returns-clause-read g c = λ faithful not_dry. elim c.if-dry_run.branch [
+  | then-dry_run w ↦ not_true (sym not_dry ∙ w.if-dry_run.true)
   | else-dry_run+in_ok-paths_of+in_ok-records w ↦
       all_read (IsReadAt (g.F.Folder.contents c.args.folder.now).files) c.args.tasks.now c.if-dry_run.records.items c.resize_with.new.self.items c.in_ok-resize_with.ensures.items.0
       (subst (λ v. AllZip (IsReadAt (g.F.Folder.contents c.args.folder.now).files) _ v.items) (sym w.records-is)
@@ -35,11 +35,11 @@ returns-clause-read g c = λ faithful wet. elim c.if-dry_run.branch [
 ]
 
 pub returns-clause-answered : goal.returns-clause-answered
-returns-clause-answered g c = λ wet.
+returns-clause-answered g c = λ not_dry.
     let F = g.F.Folder in
     let start = c.args.folder.now in
     elim c.if-dry_run.branch [
-      | then-dry_run w ↦ not_true (sym wet ∙ w.if-dry_run.true)
+      | then-dry_run w ↦ not_true (sym not_dry ∙ w.if-dry_run.true)
       | else-dry_run+in_ok-paths_of+in_ok-records w ↦
           all_read (WasAnswered F.failures F.may_leave F.allowed start c.if-dry_run.folder) c.args.tasks.now c.if-dry_run.records.items c.resize_with.new.self.items c.in_ok-resize_with.ensures.items.0
           (subst (λ v. AllZip (WasAnswered F.failures F.may_leave F.allowed start c.if-dry_run.folder) _ v.items) (sym w.records-is)

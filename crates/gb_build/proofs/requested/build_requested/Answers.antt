@@ -128,8 +128,8 @@ returns-clause-leads g c = λ faithful kinds registry_of assumed scripts remembe
     (omega (arith, c.records_for.ensures.requests.count, c.execute.ensures.count)) scripts
     mid (c.records_for.ensures.same faithful) c.records_for.ensures.requests.count (F.may_leave c.records_for.new.folder) c.records_for.ensures.requests.tearing
     c.as_slice-2.result.now
-    (λ wet. subst (λ (records : List (Option Record)). AllZip (IsReadAt old.contents.files) (order plan) records) (sym c.as_slice-2.ensures.value)
-    (subst (λ (tasks : List Planned). AllZip (IsReadAt old.contents.files) (order tasks) c.in_ok-records.records.items) c.as_slice.ensures (c.in_ok-records.ensures.read faithful wet)))
+    (λ not_dry. subst (λ (records : List (Option Record)). AllZip (IsReadAt old.contents.files) (order plan) records) (sym c.as_slice-2.ensures.value)
+    (subst (λ (tasks : List Planned). AllZip (IsReadAt old.contents.files) (order tasks) c.in_ok-records.records.items) c.as_slice.ensures (c.in_ok-records.ensures.read faithful not_dry)))
     (λ remembered clear observed worth. c.in_ok-report.ensures.build faithful kinds registry_of remembered clear observed
     (assumed_later (F.may_leave c.args.folder.now) (F.may_leave c.records_for.new.folder) c.records_for.ensures.requests.tearing assumed) worth)
     remembered_now is_clear observed_now exists
@@ -199,8 +199,8 @@ returns-clause-requests g c =
         records = c.as_slice-2.result.now;
         begun = mid;
         first = c.records_for.ensures.requests;
-        answered = λ wet. subst (λ (records : List (Option Record)). AllZip (WasAnswered F.failures F.may_leave F.allowed start mid) (order plan) records) (sym c.as_slice-2.ensures.value)
-            (subst (λ (tasks : List Planned). AllZip (WasAnswered F.failures F.may_leave F.allowed start mid) (order tasks) c.in_ok-records.records.items) c.as_slice.ensures (c.in_ok-records.ensures.answered wet));
+        answered = λ not_dry. subst (λ (records : List (Option Record)). AllZip (WasAnswered F.failures F.may_leave F.allowed start mid) (order plan) records) (sym c.as_slice-2.ensures.value)
+            (subst (λ (tasks : List Planned). AllZip (WasAnswered F.failures F.may_leave F.allowed start mid) (order tasks) c.in_ok-records.records.items) c.as_slice.ensures (c.in_ok-records.ensures.answered not_dry));
         executions = c.in_ok-report.ensures.requests;
       },
     )

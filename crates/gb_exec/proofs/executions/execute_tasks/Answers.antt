@@ -97,8 +97,8 @@ loop-path-init g c =
           (begun kinds registry_of (F.may_leave start) clear observed c.args.build.now.options tasks old (λ e. (worth e).existing));
     }
 
-pub take_one-taken-requires-clause-path : goal.take_one-taken-requires-clause-path
-take_one-taken-requires-clause-path g c = λ planned is.
+pub execute_one-taken-requires-clause-path : goal.execute_one-taken-requires-clause-path
+execute_one-taken-requires-clause-path g c = λ planned is.
     let tasks = c.args.build.now.tasks.now in
     (next_path tasks c.loop-path.index planned c.in-Some.path (into_iter_items c.next.new.self) is (sym c.loop-path.invariant.left ∙ c.in-Some.ensures.steps.0)).0
 
@@ -112,9 +112,9 @@ loop-path-preserved g c =
     let i = c.loop-path.index in
     let start = c.args.folder.now in
     let now = c.loop-path.folder in
-    let next = c.take_one-taken.new.folder in
+    let next = c.execute_one-taken.new.folder in
     let inv = c.loop-path.invariant in
-    let report = c.take_one-taken.result.report in
+    let report = c.execute_one-taken.result.report in
     let reports = c.loop-path.reports.items in
     let items : c.push_reserved.new.reports.items ≡ reports ++ report ∷ [] = c.push_reserved.ensures.items in
     let rest = into_iter_items c.next.new.self in
@@ -123,50 +123,50 @@ loop-path-preserved g c =
     let planned = (at_index tasks i less).0 in
     let is = (at_index tasks i less).1 in
     let along = next_path tasks i planned c.in-Some.path rest is left in
-    let of_task = c.take_one-taken.ensures.of_task planned is in
+    let of_task = c.execute_one-taken.ensures.of_task planned is in
     let way = executions_places F.failures F.may_leave F.allowed g.A.Actions.meanings build.table.now build.options (take i tasks) (take i build.records.now) reports start now inv.requests in
-    let taken = c.take_one-taken.ensures.requests planned is in
+    let taken = c.execute_one-taken.ensures.requests planned is in
     let count = (execution_places F.failures F.may_leave F.allowed g.A.Actions.meanings build.table.now build.options planned.task (slice_index_or build.records.now i None) report.lines now next report.outcome taken).count in
     let read = take_more build.records.now i None (omega (arith, c.requires.each, less)) in
     let can = each_at (λ (p : Planned). IsBuildable g.A.Actions.meanings build.table.now p.task) tasks i planned is c.requires.can.tasks in
     let is_path : IsTrue (is_task_path planned.task.path) = subst (λ (p : Path). IsTrue (is_task_path p)) along.0 c.as_str-path.ensures.path in
     let places : HasOwnPlaces planned = record { is_path = is_path; not_own = can.not_own } in
-    let started : c.take_one-taken.new.starts ≡ c.loop-path.starts = c.take_one-taken.ensures.starts in
-    let of_plan : AreOfPlan tasks c.take_one-taken.new.starts = subst (AreOfPlan tasks) (sym started) inv.of_plan in
-    let lasting : length c.take_one-taken.new.starts.endings ≡ length tasks = ap (λ (p : Progress). length p.endings) started ∙ inv.lasting in
+    let started : c.execute_one-taken.new.starts ≡ c.loop-path.starts = c.execute_one-taken.ensures.starts in
+    let of_plan : AreOfPlan tasks c.execute_one-taken.new.starts = subst (AreOfPlan tasks) (sym started) inv.of_plan in
+    let lasting : length c.execute_one-taken.new.starts.endings ≡ length tasks = ap (λ (p : Progress). length p.endings) started ∙ inv.lasting in
     let outcomes = map outcome_in reports in
     let mapped : length outcomes ≡ length reports = length-map _ _ in
     let long : length outcomes ≡ i = mapped ∙ inv.long in
-    let ended = endings_more tasks outcomes c.take_one-taken.new.starts.endings report.path report.outcome i long less lasting (of_task.path ∙ sym (path_is tasks i planned is))
+    let ended = endings_more tasks outcomes c.execute_one-taken.new.starts.endings report.path report.outcome i long less lasting (of_task.path ∙ sym (path_is tasks i planned is))
     (subst (λ (p : Progress). AreEndings tasks outcomes p.endings) (sym started) inv.endings) in
     let take_is = take_at tasks i planned is in
-    let both : c.if-all_heard.all_heard ≡ (c.loop-path.all_heard && c.take_one-taken.result.all_heard) = elim c.if-all_heard.branch [
-      | then-all_heard w ↦ w.all_heard-is ∙ on_true c.loop-path.all_heard c.take_one-taken.result.all_heard w.if-all_heard.true
-      | else-all_heard w ↦ w.all_heard-is ∙ w.if-all_heard.false ∙ on_false c.loop-path.all_heard c.take_one-taken.result.all_heard w.if-all_heard.false
+    let both : c.if-all_heard.all_heard ≡ (c.loop-path.all_heard && c.execute_one-taken.result.all_heard) = elim c.if-all_heard.branch [
+      | then-all_heard w ↦ w.all_heard-is ∙ on_true c.loop-path.all_heard c.execute_one-taken.result.all_heard w.if-all_heard.true
+      | else-all_heard w ↦ w.all_heard-is ∙ w.if-all_heard.false ∙ on_false c.loop-path.all_heard c.execute_one-taken.result.all_heard w.if-all_heard.false
     ] in
     let first = map ear c.args.listeners.now.items in
     let mid = map ear c.loop-path.listeners.items in
-    let last = map ear c.take_one-taken.new.listeners.items in
-    let reported = c.reported_more.ensures (heard_of false reports) (heard_of false (report ∷ [])) c.loop-path.all_heard c.take_one-taken.result.all_heard first mid last inv.heard c.take_one-taken.ensures.heard in
+    let last = map ear c.execute_one-taken.new.listeners.items in
+    let reported = c.reported_more.ensures (heard_of false reports) (heard_of false (report ∷ [])) c.loop-path.all_heard c.execute_one-taken.result.all_heard first mid last inv.heard c.execute_one-taken.ensures.heard in
     record {
       left = along.1;
       within = omega (arith, less);
       room = omega (arith, inv.room, c.push_reserved.ensures.capacity);
       long = ap length items ∙ length-append reports (report ∷ []) ∙ ap (λ (n : ℕ). n + 1) inv.long;
       of_plan = subst (AreOfPlan tasks) (sym c.end.ensures) (record { needs = of_plan.needs; finalizers = of_plan.finalizers; wanted = of_plan.wanted });
-      lasting = ap (λ (p : Progress). length p.endings) c.end.ensures ∙ length-set c.take_one-taken.new.starts.endings i (ending_of report.outcome) ∙ lasting;
+      lasting = ap (λ (p : Progress). length p.endings) c.end.ensures ∙ length-set c.execute_one-taken.new.starts.endings i (ending_of report.outcome) ∙ lasting;
       endings = subst (λ (p : Progress). AreEndings tasks (map outcome_in c.push_reserved.new.reports.items) p.endings) (sym c.end.ensures)
-          (subst (λ (os : List (Path × Outcome)). AreEndings tasks os (slice_set c.take_one-taken.new.starts.endings i (ending_of report.outcome)))
+          (subst (λ (os : List (Path × Outcome)). AreEndings tasks os (slice_set c.execute_one-taken.new.starts.endings i (ending_of report.outcome)))
           (sym (ap (map outcome_in) items ∙ map-append outcome_in reports (report ∷ []))) ended);
       of_tasks = subst (λ (ps : List Planned). AllZip IsOf ps c.push_reserved.new.reports.items) (sym take_is)
           (subst (AllZip IsOf (take i tasks ++ planned ∷ [])) (sym items) (zip_more IsOf (take i tasks) reports planned report inv.of_tasks of_task));
       outline = subst (λ (ps : List Planned). AreOutlines build.options tasks [] ps c.push_reserved.new.reports.items) (sym take_is)
           (subst (λ (rs : List TaskReport). AreOutlines build.options tasks [] (take i tasks ++ planned ∷ []) rs) (sym items)
           (outlines_more build.options tasks [] (take i tasks) planned reports report inv.outline
-          (c.take_one-taken.ensures.outline (moment_by outcomes) planned is inv.endings)));
+          (c.execute_one-taken.ensures.outline (moment_by outcomes) planned is inv.endings)));
       places = subst (AllByRecursion HasOwnPlaces) (sym take_is) (AllByRecursion-push HasOwnPlaces (take i tasks) planned inv.places places);
       heard = subst (λ (b : Bool). AllReported (heard_of false c.push_reserved.new.reports.items) b first last) (sym both)
-          (subst (λ (hs : List Heard). AllReported hs (c.loop-path.all_heard && c.take_one-taken.result.all_heard) first last)
+          (subst (λ (hs : List Heard). AllReported hs (c.loop-path.all_heard && c.execute_one-taken.result.all_heard) first last)
           (sym (ap (heard_of false) items ∙ heard_more reports report)) reported);
       printed = subst (λ (rs : List TaskReport). Prints P.contents P.whole (flat_map task_text rs) c.args.printer.now c.print_task.new.self) (sym items)
           (subst (λ (text : List ℕ). Prints P.contents P.whole text c.args.printer.now c.print_task.new.self) (sym (parts_more reports report))
@@ -176,15 +176,15 @@ loop-path-preserved g c =
           (subst (λ (rs : List TaskReport). ExecutionsRequest F.failures F.may_leave F.allowed g.A.Actions.meanings build.table.now build.options (take i tasks ++ planned ∷ []) (take i build.records.now ++ slice_index_or build.records.now i None ∷ []) rs start next) (sym items)
           (executions_more F.failures F.may_leave F.allowed g.A.Actions.meanings build.table.now build.options (take i tasks) (take i build.records.now) reports planned (slice_index_or build.records.now i None) report start now next inv.requests taken)));
       device = subst (λ (rs : List TaskReport). HasFailed (times_blamed rs) (F.failures start) (F.failures next)) (sym items)
-          (failed_more reports report (F.failures start) (F.failures now) (F.failures next) inv.device count c.take_one-taken.ensures.blame);
+          (failed_more reports report (F.failures start) (F.failures now) (F.failures next) inv.device count c.execute_one-taken.ensures.blame);
       changes = λ faithful.
           subst (λ (ps : List Planned). ChangesOnly (is_of_executions ps) (F.contents start) (F.contents next)) (sym take_is)
-          (changes_more (take i tasks) planned (F.contents start) (F.contents now) (F.contents next) (inv.changes faithful) (c.take_one-taken.ensures.changes faithful planned is));
+          (changes_more (take i tasks) planned (F.contents start) (F.contents now) (F.contents next) (inv.changes faithful) (c.execute_one-taken.ensures.changes faithful planned is));
       build = λ faithful kinds registry_of remembered clear observed assumed worth.
           let old : State = record { contents = F.contents start; remembered = remembered; failures = F.failures start } in
           let u = subst (λ (ps : List Planned). IsUnderway kinds registry_of (F.may_leave start) clear observed build.options tasks old (take i tasks) ps reports
           (record { contents = F.contents now; failures = F.failures now })) (drop_at tasks i planned is) (inv.build faithful kinds registry_of remembered clear observed assumed worth) in
-          let changes = c.take_one-taken.ensures.changes faithful planned is in
+          let changes = c.execute_one-taken.ensures.changes faithful planned is in
           subst (λ (ps : List Planned). IsUnderway kinds registry_of (F.may_leave start) clear observed build.options tasks old ps (drop (i + 1) tasks) c.push_reserved.new.reports.items
           (record { contents = F.contents next; failures = F.failures next })) (sym take_is)
           (subst (λ (rs : List TaskReport). IsUnderway kinds registry_of (F.may_leave start) clear observed build.options tasks old (take i tasks ++ planned ∷ []) (drop (i + 1) tasks) rs
@@ -194,7 +194,7 @@ loop-path-preserved g c =
           (g.met.F.Folder.sound next) (differs_outside planned.task (F.contents now).files (F.contents next).files changes.elsewhere) changes.special c.requires.can.sound.outputs_separate
           (F.may_leave now) way.tearing (once_after (take i tasks) (drop (i + 1) tasks) planned (subst (λ (ps : List Planned). no_repeats (order ps) ≡ true) (whole_at tasks i planned is) c.requires.can.once))
           (λ given still.
-          c.take_one-taken.ensures.execution faithful kinds registry_of u.moment planned is (assumed_later (F.may_leave start) (F.may_leave now) way.tearing assumed) u.folder u.failures still.existing
+          c.execute_one-taken.ensures.execution faithful kinds registry_of u.moment planned is (assumed_later (F.may_leave start) (F.may_leave now) way.tearing assumed) u.folder u.failures still.existing
           (subst (λ (os : List (Path × Outcome)). AreEndings tasks os c.loop-path.starts.endings) (sym u.outcomes) inv.endings)
           (knows c.what_is_read_is_known.ensures kinds tasks build.records.now observed u.observed_now (F.contents start) remembered u.moment.world i planned is (worth given.0) is_path still.same.0
           (subst (λ (folder : Contents). IsFolder folder.files) (sym u.folder) (folder_where (λ place. not (is_own place)) (F.contents now).files (g.met.F.Folder.sound now)))
@@ -235,7 +235,7 @@ returns-clause-build g c = λ faithful kinds registry_of remembered clear observ
     let all : length tasks ≤ i = omega (arith, empty, ap length inv.left, mapped, dropped) in
     let old : State = record { contents = F.contents start; remembered = remembered; failures = F.failures start } in
     built kinds registry_of (F.may_leave start) clear observed c.args.build.now.options tasks old c.loop-path.reports.items
-    (record { contents = F.contents c.loop-path.folder; failures = F.failures c.loop-path.folder }) c.requires.wet
+    (record { contents = F.contents c.loop-path.folder; failures = F.failures c.loop-path.folder }) c.requires.not_dry
     (subst (λ (ps : List Planned). IsUnderway kinds registry_of (F.may_leave start) clear observed c.args.build.now.options tasks old ps [] c.loop-path.reports.items
     (record { contents = F.contents c.loop-path.folder; failures = F.failures c.loop-path.folder })) (take_all i tasks all)
     (subst (λ (ps : List Planned). IsUnderway kinds registry_of (F.may_leave start) clear observed c.args.build.now.options tasks old (take i tasks) ps c.loop-path.reports.items

@@ -8,7 +8,7 @@ use Rattle.gb_meaning.specs.Tree.{listing_faults, trees_of}
 use Rattle.gb_report.specs.declared.fault.Fault.{Fault}
 use Rattle.gb_store.proofs.Machine.{at_err}
 use Rattle.gb_label.specs.Reading.{CannotRead, Read, digests_in, prints_read, records_with}
-use Rattle.gb_label.specs.Deciding.{GoesBy, IsBasisIn, IsPresentOf, MayDecide}
+use Rattle.gb_label.specs.Deciding.{FollowsFrom, IsBasisIn, IsPresentOf, MayDecide}
 use Rattle.gb_label.specs.declared.deciding.Basis.{Basis}
 use Rattle.gb_label.proofs.Answering.{full_decided, record_decided}
 use Rattle.gb_label.proofs.Current.{may_decide}
@@ -45,7 +45,7 @@ returns-in_ok-on-in-Ok-clause-answered g c =
     let task = c.args.task.now in
     let inputs = c.args.inputs.now in
     let found = c.in_ok-on-in-Ok in
-    record_decided g.F.Folder.failures g.F.Folder.may_leave g.F.Folder.allowed c.args.folder.now c.read_listed.new.folder c.args.options task c.args.run.now inputs found.on.decision c.in-Ok.outputs.items c.in-Ok.ensures.read c.in-Ok.ensures.answered found.on.present
+    record_decided g.F.Folder.failures g.F.Folder.may_leave g.F.Folder.allowed c.args.folder.now c.read_outputs_now.new.folder c.args.options task c.args.run.now inputs found.on.decision c.in-Ok.outputs.items c.in-Ok.ensures.read c.in-Ok.ensures.answered found.on.present
     (subst (λ (outputs : List Read). IsPresentOf c.args.options task (prints_read inputs) (records_with task.outputs (prints_read outputs)) found.on.present)
     c.as_slice.ensures.value found.ensures.present) found.ensures.decides
 
@@ -60,7 +60,7 @@ returns-in_ok-check_grown-in-Err-clause-based g c = λ faithful inputs.
 pub returns-in_ok-check_grown-in-Err-clause-goes_by : goal.returns-in_ok-check_grown-in-Err-clause-goes_by
 returns-in_ok-check_grown-in-Err-clause-goes_by g c =
     ok_as c.in_full.result c.in_full.ensures.full (λ found full.
-    subst (λ (b : Basis). GoesBy c.args.options c.args.task.now (Some c.args.run.now) found.decision b) (sym full.1) (full.0, c.requires.counts))
+    subst (λ (b : Basis). FollowsFrom c.args.options c.args.task.now (Some c.args.run.now) found.decision b) (sym full.1) (full.0, c.requires.counts))
 
 pub returns-in_err-check_grown-in-Err-clause-err : goal.returns-in_err-check_grown-in-Err-clause-err
 returns-in_err-check_grown-in-Err-clause-err g c = λ faithful.
@@ -69,7 +69,7 @@ returns-in_err-check_grown-in-Err-clause-err g c = λ faithful.
     let residual = c.from_residual-in_err-check_grown-in-Err in
     let p = err_from_is_err_and residual.result residual.ensures.1 in
     let reported = c.in_err-check_grown-in-Err.ensures.err in
-    let Cannot : Fault → Type 0 = CannotRead (g.F.Folder.failures c.args.folder.now) (g.F.Folder.failures c.read_listed.new.folder) (listing_faults task old) in
+    let Cannot : Fault → Type 0 = CannotRead (g.F.Folder.failures c.args.folder.now) (g.F.Folder.failures c.read_outputs_now.new.folder) (listing_faults task old) in
     at_err (λ r. IfErr r Cannot) residual.result p.0 c.in_err-check_grown-in-Err.field-0.0 p.1 p.2
     (subst Cannot (sym reported.0) (cannot_read task old _ _ c.in-Err.fault reported.1 (c.in-Err.ensures.err faithful)))
 

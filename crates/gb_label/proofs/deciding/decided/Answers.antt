@@ -1,10 +1,10 @@
 use Rattle.std.proofs.Common.{Option, option_copied, Bor, sym, subst}
 use Rattle.gb_history.specs.declared.decide.Decision.{Decision}
 use Rattle.gb_history.specs.declared.record.Record.{Record}
-use Rattle.gb_label.specs.Deciding.{GoesBy, IsBasisIn, MayDecide}
+use Rattle.gb_label.specs.Deciding.{FollowsFrom, IsBasisIn, MayDecide}
 use Rattle.gb_label.specs.declared.deciding.Basis.{Basis}
-use Rattle.gb_label.specs.declared.deciding.Basis.TheVariants.{Recheck}
-use Rattle.gb_label.specs.declared.deciding.Cause.TheVariants as causes
+use Rattle.gb_label.specs.declared.deciding.Basis.TheVariants.{Forced}
+use Rattle.gb_label.specs.declared.deciding.FullReason.TheVariants as causes
 use Rattle.gb_label.proofs.Answering.{full_decided}
 use Rattle.gb_label.proofs.Growth.{ok_as}
 use Rattle.gb_label.proofs.Recorded.{none_for, none_observed_for}
@@ -13,8 +13,8 @@ use Rattle.gb_label.proofs.deciding.decided.Goals as goal
 pub returns-in_default-clause-goes_by : goal.returns-in_default-clause-goes_by
 returns-in_default-clause-goes_by g c =
     ok_as c.in_full.result c.in_full.ensures.full (λ found full.
-    subst (λ (b : Basis). GoesBy c.args.options c.args.task.now (option_copied c.args.old) found.decision b) (sym full.1)
-    (subst (λ (old : Option (Bor Record)). GoesBy c.args.options c.args.task.now (option_copied old) found.decision (Recheck causes.NoRecord))
+    subst (λ (b : Basis). FollowsFrom c.args.options c.args.task.now (option_copied c.args.old) found.decision b) (sym full.1)
+    (subst (λ (old : Option (Bor Record)). FollowsFrom c.args.options c.args.task.now (option_copied old) found.decision (Forced causes.NoRecord))
     (sym c.in_default.is) (full.0, tt)))
 
 pub returns-in_default-clause-based : goal.returns-in_default-clause-based
@@ -42,8 +42,8 @@ returns-in_default-clause-answered g c =
 pub returns-then-options-clause-goes_by : goal.returns-then-options-clause-goes_by
 returns-then-options-clause-goes_by g c =
     ok_as c.in_full-then-options.result c.in_full-then-options.ensures.full (λ found full.
-    subst (λ (b : Basis). GoesBy c.args.options c.args.task.now (option_copied c.args.old) found.decision b) (sym full.1)
-    (subst (λ (old : Option (Bor Record)). GoesBy c.args.options c.args.task.now (option_copied old) found.decision (Recheck causes.Rerun))
+    subst (λ (b : Basis). FollowsFrom c.args.options c.args.task.now (option_copied c.args.old) found.decision b) (sym full.1)
+    (subst (λ (old : Option (Bor Record)). FollowsFrom c.args.options c.args.task.now (option_copied old) found.decision (Forced causes.Rerun))
     (sym c.in-Some.is) (full.0, c.if-options.true)))
 
 pub returns-then-options-clause-based : goal.returns-then-options-clause-based
@@ -71,8 +71,8 @@ returns-then-options-clause-answered g c =
 pub returns-then-task-clause-goes_by : goal.returns-then-task-clause-goes_by
 returns-then-task-clause-goes_by g c =
     ok_as c.in_full-then-task.result c.in_full-then-task.ensures.full (λ found full.
-    subst (λ (b : Basis). GoesBy c.args.options c.args.task.now (option_copied c.args.old) found.decision b) (sym full.1)
-    (subst (λ (old : Option (Bor Record)). GoesBy c.args.options c.args.task.now (option_copied old) found.decision (Recheck causes.Stale))
+    subst (λ (b : Basis). FollowsFrom c.args.options c.args.task.now (option_copied c.args.old) found.decision b) (sym full.1)
+    (subst (λ (old : Option (Bor Record)). FollowsFrom c.args.options c.args.task.now (option_copied old) found.decision (Forced causes.Stale))
     (sym c.in-Some.is) (full.0, (c.if-options.false, c.if-task.true))))
 
 pub returns-then-task-clause-based : goal.returns-then-task-clause-based

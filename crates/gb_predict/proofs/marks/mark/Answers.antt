@@ -5,7 +5,7 @@ use Rattle.gb_plan.specs.declared.plan.Planned.{Planned}
 use Rattle.gb_plan.specs.declared.task.FileProperty.{FileProperty}
 use Rattle.gb_predict.specs.Least.{IsLeast, IsReadBy}
 use Rattle.gb_predict.specs.Marks.{changes_for, reads_files}
-use Rattle.gb_predict.specs.declared.coming.Prediction.{Prediction}
+use Rattle.gb_predict.specs.declared.predicted_outcome.Prediction.{Prediction}
 use Rattle.gb_predict.proofs.Least.{first_low, first_path, none_first}
 use Rattle.gb_predict.proofs.marks.mark.Goals as goal
 

@@ -13,10 +13,10 @@ use Rattle.gb_graph.specs.Places.{AreSamePlaces, places_from, with_places}
 use Rattle.gb_graph.specs.Ranked.{number_at}
 use Rattle.gb_graph.specs.declared.places.TaskPlace.{TaskPlace}
 use Rattle.gb_plan.specs.Task.{output_places}
-use Rattle.gb_predict.specs.Least.{AreLost}
-use Rattle.gb_predict.specs.Marks.{AreMarkedAfter, culprit, lack, mark}
+use Rattle.gb_predict.specs.Least.{AreNotStarting}
+use Rattle.gb_predict.specs.Marks.{AreMarkedAfter, culprit, keeper, mark}
 use Rattle.gb_predict.proofs.Lost.{lost_more}
-use Rattle.gb_predict.specs.declared.coming.Prediction.{Prediction}
+use Rattle.gb_predict.specs.declared.predicted_outcome.Prediction.{Prediction}
 use Rattle.gb_predict.proofs.Marking.{all_pairs, marked_more, path_more, related_more, zip_prefix}
 use Rattle.gb_predict.proofs.Predicting.{all_related, prediction_wider}
 use Rattle.gb_predict.proofs.predict.predict.Goals as goal
@@ -37,9 +37,9 @@ pub prediction-requires-clause-of_plan : goal.prediction-requires-clause-of_plan
 prediction-requires-clause-of_plan g c =
     subst (λ (row : List TaskPlace). AreSamePlaces (with_places [] (places_from output_places 0 c.args.plan.now)) row) (sym c.as_slice.ensures.value) c.in_ok-row.ensures.of_plan
 
-pub prediction-requires-clause-lost : goal.prediction-requires-clause-lost
-prediction-requires-clause-lost g c =
-    subst (λ (reported : List Prediction). AreLost reported c.loop-at.lost) (sym c.as_slice-in-loop-at.ensures.value) c.loop-at.invariant.lost
+pub prediction-requires-clause-not_starting : goal.prediction-requires-clause-not_starting
+prediction-requires-clause-not_starting g c =
+    subst (λ (reported : List Prediction). AreNotStarting reported c.loop-at.not_starting) (sym c.as_slice-in-loop-at.ensures.value) c.loop-at.invariant.not_starting
 
 pub loop-at-preserved : goal.loop-at-preserved
 loop-at-preserved g c =
@@ -60,11 +60,11 @@ loop-at-preserved g c =
     let here =
     subst (λ (ones : List Prediction). one.after ≡ mark (zip plan ones) planned.task one.coming) c.as_slice-in-loop-at.ensures.value
     c.in_ok-one.ensures.marked ∙ ap (λ pairs. mark pairs planned.task one.coming) (sym (zip_prefix plan reported at inv.count)) in
-    let lacks = subst (λ (ones : List Prediction). one.needs ≡ lack planned.task ones) c.as_slice-in-loop-at.ensures.value c.in_ok-one.ensures.needs in
-    let noted : (other : List ℕ) → number_at c.note.new.lost other ≡ cond (is_some (culprit one) && bytes_eq one.path other) (Some (length reported)) (number_at c.loop-at.lost other) = λ other.
-    c.in_ok-note.ensures other
-    ∙ ap (λ (path : List ℕ). cond (is_some (culprit one) && bytes_eq path other) (Some at) (number_at c.loop-at.lost other)) (sym c.in_ok-one.ensures.path)
-    ∙ ap (λ n. cond (is_some (culprit one) && bytes_eq one.path other) (Some n) (number_at c.loop-at.lost other)) (sym inv.count) in
+    let lacks = subst (λ (ones : List Prediction). one.kept_by ≡ keeper planned.task ones) c.as_slice-in-loop-at.ensures.value c.in_ok-one.ensures.needs in
+    let noted : (other : List ℕ) → number_at c.note_not_starting.new.not_starting other ≡ cond (is_some (culprit one) && bytes_eq one.path other) (Some (length reported)) (number_at c.loop-at.not_starting other) = λ other.
+    c.in_ok-note_not_starting.ensures other
+    ∙ ap (λ (path : List ℕ). cond (is_some (culprit one) && bytes_eq path other) (Some at) (number_at c.loop-at.not_starting other)) (sym c.in_ok-one.ensures.path)
+    ∙ ap (λ n. cond (is_some (culprit one) && bytes_eq one.path other) (Some n) (number_at c.loop-at.not_starting other)) (sym inv.count) in
     record {
       requests = requests_then inv.requests c.prediction.ensures.requests;
       same = λ faithful. c.prediction.ensures.same faithful ∙ inv.same faithful;
@@ -76,7 +76,7 @@ loop-at-preserved g c =
       marked =
           subst (λ (l : List Prediction). AreMarkedAfter [] (zip (take (at + 1) plan) l)) (sym more)
           (marked_more plan reported at planned one c.loop-at-test.true inv.count c.index-plan-at.is inv.marked here lacks);
-      lost = subst (λ (l : List Prediction). AreLost l c.note.new.lost) (sym more) (lost_more reported one c.loop-at.lost c.note.new.lost inv.lost noted);
+      not_starting = subst (λ (l : List Prediction). AreNotStarting l c.note_not_starting.new.not_starting) (sym more) (lost_more reported one c.loop-at.not_starting c.note_not_starting.new.not_starting inv.not_starting noted);
       prediction = λ faithful kinds agrees.
           let Is : ℕ → Planned × Option Record → Prediction → Type 0 = λ until pair f. IsPredictedOf kinds c.args.options pair.0.task old pair.1 begun until f.coming in
           subst (AllZip (Is new) (take (at + 1) (zip plan records))) (sym more)

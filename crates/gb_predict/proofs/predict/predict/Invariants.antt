@@ -5,9 +5,9 @@ use Rattle.gb_meaning.specs.Headline.{Agrees}
 use Rattle.gb_meaning.specs.Kinds.{Kinds}
 use Rattle.gb_plan.specs.Graph.{order}
 use Rattle.gb_predict.specs.Prediction.{IsPredictedOf, IsReasoned}
-use Rattle.gb_predict.specs.Least.{AreLost}
+use Rattle.gb_predict.specs.Least.{AreNotStarting}
 use Rattle.gb_predict.specs.Marks.{AreMarkedAfter}
-use Rattle.gb_predict.specs.declared.coming.Prediction.{Prediction}
+use Rattle.gb_predict.specs.declared.predicted_outcome.Prediction.{Prediction}
 use Rattle.gb_predict.proofs.predict.predict.Given as goal
 
 abbrev pub invariant-loop-at : goal.invariant-loop-at
@@ -19,7 +19,7 @@ invariant-loop-at g l =
       count : length l.reported.items ≡ l.at;
       paths : map (λ (one : Prediction). one.path) l.reported.items ≡ order (take l.at l.plan);
       reasoned : AllByRecursion (λ (one : Prediction). IsReasoned one.coming) l.reported.items;
-      lost : AreLost l.reported.items l.lost;
+      not_starting : AreNotStarting l.reported.items l.not_starting;
       marked : AreMarkedAfter [] (zip (take l.at l.plan) l.reported.items);
       prediction : IsTrue F.faithful → (kinds : Kinds) → Agrees g.A.Actions.meanings l.table kinds
           → AllZip (λ pair (one : Prediction). IsPredictedOf kinds l.options pair.0.task (F.contents l.fn.folder) pair.1 (F.failures l.fn.folder) (F.failures l.folder) one.coming)

@@ -12,8 +12,8 @@ use Rattle.gb_records.proofs.stored_records.read_at.Goals as goal
 
 pub returns-in-Err-clause-read : goal.returns-in-Err-clause-read
 returns-in-Err-clause-read g c = λ faithful.
-    placeless_read (g.F.Folder.contents c.args.folder.now).files c.args.path.now c.in-Err.fault c.placeless.result (g.met.F.Folder.placed c.args.folder.now)
-    (λ e. c.record_place.ensures.bad (c.in-Err.is ∙ ap Err e)) c.placeless.ensures.bad c.placeless.ensures.out
+    placeless_read (g.F.Folder.contents c.args.folder.now).files c.args.path.now c.in-Err.fault c.none_if_no_place.result (g.met.F.Folder.placed c.args.folder.now)
+    (λ e. c.record_place.ensures.bad (c.in-Err.is ∙ ap Err e)) c.none_if_no_place.ensures.bad c.none_if_no_place.ensures.out
 
 pub returns-in-Err-read-clause-read : goal.returns-in-Err-read-clause-read
 returns-in-Err-read-clause-read g c = λ faithful.
@@ -21,7 +21,7 @@ returns-in-Err-read-clause-read g c = λ faithful.
     let path = c.args.path.now in
     let at : c.in-Ok.place ≡ record_place path = c.in-Ok.ensures.place in
     let allowed = c.read.ensures in
-    subst (λ r. IfOk r (IsReadAt files path)) (sym c.unless_none.ensures)
+    subst (λ r. IfOk r (IsReadAt files path)) (sym c.none_if_missing.ensures)
     (read_of files path c.in-Ok.place c.in-Err-read.fault (g.met.F.Folder.sound c.args.folder.now)
     (λ e. subst (λ p. file_at files p ≡ None) at (allowed.missing faithful (c.in-Err-read.is ∙ ap Err e)))
     (λ e. subst (λ p. is_blocked files p ≡ true) at (allowed.blocked faithful (c.in-Err-read.is ∙ ap Err e)))
@@ -31,12 +31,12 @@ returns-in-Err-read-clause-read g c = λ faithful.
 pub returns-in-Err-clause-answered : goal.returns-in-Err-clause-answered
 returns-in-Err-clause-answered g c =
     let F = g.F.Folder in
-    none_placed F.failures F.may_leave F.allowed c.args.folder.now c.args.folder.now c.args.path.now c.in-Err.fault c.placeless.result c.placeless.ensures.bad c.placeless.ensures.out
+    none_placed F.failures F.may_leave F.allowed c.args.folder.now c.args.folder.now c.args.path.now c.in-Err.fault c.none_if_no_place.result c.none_if_no_place.ensures.bad c.none_if_no_place.ensures.out
 
 pub returns-in-Err-read-clause-answered : goal.returns-in-Err-read-clause-answered
 returns-in-Err-read-clause-answered g c =
     let F = g.F.Folder in
-    subst (λ r. IfOk r (WasAnswered F.failures F.may_leave F.allowed c.args.folder.now c.read.new.self c.args.path.now)) (sym c.unless_none.ensures)
+    subst (λ r. IfOk r (WasAnswered F.failures F.may_leave F.allowed c.args.folder.now c.read.new.self c.args.path.now)) (sym c.none_if_missing.ensures)
     (none_existed F.failures F.may_leave F.allowed c.args.folder.now c.read.new.self c.args.path.now c.in-Ok.place c.in-Err-read.fault)
 
 pub returns-in-Ok-read-clause-answered : goal.returns-in-Ok-read-clause-answered

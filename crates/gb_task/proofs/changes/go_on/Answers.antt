@@ -36,16 +36,16 @@ returns-in-ByChanges-clause-execution g c = λ faithful kinds registry_of plan m
     let task = c.args.task.now in
     let start = c.args.folder.now in
     let then = c.recheck_task.new.folder in
-    let now = c.go_by.new.folder in
+    let now = c.run_by_decided_changes.new.folder in
     let same : F.contents then ≡ F.contents start = c.recheck_task.ensures.same faithful in
     let later : Moment = record { world = moment.world; outcomes = moment.outcomes; failures = F.failures then } in
     let came = comes_later task true (F.contents start) (F.failures start) moment (F.contents then) (F.failures then) same at in
     let before = subst (IsAsBefore kinds c.args.options task (F.contents start).files moment.world) c.in-ByChanges.is (c.in_ok-inputs.ensures.as_before faithful kinds moment.world at.folder read existed goes) in
-    let report = report_of task c.go_by.result c.go_by.new.lines in
+    let report = report_of task c.run_by_decided_changes.result c.run_by_decided_changes.new.lines in
     turned_before kinds registry_of (F.may_leave start) (F.may_leave then) c.recheck_task.ensures.requests.tearing c.args.options plan task moment (F.failures then)
-    (subst (λ (n : ℕ). n ≤ F.failures then) (sym at.failures) c.recheck_task.ensures.requests.count) report (F.contents start) (F.failures now) (F.contents now) c.go_by.ensures.count
+    (subst (λ (n : ℕ). n ≤ F.failures then) (sym at.failures) c.recheck_task.ensures.requests.count) report (F.contents start) (F.failures now) (F.contents now) c.run_by_decided_changes.ensures.count
     (subst (λ (folder : Contents). HasExecuted (setting_with kinds registry_of (F.may_leave then)) c.args.options plan task later report folder (F.failures now) (F.contents now)) same
-    (c.go_by.ensures.execution faithful kinds registry_of c.args.options plan later (assumed_later _ _ c.recheck_task.ensures.requests.tearing given) came
+    (c.run_by_decided_changes.ensures.execution faithful kinds registry_of c.args.options plan later (assumed_later _ _ c.recheck_task.ensures.requests.tearing given) came
     (before.0 ∙ ap (λ (folder : Contents). trees_of task folder.files) (sym same))
     (before.1 ∙ ap (λ (folder : Contents). map (observed_of folder.files) task.outputs) (sym same)) before.2))
 
@@ -68,7 +68,7 @@ returns-in-ByChanges-clause-ran g c = λ first before inputs outputs.
     let then = c.recheck_task.new.folder in
     let is_recheck = subst (IsRecheck c.args.options task c.args.last.now) c.in-ByChanges.is c.in_ok-inputs.ensures.recheck in
     let was = subst (WasReadRecheck F.failures F.may_leave F.allowed first then task) c.in-ByChanges.is (c.in_ok-inputs.ensures.answered first before inputs outputs) in
-    let ran = c.go_by.ensures.ran in
+    let ran = c.run_by_decided_changes.ensures.ran in
     inr (inr (
       c.in-ByChanges.inputs.trees,
       c.in-ByChanges.changes,
@@ -78,7 +78,7 @@ returns-in-ByChanges-clause-ran g c = λ first before inputs outputs.
       record { outputs = was.1; formed = is_recheck.1.formed; decided = is_recheck.2 },
       (
         ran.0,
-        all_answered F.failures F.may_leave F.allowed F.faithful F.contents F.device g.met.F.Folder.said ran.0 then c.go_by.new.folder ran.1,
+        all_answered F.failures F.may_leave F.allowed F.faithful F.contents F.device g.met.F.Folder.said ran.0 then c.run_by_decided_changes.new.folder ran.1,
         ran.2,
       ),
     ))

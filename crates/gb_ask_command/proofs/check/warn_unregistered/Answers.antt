@@ -7,8 +7,8 @@ use Rattle.gb_project.proofs.SoundLemmas.{paths_said}
 use Rattle.gb_query.specs.Inventory.{AreUnregistered}
 use Rattle.gb_registry.specs.Source.{Source}
 use Rattle.gb_registry.specs.Tables.{tables_of}
-use Rattle.gb_ask_command.specs.Check.{left_of}
-use Rattle.gb_ask_command.proofs.check.warn_left.Goals as goal
+use Rattle.gb_ask_command.specs.Check.{unregistered_of}
+use Rattle.gb_ask_command.proofs.check.warn_unregistered.Goals as goal
 
 pub returns-clause-found : goal.returns-clause-found
 returns-clause-found g c =
@@ -19,4 +19,4 @@ returns-clause-found g c =
     let left = c.in_ok-left.left.items in
     let names : c.as_slice.result.now ≡ paths_of (registry_said tables source) =
     c.as_slice.ensures.value ∙ c.in_ok-names.ensures ∙ sym c.tasks-registered.ensures.tasks ∙ c.tasks-registered.ensures.registered ∙ sym (paths_said tables source) in
-    (left, λ faithful. subst (λ (paths : List Path). AreUnregistered contents paths left) names (c.in_ok-left.ensures.left faithful), c.in_ok-left_found.ensures ∙ ap (map left_of) c.as_slice-2.ensures.value)
+    (left, λ faithful. subst (λ (paths : List Path). AreUnregistered contents paths left) names (c.in_ok-left.ensures.left faithful), c.in_ok-unregistered_found.ensures ∙ ap (map unregistered_of) c.as_slice-2.ensures.value)

@@ -4,7 +4,7 @@ use Rattle.std.proofs.lemmas.Result.{on_ok_weaker}
 use Rattle.gb_folder.specs.Files.{is_own}
 use Rattle.gb_plan.specs.declared.task.Output.{Output}
 use Rattle.gb_label.proofs.Growth.{cannot_print, err_as, none_reported}
-use Rattle.gb_label.proofs.deciding.read_listed.Goals as goal
+use Rattle.gb_label.proofs.deciding.read_outputs_now.Goals as goal
 
 pub returns-clause-none_special : goal.returns-clause-none_special
 returns-clause-none_special g c = λ faithful.

@@ -23,14 +23,14 @@ use Rattle.gb_exec.proofs.Taking.{own_separate, read_so, execution_passed, execu
 use Rattle.gb_history.specs.Record.{Record}
 use Rattle.gb_task.specs.ByOutcome.{ExecutionRequests}
 use Rattle.std.specs.Prelude.{Option}
-use Rattle.gb_exec.proofs.one_task.take_one.Goals as goal
-use Rattle.gb_exec.proofs.one_task.take_one.Goals.{then-begun, else-begun}
+use Rattle.gb_exec.proofs.one_task.execute_one.Goals as goal
+use Rattle.gb_exec.proofs.one_task.execute_one.Goals.{then-begun, else-begun}
 
 pub returns-then-not-does_start-clause-heard : goal.returns-then-not-does_start-clause-heard
 returns-then-not-does_start-clause-heard g c =
     let ears = map g.L.TaskListener.ear c.args.listeners.now.items in
     subst (λ (reported : List Heard). AllReported reported true ears ears)
-    (sym (heard_passed c.passed.result (ap (λ (r : TaskReport). is_started r.outcome) c.passed.ensures))) (unnotified ears)
+    (sym (heard_passed c.not_run_report.result (ap (λ (r : TaskReport). is_started r.outcome) c.not_run_report.ensures))) (unnotified ears)
 
 pub returns-then-not-does_start-clause-outline : goal.returns-then-not-does_start-clause-outline
 returns-then-not-does_start-clause-outline g c = λ moment planned is endings.
@@ -38,7 +38,7 @@ returns-then-not-does_start-clause-outline g c = λ moment planned is endings.
     let got = slice_get-get_or tasks c.args.index c.index-build-index.result c.requires.index in
     let same : slice_index_or tasks c.args.index c.index-build-index.result ≡ planned = some_same (sym got ∙ is) in
     let by_number = c.starts_by_number.ensures c.args.build.now.options tasks c.args.starts.now moment c.args.index planned c.requires.can.once c.requires.of_plan endings is in
-    outline_passed c.args.build.now.options tasks moment planned c.passed.result (c.passed.ensures ∙ ap (report_with NotRun) same)
+    outline_passed c.args.build.now.options tasks moment planned c.not_run_report.result (c.not_run_report.ensures ∙ ap (report_with NotRun) same)
     (λ starts. not_false (sym (c.does_start.ensures.starts.1 (by_number.0 starts)) ∙ c.if-not-does_start.true))
 
 pub returns-then-not-does_start-clause-execution : goal.returns-then-not-does_start-clause-execution
@@ -48,8 +48,8 @@ returns-then-not-does_start-clause-execution g c = λ faithful kinds registry_of
     let got = slice_get-get_or tasks c.args.index c.index-build-index.result c.requires.index in
     let same : slice_index_or tasks c.args.index c.index-build-index.result ≡ planned = some_same (sym got ∙ is) in
     let by_number = c.starts_by_number.ensures c.args.build.now.options tasks c.args.starts.now moment c.args.index planned c.requires.can.once c.requires.of_plan endings is in
-    execution_passed kinds registry_of (F.may_leave c.args.folder.now) c.args.build.now.options tasks moment planned c.passed.result (F.contents c.args.folder.now) (F.failures c.args.folder.now)
-    (c.passed.ensures ∙ ap (report_with NotRun) same)
+    execution_passed kinds registry_of (F.may_leave c.args.folder.now) c.args.build.now.options tasks moment planned c.not_run_report.result (F.contents c.args.folder.now) (F.failures c.args.folder.now)
+    (c.not_run_report.ensures ∙ ap (report_with NotRun) same)
     (λ starts. not_false (sym (c.does_start.ensures.starts.1 (by_number.0 starts)) ∙ c.if-not-does_start.true))
     folder exists
 
@@ -159,7 +159,7 @@ returns-then-not-does_start-clause-requests g c = λ planned is.
     let F = g.F.Folder in
     let build = c.args.build.now in
     subst (λ (r : TaskReport). ExecutionRequests F.failures F.may_leave F.allowed g.A.Actions.meanings build.table.now build.options planned.task (slice_index_or build.records.now c.args.index None) r.outcome r.lines
-    c.args.folder.now c.args.folder.now) (sym c.passed.ensures) refl
+    c.args.folder.now c.args.folder.now) (sym c.not_run_report.ensures) refl
 
 pub returns-clause-requests : goal.returns-clause-requests
 returns-clause-requests g c = λ planned at.

@@ -1,15 +1,15 @@
 use Rattle.std.proofs.Common.{◌≡◌, Bool, not, IfErr, IfOk, option_copied, sym, subst}
 use Rattle.gb_folder.specs.Files.{Contents, is_empty}
-use Rattle.gb_label.specs.Preparing.{GoesByAs, IsPrepared}
+use Rattle.gb_label.specs.Preparing.{FollowsFromAs, IsPrepared}
 use Rattle.gb_label.specs.Reading.{CannotRead}
 use Rattle.gb_label.specs.declared.prepare.Prepared.{Prepared}
 use Rattle.gb_meaning.specs.Memory.{output_files}
 use Rattle.gb_meaning.specs.Tree.{listing_faults}
 use Rattle.gb_predict.specs.Prediction.{IsPredictedOf, IsReasoned}
-use Rattle.gb_predict.specs.declared.coming.Coming.{Coming}
-use Rattle.gb_predict.specs.declared.coming.Coming.TheVariants as comings
+use Rattle.gb_predict.specs.declared.predicted_outcome.PredictedOutcome.{PredictedOutcome}
+use Rattle.gb_predict.specs.declared.predicted_outcome.PredictedOutcome.TheVariants as comings
 use Rattle.gb_predict.proofs.Predicting.{decided_prediction, sourceless_prediction, reported_reasoned}
-use Rattle.gb_predict.proofs.task.coming_of.Goals as goal
+use Rattle.gb_predict.proofs.task.predicted_outcome.Goals as goal
 
 pub returns-in-Ok-Skips-clause-prediction : goal.returns-in-Ok-Skips-clause-prediction
 returns-in-Ok-Skips-clause-prediction g c = λ faithful kinds agrees.
@@ -23,7 +23,7 @@ returns-in-Ok-HasNoActions-clause-prediction g c = λ faithful kinds agrees.
 
 pub returns-in-Ok-HasNoSource-clause-reasoned : goal.returns-in-Ok-HasNoSource-clause-reasoned
 returns-in-Ok-HasNoSource-clause-reasoned g c =
-    subst (λ (coming : Coming). IsReasoned coming) (sym c.reported.ensures) (reported_reasoned c.sourceless.result c.sourceless.ensures.reasoned)
+    subst (λ (coming : PredictedOutcome). IsReasoned coming) (sym c.reported.ensures) (reported_reasoned c.sourceless.result c.sourceless.ensures.reasoned)
 
 pub returns-in-Ok-HasNoSource-clause-prediction : goal.returns-in-Ok-HasNoSource-clause-prediction
 returns-in-Ok-HasNoSource-clause-prediction g c = λ faithful kinds agrees.
@@ -37,7 +37,7 @@ returns-in-Ok-HasNoSource-clause-prediction g c = λ faithful kinds agrees.
     let after = F.failures c.sourceless.new.folder in
     let found = c.sourceless.result in
     let case = subst (λ (found : Prepared). IsPrepared c.args.options task old (option_copied c.args.old) found) c.in-Ok-HasNoSource.field-0-is (c.in-Ok-HasNoSource.ensures.prepared faithful) in
-    subst (λ (coming : Coming). IsPredictedOf kinds c.args.options task old (option_copied c.args.old) before after coming) (sym c.reported.ensures)
+    subst (λ (coming : PredictedOutcome). IsPredictedOf kinds c.args.options task old (option_copied c.args.old) before after coming) (sym c.reported.ensures)
     (sourceless_prediction kinds c.args.options task old (option_copied c.args.old) before mid after found c.prepare.ensures.requests.count c.sourceless.ensures.requests.count case
     (subst (λ (folder : Contents). IfOk found (λ coming. (removes : Bool) × (coming ≡ comings.HasNoSource removes) × (removes ≡ not (is_empty (output_files task folder.files))))) same (c.sourceless.ensures.removes faithful))
     (subst (λ (folder : Contents). IfErr found (CannotRead mid after (listing_faults task folder))) same (c.sourceless.ensures.err faithful)))
@@ -45,7 +45,7 @@ returns-in-Ok-HasNoSource-clause-prediction g c = λ faithful kinds agrees.
 pub explained-requires-clause-goes_by : goal.explained-requires-clause-goes_by
 explained-requires-clause-goes_by g c = (
   c.args.options,
-  subst (λ (found : Prepared). GoesByAs c.args.options c.args.task.now (option_copied c.args.old) found) c.in-Ok-Decided.field-0-is c.in-Ok-Decided.ensures.goes_by,
+  subst (λ (found : Prepared). FollowsFromAs c.args.options c.args.task.now (option_copied c.args.old) found) c.in-Ok-Decided.field-0-is c.in-Ok-Decided.ensures.goes_by,
 )
 
 pub returns-in-Ok-Decided-clause-prediction : goal.returns-in-Ok-Decided-clause-prediction

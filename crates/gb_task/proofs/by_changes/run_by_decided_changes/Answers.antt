@@ -23,7 +23,7 @@ use Rattle.gb_task.proofs.Parts.{outside_same}
 use Rattle.gb_task.proofs.Recorded.{record_exists, observed_later}
 use Rattle.gb_task.specs.Stages.{IsOfRunByChanges, RunByChanges, WritesChanges}
 use Rattle.gb_task.proofs.Stages.{StageLed, changes_kept, changes_on, made, unmade}
-use Rattle.gb_task.proofs.by_changes.go_by.Goals as goal
+use Rattle.gb_task.proofs.by_changes.run_by_decided_changes.Goals as goal
 
 pub returns-in_err-forget-clause-changes : goal.returns-in_err-forget-clause-changes
 returns-in_err-forget-clause-changes g c = λ faithful.

@@ -9,7 +9,7 @@ use Rattle.gb_folder.proofs.Asked.{requests_nothing}
 use Rattle.gb_label.proofs.ReadingAnswering.{outputs_longer}
 use Rattle.gb_label.proofs.Cases.{cannot_before}
 use Rattle.gb_label.proofs.Growth.{CannotPrint, cannot_print_listed, err_as, ok_as}
-use Rattle.gb_label.proofs.deciding.read_checked.Goals as goal
+use Rattle.gb_label.proofs.deciding.list_and_read.Goals as goal
 
 pub returns-in_err-check_outputs-clause-err : goal.returns-in_err-check_outputs-clause-err
 returns-in_err-check_outputs-clause-err g c = λ faithful.

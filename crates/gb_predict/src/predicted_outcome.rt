@@ -8,7 +8,7 @@ use gb_report::fault::Fault;
 
 /// The outcome of a task, if it were executed now.
 #[derive(Drop)]
-pub enum Coming {
+pub enum PredictedOutcome {
     /// `enabled` or a test is false.
     Skips,
     /// It runs nothing.
@@ -28,12 +28,15 @@ pub enum Coming {
     Runs(bool, Vec<Reason>),
 }
 
-impl Coming {
+impl PredictedOutcome {
     /// Whether the prediction depends on the files that the task reads.
     pub(crate) fn reads_files(&self) -> bool
         ensures { result ≡ reads_files self.now }
     {
-        !matches!(self, Coming::Skips | Coming::HasNoActions)
+        !matches!(
+            self,
+            PredictedOutcome::Skips | PredictedOutcome::HasNoActions
+        )
     }
 
     /// Whether its execution writes or removes files at its outputs.
@@ -41,8 +44,8 @@ impl Coming {
         ensures { result ≡ changes_files self.now }
     {
         match self {
-            Coming::HasNoSource(removes) => *removes,
-            Coming::HasGrown | Coming::Runs(_, _) => true,
+            PredictedOutcome::HasNoSource(removes) => *removes,
+            PredictedOutcome::HasGrown | PredictedOutcome::Runs(_, _) => true,
             _ => false,
         }
     }
@@ -51,7 +54,7 @@ impl Coming {
     fn is_unread(&self) -> bool
         ensures { result ≡ is_unread self.now }
     {
-        matches!(self, Coming::CannotRead(_))
+        matches!(self, PredictedOutcome::CannotRead(_))
     }
 }
 
@@ -61,12 +64,12 @@ pub struct Prediction {
     /// The path of the task.
     pub path: TaskPath,
     /// Its outcome, if it were executed now.
-    pub coming: Coming,
+    pub coming: PredictedOutcome,
     /// The first task before it in the plan whose output it reads and that may change its outputs.
     /// After that task is executed, the outcome may be different.
     pub after: Option<TaskPath>,
     /// The task that it needs, directly or indirectly, and that cannot be read: it will not start.
-    pub needs: Option<TaskPath>,
+    pub kept_by: Option<TaskPath>,
 }
 
 impl Prediction {
@@ -84,7 +87,7 @@ impl Prediction {
         if self.coming.is_unread() {
             Some(&self.path)
         } else {
-            self.needs.as_ref()
+            self.kept_by.as_ref()
         }
     }
 }

@@ -5,7 +5,7 @@ ghost use Rattle.gb_check.specs.Findings.{unread_spot};
 ghost use Rattle.gb_check.specs.Found.{cause_text, finding_text, findings_text, kind_text, line_text};
 ghost use Rattle.gb_check.specs.Found.{spot_text, unread_text, unread_where};
 
-use crate::findings::{Cause, Finding, Spot};
+use crate::findings::{Finding, Problem, Spot};
 use gb_core::place::Place;
 use gb_report::fault::Fault;
 use std::alloc::{AllocError, Global};
@@ -33,37 +33,37 @@ fn push_finding(text: &mut String, finding: &Finding) -> Result<(), AllocError>
 }
 
 /// What a line says before the text of a warning.
-fn kind_text(cause: &Cause) -> &'static str
+fn kind_text(cause: &Problem) -> &'static str
     ensures { result.now ≡ kind_text cause.now }
 {
     match cause {
-        Cause::Fault(_) => "",
+        Problem::Fault(_) => "",
         _ => "warning: ",
     }
 }
 
 /// Adds what is found.
-pub fn push_cause(text: &mut String, cause: &Cause) -> Result<(), AllocError>
+pub fn push_cause(text: &mut String, cause: &Problem) -> Result<(), AllocError>
     ensures { OnOk result (string_bytes text.new ≡ string_bytes text.old ++ cause_text cause.now) }
 {
     match cause {
-        Cause::Fault(fault) => write!(text, "{fault}"),
-        Cause::Shared(first, second) => write!(text, "{first} and {second} read one folder"),
-        Cause::Unneeded(root, maker) => {
+        Problem::Fault(fault) => write!(text, "{fault}"),
+        Problem::Shared(first, second) => write!(text, "{first} and {second} read one folder"),
+        Problem::Unneeded(root, maker) => {
             write!(
                 text,
                 "{root} overlaps an output of {maker}, which is not needed directly"
             )
         }
-        Cause::Stale(maker, reader) => {
+        Problem::Stale(maker, reader) => {
             write!(
                 text,
                 "where {maker} is skipped, {reader} reads its old output"
             )
         }
-        Cause::Bare(root) => write!(text, "no file is at {root}"),
-        Cause::Unread => write!(text, "nothing reads it"),
-        Cause::Unregistered(path) => {
+        Problem::Bare(root) => write!(text, "no file is at {root}"),
+        Problem::Unread => write!(text, "nothing reads it"),
+        Problem::Unregistered(path) => {
             write!(
                 text,
                 "a record of {path} is kept, which no script registers"
