@@ -19,7 +19,8 @@ ghost use Rattle.gb_check.specs.Found.{findings_text};
 ghost use Rattle.gb_check.specs.Sites.{IsUnread};
 ghost use Rattle.gb_ask_command.specs.Check.{AreFindingsOf, AreLeft, CheckReply, IsCheckReply, IsCheckText};
 ghost use Rattle.gb_ask_command.specs.Check.{IsCheckWritten, IsFindingAt, IsFoundAt};
-ghost use Rattle.gb_ask_command.specs.Check.{RepliesCheck, check_status, check_text, unregistered_of, written_status};
+ghost use Rattle.gb_ask_command.specs.Check.{RepliesCheck, check_status, check_text, unregistered_of};
+ghost use Rattle.gb_ask_command.specs.Check.{written_status};
 ghost use Rattle.gb_ask_command.specs.Reply.{Reply as Replied, reply_text};
 
 use crate::check_json::check_json;
@@ -48,11 +49,12 @@ use gb_registry::tables::Tables;
 use gb_report::fault::Fault;
 use std::alloc::{AllocError, Global};
 
-/// Prints the findings for all registered tasks, as lines or in JSON: their faults or that of the plan
-/// of all, each with its script and its line, and then warnings; or else the first fault of a
-/// statement, with its script and the line of the statement. Only the
-/// values of properties count among the arguments. The exit status is 0 if there is no fault, and 1
-/// if there is one or memory ran out.
+/// Prints the findings for all registered tasks, as lines or in JSON: first the faults, then the
+/// warnings, each with its script and line. If no task has a fault, the fault of the plan of all
+/// tasks, if any, takes their place. If a statement has a fault, the first one is the only finding.
+/// Of the arguments, only the values of properties count. The exit status is 0 if there is no
+/// fault, 2 if the arguments are not understood, and otherwise 1; there is none if the output could
+/// not be printed.
 pub fn run<A: Actions, T: Transforms, F: Folder, W: Printer>(
     alloc: Global,
     folder: &mut F,
@@ -158,8 +160,7 @@ fn found_text(alloc: Global, found: &Findings) -> Result<String, AllocError>
     Ok(text)
 }
 
-/// The exit status: 0 if there is no fault, 2 for arguments that request nothing known, otherwise
-/// 1.
+/// The exit status: 0 if there is no fault, 2 if the arguments are not understood, otherwise 1.
 fn check_status(reply: &Result<Findings, Fault>) -> u8
     ensures { result ≡ check_status reply.now }
 {
@@ -214,8 +215,9 @@ fn check_asked<A: Actions, T: Transforms, F: Folder>(
     }
 }
 
-/// The finding for scripts that were refused for this fault: if a statement has it, it is found
-/// there, for which the scripts are read once more. If they cannot be, it stays the refusal.
+/// The finding for scripts that were refused for this fault. The scripts are read once more, to
+/// find the first statement that has a fault. If no statement has one, or the scripts cannot be
+/// read, the fault itself is returned.
 fn check_statements<A: Actions, T: Transforms, F: Folder>(
     alloc: Global,
     folder: &mut F,

@@ -30,10 +30,10 @@ use gb_registry::tables::Tables;
 use gb_report::fault::Fault;
 use std::alloc::Global;
 
-/// Prints the plan of the arguments' request as a graph in this style, with the colours that show
-/// the outcome of each task if they are requested. No colour is shown if a build cannot be predicted,
-/// or for a task that does not start. The exit status is 0; it is 1 if a build of the request would
-/// be refused, and 2 if the arguments request nothing known.
+/// Prints the plan of the arguments' request as a graph in this style. If colours are requested,
+/// they show the outcome of each task. No colour is shown if a build cannot be predicted, or for a
+/// task that does not start. The exit status is 0; it is 1 if a build of the request would be
+/// refused, and 2 if the arguments are not understood.
 pub fn run<A: Actions, T: Transforms, F: Folder, W: Printer>(
     alloc: Global,
     folder: &mut F,

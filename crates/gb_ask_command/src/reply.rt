@@ -47,7 +47,7 @@ fn push_refusal<W: Printer>(alloc: Global, writer: &mut W, fault: &Fault)
     }
 }
 
-/// The exit status of a reply: 0 if there is a text, 2 for arguments that request nothing known,
+/// The exit status of a reply: 0 if there is a text, 2 if the arguments are not understood,
 /// otherwise 1.
 pub(crate) fn reply_status(reply: &Reply) -> u8
     ensures { result ≡ reply_status reply.now }

@@ -24,8 +24,8 @@ use std::alloc::Global;
 /// Prints each task of the plan that a build with the same arguments would have, as a line or in
 /// JSON: its outcome if it were executed on the folder as it is now, and why it would be executed.
 /// Returns the exit status: 0; 1 if such a build would be refused or memory ran out; and 2 if the
-/// arguments request no known build. Nothing is changed, and `--dry-run` makes no difference. If
-/// not all output could be printed, there is no status.
+/// arguments are not understood. Nothing is changed, and `--dry-run` makes no difference. If not
+/// all output could be printed, there is no status.
 pub fn run<A: Actions, T: Transforms, F: Folder, W: Printer>(
     alloc: Global,
     folder: &mut F,

@@ -20,7 +20,8 @@ use gb_store::listing::listed_at;
 use gb_store::removal::remove_all;
 use std::alloc::Global;
 
-/// Writes a file, and replaces one that exists there (94 at or under `.gb`; 12, 13).
+/// Writes a file, and replaces one that exists there (fault 94 at or under `.gb`; faults 12 and
+/// 13).
 pub fn put<F: Folder>(folder: &mut F, place: &Place, bytes: &Bytes) -> Result<(), Fault>
     ensures count { F.failures folder.old ≤ F.failures folder.new }
     ensures blame { Blames result (F.failures folder.old) (F.failures folder.new) }
@@ -42,7 +43,7 @@ pub fn put<F: Folder>(folder: &mut F, place: &Place, bytes: &Bytes) -> Result<()
     }
 }
 
-/// Removes a file (94 at or under `.gb`; 11, 12).
+/// Removes a file (fault 94 at or under `.gb`; faults 11 and 12).
 pub fn remove<F: Folder>(folder: &mut F, place: &Place) -> Result<(), Fault>
     ensures count { F.failures folder.old ≤ F.failures folder.new }
     ensures blame { Blames result (F.failures folder.old) (F.failures folder.new) }

@@ -70,8 +70,9 @@ pub fn run_events<A: Actions, T: Transforms, F: Folder, L: TaskListener>(
         (record { contents = F.contents folder.old; failures = F.failures folder.old })
         events.now answers.items
         (record { contents = F.contents folder.new; failures = F.failures folder.new })) }
-    // So each event is a plain step, and each build in which no task failed is from scratch,
-    // starting from any true records.
+    // So, if no two contents share a digest, each event is a step of the definition, and each build
+    // in which no task failed leaves what a build from scratch makes, whichever true records the
+    // first event starts from.
     ensures promise { IsTrue F.faithful → IfOk result (λ answers. (kinds : Kinds)
         → IsAssumed A.meanings tables.now.actions kinds (F.may_leave folder.old)
         → PromiseHolds

@@ -76,7 +76,7 @@ pub fn invoke<A: Actions, T: Transforms, F: Folder, L: TaskListener, P: Printer>
     ensures places { IfErr result (λ fault. (place : List ℕ) → fault ≡ Fault.Device place
         → IsTrue (is_read_first invocation.now.options place)) }
     ensures refused { IsTrue F.faithful → OnErr result (F.contents folder.new ≡ F.contents folder.old) }
-    // Why it is refused, and that a dry run changes nothing, depend on no kinds and no device.
+    // The next two clauses need no assumption about the kinds or the device.
     ensures not_built { IsTrue F.faithful → IfErr result (λ fault.
         IsNotBuilt (registers_in (tables_of T.meanings A.meanings tables.now))
         (record { contents = F.contents folder.old; failures = F.failures folder.old })
@@ -89,7 +89,8 @@ pub fn invoke<A: Actions, T: Transforms, F: Folder, L: TaskListener, P: Printer>
         → EventKeeps (registers_in (tables_of T.meanings A.meanings tables.now))
         (events.Invoke invocation.now)
         (answer_of result) (F.contents folder.old) (F.contents folder.new) }
-    // It is a next step of any run, with what the scripts of the folder register.
+    // It may follow any sequence of events: it is a step of the folder's history, with the tasks
+    // that its scripts register.
     ensures leads { IsTrue F.faithful → (kinds : Kinds)
         → IsAssumed A.meanings tables.now.actions kinds (F.may_leave folder.old)
         → Leads (setting_of (tables_of T.meanings A.meanings tables.now) kinds (F.may_leave folder.old))
@@ -104,8 +105,8 @@ pub fn invoke<A: Actions, T: Transforms, F: Folder, L: TaskListener, P: Printer>
         (record { contents = F.contents folder.old; failures = F.failures folder.old })
         invocation.now result
         (record { contents = F.contents folder.new; failures = F.failures folder.new }) }
-    // So it is a plain step, and a build in which no task failed is from scratch, starting from any
-    // true records.
+    // So, if no two contents share a digest, it is a step of the definition, and a build in which
+    // no task failed leaves what a build from scratch makes, whichever true records it starts from.
     ensures promise { IsTrue F.faithful → (kinds : Kinds)
         → IsAssumed A.meanings tables.now.actions kinds (F.may_leave folder.old)
         → PromiseHolds

@@ -6,13 +6,13 @@
 //! [`Report`]. [`Tables`] has the kinds and functions that scripts may name: `builtin_actions!` and
 //! `builtin_functions!` of `gb_answer` make them.
 //!
-//! This crate also has the parts of a build, and their calls in a module for each purpose:
-//! [`scripts`], [`plans`], [`trees`] and [`records`]. `docs/CRATES.md` has a table of them.
+//! This crate also re-exports the single calls of which a build consists, by purpose: [`scripts`],
+//! [`plans`], [`trees`] and [`records`]. `docs/CRATES.md` has a table of them.
 //!
-//! Inside, a build has three steps. [`reading`] reads the scripts, each file once and none before
-//! the settings are known to be good. [`invoking`] passes their declarations to [`requested`]. This
-//! plans, reads the records and executes the tasks. `specs/Words.antt` re-exports the definitions
-//! that the contracts use.
+//! Inside, a build has three steps. [`workspace`] reads the settings and then, if they have no
+//! fault, the scripts, each file once. [`invoking`] passes their declarations to [`requested`].
+//! This plans, reads the records and executes the tasks. `specs/Words.antt` re-exports the
+//! definitions that the contracts use.
 #![tactic(auto)]
 
 mod before;

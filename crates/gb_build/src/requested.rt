@@ -75,7 +75,8 @@ pub fn build_requested<A: Actions, F: Folder, L: TaskListener, P: Printer, Ts: T
     // Nothing changes but `.gb` and the build folders of the registered projects.
     ensures elsewhere { IsTrue F.faithful → ChangesOnly (is_of_build (Ts.registry tasks.old).projects)
         (F.contents folder.old) (F.contents folder.new) }
-    // It is a next step of any run, wherever scripts declare what is registered here.
+    // It may follow any sequence of events: it is a step of the folder's history, if its scripts
+    // register the tasks that are registered here.
     ensures leads { IsTrue F.faithful → (kinds : Kinds) (registry_of : Registering)
         → IsAssumed A.meanings table.now kinds (F.may_leave folder.old)
         → registry_of (outside (F.contents folder.old)).files invocation.now.properties

@@ -28,10 +28,11 @@ use std::alloc::Global;
 /// given. Where there is no `settings.gb`, the root is the only project; where a project has no
 /// `build.gb`, its script is empty.
 ///
-/// Refused with the first fault: of the text of `settings.gb` (12 where another file is in its way,
-/// 20 to 23), of what it includes (1, 57, 58), of the text of a `build.gb` in the order of projects
-/// (12, 20 to 23), and then of a statement, as `Registry::configure` reports it. Memory may run out
-/// (3), and the device may fail (10), on the way.
+/// Refused with the first fault: of the text of `settings.gb` (fault 12 where another file is in
+/// its way, faults 20 to 23), of what it includes (faults 1, 57 and 58), of the text of a
+/// `build.gb` in the order of projects (faults 12 and 20 to 23), and then of a statement, as
+/// `Registry::configure` reports it. Memory may run out (fault 3), and the device may fail (fault
+/// 10), on the way.
 pub fn read_registry<'a, A: Actions, T: Transforms, F: Folder>(
     alloc: Global,
     folder: &mut F,

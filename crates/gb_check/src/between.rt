@@ -14,8 +14,8 @@ use gb_core::tasks::TaskPaths;
 use gb_plan::task::{FileProperty, TaskDeclaration};
 use std::alloc::AllocError;
 
-/// Adds the warnings for each two tasks of which the first reads an output of the second. These are
-/// the tasks that may be skipped.
+/// Adds the warnings for each two tasks of which the first reads an output of the second. `guarded`
+/// has the tasks that may be skipped.
 pub(crate) fn push_between_all(
     found: &mut Vec<Finding>,
     tasks: &[TaskDeclaration],

@@ -29,7 +29,8 @@ pub(crate) fn check<Ts: Tasks>(
     ensures kept { Ts.registry tasks.new ≡ Ts.registry tasks.old }
     ensures found { IfOk result (λ found.
         IsFound sites.now marks.now (Ts.registry tasks.old) found.items) }
-    // The theorem of silence.
+    // If nothing is found, no task by itself is the cause of a refusal, whatever is requested. The
+    // only causes are lack of memory, the request, and the plan (faults 60 to 63).
     ensures silent { IfOk result (λ found. found.items ≡ [] → IsSilent (Ts.registry tasks.old)) }
     ensures err { IfErr result (λ fault. fault ≡ Fault.OutOfMemory) }
 {

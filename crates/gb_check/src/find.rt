@@ -26,12 +26,13 @@ use std::alloc::Global;
 /// has a fault, the reason why there is no plan of all tasks, after the line of the first task that
 /// it names.
 ///
-/// Warnings: for each two file properties of a task that have a root in common; for each two tasks,
-/// for each root of the first that overlaps an output of the second, if the first does not need it,
-/// and if a test may skip the second; and for each root without files.
+/// Warnings: for each two file properties of a task that have a root in common; for each two tasks
+/// of which the first has a root that overlaps an output of the second: that the first does not
+/// need the second, once for each such root; and that a test may skip the second; and for each root
+/// without files.
 ///
 /// Refused if memory runs out or the device fails, or if a script, which is read once more for its
-/// lines, cannot be read as one (2, 12, 20 to 23).
+/// lines, cannot be read as one (faults 2, 12 and 20 to 23; see `docs/FAULTS.md`).
 pub fn find<Ts: Tasks, F: Folder>(
     alloc: Global,
     folder: &mut F,

@@ -7,8 +7,9 @@
 //! exactly those of four sorts, over the tasks without a fault.
 //!
 //! A fault has the line of the one clause of its task that has the word in the fault, else that of
-//! the statement that registers the task. It can be another clause that has the word by chance: to
-//! carry the clause through the registry would change each fault of a build.
+//! the statement that registers the task. By chance this can be another clause with the same word.
+//! Rejected: to carry the clause through the registry, since this would change every fault of a
+//! build.
 #![tactic(auto)]
 
 mod bare;

@@ -25,14 +25,14 @@ use gb_report::report::Report;
 use gb_words::words::read;
 use std::alloc::Global;
 
-/// The exit status where the output cannot be printed.
+/// The exit status of a program for which `run` returns `None`.
 pub const UNPRINTED: u8 = 1;
 
 /// Builds what the arguments request, prints the output, and returns the exit status: 0 where the
-/// build was successful, 2 where the arguments request no known build, and else 1. The part of each
-/// task is printed as soon as its execution has ended, the rest after the last. A build does not
-/// stop where something cannot be printed; then there is no status: memory ran out, or the writer
-/// failed.
+/// build was successful, 2 if the arguments are not understood, and else 1. The part of each task
+/// is printed as soon as its execution has ended, the rest after the last. If something cannot be
+/// printed, because memory ran out or the writer failed, the build continues, and `None` is
+/// returned.
 pub fn run<A: Actions, T: Transforms, F: Folder, W: Printer>(
     alloc: Global,
     folder: &mut F,

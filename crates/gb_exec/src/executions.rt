@@ -37,7 +37,7 @@ use gb_report::report::TaskReport;
 use gb_task::case_laws::what_is_read_is_known;
 use std::alloc::Global;
 
-/// Appends a report to the others, for which there is room.
+/// Appends a report. There is room for it.
 fn push_reserved(reports: &mut Vec<TaskReport>, report: TaskReport)
     requires { vec_len reports.old < vec_capacity reports.old }
     ensures items { reports.new.items ≡ reports.old.items ++ report ∷ [] }
@@ -104,7 +104,8 @@ pub(crate) fn execute_tasks<A: Actions, F: Folder, L: TaskListener, P: Printer>(
     let mut all_heard = true;
     let mut index = 0;
     for path in paths {
-        // Records exist only for paths of tasks; this shows that the path is one.
+        // For the proof alone: `as_str` states that this is a task's path, which the contract about
+        // records needs.
         let _path = path.as_str();
         let taken = execute_one::<A, F, L>(alloc, folder, build, starts, index, path, listeners);
         all_heard = all_heard && taken.all_heard;

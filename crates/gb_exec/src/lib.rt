@@ -5,7 +5,7 @@
 //! ends, the part of each task is printed once it has ended, and a [`Report`] has the outcome of
 //! each.
 //!
-//! How it works: [`starts`] decides which tasks start, by the outcomes of those before them. For
+//! How it works: `may_start` decides which tasks start, by the outcomes of those before them. For
 //! each that starts, the listeners are notified, `gb_task` executes it, the listeners are notified
 //! again, and its part of the report is printed. Memory for the report is reserved before the first
 //! task, so that a build that has begun always has one. A dry run executes nothing.

@@ -99,8 +99,8 @@ pub(crate) fn mark_all(row: &[usize], marks: &mut Vec<bool>)
     }
 }
 
-/// Marks all that the rows reach from the marked numbers. Each row has lesser numbers, so one pass
-/// downwards is enough.
+/// Also marks all tasks that the marked ones need, directly or indirectly. A task needs only tasks
+/// with smaller numbers, so one pass from the last to the first is enough.
 fn spread(needs: &[Vec<usize>], marks: &mut Vec<bool>)
     requires marks { vec_len marks.old ≡ length needs.now }
     requires lesser { (later task : ℕ) → Contains (row (rows needs.now) later) task → task < later }
@@ -135,7 +135,7 @@ pub struct Starts {
     endings: Vec<Ending>,
     /// The finalizers of started tasks.
     called: Vec<bool>,
-    /// Those, and what they need, and so on.
+    /// The called tasks, and all that they need, directly or indirectly.
     serving: Vec<bool>,
     /// Whether none was called since `serving` was computed.
     is_spread: bool,
@@ -170,9 +170,9 @@ impl Starts {
     ghost use Rattle.gb_exec.specs.Starts.{has_executed_need, is_stopping, lacks_need};
     ghost use Rattle.gb_exec.specs.declared.may_start.Ending.TheVariants.{ToCome};
 
-    /// Before the first execution. Of each task the numbers of those that it needs, all less than
-    /// its own, and of those that finalize it; and whether it is selected, or a task of the plan
-    /// needs it.
+    /// Before the first execution. `needs` has, for each task, the numbers of the tasks that it
+    /// needs, all less than its own; `finalizers` those that finalize it; `wanted` whether it is
+    /// selected or needed by a task of the plan.
     pub fn new(
         alloc: Global,
         needs: Vec<Vec<usize>>,

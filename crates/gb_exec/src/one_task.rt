@@ -105,7 +105,8 @@ pub(crate) fn execute_one<A: Actions, F: Folder, L: TaskListener>(
         → slice_get build.now.tasks.now index ≡ Some planned
         → AreEndings build.now.tasks.now moment.outcomes starts.old.endings
         → IsOutline build.now.options build.now.tasks.now moment planned result.report }
-    // Where the record that was read of the task is known of it, this is its execution.
+    // If the record that was read is a true record of the task (`IsKnown`), this is its execution
+    // as defined.
     ensures execution { IsTrue F.faithful → (kinds : Kinds) (registry_of : Registering) (moment : Moment)
         (planned : Planned) → slice_get build.now.tasks.now index ≡ Some planned
         → IsAssumed A.meanings build.now.table.now kinds (F.may_leave folder.old)

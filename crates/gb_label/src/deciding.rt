@@ -39,7 +39,7 @@ pub enum FullReason {
     Rerun,
     /// A test of `upToDateWhen` is false.
     Stale,
-    /// Its outputs are such as no execution leaves: a file is too large, or there are too many.
+    /// Its outputs have more or larger files than an execution may leave.
     Grown,
 }
 
@@ -65,8 +65,8 @@ pub struct Verdict {
 
 /// Decides on a task that has a source: by its record and by what it has now. Its outputs are
 /// listed once, and they are read only if there is a record that may count. Their bytes are kept
-/// while there is `room` for them. Nothing is changed, also not by an error: the first unsupported
-/// entry at its outputs (14), or the machine's.
+/// while there is `room` for them. Nothing is changed, even if it fails. The error is the first
+/// unsupported entry at its outputs (fault 14), or that memory ran out or the device failed.
 pub fn decided<F: Folder>(
     alloc: Global,
     folder: &mut F,
@@ -190,8 +190,9 @@ fn by_record<F: Folder>(
     }
 }
 
-/// The outputs of a task as they are. An error is the machine's, the first unsupported entry there,
-/// or that of outputs such as no execution leaves, after which unsupported entries may follow.
+/// The outputs of a task as they are. Errors: memory ran out or the device failed; the first
+/// unsupported entry at the outputs; or a file is too large or there are too many, in which case
+/// unsupported entries may follow.
 fn read_outputs_now<F: Folder>(
     alloc: Global,
     folder: &mut F,
@@ -313,7 +314,8 @@ fn has_own(outputs: &[Output]) -> bool
     outputs.iter().any(|output| is_own(&output.place))
 }
 
-/// Nothing, if the fault says that outputs are such as no execution leaves; else the fault.
+/// Nothing, if the fault says that the outputs have more or larger files than an execution may
+/// leave; else the fault.
 fn check_grown(fault: Fault) -> Result<(), Fault>
     ensures ok { OnOk result (IsGrown fault) }
     ensures err { IfErr result (λ other. (other ≡ fault) × (¬ IsGrown fault)) }

@@ -26,7 +26,7 @@ pub enum EarlyCase {
     HasNoActions,
     /// All file properties that skip the task when empty are empty.
     HasNoSource,
-    /// None of these, but its outputs have not been listed. So its file properties were read.
+    /// None of these. Here are its file properties as read; its outputs were not listed.
     Open(Vec<Reading>),
 }
 
@@ -94,8 +94,9 @@ fn look_at_files<F: Folder>(
 }
 
 /// What a task is found to be before its record is considered. The bytes of its inputs are kept
-/// while there is `room` for them. Nothing is changed, also not by an error: the first fault of
-/// reading its inputs or, if it has no source, of listing its outputs; or the machine's.
+/// while there is `room` for them. Nothing is changed, even if it fails. The error is the first
+/// fault in reading the inputs or, if there is no source, in listing the outputs; or that memory
+/// ran out or the device failed.
 pub fn early_case_of<F: Folder>(
     alloc: Global,
     folder: &mut F,

@@ -65,8 +65,8 @@ fn read_one<F: Folder>(
 }
 
 /// The files of all file properties of a task, in the order of their names. Their bytes are kept
-/// while there is `room` for them, and reduce it. Nothing is changed, also not by an error: the
-/// first fault of reading them.
+/// while there is `room` for them, and reduce it. Nothing is changed, even if it fails. The error
+/// is the first fault in reading them.
 pub(crate) fn read_inputs<F: Folder>(
     alloc: Global,
     folder: &mut F,
@@ -107,8 +107,8 @@ pub struct Inputs {
 }
 
 /// The whole trees of a task's inputs: what was kept as it was read, and the rest as it is now,
-/// digested again. Nothing is changed, also not by an error: the machine's, or that a file has been
-/// removed since or has grown.
+/// digested again. Nothing is changed, even if it fails. The error is that memory ran out or the
+/// device failed, or that a file was removed or has grown since.
 pub fn complete_inputs<F: Folder>(
     alloc: Global,
     folder: &mut F,

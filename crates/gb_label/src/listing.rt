@@ -12,8 +12,8 @@ use gb_report::fault::Fault;
 use gb_run::emptying::listed_outputs;
 use std::alloc::Global;
 
-/// Lists the outputs of a task. An error is the first unsupported entry there (14), or the
-/// machine's (3, 10).
+/// Lists the outputs of a task. An error is the first unsupported entry there (fault 14), or that
+/// memory ran out or the device failed (faults 3 and 10).
 pub fn check_outputs<F: Folder>(
     alloc: Global,
     folder: &mut F,

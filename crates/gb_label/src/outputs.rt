@@ -62,8 +62,8 @@ fn read_one<F: Folder>(
 }
 
 /// The files at the outputs of a task, in the order of their names. Their bytes are kept while
-/// there is `room` for them, and reduce it. Nothing is changed, also not by an error: the first
-/// fault of reading them.
+/// there is `room` for them, and reduce it. Nothing is changed, even if it fails. The error is the
+/// first fault in reading them.
 pub fn read_outputs<F: Folder>(
     alloc: Global,
     folder: &mut F,
@@ -138,8 +138,8 @@ fn complete_one<F: Folder>(
 }
 
 /// The whole files at a task's outputs: what was kept as it was read, and the rest as it is now,
-/// digested again. Nothing is changed, also not by an error: the machine's, or that a file has been
-/// removed since or has grown.
+/// digested again. Nothing is changed, even if it fails. The error is that memory ran out or the
+/// device failed, or that a file was removed or has grown since.
 pub fn complete_outputs<F: Folder>(
     alloc: Global,
     folder: &mut F,

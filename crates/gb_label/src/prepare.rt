@@ -7,7 +7,8 @@ ghost use Rattle.gb_store.specs.Faults.{Blames, BlamesOnly};
 ghost use Rattle.gb_label.specs.Deciding.{HasNamesInOrder};
 ghost use Rattle.gb_label.specs.Looking.{IsHindered};
 ghost use Rattle.gb_label.specs.Answered.{WasPrepared};
-ghost use Rattle.gb_label.specs.Preparing.{FollowsFromAs, IsPrepared, IsRead, IsObserved, MayDecideAs, MayPrepare};
+ghost use Rattle.gb_label.specs.Preparing.{FollowsFromAs, IsPrepared, IsRead, IsObserved, MayDecideAs};
+ghost use Rattle.gb_label.specs.Preparing.{MayPrepare};
 ghost use Rattle.gb_label.specs.Reading.{is_input_of};
 
 use crate::deciding::{Basis, decided};
@@ -48,8 +49,9 @@ pub struct Observed {
 const KEPT: u64 = 67_108_864;
 
 /// The outcome of a task by its record, its inputs and its outputs as they are. If an execution
-/// follows, bytes that were read are kept for it. Nothing is changed, also not by an error: the
-/// first fault of reading its inputs or listing its outputs, or the machine's.
+/// follows, bytes that were read are kept for it. Nothing is changed, even if it fails. The error
+/// is the first fault in reading its inputs or listing its outputs, or that memory ran out or the
+/// device failed.
 pub fn prepare<F: Folder>(
     alloc: Global,
     folder: &mut F,

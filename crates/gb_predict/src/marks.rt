@@ -2,7 +2,8 @@
 ghost use Rattle.std.specs.Prelude.{◌≡◌, ◌≤◌, ◌&&◌, [], ℕ, List, Some, IfOk, OnOk, bytes_eq};
 ghost use Rattle.std.specs.Prelude.{if◌then◌else◌, is_some, length, option_copied};
 ghost use Rattle.std.specs.List.{zip};
-ghost use Rattle.gb_predict.specs.Least.{AreNotStarting, ByOne, IsChanged, IsLeast, IsReadAt, IsReadBy, lesser};
+ghost use Rattle.gb_predict.specs.Least.{AreNotStarting, ByOne, IsChanged, IsLeast, IsReadAt, IsReadBy};
+ghost use Rattle.gb_predict.specs.Least.{lesser};
 ghost use Rattle.gb_predict.specs.Marks.{culprit, culprit_at, keeper, mark};
 ghost use Rattle.gb_graph.specs.Places.{AreSamePlaces, IsRising, places_from, with_places};
 ghost use Rattle.gb_graph.specs.Ranked.{number_at};

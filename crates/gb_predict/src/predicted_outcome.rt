@@ -80,7 +80,8 @@ impl Prediction {
         self.coming.changes_files() || self.after.is_some()
     }
 
-    /// The task that fails, if no task that needs this one starts.
+    /// The task that cannot be read and therefore keeps all tasks that need this one from starting,
+    /// if there is one.
     pub(crate) fn culprit(&self) -> Option<&TaskPath>
         ensures { option_copied result ≡ culprit self.now }
     {

@@ -49,7 +49,8 @@ pub fn delete_record<F: Folder>(
         → (was_read ≡ false → recalled memory path.now ≡ None)
         → HoldsWithout path.now memory result (F.contents folder.new).files }
 {
-    // The contract is about paths of tasks alone. This shows that the path is one.
+    // For the proof alone: `as_str` states that this is a task's path, which the contract about
+    // records needs.
     let _path = path.as_str();
     if !was_read {
         return Ok(());

@@ -2,7 +2,7 @@
 //! and stored as it ends.
 //!
 //! If the folder's contents are known, the contracts say which records exist after each call. This
-//! includes a call that was stopped, if what it leaves is recognized for what it is.
+//! holds also after a write that was stopped, if what it left is not taken for a complete record.
 #![tactic(auto)]
 
 pub mod fault;

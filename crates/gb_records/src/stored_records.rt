@@ -23,8 +23,8 @@ use std::alloc::Global;
 /// The most bytes that a record's text may have: 64 MiB.
 pub(crate) const MAX_RECORD: u64 = 64 * 1024 * 1024;
 
-/// The records of these tasks as they are, in the order of the tasks. A task has none if no text of
-/// a record of it is there.
+/// The records of these tasks, in their order. A task has none if there is no file at its record's
+/// place, or the file is no record of this task.
 pub fn read_records<F: Folder>(
     alloc: Global,
     folder: &mut F,

@@ -20,7 +20,7 @@ use std::alloc::{AllocError, Global};
 use std::collections::BTreeMap;
 
 /// Checks all the files that exist after these steps are done. An error is the first fault of these
-/// files, or lack of memory (3).
+/// files, or lack of memory (fault 3).
 pub fn check_held(
     alloc: Global,
     outputs: &[Output],

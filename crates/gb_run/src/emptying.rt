@@ -23,8 +23,9 @@ use gb_store::listing::listed_at;
 use gb_store::removal::remove_all;
 use std::alloc::Global;
 
-/// Removes the files at the outputs of a task. An error is the first unsupported entry there (14),
-/// before anything is removed, or the machine's (3, 10), after which some first files are gone.
+/// Removes the files at the outputs of a task. An error is the first unsupported entry there (fault
+/// 14), before anything is removed; or that memory ran out or the device failed (faults 3 and 10),
+/// after which some first files are gone.
 pub fn empty_outputs<F: Folder>(
     alloc: Global,
     folder: &mut F,
@@ -52,7 +53,7 @@ pub fn empty_outputs<F: Folder>(
 }
 
 /// The places of the files at these outputs, output by output. An error is the first unsupported
-/// entry there (14), or the machine's (3, 10).
+/// entry there (fault 14), or that memory ran out or the device failed (faults 3 and 10).
 pub fn listed_outputs<F: Folder>(
     alloc: Global,
     folder: &mut F,

@@ -2,10 +2,10 @@
 //!
 //! A run is computed first, as a value. [`work::Work`] has a part for each action, with its steps
 //! and its lines. It also has the digests of all that is made, or the fault of the action that
-//! fails. None of it depends on a folder. Then `parts` and `doing` do the steps, for both ways of
-//! execution. Their contract is one clause over any folder: which calls were made, with which
-//! bytes. So nothing is changed before all actions were called and all files checked. The cost: all
-//! files that one task makes are in memory until they are written.
+//! fails. None of it depends on a folder. Then `work_parts` and `doing` carry out the steps, for
+//! full and incremental executions alike. Their contract is one clause over any folder: which calls
+//! were made, with which bytes. So nothing is changed before all actions were called and all files
+//! checked. The cost: all files that one task makes are in memory until they are written.
 //!
 //! [`run::run_in_full`] starts from emptied outputs. The files of an action are checked by place,
 //! together with those of the actions before it, and written by place, in whatever order the action

@@ -29,7 +29,7 @@ use std::collections::BTreeMap;
 
 /// Takes the places of the files that an action writes, given those taken before, and returns the
 /// steps that write them, by place. An error is the first fault of these files, or lack of memory
-/// (3).
+/// (fault 3).
 pub fn take_places(
     alloc: Global,
     taken: &mut FileMap,

@@ -20,7 +20,7 @@ use std::alloc::{AllocError, Global};
 use std::collections::BTreeMap;
 
 /// The steps of a reply over the files that were read, with bytes of their own. An error is the
-/// first fault of the files that the task then holds, or lack of memory (3).
+/// first fault of the files that the task then holds, or lack of memory (fault 3).
 pub fn planned(
     alloc: Global,
     outputs: &[Output],

@@ -29,9 +29,9 @@ use gb_tree::prints::Prints;
 use std::alloc::Global;
 
 /// Executes the actions of a task, each with a full request, over a folder without its files.
-/// Computes what they make before anything is changed, and then writes it, action by action. The
-/// lines of an action follow those of the others once its files are written. Returns the digests of
-/// what the actions made, whatever has happened to it in the folder since.
+/// Computes what they make before anything is changed, and then writes it, action by action. Once
+/// the files of an action are written, its lines are appended to `lines`. Returns the digests of
+/// what the actions made, even if the folder has changed since.
 pub fn run_in_full<A: Actions, F: Folder>(
     alloc: Global,
     folder: &mut F,

@@ -1,5 +1,5 @@
-//! The steps and lines of a full rebuild, computed before anything is changed. Nothing here depends
-//! on a folder.
+//! The steps and lines of a full execution, computed before anything is changed. Nothing here
+//! depends on a folder.
 ghost use Rattle.std.specs.Prelude.{◌≡◌, ◌≢◌, ◌⊎◌, ◌++◌, ℕ, List, [], Ok, Err, Some, IsTrue, IfOk, IfErr};
 ghost use Rattle.std.specs.Prelude.{OnOk, map};
 ghost use Rattle.std.specs.List.{AllByRecursion};
@@ -35,7 +35,8 @@ use gb_report::fault::Fault;
 use gb_tree::prints::Prints;
 use std::alloc::{AllocError, Global};
 
-/// The steps of one action, and the lines that it prints after them.
+/// The steps of one action, and the lines that it prints after them. A step writes these bytes at a
+/// place or, if there are none (`None`), removes the file there.
 #[derive(Drop)]
 pub struct Part {
     pub steps: Vec<(Place, Option<Bytes>)>,
@@ -105,7 +106,7 @@ pub fn work_in_full<A: Actions>(
     })
 }
 
-/// The work up to an action that fails by itself.
+/// The work up to an action that fails, not for lack of memory.
 pub fn stopped(parts: Vec<Part>, fault: Fault) -> Result<Work, AllocError>
     ensures same { IfOk result (λ work. (work.parts ≡ parts) × (work.made ≡ Err fault)) }
     ensures own { OnOk result (fault ≢ Fault.OutOfMemory) }
@@ -120,7 +121,7 @@ pub fn stopped(parts: Vec<Part>, fault: Fault) -> Result<Work, AllocError>
 }
 
 /// Computes the part of one action: calls it, and takes the places of its files, given those of the
-/// others.
+/// actions before it.
 fn part_of<A: Actions>(
     alloc: Global,
     task: &TaskDeclaration,

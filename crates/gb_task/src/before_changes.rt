@@ -37,14 +37,14 @@ pub enum Settled {
     Reported(TaskReport),
     /// The task has no source.
     Sourceless(TaskPath),
-    /// The task is to run, as was decided on what was read of it: incrementally or in full.
+    /// The task is to run. The decision says how, and the rest is what was read.
     Due(TaskPath, Decision, Observed),
 }
 
 /// Decides how a started task is executed, and reports its outcome where nothing is to be done.
 /// Nothing is changed. `last` is the record that was read of the task, and `has_executed_need` says
-/// whether a task that it needs was executed in this build. The path is the task's own, so that a
-/// report needs no memory.
+/// whether a task that it needs was executed in this build. `path` is a copy of the task's path,
+/// made in advance: it is moved into the report, so that a report allocates nothing.
 pub fn settle<F: Folder>(
     alloc: Global,
     folder: &mut F,
@@ -68,7 +68,8 @@ pub fn settle<F: Folder>(
     ensures answered { WasSettled F.failures F.may_leave F.allowed folder.old folder.new options task.now
         (option_copied last.entry) result }
     ensures same { IsTrue F.faithful → F.contents folder.new ≡ F.contents folder.old }
-    // A report is the result of the task's execution; a result without a report is the task's case.
+    // If there is a report, it is that of the task's execution. Otherwise the result says which
+    // case of the definition applies.
     ensures settled { IsTrue F.faithful → (kinds : Kinds) (registry_of : Registering) (plan : Plan)
         (moment : Moment) → moment.world.folder ≡ outside (F.contents folder.old)
         → moment.failures ≡ F.failures folder.old
@@ -86,7 +87,7 @@ pub fn settle<F: Folder>(
     settled_by(alloc, task, path, prepared, has_executed_need)
 }
 
-/// The decision that follows from what the execution was prepared for.
+/// What is decided, from the result of `prepare`.
 fn settled_by(
     alloc: Global,
     task: &TaskDeclaration,

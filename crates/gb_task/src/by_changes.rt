@@ -85,7 +85,8 @@ pub(crate) fn run_by_decided_changes<A: Actions, F: Folder>(
         (report_of task.now result lines.new)
         (F.contents folder.old) (F.failures folder.new) (F.contents folder.new) }
 {
-    // Records exist only for paths of tasks; this shows that the path is one.
+    // For the proof alone: `as_str` states that this is a task's path, which the contract about
+    // records needs.
     let _path = task.path.as_str();
     forget(alloc, folder, &task.path, true)?;
     let run = make_by_changes::<A, F>(alloc, folder, task, table, inputs, outputs, changes, lines)?;

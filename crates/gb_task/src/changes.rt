@@ -37,8 +37,8 @@ use gb_report::report::{Options, TaskReport};
 use std::alloc::Global;
 
 /// Executes a task that may run incrementally, starting from the outputs of its previous execution
-/// (`last` is its record), on its inputs and outputs as they were read. The path is the task's own,
-/// so that a report needs no memory.
+/// (`last` is its record), on its inputs and outputs as they were read. `path` is a copy of the
+/// task's path, made in advance: it is moved into the report, so that a report allocates nothing.
 pub fn execute_by_changes<A: Actions, F: Folder>(
     alloc: Global,
     folder: &mut F,

@@ -48,8 +48,8 @@ use gb_run::calling_changes::has_one_writer;
 use std::alloc::Global;
 
 /// Executes a started task. `last` is the record that was read of it, and `has_executed_need` says
-/// whether a task that it needs was executed in this build. The path is the task's own, so that a
-/// report needs no memory.
+/// whether a task that it needs was executed in this build. `path` is a copy of the task's path,
+/// made in advance: it is moved into the report, so that a report allocates nothing.
 pub fn execute_task<A: Actions, F: Folder>(
     alloc: Global,
     folder: &mut F,
@@ -85,7 +85,8 @@ pub fn execute_task<A: Actions, F: Folder>(
     ensures answer { IsAnswer options task.now result }
     ensures changes { IsTrue F.faithful
         → ChangesOnly (is_of_execution task.now) (F.contents folder.old) (F.contents folder.new) }
-    // Where the record that was read of the task is known of it, this is its execution.
+    // If the record that was read is a true record of the task (`IsKnown`), this is its execution
+    // as defined.
     ensures execution { IsTrue F.faithful → (kinds : Kinds) (registry_of : Registering) (plan : Plan)
         (moment : Moment) → IsAssumed A.meanings table.now kinds (F.may_leave folder.old)
         → BeginsAt task.now (is_some (option_copied last.entry)) (F.contents folder.old)

@@ -52,7 +52,8 @@ use gb_tree::prints::Prints;
 use std::alloc::Global;
 
 /// Executes a task in full, on its inputs as they were read. `was_read` says whether a record of it
-/// was read; the path is the task's own, so that a report needs no memory.
+/// was read. `path` is a copy of the task's path, made in advance: it is moved into the report, so
+/// that a report allocates nothing.
 pub fn execute_in_full<A: Actions, F: Folder>(
     alloc: Global,
     folder: &mut F,

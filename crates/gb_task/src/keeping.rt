@@ -46,7 +46,8 @@ pub fn forget<F: Folder>(
         → (was_read ≡ false → recalled memory path.now ≡ None)
         → IsForgotten path.now memory result (F.contents folder.new).files }
 {
-    // The contract speaks only of paths of tasks; this shows that the path is one.
+    // For the proof alone: `as_str` states that this is a task's path, which the contract about
+    // records needs.
     let _path = path.as_str();
     if !was_read {
         return Ok(());

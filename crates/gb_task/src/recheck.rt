@@ -45,8 +45,8 @@ pub enum Recheck {
 }
 
 /// Reads the contents of inputs and outputs that were not kept, and decides on the digests of all.
-/// Nothing is changed, also not by an error: the machine's, or that a file is gone or has grown
-/// since it was first read.
+/// Nothing is changed, even if it fails. The error is that memory ran out or the device failed, or
+/// that a file is gone or has grown since it was first read.
 pub(crate) fn recheck_task<F: Folder>(
     alloc: Global,
     folder: &mut F,

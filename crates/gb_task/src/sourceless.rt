@@ -29,7 +29,8 @@ use gb_report::report::{Outcome, TaskReport};
 use std::alloc::Global;
 
 /// Executes a task without source: nothing of its previous execution is kept. `was_read` says
-/// whether a record of it was read; the path is the task's own, so that a report needs no memory.
+/// whether a record of it was read. `path` is a copy of the task's path, made in advance: it is
+/// moved into the report, so that a report allocates nothing.
 pub fn execute_without_source<F: Folder>(
     alloc: Global,
     folder: &mut F,
