@@ -18,6 +18,6 @@ pub record AreFindings (faithful : Bool) (contents : Contents) (registry : Regis
   pub marks : List Mark
   pub are_sites : AreSites faithful contents.files scripts sites marks
   pub faults : IsFound sites marks registry findings.faults.items
-  -- The theorem of silence.
+  -- If nothing is found, only lack of memory, the words or the plan (60 to 63) cause a refusal.
   pub silent : findings.faults.items ≡ [] → IsSilent registry
   pub warnings : AreWarnings faithful sites scripts contents registry findings.warnings.items
