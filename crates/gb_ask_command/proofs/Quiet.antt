@@ -12,7 +12,7 @@ use Rattle.gb_check.specs.Sites.{AreLinesAt, AreSites, script_of_project}
 use Rattle.gb_check.specs.Warnings.{bare_roots, declared_in}
 use Rattle.gb_check.specs.declared.findings.Finding.{Finding}
 use Rattle.gb_check.specs.declared.findings.Findings.{Findings}
-use Rattle.gb_check.specs.declared.clause_lines.Mark.{Mark}
+use Rattle.gb_check.specs.declared.clause_lines.ClauseMark.{ClauseMark}
 use Rattle.gb_check.specs.declared.sites.Site.{Site}
 use Rattle.gb_declare.specs.Registered.{registry_said}
 use Rattle.gb_folder.specs.Files.{Contents, Files, Place}
@@ -23,6 +23,7 @@ use Rattle.gb_plan.specs.Graph.{Plan, Registry, paths_of}
 use Rattle.gb_plan.specs.Refusal.{IsScheduleFault, request_of}
 use Rattle.gb_plan.specs.Task.{Path, Text}
 use Rattle.gb_query.specs.Inventory.{AreUnregistered}
+use Rattle.gb_registry.specs.References.{Names}
 use Rattle.gb_registry.specs.Source.{Source}
 use Rattle.gb_registry.specs.Tables.{Tables}
 use Rattle.gb_report.specs.declared.fault.Fault.{Fault}
@@ -32,26 +33,28 @@ use Rattle.gb_ask_command.specs.Check.{AreFindingsOf, AreLeft, IsFoundAt, IsNotF
 
 -- ---- The same folder
 
-sites_of_same : (faithful : Bool) (old new : Files) → (IsTrue faithful → new ≡ old) → (scripts : List (Path × List Statement)) (sites : List Site) (marks : List Mark)
-    → AreSites faithful new scripts sites marks → AreSites faithful old scripts sites marks
-sites_of_same faithful old new same [] sites marks are = are
-sites_of_same faithful old new same (script ∷ scripts) sites marks (lines, others, words, at, rest, is, of) = (
+sites_of_same : {M F Z S A : Type 0} (tables : Tables M F Z S A) (names : Names) (faithful : Bool) (old new : Files) → (IsTrue faithful → new ≡ old)
+    → (scripts : List (Path × List Statement)) (sites : List Site) (marks : List ClauseMark)
+    → AreSites tables names faithful new scripts sites marks → AreSites tables names faithful old scripts sites marks
+sites_of_same tables names faithful old new same [] sites marks are = are
+sites_of_same tables names faithful old new same (script ∷ scripts) sites marks (lines, others, words, at, rest, is, of) = (
   lines,
   others,
   words,
   λ reported. subst (λ (files : Files). AreLinesAt files (script_of_project script.0) lines) (same reported) (at reported),
-  sites_of_same faithful old new same scripts others words rest,
+  sites_of_same tables names faithful old new same scripts others words rest,
   is,
   of,
 )
 
 -- findings for a folder are findings for one with the same contents
-pub found_of_same : (faithful : Bool) (old new : Contents) → (IsTrue faithful → new ≡ old) → (registry : Registry) (scripts : List (Path × List Statement)) (findings : Findings)
-    → AreFindings faithful new registry scripts findings → AreFindings faithful old registry scripts findings
-found_of_same faithful old new same registry scripts findings are = record {
+pub found_of_same : {M F Z S A : Type 0} (tables : Tables M F Z S A) (names : Names) (faithful : Bool) (old new : Contents) → (IsTrue faithful → new ≡ old)
+    → (registry : Registry) (scripts : List (Path × List Statement)) (findings : Findings)
+    → AreFindings tables names faithful new registry scripts findings → AreFindings tables names faithful old registry scripts findings
+found_of_same tables names faithful old new same registry scripts findings are = record {
   sites = are.sites;
   marks = are.marks;
-  are_sites = sites_of_same faithful old.files new.files (λ reported. ap (λ (c : Contents). c.files) (same reported)) scripts are.sites are.marks are.are_sites;
+  are_sites = sites_of_same tables names faithful old.files new.files (λ reported. ap (λ (c : Contents). c.files) (same reported)) scripts are.sites are.marks are.are_sites;
   faults = are.faults;
   silent = are.silent;
   warnings = record {
@@ -75,7 +78,7 @@ module _ {M F Z S A : Type 0} (tables : Tables M F Z S A) where
     scripts = are.scripts;
     are_scripts = are.are_scripts;
     in_tasks = are.in_tasks;
-    findings = found_of_same faithful old new same (registry_said tables source) are.scripts are.in_tasks are.findings;
+    findings = found_of_same tables source.names faithful old new same (registry_said tables source) are.scripts are.in_tasks are.findings;
     left = are.left;
     are_left = left_of_same faithful old new same (paths_of (registry_said tables source)) are.left are.are_left;
     faults = are.faults;

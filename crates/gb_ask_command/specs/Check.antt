@@ -118,7 +118,8 @@ module _ {M F Z S A : Type 0} (tables : Tables M F Z S A) (faithful : Bool) wher
     pub scripts : List (Path × List Statement)
     pub are_scripts : IsRead source scripts
     pub in_tasks : Findings
-    pub findings : AreFindings faithful contents (registry_said tables source) scripts in_tasks
+    pub findings : AreFindings tables source.names faithful contents (registry_said tables source) scripts
+        in_tasks
     pub left : List Finding
     pub are_left : AreLeft faithful contents (paths_of (registry_said tables source)) left
     pub faults : found.faults.items ≡ in_tasks.faults.items

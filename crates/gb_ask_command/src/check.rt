@@ -45,6 +45,7 @@ use gb_query::notation::Notation;
 use gb_registry::checking::Scripted;
 use gb_registry::configured::Configured;
 use gb_registry::first_fault::FaultAt;
+use gb_registry::names::Names;
 use gb_registry::tables::Tables;
 use gb_report::fault::Fault;
 use std::alloc::{AllocError, Global};
@@ -380,14 +381,26 @@ fn check_tasks<A: Actions, T: Transforms, F: Folder>(
     ensures requests { Requests F.failures F.may_leave F.allowed no_change folder.old folder.new }
     ensures same { IsTrue F.faithful → F.contents folder.new ≡ F.contents folder.old }
     ensures found { let tables = tables_of T.meanings A.meanings configured.now.tables.now in
-        IfOk result (AreFindings F.faithful (F.contents folder.old)
+        IfOk result (AreFindings tables configured.now.registry.names F.faithful (F.contents folder.old)
         (registry_said tables configured.now.registry) (scripts_in scripts.now)) }
     ensures err { IsTrue F.faithful → IfErr result (λ fault.
         IsOfMachine (F.failures folder.old) (F.failures folder.new) fault
         ⊎ IsUnread (F.contents folder.old).files (scripts_in scripts.now) fault) }
 {
-    let _registered = configured.registry.tasks();
-    let names = configured.registry.names(alloc)?;
+    let registry = &configured.registry;
+    let known = Names {
+        projects: registry.projects(),
+        tasks: registry.tasks().paths(),
+    };
+    let paths = registry.names(alloc)?;
     let mut tasks = ScriptTasks::declare(alloc, configured)?;
-    find(alloc, folder, &mut tasks, names.as_slice(), scripts)
+    find(
+        alloc,
+        folder,
+        configured.tables,
+        &known,
+        &mut tasks,
+        paths.as_slice(),
+        scripts,
+    )
 }

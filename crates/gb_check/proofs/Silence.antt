@@ -18,7 +18,7 @@ use Rattle.gb_report.specs.declared.fault.Fault.{Fault}
 use Rattle.gb_report.specs.declared.fault.Fault.TheVariants as faults
 use Rattle.gb_check.specs.Found.{IsFound, IsSilent, faults_of, found_of, in_plan, in_tasks, task_found, tasks_found}
 use Rattle.gb_check.specs.declared.findings.Finding.{Finding}
-use Rattle.gb_check.specs.declared.clause_lines.Mark.{Mark}
+use Rattle.gb_check.specs.declared.clause_lines.ClauseMark.{ClauseMark}
 use Rattle.gb_check.specs.declared.sites.Site.{Site}
 
 -- ---- Findings
@@ -79,7 +79,7 @@ module _ (registry : Registry) where
 
 -- ---- Silence
 
-module _ (sites : List Site) (marks : List Mark) (registry : Registry) (none : tasks_found sites marks registry ≡ []) where
+module _ (sites : List Site) (marks : List ClauseMark) (registry : Registry) (none : tasks_found sites marks registry ≡ []) where
   not_at_fault : (path : Path) (fault : Fault) → declaration_at registry path ≢ Some (Err fault)
   not_at_fault path fault is =
       let empty = nothing_in (task_found sites marks registry) (paths_of registry) path none (registered registry.tasks path (Err fault) is) in
@@ -93,6 +93,6 @@ module _ (sites : List Site) (marks : List Mark) (registry : Registry) (none : t
       absurd (not_at_fault task.path fault (ap (λ r. declaration_at r task.path) (sym (request_registry registry requested excluded request allowed)) ∙ task.at_fault))
   silent_of requested excluded fault (inr (inr (request, allowed, inr (plan, schedule, bad)))) = inr (inr (plan, bad))
 
-pub silence : (sites : List Site) (marks : List Mark) (registry : Registry) (found : List Finding) → IsFound sites marks registry found → found ≡ [] → IsSilent registry
+pub silence : (sites : List Site) (marks : List ClauseMark) (registry : Registry) (found : List Finding) → IsFound sites marks registry found → found ≡ [] → IsSilent registry
 silence sites marks registry found (in_tasks full is) empty = absurd (full empty)
 silence sites marks registry found (in_plan none is) empty = silent_of sites marks registry none

@@ -3,20 +3,23 @@ use Rattle.std.specs.Prelude.{◌≡◌, Bool, List, []}
 use Rattle.gb_folder.specs.Files.{Contents}
 use Rattle.gb_plan.specs.Graph.{Registry}
 use Rattle.gb_plan.specs.Task.{Path}
+use Rattle.gb_registry.specs.References.{Names}
+use Rattle.gb_registry.specs.Tables.{Tables}
 use Rattle.gb_script.specs.declared.script.Statement.{Statement}
 use Rattle.gb_check.specs.Found.{IsFound, IsSilent}
 use Rattle.gb_check.specs.Sites.{AreSites}
 use Rattle.gb_check.specs.Warnings.{AreWarnings}
 use Rattle.gb_check.specs.declared.findings.Findings.{Findings}
-use Rattle.gb_check.specs.declared.clause_lines.Mark.{Mark}
+use Rattle.gb_check.specs.declared.clause_lines.ClauseMark.{ClauseMark}
 use Rattle.gb_check.specs.declared.sites.Site.{Site}
 
 -- The findings for a registry whose tasks these scripts register, with the lines in which they do.
-pub record AreFindings (faithful : Bool) (contents : Contents) (registry : Registry)
-    (scripts : List (Path × List Statement)) (findings : Findings) : Type 0 where
+pub record AreFindings {M F Z S A : Type 0} (tables : Tables M F Z S A) (names : Names) (faithful : Bool)
+    (contents : Contents) (registry : Registry) (scripts : List (Path × List Statement)) (findings : Findings)
+    : Type 0 where
   pub sites : List Site
-  pub marks : List Mark
-  pub are_sites : AreSites faithful contents.files scripts sites marks
+  pub marks : List ClauseMark
+  pub are_sites : AreSites tables names faithful contents.files scripts sites marks
   pub faults : IsFound sites marks registry findings.faults.items
   -- If nothing is found, only lack of memory, the words or the plan (60 to 63) cause a refusal.
   pub silent : findings.faults.items ≡ [] → IsSilent registry

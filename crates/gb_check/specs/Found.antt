@@ -20,7 +20,7 @@ use Rattle.gb_check.specs.declared.findings.Problem.TheVariants as problems
 use Rattle.gb_check.specs.declared.findings.Finding.{Finding}
 use Rattle.gb_check.specs.declared.findings.Spot.{Spot}
 use Rattle.gb_check.specs.declared.findings.Spot.TheVariants as spots
-use Rattle.gb_check.specs.declared.clause_lines.Mark.{Mark}
+use Rattle.gb_check.specs.declared.clause_lines.ClauseMark.{ClauseMark}
 use Rattle.gb_check.specs.declared.sites.Site.{Site}
 
 -- ---- What is printed
@@ -70,16 +70,16 @@ unread_text fault = line (unread_where (unread_spot fault) ++ fault_text fault)
 -- ---- The findings
 
 -- the line of the clause that the fault of a registered task names, or else of the registration
-abbrev pub line_spot : List Mark → Path → Fault → Site → Spot
+abbrev pub line_spot : List ClauseMark → Path → Fault → Site → Spot
 line_spot marks path fault site = spots.Line site.script (line_for marks path fault site.line)
 
 -- the same for the task at a path
-abbrev pub fault_spot : List Site → List Mark → Path → Fault → Spot
+abbrev pub fault_spot : List Site → List ClauseMark → Path → Fault → Spot
 fault_spot sites marks path fault =
     option_map_or (line_spot marks path fault) (find (λ site. bytes_eq site.path path) sites) spots.Unknown
 
 -- a fault of the task at a path
-abbrev pub found_of : List Site → List Mark → Path → Fault → Finding
+abbrev pub found_of : List Site → List ClauseMark → Path → Fault → Finding
 found_of sites marks path fault =
     record { spot = fault_spot sites marks path fault; cause = problems.Fault fault }
 
@@ -89,12 +89,12 @@ faults_of (Some (Ok task)) = []
 faults_of None = []
 
 -- the fault of the task at a path, if it has one
-abbrev pub task_found : List Site → List Mark → Registry → Path → List Finding
+abbrev pub task_found : List Site → List ClauseMark → Registry → Path → List Finding
 task_found sites marks registry path =
     map (found_of sites marks path) (faults_of (declaration_at registry path))
 
 -- the fault of each task that has one, in the order of registration
-abbrev pub tasks_found : List Site → List Mark → Registry → List Finding
+abbrev pub tasks_found : List Site → List ClauseMark → Registry → List Finding
 tasks_found sites marks registry = flat_map (task_found sites marks registry) (paths_of registry)
 
 -- the task whose line is named for the fault of a plan: the first that the fault names
@@ -112,7 +112,8 @@ named_by other = None
 -- the fault of a plan
 abbrev pub plan_found : List Site → Fault → Finding
 plan_found sites fault =
-    record { spot = option_map_or (spot_at sites) (named_by fault) spots.Unknown; cause = problems.Fault fault }
+    let spot = option_map_or (spot_at sites) (named_by fault) spots.Unknown in
+    record { spot = spot; cause = problems.Fault fault }
 
 -- the findings for the plan of these words: none, or why there is no plan
 abbrev pub IsFoundInPlan : List Site → Registry → List Text → List Finding → Type 0
@@ -127,11 +128,11 @@ IsFoundInAll sites registry paths found =
     ((paths ≡ []) × (found ≡ [])) ⊎ ((paths ≢ []) × IsFoundInPlan sites registry paths found)
 
 -- The faults of all tasks; or if no task has one, the findings for the plan of all.
-pub data IsFound (sites : List Site) (marks : List Mark) (registry : Registry) (found : List Finding) : Type 0
-  where
-    in_tasks : found ≢ [] → found ≡ tasks_found sites marks registry → IsFound sites marks registry found
-    in_plan : tasks_found sites marks registry ≡ [] → IsFoundInAll sites registry (paths_of registry) found
-        → IsFound sites marks registry found
+pub data IsFound (sites : List Site) (marks : List ClauseMark) (registry : Registry) (found : List Finding)
+    : Type 0 where
+  in_tasks : found ≢ [] → found ≡ tasks_found sites marks registry → IsFound sites marks registry found
+  in_plan : tasks_found sites marks registry ≡ [] → IsFoundInAll sites registry (paths_of registry) found
+      → IsFound sites marks registry found
 
 -- ---- If nothing is found
 

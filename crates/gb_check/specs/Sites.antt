@@ -7,6 +7,8 @@ use Rattle.gb_folder.specs.Files.{Bytes, Files, Place, file_at, is_blocked}
 use Rattle.gb_folder.specs.declared.folder.FolderFault.{FolderFault}
 use Rattle.gb_folder.specs.declared.folder.FolderFault.TheVariants as folders
 use Rattle.gb_registry.specs.Projects.{Path, folder_of}
+use Rattle.gb_registry.specs.References.{Names}
+use Rattle.gb_registry.specs.Tables.{Tables}
 use Rattle.gb_report.specs.declared.fault.Fault.{Fault}
 use Rattle.gb_report.specs.declared.fault.Fault.TheVariants as faults
 use Rattle.gb_script.specs.Lines.{AreLinesOf}
@@ -16,8 +18,8 @@ use Rattle.gb_script.specs.declared.fault.ScriptFault.TheVariants as texts
 use Rattle.gb_script.specs.declared.script.Statement.{Statement}
 use Rattle.gb_script.specs.declared.script.Statement.TheVariants as statements
 use Rattle.gb_store.specs.Faults.{reported_at}
-use Rattle.gb_check.specs.Marks.{Lines, first_lines, marks_of, other_lines}
-use Rattle.gb_check.specs.declared.clause_lines.Mark.{Mark}
+use Rattle.gb_check.specs.Marks.{Lines, first_lines, marks_of, other_lines, script_scope}
+use Rattle.gb_check.specs.declared.clause_lines.ClauseMark.{ClauseMark}
 use Rattle.gb_check.specs.declared.sites.Site.{Site}
 
 -- the task that a statement in this line registers, if it registers one
@@ -47,16 +49,19 @@ abbrev pub AreLinesAt : Files → Place → List Lines → Type 0
 AreLinesAt files place lines =
     MatchOption (file_at files place) (lines ≡ []) (λ bytes. AreLinesOf bytes lines)
 
--- Where these scripts register tasks, in their order, each with the line in which its statement begins, and
--- the words of their clauses. If the contents of the folder are known, the lines are those of the files.
-abbrev pub AreSites : Bool → Files → List (Path × List Statement) → List Site → List Mark → Type 0
-AreSites faithful files [] sites marks = (sites ≡ []) × (marks ≡ [])
-AreSites faithful files (script ∷ scripts) sites marks =
-    (lines : List Lines) × (others : List Site) × (words : List Mark)
-    × (IsTrue faithful → AreLinesAt files (script_of_project script.0) lines)
-    × AreSites faithful files scripts others words
-    × (sites ≡ sites_of script.0 (script_of_project script.0) script.1 lines ++ others)
-    × (marks ≡ marks_of script.0 script.1 lines ++ words)
+module _ {M F Z S A : Type 0} (tables : Tables M F Z S A) (names : Names) (faithful : Bool)
+    (files : Files) where
+  -- Where these scripts register tasks, in their order, each with the line in which its statement begins, and
+  -- the marks of their clauses. If the contents of the folder are known, the lines are those of the files.
+  abbrev pub AreSites : List (Path × List Statement) → List Site → List ClauseMark → Type 0
+  AreSites [] sites marks = (sites ≡ []) × (marks ≡ [])
+  AreSites (script ∷ scripts) sites marks =
+      (lines : List Lines) × (others : List Site) × (words : List ClauseMark)
+      × (IsTrue faithful → AreLinesAt files (script_of_project script.0) lines)
+      × AreSites scripts others words
+      × (sites ≡ sites_of script.0 (script_of_project script.0) script.1 lines ++ others)
+      × (marks
+      ≡ marks_of tables (script_scope names script.0 script.1) script.0 script.1 lines ++ words)
 
 -- ---- Why a script has no lines
 

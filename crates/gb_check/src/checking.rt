@@ -6,7 +6,7 @@ ghost use Rattle.gb_plan.specs.Task.{has_path};
 ghost use Rattle.gb_check.specs.Found.{IsFound, IsSilent, fault_spot, found_of, line_spot, task_found};
 ghost use Rattle.gb_check.specs.Found.{tasks_found};
 
-use crate::clause_lines::Mark;
+use crate::clause_lines::ClauseMark;
 use crate::fault_line::line_for;
 use crate::findings::{Finding, Problem, Spot, site_of};
 use crate::sites::Site;
@@ -23,7 +23,7 @@ pub(crate) fn check<Ts: Tasks>(
     tasks: &mut Ts,
     names: &[TaskPath],
     sites: &[Site],
-    marks: &[Mark],
+    marks: &[ClauseMark],
 ) -> Result<Vec<Finding>, Fault>
     requires { names.now ≡ paths_of (Ts.registry tasks.old) }
     ensures kept { Ts.registry tasks.new ≡ Ts.registry tasks.old }
@@ -48,7 +48,7 @@ fn check_each<Ts: Tasks>(
     tasks: &mut Ts,
     names: &[TaskPath],
     sites: &[Site],
-    marks: &[Mark],
+    marks: &[ClauseMark],
 ) -> Result<Vec<Finding>, Fault>
     requires { names.now ≡ paths_of (Ts.registry tasks.old) }
     ensures kept { Ts.registry tasks.new ≡ Ts.registry tasks.old }
@@ -70,7 +70,7 @@ fn push_task<Ts: Tasks>(
     tasks: &mut Ts,
     path: &TaskPath,
     sites: &[Site],
-    marks: &[Mark],
+    marks: &[ClauseMark],
 ) -> Result<(), Fault>
     requires { IsTrue (has_path (paths_of (Ts.registry tasks.old)) path.now) }
     ensures kept { Ts.registry tasks.new ≡ Ts.registry tasks.old }
@@ -92,7 +92,7 @@ fn push_fault(
     alloc: Global,
     found: &mut Vec<Finding>,
     sites: &[Site],
-    marks: &[Mark],
+    marks: &[ClauseMark],
     path: &TaskPath,
     fault: Fault,
 ) -> Result<(), Fault>
@@ -120,7 +120,7 @@ fn push_fault(
 /// The line of the clause that the fault of a task names, or else of its registration.
 fn fault_spot(
     alloc: Global,
-    marks: &[Mark],
+    marks: &[ClauseMark],
     path: &TaskPath,
     fault: &Fault,
     site: Option<&Site>,

@@ -1,22 +1,29 @@
-//! The words by which faults name the clauses of tasks, with their lines.
-ghost use Rattle.std.specs.Prelude.{◌≡◌, ◌∷◌, ◌++◌, [], IfErr, OnOk, map};
+//! The clauses of tasks: the words by which faults name them, whether they have a fault by themselves,
+//! and their lines.
+ghost use Rattle.std.specs.Prelude.{◌≡◌, ◌∷◌, ◌++◌, [], List, IfErr, OnOk, map};
 ghost use Rattle.std.specs.Option.{option_copied};
 ghost use Rattle.gb_core.specs.Path.{task_in};
-ghost use Rattle.gb_check.specs.Marks.{action_marks, all_of, clause_marks, first_number, mark};
-ghost use Rattle.gb_check.specs.Marks.{other_numbers, statement_marks, words_of};
+ghost use Rattle.gb_declare.specs.Declaring.{scope_in};
+ghost use Rattle.gb_registry.specs.Faults.{ReportsFirst};
+ghost use Rattle.gb_registry.specs.Tables.{tables_of};
+ghost use Rattle.gb_check.specs.Marks.{action_marks, all_of, clause_marks, fault_marks, first_number};
+ghost use Rattle.gb_check.specs.Marks.{mark, marks_at, other_numbers, statement_marks, words_of};
 
 use crate::sites::task_path;
+use gb_action::actions::Actions;
 use gb_core::name::Name;
 use gb_core::path::TaskPath;
 use gb_core::text::Text;
-use gb_registry::project::Project;
+use gb_declare::clauses::{check_clause, check_main};
+use gb_provider::transforms::Transforms;
+use gb_registry::wrong::Scope;
 use gb_report::fault::Fault;
 use gb_script::script::{Call, Clause, InputFiles, Registration, Statement};
 use std::alloc::{AllocError, Global};
 
-/// The kind of a word of a clause.
+/// What a mark says of its clause: the kind of a word, or that it has a fault.
 #[derive(Clone, Copy, Debug, PartialEq, Eq)]
-pub enum Subject {
+pub enum MarkKind {
     /// The name of an input, an output, a kind of action or a test.
     Name,
     /// A task that the clause names.
@@ -25,98 +32,180 @@ pub enum Subject {
     Pattern,
     /// No word: the clause declares an output.
     Output,
+    /// No word: the clause has a fault by itself.
+    Faulty,
 }
 
-/// A word of a clause of a task, and the line in which the clause begins.
+/// A word or a fault of a clause of a task, and the line in which the clause begins.
 #[derive(Drop)]
-pub struct Mark {
+pub struct ClauseMark {
     /// The path of the task.
     pub path: TaskPath,
-    /// The kind of the word.
-    pub subject: Subject,
-    /// The word.
+    /// The kind of the word, or that there is a fault.
+    pub kind: MarkKind,
+    /// The word; empty if there is none.
     pub text: Text,
     /// The line of the clause; for the action after the colon, the line of the statement.
     pub line: u64,
 }
 
-/// Adds the words of a statement in this line, with clauses in these lines.
-pub(crate) fn push_words(
+/// Adds the marks of a statement in this line, with clauses in these lines.
+pub(crate) fn push_marks<A: Actions, T: Transforms>(
     alloc: Global,
-    marks: &mut Vec<Mark>,
-    project: &Project,
+    marks: &mut Vec<ClauseMark>,
+    scope: &Scope<'_, A, T>,
     statement: &Statement,
     line: u64,
     lines: &[u64],
 ) -> Result<(), Fault>
-    ensures marks { OnOk result (marks.new.items
-        ≡ marks.old.items ++ statement_marks project.now (line, lines.now) statement.now) }
+    ensures marks { OnOk result (marks.new.items ≡ marks.old.items
+        ++ statement_marks (tables_of T.meanings A.meanings scope.now.tables.now)
+        (scope_in scope.now.project.now scope.now.properties.now (option_copied scope.now.names))
+        scope.now.project.now (line, lines.now) statement.now) }
     ensures err { IfErr result (λ fault. fault ≡ Fault.OutOfMemory) }
 {
     match statement {
         Statement::Register(registration) => {
-            push_registration(alloc, marks, project, registration, line, lines)
+            push_registration(alloc, marks, scope, registration, line, lines)
         }
         Statement::Named(configuration) => {
-            let path = task_path(alloc, project.path(), &configuration.name)?;
-            Ok(push_clauses(alloc, marks, &path, configuration.block.clauses(), lines)?)
+            let path = task_path(alloc, scope.project.path(), &configuration.name)?;
+            push_clauses(
+                alloc,
+                marks,
+                scope,
+                &path,
+                configuration.block.clauses(),
+                lines,
+            )
         }
         _ => Ok(()),
     }
 }
 
-fn push_registration(
+fn push_registration<A: Actions, T: Transforms>(
     alloc: Global,
-    marks: &mut Vec<Mark>,
-    project: &Project,
+    marks: &mut Vec<ClauseMark>,
+    scope: &Scope<'_, A, T>,
     registration: &Registration,
     line: u64,
     lines: &[u64],
 ) -> Result<(), Fault>
-    ensures marks { OnOk result (marks.new.items ≡ marks.old.items
-        ++ action_marks (task_in project.now registration.now.name) line registration.now.action
-        ++ clause_marks (task_in project.now registration.now.name) registration.now.block lines.now) }
+    ensures marks { let tables = tables_of T.meanings A.meanings scope.now.tables.now in
+        let names = scope_in scope.now.project.now scope.now.properties.now (option_copied scope.now.names) in
+        let path = task_in scope.now.project.now registration.now.name in
+        OnOk result (marks.new.items ≡ marks.old.items
+        ++ action_marks tables names path line registration.now.action
+        ++ clause_marks tables names path registration.now.block lines.now) }
     ensures err { IfErr result (λ fault. fault ≡ Fault.OutOfMemory) }
 {
-    let path = task_path(alloc, project.path(), &registration.name)?;
-    push_action(alloc, marks, &path, registration.action.as_ref(), line)?;
-    Ok(push_clauses(alloc, marks, &path, registration.block.clauses(), lines)?)
+    let path = task_path(alloc, scope.project.path(), &registration.name)?;
+    push_action(
+        alloc,
+        marks,
+        scope,
+        &path,
+        registration.action.as_ref(),
+        line,
+    )?;
+    push_clauses(
+        alloc,
+        marks,
+        scope,
+        &path,
+        registration.block.clauses(),
+        lines,
+    )
 }
 
-fn push_action(
+fn push_action<A: Actions, T: Transforms>(
     alloc: Global,
-    marks: &mut Vec<Mark>,
+    marks: &mut Vec<ClauseMark>,
+    scope: &Scope<'_, A, T>,
     path: &TaskPath,
     action: Option<&Call>,
     line: u64,
-) -> Result<(), AllocError>
-    ensures { OnOk result (marks.new.items
-        ≡ marks.old.items ++ action_marks path.now line (option_copied action.entry)) }
+) -> Result<(), Fault>
+    ensures marks { OnOk result (marks.new.items ≡ marks.old.items
+        ++ action_marks (tables_of T.meanings A.meanings scope.now.tables.now)
+        (scope_in scope.now.project.now scope.now.properties.now (option_copied scope.now.names))
+        path.now line (option_copied action.entry)) }
+    ensures err { IfErr result (λ fault. fault ≡ Fault.OutOfMemory) }
 {
     match action {
-        Some(call) => push_name(alloc, marks, path, line, &call.name),
+        Some(call) => {
+            push_name(alloc, marks, path, line, &call.name)?;
+            let checked = check_main(alloc, scope, action);
+            push_if_faulty(alloc, marks, path, line, checked)
+        }
         None => Ok(()),
     }
 }
 
-/// Adds the words of these clauses, each in the line of its clause.
-fn push_clauses(
+/// Adds the marks of these clauses, each in the line of its clause.
+fn push_clauses<A: Actions, T: Transforms>(
     alloc: Global,
-    marks: &mut Vec<Mark>,
+    marks: &mut Vec<ClauseMark>,
+    scope: &Scope<'_, A, T>,
     path: &TaskPath,
     clauses: &[Clause],
     lines: &[u64],
-) -> Result<(), AllocError>
-    ensures { OnOk result (marks.new.items
-        ≡ marks.old.items ++ clause_marks path.now clauses.now lines.now) }
+) -> Result<(), Fault>
+    ensures marks { OnOk result (marks.new.items ≡ marks.old.items
+        ++ clause_marks (tables_of T.meanings A.meanings scope.now.tables.now)
+        (scope_in scope.now.project.now scope.now.properties.now (option_copied scope.now.names))
+        path.now clauses.now lines.now) }
+    ensures err { IfErr result (λ fault. fault ≡ Fault.OutOfMemory) }
 {
     let mut rest = lines;
     for clause in clauses {
         let (line, others) = first_number(rest);
-        push_clause(alloc, marks, path, line, clause)?;
+        push_marks_at(alloc, marks, scope, path, line, clause)?;
         rest = others;
     }
     Ok(())
+}
+
+/// Adds the words of a clause, and whether it has a fault by itself.
+fn push_marks_at<A: Actions, T: Transforms>(
+    alloc: Global,
+    marks: &mut Vec<ClauseMark>,
+    scope: &Scope<'_, A, T>,
+    path: &TaskPath,
+    line: u64,
+    clause: &Clause,
+) -> Result<(), Fault>
+    ensures marks { OnOk result (marks.new.items ≡ marks.old.items
+        ++ marks_at (tables_of T.meanings A.meanings scope.now.tables.now)
+        (scope_in scope.now.project.now scope.now.properties.now (option_copied scope.now.names))
+        path.now line clause.now) }
+    ensures err { IfErr result (λ fault. fault ≡ Fault.OutOfMemory) }
+{
+    push_clause(alloc, marks, path, line, clause)?;
+    let checked = check_clause(alloc, scope, clause);
+    push_if_faulty(alloc, marks, path, line, checked)
+}
+
+/// Adds a mark if a check found a fault. A fault for lack of memory is returned instead.
+fn push_if_faulty(
+    alloc: Global,
+    marks: &mut Vec<ClauseMark>,
+    path: &TaskPath,
+    line: u64,
+    checked: Result<(), Fault>,
+) -> Result<(), Fault>
+    ensures marks { (faults : List Fault) → ReportsFirst faults checked
+        → OnOk result (marks.new.items ≡ marks.old.items ++ fault_marks path.now line faults) }
+    ensures err { IfErr result (λ fault. fault ≡ Fault.OutOfMemory) }
+{
+    match checked {
+        Ok(()) => Ok(()),
+        Err(Fault::OutOfMemory) => Err(Fault::OutOfMemory),
+        Err(fault) => {
+            drop(fault);
+            Ok(push_word(alloc, marks, path, line, MarkKind::Faulty, "")?)
+        }
+    }
 }
 
 fn first_number(lines: &[u64]) -> (u64, &[u64])
@@ -132,7 +221,7 @@ fn first_number(lines: &[u64]) -> (u64, &[u64])
 /// Adds the words of a clause.
 fn push_clause(
     alloc: Global,
-    marks: &mut Vec<Mark>,
+    marks: &mut Vec<ClauseMark>,
     path: &TaskPath,
     line: u64,
     clause: &Clause,
@@ -147,7 +236,7 @@ fn push_clause(
             push_output(alloc, marks, path, line, &output.name)
         }
         Clause::DependsOn(tasks) | Clause::MustRunAfter(tasks) | Clause::FinalizedBy(tasks) => {
-            push_all(alloc, marks, path, line, Subject::Task, tasks.as_slice())
+            push_all(alloc, marks, path, line, MarkKind::Task, tasks.as_slice())
         }
         Clause::DoFirst(call) | Clause::DoLast(call) => {
             push_name(alloc, marks, path, line, &call.name)
@@ -155,20 +244,20 @@ fn push_clause(
         Clause::OnlyIf(condition) | Clause::UpToDateWhen(condition) => {
             push_name(alloc, marks, path, line, &condition.test.name)
         }
-        Clause::Enabled(_) => push_word(alloc, marks, path, line, Subject::Name, "enabled"),
+        Clause::Enabled(_) => push_word(alloc, marks, path, line, MarkKind::Name, "enabled"),
     }
 }
 
 fn push_files(
     alloc: Global,
-    marks: &mut Vec<Mark>,
+    marks: &mut Vec<ClauseMark>,
     path: &TaskPath,
     line: u64,
     files: &InputFiles,
 ) -> Result<(), AllocError>
     ensures { OnOk result (marks.new.items ≡ marks.old.items
-        ++ map (mark path.now line) ((Subject.Name, files.now.name) ∷ all_of Subject.Pattern files.now.include
-        ++ all_of Subject.Pattern files.now.exclude)) }
+        ++ map (mark path.now line) ((MarkKind.Name, files.now.name)
+        ∷ all_of MarkKind.Pattern files.now.include ++ all_of MarkKind.Pattern files.now.exclude)) }
 {
     push_name(alloc, marks, path, line, &files.name)?;
     push_all(
@@ -176,7 +265,7 @@ fn push_files(
         marks,
         path,
         line,
-        Subject::Pattern,
+        MarkKind::Pattern,
         files.include.as_slice(),
     )?;
     push_all(
@@ -184,55 +273,55 @@ fn push_files(
         marks,
         path,
         line,
-        Subject::Pattern,
+        MarkKind::Pattern,
         files.exclude.as_slice(),
     )
 }
 
 fn push_output(
     alloc: Global,
-    marks: &mut Vec<Mark>,
+    marks: &mut Vec<ClauseMark>,
     path: &TaskPath,
     line: u64,
     name: &Name,
 ) -> Result<(), AllocError>
     ensures { OnOk result (marks.new.items ≡ marks.old.items
-        ++ map (mark path.now line) ((Subject.Name, name.now) ∷ (Subject.Output, []) ∷ [])) }
+        ++ map (mark path.now line) ((MarkKind.Name, name.now) ∷ (MarkKind.Output, []) ∷ [])) }
 {
     push_name(alloc, marks, path, line, name)?;
-    push_word(alloc, marks, path, line, Subject::Output, "")
+    push_word(alloc, marks, path, line, MarkKind::Output, "")
 }
 
 fn push_name(
     alloc: Global,
-    marks: &mut Vec<Mark>,
+    marks: &mut Vec<ClauseMark>,
     path: &TaskPath,
     line: u64,
     name: &Name,
 ) -> Result<(), AllocError>
     ensures { OnOk result (marks.new.items
-        ≡ marks.old.items ++ mark path.now line (Subject.Name, name.now) ∷ []) }
+        ≡ marks.old.items ++ mark path.now line (MarkKind.Name, name.now) ∷ []) }
 {
-    push_word(alloc, marks, path, line, Subject::Name, name.as_str())
+    push_word(alloc, marks, path, line, MarkKind::Name, name.as_str())
 }
 
 /// Adds a word.
 fn push_word(
     alloc: Global,
-    marks: &mut Vec<Mark>,
+    marks: &mut Vec<ClauseMark>,
     path: &TaskPath,
     line: u64,
-    subject: Subject,
+    kind: MarkKind,
     text: &str,
 ) -> Result<(), AllocError>
     ensures { OnOk result (marks.new.items
-        ≡ marks.old.items ++ mark path.now line (subject, text.now) ∷ []) }
+        ≡ marks.old.items ++ mark path.now line (kind, text.now) ∷ []) }
 {
     let path = path.copy()?;
     let text = Text::from_str(alloc, text)?;
-    marks.push(Mark {
+    marks.push(ClauseMark {
         path,
-        subject,
+        kind,
         text,
         line,
     })?;
@@ -242,17 +331,17 @@ fn push_word(
 /// Adds each of these texts as a word.
 fn push_all(
     alloc: Global,
-    marks: &mut Vec<Mark>,
+    marks: &mut Vec<ClauseMark>,
     path: &TaskPath,
     line: u64,
-    subject: Subject,
+    kind: MarkKind,
     texts: &[Text],
 ) -> Result<(), AllocError>
     ensures { OnOk result (marks.new.items
-        ≡ marks.old.items ++ map (mark path.now line) (all_of subject texts.now)) }
+        ≡ marks.old.items ++ map (mark path.now line) (all_of kind texts.now)) }
 {
     for text in texts {
-        push_word(alloc, marks, path, line, subject, text.as_str())?;
+        push_word(alloc, marks, path, line, kind, text.as_str())?;
     }
     Ok(())
 }

@@ -3,6 +3,7 @@ ghost use Rattle.std.specs.Prelude.{◌≡◌, ◌⊎◌, IfErr, IfOk, IsTrue};
 ghost use Rattle.gb_folder.specs.Calls.{Requests, no_change};
 ghost use Rattle.gb_plan.specs.Graph.{paths_of};
 ghost use Rattle.gb_registry.specs.SoFar.{scripts_in};
+ghost use Rattle.gb_registry.specs.Tables.{tables_of};
 ghost use Rattle.gb_store.specs.Faults.{IsOfMachine};
 ghost use Rattle.gb_check.specs.All.{AreFindings};
 ghost use Rattle.gb_check.specs.Sites.{IsUnread};
@@ -11,20 +12,25 @@ use crate::checking::check;
 use crate::findings::Findings;
 use crate::sites::read_sites;
 use crate::warning::warn;
+use gb_action::actions::Actions;
 use gb_core::path::TaskPath;
 use gb_folder::folder::Folder;
 use gb_graph::tasks::Tasks;
+use gb_provider::transforms::Transforms;
 use gb_registry::checking::Scripted;
+use gb_registry::names::Names;
+use gb_registry::tables::Tables;
 use gb_report::fault::Fault;
 use std::alloc::Global;
 
-/// Finds the faults and warnings of the tasks that these scripts of a folder register. `names` are
-/// the paths of all tasks, in the order of registration.
+/// Finds the faults and warnings of the tasks that these scripts of a folder register. `paths` are
+/// the paths of all tasks, in the order of registration; `known` has what scripts may name.
 ///
-/// Faults: for each task that has one, in that order, its fault, after the script and the line of
-/// the one clause of the task that it names, or else the line that registers the task. If no task
-/// has a fault, the reason why there is no plan of all tasks, after the line of the first task that
-/// it names.
+/// Faults: for each task that has one, in that order, its fault, after the script and a line: that
+/// of the first clause of the task that has a fault by itself; if no clause has one, that of the
+/// one clause that the fault names; or else the line that registers the task. If no task has a
+/// fault, the reason why there is no plan of all tasks, after the line of the first task that it
+/// names.
 ///
 /// Warnings: for each two file properties of a task that have a root in common; for each two tasks
 /// of which the first has a root that overlaps an output of the second: that the first does not
@@ -33,24 +39,26 @@ use std::alloc::Global;
 ///
 /// Refused if memory runs out or the device fails, or if a script, which is read once more for its
 /// lines, cannot be read as one (faults 2, 12 and 20 to 23; see `docs/FAULTS.md`).
-pub fn find<Ts: Tasks, F: Folder>(
+pub fn find<A: Actions, T: Transforms, Ts: Tasks, F: Folder>(
     alloc: Global,
     folder: &mut F,
+    tables: &Tables<A, T>,
+    known: &Names<'_>,
     tasks: &mut Ts,
-    names: &[TaskPath],
+    paths: &[TaskPath],
     scripts: &[Scripted],
 ) -> Result<Findings, Fault>
-    requires { names.now ≡ paths_of (Ts.registry tasks.old) }
+    requires { paths.now ≡ paths_of (Ts.registry tasks.old) }
     ensures requests { Requests F.failures F.may_leave F.allowed no_change folder.old folder.new }
     ensures same { IsTrue F.faithful → F.contents folder.new ≡ F.contents folder.old }
-    ensures findings { IfOk result (AreFindings F.faithful (F.contents folder.old)
-        (Ts.registry tasks.old) (scripts_in scripts.now)) }
+    ensures findings { IfOk result (AreFindings (tables_of T.meanings A.meanings tables.now) known.now
+        F.faithful (F.contents folder.old) (Ts.registry tasks.old) (scripts_in scripts.now)) }
     ensures err { IsTrue F.faithful → IfErr result (λ fault.
         IsOfMachine (F.failures folder.old) (F.failures folder.new) fault
         ⊎ IsUnread (F.contents folder.old).files (scripts_in scripts.now) fault) }
 {
-    let (sites, marks) = read_sites(alloc, folder, scripts)?;
-    let faults = check(alloc, tasks, names, sites.as_slice(), marks.as_slice())?;
-    let warnings = warn(alloc, folder, tasks, names, scripts, sites.as_slice())?;
+    let (sites, marks) = read_sites(alloc, folder, tables, known, scripts)?;
+    let faults = check(alloc, tasks, paths, sites.as_slice(), marks.as_slice())?;
+    let warnings = warn(alloc, folder, tasks, paths, scripts, sites.as_slice())?;
     Ok(Findings { faults, warnings })
 }

@@ -1,29 +1,37 @@
-//! Where scripts register tasks.
+//! Where scripts register tasks, and the marks of their clauses.
 ghost use Rattle.std.specs.Prelude.{◌≡◌, ◌⊎◌, ℕ, [], ◌∷◌, ◌++◌, Err, IfErr, IfOk, IsTrue, List, OnOk};
 ghost use Rattle.std.specs.Prelude.{codes, false};
 ghost use Rattle.std.specs.Option.{option_copied};
 ghost use Rattle.gb_core.specs.Path.{task_in};
 ghost use Rattle.gb_core.specs.Place.{is_place, joined};
 ghost use Rattle.gb_folder.specs.Calls.{Requests, no_change};
+ghost use Rattle.gb_declare.specs.Declaring.{scope_in};
 ghost use Rattle.gb_registry.specs.SoFar.{scripts_in};
+ghost use Rattle.gb_registry.specs.Tables.{tables_of};
 ghost use Rattle.gb_report.specs.declared.fault.Fault.TheVariants.{OutOfMemory};
 ghost use Rattle.gb_script.specs.Lines.{AreLinesOf};
 ghost use Rattle.gb_script.specs.Script.{Says};
 ghost use Rattle.gb_script.specs.declared.fault.ScriptFault.{ScriptFault};
 ghost use Rattle.gb_store.specs.Faults.{IsOfMachine};
-ghost use Rattle.gb_check.specs.Marks.{Lines, first_lines, marks_of, other_lines};
+ghost use Rattle.gb_check.specs.Marks.{Lines, first_lines, marks_of, other_lines, script_scope};
 ghost use Rattle.gb_check.specs.Sites.{AreLinesAt, AreSites, HasTextFault, IsUnread, in_file};
 ghost use Rattle.gb_check.specs.Sites.{registered_at, script_of_project, sites_of, unread_at};
 
-use crate::clause_lines::{Mark, push_words};
+use crate::clause_lines::{ClauseMark, push_marks};
+use gb_action::actions::Actions;
 use gb_core::name::{Name, NameFault};
 use gb_core::path::{ProjectPath, TaskPath};
 use gb_core::place::{Place, PlaceFault};
 use gb_core::text::Text;
 use gb_folder::folder::{Folder, FolderFault};
+use gb_project::properties::properties_of;
+use gb_provider::transforms::Transforms;
 use gb_registry::checking::Scripted;
+use gb_registry::names::Names;
 use gb_registry::paths::path_in;
 use gb_registry::project::Project;
+use gb_registry::tables::Tables;
+use gb_registry::wrong::Scope;
 use gb_report::fault::Fault;
 use gb_script::fault::ScriptFault;
 use gb_script::script::Statement;
@@ -42,18 +50,20 @@ pub struct Site {
     pub line: u64,
 }
 
-/// Where these scripts register tasks, and the words of their clauses. Each script is read once
+/// Where these scripts register tasks, and the marks of their clauses. Each script is read once
 /// more for its lines. A task has the line 1 if its script lost statements since the first read.
-pub(crate) fn read_sites<F: Folder>(
+pub(crate) fn read_sites<A: Actions, T: Transforms, F: Folder>(
     alloc: Global,
     folder: &mut F,
+    tables: &Tables<A, T>,
+    names: &Names<'_>,
     scripts: &[Scripted],
-) -> Result<(Vec<Site>, Vec<Mark>), Fault>
+) -> Result<(Vec<Site>, Vec<ClauseMark>), Fault>
     ensures requests { Requests F.failures F.may_leave F.allowed no_change folder.old folder.new }
     ensures same { IsTrue F.faithful → F.contents folder.new ≡ F.contents folder.old }
     ensures sites { IfOk result (λ read.
-        AreSites F.faithful (F.contents folder.old).files (scripts_in scripts.now) read.0.items
-        read.1.items) }
+        AreSites (tables_of T.meanings A.meanings tables.now) names.now F.faithful
+        (F.contents folder.old).files (scripts_in scripts.now) read.0.items read.1.items) }
     ensures err { IsTrue F.faithful → IfErr result (λ fault.
         IsOfMachine (F.failures folder.old) (F.failures folder.new) fault
         ⊎ IsUnread (F.contents folder.old).files (scripts_in scripts.now) fault) }
@@ -61,17 +71,21 @@ pub(crate) fn read_sites<F: Folder>(
     let mut sites = Vec::new(alloc);
     let mut marks = Vec::new(alloc);
     for scripted in scripts {
-        push_script(alloc, folder, &mut sites, &mut marks, scripted)?;
+        push_script(
+            alloc, folder, tables, names, &mut sites, &mut marks, scripted,
+        )?;
     }
     Ok((sites, marks))
 }
 
-/// Adds the tasks that a script registers, and the words of their clauses.
-fn push_script<F: Folder>(
+/// Adds the tasks that a script registers, and the marks of their clauses.
+fn push_script<A: Actions, T: Transforms, F: Folder>(
     alloc: Global,
     folder: &mut F,
+    tables: &Tables<A, T>,
+    names: &Names<'_>,
     sites: &mut Vec<Site>,
-    marks: &mut Vec<Mark>,
+    marks: &mut Vec<ClauseMark>,
     scripted: &Scripted,
 ) -> Result<(), Fault>
     ensures requests { Requests F.failures F.may_leave F.allowed no_change folder.old folder.new }
@@ -81,20 +95,30 @@ fn push_script<F: Folder>(
         → AreLinesAt (F.contents folder.old).files (script_of_project scripted.now.project) lines)
         × (sites.new.items ≡ sites.old.items ++ sites_of scripted.now.project
         (script_of_project scripted.now.project) scripted.now.script lines)
-        × (marks.new.items ≡ marks.old.items ++ marks_of scripted.now.project scripted.now.script lines)) }
+        × (marks.new.items ≡ marks.old.items ++ marks_of (tables_of T.meanings A.meanings tables.now)
+        (script_scope names.now scripted.now.project scripted.now.script)
+        scripted.now.project scripted.now.script lines)) }
     ensures err { IsTrue F.faithful → IfErr result (λ fault.
         IsOfMachine (F.failures folder.old) (F.failures folder.new) fault
         ⊎ HasTextFault (F.contents folder.old).files (script_of_project scripted.now.project) fault) }
 {
     let script = script_of_project(alloc, &scripted.project)?;
     let lines = lines_at(alloc, folder, &script)?;
+    let statements = scripted.script.statements();
+    let properties = properties_of(alloc, statements)?;
+    let scope: Scope<'_, A, T> = Scope {
+        tables,
+        project: &scripted.project,
+        properties: &properties,
+        names: Some(names),
+    };
     push_statements(
         alloc,
         sites,
         marks,
-        &scripted.project,
+        &scope,
         &script,
-        scripted.script.statements(),
+        statements,
         lines.as_slice(),
     )
 }
@@ -180,27 +204,29 @@ fn in_file(fault: ScriptFault, place: Place) -> Fault
     }
 }
 
-/// Adds the tasks that these statements register, by their lines, and the words of their clauses.
-fn push_statements(
+/// Adds the tasks that these statements register, by their lines, and the marks of their clauses.
+fn push_statements<A: Actions, T: Transforms>(
     alloc: Global,
     sites: &mut Vec<Site>,
-    marks: &mut Vec<Mark>,
-    project: &Project,
+    marks: &mut Vec<ClauseMark>,
+    scope: &Scope<'_, A, T>,
     script: &Place,
     statements: &[Statement],
     lines: &[StatementLines],
 ) -> Result<(), Fault>
     ensures sites { OnOk result (sites.new.items
-        ≡ sites.old.items ++ sites_of project.now script.now statements.now lines.now) }
-    ensures marks { OnOk result
-        (marks.new.items ≡ marks.old.items ++ marks_of project.now statements.now lines.now) }
+        ≡ sites.old.items ++ sites_of scope.now.project.now script.now statements.now lines.now) }
+    ensures marks { OnOk result (marks.new.items ≡ marks.old.items
+        ++ marks_of (tables_of T.meanings A.meanings scope.now.tables.now)
+        (scope_in scope.now.project.now scope.now.properties.now (option_copied scope.now.names))
+        scope.now.project.now statements.now lines.now) }
     ensures err { IfErr result (λ fault. fault ≡ OutOfMemory) }
 {
     let mut rest = lines;
     for statement in statements {
         let (line, clauses) = first_lines(rest);
-        push_statement(alloc, sites, project, script, statement, line)?;
-        push_words(alloc, marks, project, statement, line, clauses)?;
+        push_statement(alloc, sites, scope.project, script, statement, line)?;
+        push_marks(alloc, marks, scope, statement, line, clauses)?;
         rest = other_lines(rest);
     }
     Ok(())

@@ -56,7 +56,8 @@ IsCause options task old other = ⊥
 
 -- The decision follows from its basis: a cause to run in full, or the record and what the task has now.
 abbrev pub FollowsFrom : Options → Task → Option Record → Decision → Basis → Type 0
-FollowsFrom options task old decision (bases.Forced cause) = (decision ≡ Full) × IsCause options task old cause
+FollowsFrom options task old decision (bases.Forced cause) =
+    (decision ≡ Full) × IsCause options task old cause
 FollowsFrom options task (Some run) decision (bases.Compared present) = DecidesFrom run present decision
 FollowsFrom options task None decision (bases.Compared present) = ⊥
 

@@ -45,7 +45,8 @@ abbrev pub FollowsFromAs : Options → Task → Option Record → Prepared → T
 FollowsFromAs options task run prepared.Skips = ⊤
 FollowsFromAs options task run prepared.HasNoActions = ⊤
 FollowsFromAs options task run prepared.HasNoSource = ⊤
-FollowsFromAs options task run (prepared.Decided decision basis observed) = FollowsFrom options task run decision basis
+FollowsFromAs options task run (prepared.Decided decision basis observed) =
+    FollowsFrom options task run decision basis
 
 -- What a run is based on was read: its inputs if it is due, and its outputs if it may execute incrementally.
 abbrev pub IsReadFor : Task → Observed → Decision → Type 0

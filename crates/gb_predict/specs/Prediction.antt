@@ -53,7 +53,8 @@ IsFound kinds options task folder old other = ⊥
 
 -- It is the outcome of the task, which has this record, on the folder; the machine may fail between these
 -- counts.
-abbrev pub IsPredictedOf : Kinds → Options → Task → Contents → Option Record → ℕ → ℕ → PredictedOutcome → Type 0
+abbrev pub IsPredictedOf : Kinds → Options → Task → Contents → Option Record → ℕ → ℕ → PredictedOutcome
+    → Type 0
 IsPredictedOf kinds options task folder old before after comings.Skips = early_case task folder ≡ Some Skips
 IsPredictedOf kinds options task folder old before after comings.HasNoActions =
     early_case task folder ≡ Some HasNoActions

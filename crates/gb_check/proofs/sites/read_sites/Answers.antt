@@ -3,12 +3,13 @@ use Rattle.std.proofs.lemmas.List.{drop_all}
 use Rattle.gb_folder.specs.Files.{Contents}
 use Rattle.gb_folder.proofs.Asked.{requests_then}
 use Rattle.gb_registry.specs.SoFar.{scripts_in}
+use Rattle.gb_registry.specs.Tables.{tables_of}
 use Rattle.gb_registry.specs.declared.checking.Scripted.{Scripted}
 use Rattle.gb_report.specs.declared.fault.Fault.{Fault}
 use Rattle.gb_store.specs.Faults.{IsOfMachine}
 use Rattle.gb_check.specs.Sites.{AreLinesAt, AreSites, HasTextFault, IsUnread, script_of_project, sites_of}
-use Rattle.gb_check.specs.Marks.{marks_of}
-use Rattle.gb_check.specs.declared.clause_lines.Mark.{Mark}
+use Rattle.gb_check.specs.Marks.{marks_of, script_scope}
+use Rattle.gb_check.specs.declared.clause_lines.ClauseMark.{ClauseMark}
 use Rattle.gb_check.specs.declared.sites.Site.{Site}
 use Rattle.gb_registry.specs.Projects.{Path}
 use Rattle.gb_script.specs.declared.script.Statement.{Statement}
@@ -23,20 +24,22 @@ loop-scripted-preserved g c =
     let scripts = c.args.scripts.now in
     let index = c.loop-scripted.scripted-index in
     let files = (F.contents c.args.folder.now).files in
+    let tables = tables_of g.T.Transforms.meanings g.A.Actions.meanings c.args.tables.now in
+    let names = c.args.names.now in
     let place = script_of_project scripted.project in
     let added = c.in_ok-push_script.ensures.sites in
     let before = c.loop-scripted.sites.items in
     let more = sites_of scripted.project place scripted.script added.0 in
     let marks_before = c.loop-scripted.marks.items in
-    let marked = marks_of scripted.project scripted.script added.0 in
+    let marked = marks_of tables (script_scope names scripted.project scripted.script) scripted.project scripted.script added.0 in
     record {
       requests = requests_then c.loop-scripted.invariant.requests c.push_script.ensures.requests;
       same = λ faithful. c.push_script.ensures.same faithful ∙ c.loop-scripted.invariant.same faithful;
       sites = λ others words rest.
-          subst (λ (sites : List Site). AreSites F.faithful files (scripts_in scripts) sites (c.push_script.new.marks.items ++ words)) (sym (ap (λ (sites : List Site). sites ++ others) added.2 ∙ append_assoc before more others))
-          (subst (λ (marks : List Mark). AreSites F.faithful files (scripts_in scripts) (before ++ (more ++ others)) marks) (sym (ap (λ (marks : List Mark). marks ++ words) added.3 ∙ append_assoc marks_before marked words))
+          subst (λ (sites : List Site). AreSites tables names F.faithful files (scripts_in scripts) sites (c.push_script.new.marks.items ++ words)) (sym (ap (λ (sites : List Site). sites ++ others) added.2 ∙ append_assoc before more others))
+          (subst (λ (marks : List ClauseMark). AreSites tables names F.faithful files (scripts_in scripts) (before ++ (more ++ others)) marks) (sym (ap (λ (marks : List ClauseMark). marks ++ words) added.3 ∙ append_assoc marks_before marked words))
           (c.loop-scripted.invariant.sites (more ++ others) (marked ++ words)
-          (subst (λ (left : List Scripted). AreSites F.faithful files (scripts_in left) (more ++ others) (marked ++ words)) (sym (rest_from scripts index scripted c.loop-scripted-test.true c.scripted-item.is)) (
+          (subst (λ (left : List Scripted). AreSites tables names F.faithful files (scripts_in left) (more ++ others) (marked ++ words)) (sym (rest_from scripts index scripted c.loop-scripted-test.true c.scripted-item.is)) (
             added.0,
             others,
             words,
@@ -68,9 +71,11 @@ returns-clause-sites g c =
     let F = g.F.Folder in
     let scripts = c.args.scripts.now in
     let files = (F.contents c.args.folder.now).files in
+    let tables = tables_of g.T.Transforms.meanings g.A.Actions.meanings c.args.tables.now in
+    let names = c.args.names.now in
     let sites = c.loop-scripted.sites.items in
     let marks = c.loop-scripted.marks.items in
     let all = drop_all c.loop-scripted.scripted-index scripts (omega (arith, c.loop-scripted-test.false)) in
-    subst (λ (s : List Site). AreSites F.faithful files (scripts_in scripts) s marks) (append-nil sites)
-    (subst (λ (m : List Mark). AreSites F.faithful files (scripts_in scripts) (sites ++ []) m) (append-nil marks)
-    (c.loop-scripted.invariant.sites [] [] (subst (λ (left : List Scripted). AreSites F.faithful files (scripts_in left) [] []) (sym all) (refl, refl))))
+    subst (λ (s : List Site). AreSites tables names F.faithful files (scripts_in scripts) s marks) (append-nil sites)
+    (subst (λ (m : List ClauseMark). AreSites tables names F.faithful files (scripts_in scripts) (sites ++ []) m) (append-nil marks)
+    (c.loop-scripted.invariant.sites [] [] (subst (λ (left : List Scripted). AreSites tables names F.faithful files (scripts_in left) [] []) (sym all) (refl, refl))))

@@ -1,8 +1,9 @@
 use Rattle.std.proofs.Common.{◌≡◌, ◌++◌, IsTrue, List, drop}
 use Rattle.gb_folder.specs.Calls.{Requests, no_change}
 use Rattle.gb_registry.specs.SoFar.{scripts_in}
+use Rattle.gb_registry.specs.Tables.{tables_of}
 use Rattle.gb_check.specs.Sites.{AreSites}
-use Rattle.gb_check.specs.declared.clause_lines.Mark.{Mark}
+use Rattle.gb_check.specs.declared.clause_lines.ClauseMark.{ClauseMark}
 use Rattle.gb_check.specs.declared.sites.Site.{Site}
 use Rattle.gb_check.proofs.sites.read_sites.Given as goal
 
@@ -11,8 +12,9 @@ invariant-loop-scripted g l =
     let contents = g.F.Folder.contents in
     let faithful = g.F.Folder.faithful in
     let files = (contents l.fn.folder).files in
+    let tables = tables_of g.T.Transforms.meanings g.A.Actions.meanings l.tables in
     record {
       requests : Requests g.F.Folder.failures g.F.Folder.may_leave g.F.Folder.allowed no_change l.fn.folder l.folder;
       same : IsTrue faithful → contents l.folder ≡ contents l.fn.folder;
-      sites : (others : List Site) (words : List Mark) → AreSites faithful files (scripts_in (drop l.scripted-index l.scripts)) others words → AreSites faithful files (scripts_in l.scripts) (l.sites.items ++ others) (l.marks.items ++ words);
+      sites : (others : List Site) (words : List ClauseMark) → AreSites tables l.names faithful files (scripts_in (drop l.scripted-index l.scripts)) others words → AreSites tables l.names faithful files (scripts_in l.scripts) (l.sites.items ++ others) (l.marks.items ++ words);
     }
