@@ -1,5 +1,5 @@
 -- Scripts that could be read can be read once more.
-use Rattle.std.proofs.Common.{ℕ, ◌≡◌, ◌∙◌, Bool, true, IsTrue, List, [], ◌∷◌, Option, Some, Result, Ok, Err, ap, inl, inr, subst, sym}
+use Rattle.std.proofs.Common.{ℕ, ◌≡◌, ◌∙◌, ◌++◌, Bool, true, IsTrue, List, [], ◌∷◌, Option, Some, Result, Ok, Err, ap, inl, inr, subst, sym}
 use Rattle.std.specs.List.{AllByRecursion, list_all}
 use Rattle.std.specs.Prelude.{Contains, IfErr, IfOk, MatchResult, zip}
 use Rattle.std.specs.Result.{IsErrAnd}
@@ -11,14 +11,16 @@ use Rattle.gb_registry.specs.Projects.{Path, project_paths, projects_of, with_fo
 use Rattle.gb_registry.specs.Read.{IsRead}
 use Rattle.gb_registry.specs.Source.{Source}
 use Rattle.gb_registry.specs.Tables.{Tables}
+use Rattle.gb_registry.specs.declared.first_fault.FaultAt.{FaultAt}
 use Rattle.gb_report.specs.declared.fault.Fault.{Fault}
 use Rattle.gb_script.proofs.Sources.{one_said}
 use Rattle.gb_script.proofs.StatementLaws.{Reads-script, script_ends_text}
 use Rattle.gb_script.specs.Script.{Says}
 use Rattle.gb_script.specs.declared.script.Statement.{Statement}
 use Rattle.gb_build.proofs.PlaceLemmas.{places_good}
-use Rattle.gb_build.specs.Scripts.{AreTexts, FolderSays, script_places}
+use Rattle.gb_build.specs.Scripts.{AreTexts, FolderSays, SettingsSay, script_places}
 use Rattle.gb_build.specs.Texts.{FileSays, TextSays}
+use Rattle.gb_ask_command.specs.Faulty.{IsFaulty}
 use Rattle.gb_check.specs.Sites.{HasTextFault, IsUnread, blocked, no_place, no_script, script_of_project}
 
 module _ (files : Files) where
@@ -57,6 +59,27 @@ none_again tables files given source scripts fault (settings, (first, says_first
     subst (λ (ps : List Path). Contains (zip ps read.texts) unread.script) (sym paths) (subst (λ ss. Contains ss unread.script) read.each unread.is_one) in
     let readable = All-contains (IsReadable files) (zip (project_paths settings) read.texts) unread.script all there in
     no_fault files (script_of_project unread.script.0) readable.1.0 fault readable.0 readable.1.1 unread.has
+
+-- a statement's script is read
+among : (P : Path × List Statement → Type 0) (before : List (Path × List Statement)) (one : Path × List Statement) (after : List (Path × List Statement))
+    → AllByRecursion P (before ++ one ∷ after) → P one
+among P [] one after all = all.0
+among P (other ∷ before) one after all = among P before one after all.1
+
+are_places : (files : Files) (settings : List (List (List ℕ))) → SettingsSay files (Ok settings) → list_all is_place (script_places (projects_of settings)) ≡ true
+are_places files settings (first, says_first, (none, same)) = subst (λ s. list_all is_place (script_places (projects_of s)) ≡ true) (sym same) (places_good first none)
+
+-- the script of a statement with a fault can be read once more
+pub faulty_again : {M F Z S A : Type 0} (tables : Tables M F Z S A) (files : Files) (at : FaultAt) (fault : Fault) → IsFaulty tables files at
+    → HasTextFault files (script_of_project at.project) fault → ⊥
+faulty_again tables files at fault faulty bad =
+    let settings = faulty.settings in
+    let texts = faulty.texts in
+    let first = faulty.first_at in
+    let one : Path × List Statement = (at.project, first.earlier ++ first.statement ∷ first.later) in
+    let each = each_readable files (project_paths settings) texts texts faulty.scripts_say (are_places files settings faulty.settings_say) in
+    let readable = among (IsReadable files) first.before one first.after (subst (λ (scripts : List (Path × List Statement)). AllByRecursion (IsReadable files) scripts) first.all each) in
+    no_fault files (script_of_project at.project) readable.1.0 fault readable.0 readable.1.1 bad
 
 -- what holds of a fault that is returned holds of the result
 pub handed : {T : Type 0} (Good : T → Type 0) (Bad : Fault → Type 0) (result : Result T Fault) (fault : Fault) → IsErrAnd result (λ reported. reported ≡ fault) → Bad fault → MatchResult result Good Bad

@@ -1,6 +1,6 @@
 -- The first fault of a folder's statements, by what was read of it.
-use Rattle.std.proofs.Common.{◌≡◌, ◌⊎◌, ℕ, List, [], Option, Some, None, Result, Ok, Err, inl, sym}
-use Rattle.std.specs.Prelude.{IfErr, IfOk, IfSome, option_map, zip}
+use Rattle.std.proofs.Common.{◌≡◌, ◌⊎◌, ◌∷◌, ℕ, List, [], Option, Some, None, Result, Ok, Err, inl, inr, refl, sym}
+use Rattle.std.specs.Prelude.{IfErr, IfOk, IfSome, MatchOption, option_map, zip}
 use Rattle.gb_folder.specs.Files.{Files}
 use Rattle.gb_registry.specs.Configure.{configure_faults}
 use Rattle.gb_registry.specs.Faults.{first_of}
@@ -13,8 +13,13 @@ use Rattle.gb_report.specs.declared.fault.Fault.{Fault}
 use Rattle.gb_report.specs.declared.fault.Fault.TheVariants as faults
 use Rattle.gb_script.specs.declared.script.Statement.{Statement}
 use Rattle.gb_store.specs.Faults.{IsOfMachine}
-use Rattle.gb_ask_command.specs.Faulty.{IsFaulty}
+use Rattle.gb_ask_command.specs.Faulty.{IsFaultless, IsFaulty, IsTextFault}
+use Rattle.gb_build.proofs.OneLemmas.{folders_one}
 use Rattle.gb_build.specs.Scripts.{FolderSays, ScriptsSay, SettingsSay, script_places}
+
+no_first : (faults : List Fault) → None ≡ first_of faults → faults ≡ []
+no_first [] is = refl
+no_first (fault ∷ faults) is = absurd (cc)
 
 module _ {M F Z S A : Type 0} (tables : Tables M F Z S A) (files : Files) where
   module _ (settings : List (List (List ℕ))) (texts : List (List Statement)) (settings_say : SettingsSay files (Ok settings))
@@ -22,8 +27,14 @@ module _ {M F Z S A : Type 0} (tables : Tables M F Z S A) (files : Files) where
     pub faulty : (result : Result (Option FaultAt) Fault)
         → IfOk result (λ found. option_map (λ at. at.fault) found ≡ first_of (configure_faults tables (source_of settings texts [])))
         → IfOk result (λ found. IfSome found (IsFirstAt tables (source_of settings texts []).names (zip (project_paths settings) texts)))
-        → IfOk result (λ found. IfSome found (IsFaulty tables files))
-    faulty (Ok None) first at = tt
+        → IfOk result (λ found. MatchOption found (IsFaultless tables files) (IsFaulty tables files))
+    faulty (Ok None) first at = record {
+      settings = settings;
+      texts = texts;
+      settings_say = settings_say;
+      scripts_say = scripts_say;
+      none = no_first (configure_faults tables (source_of settings texts [])) first;
+    }
     faulty (Ok (Some found)) first at = record {
       settings = settings;
       texts = texts;
@@ -34,12 +45,23 @@ module _ {M F Z S A : Type 0} (tables : Tables M F Z S A) (files : Files) where
     }
     faulty (Err fault) first at = tt
 
-  -- whatever values are given, it is a fault of the machine or of the texts
+  -- a fault of the machine, or of the texts
   abbrev pub Refused : ℕ → ℕ → Fault → Type 0
-  Refused before after fault = (given : List (List ℕ × List ℕ)) → IsOfMachine before after fault ⊎ FolderSays tables files given (Err fault)
+  Refused before after fault = IsOfMachine before after fault ⊎ IsTextFault files fault
 
   -- only memory ran out
   pub memory_alone : {X : Type 0} (before after : ℕ) (result : Result X Fault) → IfErr result (λ fault. fault ≡ faults.OutOfMemory)
       → IfErr result (Refused before after)
   memory_alone before after (Ok x) memory = tt
-  memory_alone before after (Err fault) memory = λ given. inl (inl memory)
+  memory_alone before after (Err fault) memory = inl (inl memory)
+
+  -- scripts whose statements have no fault are refused only for a text
+  pub of_texts : (given : List (List ℕ × List ℕ)) (fault : Fault) → IsFaultless tables files → FolderSays tables files given (Err fault) → IsTextFault files fault
+  of_texts given fault faultless (inl settings) = inl settings
+  of_texts given fault faultless (inr (settings, says, inl scripts)) = inr (settings, says, scripts)
+  of_texts given fault faultless (inr (settings, says, inr (texts, are, wrong))) =
+      let source = source_of faultless.settings faultless.texts given in
+      let here : FolderSays tables files given (Ok source) = (faultless.settings, faultless.settings_say, (faultless.texts, faultless.scripts_say, (faultless.none, refl))) in
+      let there : FolderSays tables files given (Err fault) = inr (settings, says, inr (texts, are, wrong)) in
+      let two = folders_one tables files given (Ok source) (Err fault) here there in
+      absurd (cc)

@@ -1,7 +1,7 @@
 -- The reply to `check`.
 use Rattle.std.specs.Prelude.{ℕ, ◌≡◌, ◌⊎◌, ◌∷◌, ◌++◌, Bool, IsTrue, MatchResult, List, [], Result, Ok, Err}
 use Rattle.std.specs.Prelude.{if◌then◌else◌, map, nat_eq, string_bytes}
-use Rattle.gb_ask_command.specs.Faulty.{IsFaulty}
+use Rattle.gb_ask_command.specs.Faulty.{IsFaulty, IsTextFault}
 use Rattle.gb_build.specs.Registering.{registers_in}
 use Rattle.gb_build.specs.Scripts.{FolderSays}
 use Rattle.gb_check.specs.All.{AreFindings}
@@ -140,12 +140,13 @@ module _ {M F Z S A : Type 0} (tables : Tables M F Z S A) (faithful : Bool) wher
         → IsQuiet tables source contents invocation.properties
 
   -- The findings, for tasks or for a statement; or if the contents of the folder are known, a fault of the
-  -- machine between these counts of failures, or the fault of the folder's scripts.
+  -- machine between these counts of failures, or that of a text that cannot be read. So the fault of a
+  -- statement is always a finding, with its line.
   abbrev pub IsCheckReply : Invocation → Contents → ℕ → ℕ → CheckReply → Type 0
   IsCheckReply invocation contents before after reply =
       MatchResult reply (λ found. IsChecked invocation contents found ⊎ IsFoundAt contents.files found)
       (λ fault. IsTrue faithful
-      → IsOfMachine before after fault ⊎ FolderSays tables contents.files invocation.properties (Err fault))
+      → IsOfMachine before after fault ⊎ IsTextFault contents.files fault)
 
   -- the arguments are refused, or they make a request, and this is the reply to it
   abbrev pub RepliesCheck : Given → Contents → ℕ → ℕ → CheckReply → Type 0

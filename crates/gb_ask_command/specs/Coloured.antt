@@ -1,23 +1,29 @@
 -- Graphs with the colours of predictions.
-use Rattle.std.specs.Prelude.{ℕ, ◌≡◌, ◌⊎◌, Bool, IsTrue, List, []}
+use Rattle.std.specs.Prelude.{ℕ, ◌≡◌, Bool, IsTrue, List, [], Ok, Err}
 use Rattle.gb_meaning.specs.Edits.{Shown}
 use Rattle.gb_meaning.specs.declared.events.Invocation.{Invocation}
 use Rattle.gb_predict.specs.declared.predicted_outcome.Prediction.{Prediction}
 use Rattle.gb_registry.specs.Tables.{Tables}
 use Rattle.gb_ask_command.specs.Replies.{IsGraphReply}
 use Rattle.gb_ask_command.specs.Reply.{Reply}
-use Rattle.gb_ask_command.specs.Reported.{IsReported}
+use Rattle.gb_ask_command.specs.Reported.{Answer, IsAnswerTo}
 use Rattle.gb_ask_command.specs.declared.words.Colouring.{Colouring}
 use Rattle.gb_ask_command.specs.declared.words.Colouring.TheVariants as colourings
 use Rattle.gb_ask_command.specs.declared.words.Style.{Style}
 
+-- the predictions of an answer; none if it is refused
+abbrev pub found_in : Answer → List Prediction
+found_in (Ok reported) = reported.items
+found_in (Err fault) = []
+
 module _ {M F Z S A : Type 0} (tables : Tables M F Z S A) (faithful : Bool) (old : Shown) (after : ℕ) where
-  -- The predictions that colours show: none if no colours are requested; or else those that `why` reports for
-  -- the request, or none. The folder is `old` at first, and its device has failed `after` times at the end.
+  -- The predictions that colours show: none if no colours are requested, or else those of the answer of `why`
+  -- to the request. The folder is `old` at first, and its device has failed `after` times at the end.
   abbrev pub ArePredicted : Colouring → Invocation → List Prediction → Type 0
   ArePredicted colourings.Plain invocation predicted = predicted ≡ []
   ArePredicted colourings.Outcomes invocation predicted =
-      (predicted ≡ []) ⊎ IsReported tables faithful invocation old after predicted
+      (answer : Answer) × IsAnswerTo tables faithful invocation old answer after
+      × (predicted ≡ found_in answer)
 
 module _ {M F Z S A : Type 0} (tables : Tables M F Z S A) (faithful : Bool) (old : Shown) (after : ℕ)
     (style : Style) (colouring : Colouring) where

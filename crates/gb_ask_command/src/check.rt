@@ -1,6 +1,6 @@
 //! `check`: the faults and warnings of a folder's tasks.
 ghost use Rattle.std.specs.Prelude.{◌≡◌, ◌⊎◌, ◌∷◌, ◌++◌, [], IfErr, IfOk, IfSome, if◌then◌else◌, IsTrue};
-ghost use Rattle.std.specs.Prelude.{List, map, string_bytes};
+ghost use Rattle.std.specs.Prelude.{List, None, map, string_bytes};
 ghost use Rattle.std.specs.Io.KnownBytes.{Appends};
 ghost use Rattle.gb_command.specs.Answered.{given_of};
 ghost use Rattle.gb_declare.specs.Registered.{registry_said};
@@ -16,11 +16,12 @@ ghost use Rattle.gb_script.specs.declared.script.Statement.{Statement};
 ghost use Rattle.gb_store.specs.Faults.{IsOfMachine};
 ghost use Rattle.gb_check.specs.All.{AreFindings};
 ghost use Rattle.gb_check.specs.Found.{findings_text};
-ghost use Rattle.gb_check.specs.Sites.{IsUnread};
+ghost use Rattle.gb_check.specs.Sites.{HasTextFault, IsUnread, script_of_project};
 ghost use Rattle.gb_ask_command.specs.Check.{AreFindingsOf, AreLeft, CheckReply, IsCheckReply, IsCheckText};
 ghost use Rattle.gb_ask_command.specs.Check.{IsCheckWritten, IsFindingAt, IsFoundAt};
 ghost use Rattle.gb_ask_command.specs.Check.{RepliesCheck, check_status, check_text, unregistered_of};
 ghost use Rattle.gb_ask_command.specs.Check.{written_status};
+ghost use Rattle.gb_ask_command.specs.Faulty.{IsFaultless, IsTextFault};
 ghost use Rattle.gb_ask_command.specs.Reply.{Reply as Replied, reply_text};
 
 use crate::check_json::check_json;
@@ -217,8 +218,8 @@ fn check_asked<A: Actions, T: Transforms, F: Folder>(
 }
 
 /// The finding for scripts that were refused for this fault. The scripts are read once more, to
-/// find the first statement that has a fault. If no statement has one, or the scripts cannot be
-/// read, the fault itself is returned.
+/// find the first statement that has a fault. If no statement has one, the fault itself is
+/// returned. Refused if a text cannot be read, if memory runs out, or if the device fails.
 fn check_statements<A: Actions, T: Transforms, F: Folder>(
     alloc: Global,
     folder: &mut F,
@@ -229,7 +230,11 @@ fn check_statements<A: Actions, T: Transforms, F: Folder>(
     ensures same { IsTrue F.faithful → F.contents folder.new ≡ F.contents folder.old }
     ensures found { IfOk result (IsFoundAt (tables_of T.meanings A.meanings tables.now) F.faithful
         (F.contents folder.old).files) }
-    ensures err { IfErr result (λ same. same ≡ fault) }
+    ensures err { IsTrue F.faithful → IfErr result (λ other.
+        IsOfMachine (F.failures folder.old) (F.failures folder.new) other
+        ⊎ (IsTextFault (F.contents folder.old).files other
+        ⊎ ((other ≡ fault) × IsFaultless (tables_of T.meanings A.meanings tables.now)
+        (F.contents folder.old).files))) }
 {
     match statement_found(alloc, folder, tables) {
         Ok(Some(found)) => {
@@ -238,8 +243,8 @@ fn check_statements<A: Actions, T: Transforms, F: Folder>(
         }
         Ok(None) => Err(fault),
         Err(other) => {
-            drop(other);
-            Err(fault)
+            drop(fault);
+            Err(other)
         }
     }
 }
@@ -255,6 +260,11 @@ fn statement_found<A: Actions, T: Transforms, F: Folder>(
     ensures found { IfOk result (λ found. IfSome found
         (IsFoundAt (tables_of T.meanings A.meanings tables.now) F.faithful
         (F.contents folder.old).files)) }
+    ensures none { IsTrue F.faithful → IfOk result (λ found. found ≡ None
+        → IsFaultless (tables_of T.meanings A.meanings tables.now) (F.contents folder.old).files) }
+    ensures err { IsTrue F.faithful → IfErr result (λ fault.
+        IsOfMachine (F.failures folder.old) (F.failures folder.new) fault
+        ⊎ IsTextFault (F.contents folder.old).files fault) }
 {
     match read_fault(alloc, folder, tables)? {
         Some(at) => Ok(Some(found_at(alloc, folder, at)?)),
@@ -267,6 +277,9 @@ fn found_at<F: Folder>(alloc: Global, folder: &mut F, at: FaultAt) -> Result<Fin
     ensures requests { Requests F.failures F.may_leave F.allowed no_change folder.old folder.new }
     ensures same { IsTrue F.faithful → F.contents folder.new ≡ F.contents folder.old }
     ensures found { IfOk result (IsFindingAt F.faithful (F.contents folder.old).files at) }
+    ensures err { IsTrue F.faithful → IfErr result (λ fault.
+        IsOfMachine (F.failures folder.old) (F.failures folder.new) fault
+        ⊎ HasTextFault (F.contents folder.old).files (script_of_project at.project) fault) }
 {
     let FaultAt {
         project,

@@ -1,10 +1,9 @@
 //! The statement of a folder's scripts at which their first fault arises.
-ghost use Rattle.std.specs.Prelude.{◌⊎◌, ◌≡◌, ℕ, Err, IfErr, IfOk, IfSome, IsTrue, List};
+ghost use Rattle.std.specs.Prelude.{◌⊎◌, ◌≡◌, IfErr, IfOk, IsTrue, MatchOption};
 ghost use Rattle.gb_folder.specs.Calls.{Requests, no_change};
 ghost use Rattle.gb_registry.specs.Tables.{tables_of};
 ghost use Rattle.gb_store.specs.Faults.{IsOfMachine};
-ghost use Rattle.gb_ask_command.specs.Faulty.{IsFaulty};
-ghost use Rattle.gb_build.specs.Scripts.{FolderSays};
+ghost use Rattle.gb_ask_command.specs.Faulty.{IsFaultless, IsFaulty, IsTextFault};
 
 use gb_action::actions::Actions;
 use gb_build::scripts::{read_scripts, read_settings_of};
@@ -17,8 +16,8 @@ use gb_report::fault::Fault;
 use std::alloc::Global;
 
 /// The first fault of a statement of a folder's scripts, with that statement; none if no statement
-/// has one. It is the fault for which `read_registry` is refused. Refused as that is, except for a
-/// fault of a statement.
+/// has one. It is the fault for which `read_registry` is refused. Refused if a text cannot be read,
+/// if memory runs out, or if the device fails.
 pub fn read_fault<A: Actions, T: Transforms, F: Folder>(
     alloc: Global,
     folder: &mut F,
@@ -26,12 +25,13 @@ pub fn read_fault<A: Actions, T: Transforms, F: Folder>(
 ) -> Result<Option<FaultAt>, Fault>
     ensures requests { Requests F.failures F.may_leave F.allowed no_change folder.old folder.new }
     ensures same { IsTrue F.faithful → F.contents folder.new ≡ F.contents folder.old }
-    ensures found { IsTrue F.faithful → IfOk result (λ found. IfSome found
-        (IsFaulty (tables_of T.meanings A.meanings tables.now) (F.contents folder.old).files)) }
-    ensures err { IsTrue F.faithful → IfErr result (λ fault. (given : List (List ℕ × List ℕ))
-        → IsOfMachine (F.failures folder.old) (F.failures folder.new) fault
-        ⊎ FolderSays (tables_of T.meanings A.meanings tables.now)
-        (F.contents folder.old).files given (Err fault)) }
+    ensures found { let tables = tables_of T.meanings A.meanings tables.now in
+        IsTrue F.faithful → IfOk result (λ found.
+        MatchOption found (IsFaultless tables (F.contents folder.old).files)
+        (IsFaulty tables (F.contents folder.old).files)) }
+    ensures err { IsTrue F.faithful → IfErr result (λ fault.
+        IsOfMachine (F.failures folder.old) (F.failures folder.new) fault
+        ⊎ IsTextFault (F.contents folder.old).files fault) }
 {
     let settings = read_settings_of(alloc, folder)?;
     let projects = projects(alloc, &settings)?;

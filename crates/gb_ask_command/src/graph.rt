@@ -9,9 +9,10 @@ ghost use Rattle.gb_printer.specs.Printing.{Prints};
 ghost use Rattle.gb_registry.specs.Tables.{tables_of};
 ghost use Rattle.gb_ask_command.specs.Graph.{IsDrawing};
 ghost use Rattle.gb_ask_command.specs.Reply.{Reply as Replied, reply_status, reply_text};
-ghost use Rattle.gb_ask_command.specs.Coloured.{ArePredicted, IsGraphAnswer};
+ghost use Rattle.gb_ask_command.specs.Coloured.{ArePredicted, IsGraphAnswer, found_in};
 ghost use Rattle.gb_ask_command.specs.Replies.{IsGraphReply, Replies};
 
+use crate::answer::Answer;
 use crate::drawing::draw_requested;
 use crate::predicting::predict_build;
 use crate::reply::{Reply, print_reply};
@@ -109,8 +110,8 @@ fn draw_coloured<A: Actions, T: Transforms, F: Folder>(
     )
 }
 
-/// The predictions for the request, as `why` has them; none if no colours are requested or there is
-/// no prediction.
+/// The predictions for the request, as `why` has them; none if no colours are requested or it is
+/// refused.
 fn predicted<A: Actions, T: Transforms, F: Folder>(
     alloc: Global,
     folder: &mut F,
@@ -126,13 +127,23 @@ fn predicted<A: Actions, T: Transforms, F: Folder>(
 {
     match colouring {
         Colouring::Plain => Vec::new(alloc),
-        Colouring::Outcomes => match predict_build(alloc, folder, tables, invocation) {
-            Ok(predicted) => predicted,
-            Err(fault) => {
-                drop(fault);
-                Vec::new(alloc)
-            }
-        },
+        Colouring::Outcomes => {
+            let answer = predict_build(alloc, folder, tables, invocation);
+            found_in(alloc, answer)
+        }
+    }
+}
+
+/// The predictions of an answer; none if it is refused.
+fn found_in(alloc: Global, answer: Answer) -> Vec<Prediction>
+    ensures { result.items ≡ found_in answer }
+{
+    match answer {
+        Ok(predicted) => predicted,
+        Err(fault) => {
+            drop(fault);
+            Vec::new(alloc)
+        }
     }
 }
 

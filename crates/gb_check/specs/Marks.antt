@@ -31,20 +31,15 @@ Lines = ℕ × List ℕ
 abbrev pub Word : Type 0
 Word = MarkKind × Text
 
-abbrev pub all_of : MarkKind → List Text → List Word
-all_of kind texts = map (λ text. (kind, text)) texts
-
--- the words of a clause: the name of whatever it declares, does or tests, its tasks and patterns, and that it
--- declares an output
+-- the words of a clause: the name of whatever it declares, does or tests, and that it declares an output
 abbrev pub words_of : Clause → List Word
 words_of (clauses.Input a) = (mark_kinds.Name, a.name) ∷ []
-words_of (clauses.InputFiles f) =
-    (mark_kinds.Name, f.name) ∷ all_of mark_kinds.Pattern f.include ++ all_of mark_kinds.Pattern f.exclude
+words_of (clauses.InputFiles f) = (mark_kinds.Name, f.name) ∷ []
 words_of (clauses.OutputFile a) = (mark_kinds.Name, a.name) ∷ (mark_kinds.Output, []) ∷ []
 words_of (clauses.OutputDir a) = (mark_kinds.Name, a.name) ∷ (mark_kinds.Output, []) ∷ []
-words_of (clauses.DependsOn tasks) = all_of mark_kinds.Task tasks
-words_of (clauses.MustRunAfter tasks) = all_of mark_kinds.Task tasks
-words_of (clauses.FinalizedBy tasks) = all_of mark_kinds.Task tasks
+words_of (clauses.DependsOn tasks) = []
+words_of (clauses.MustRunAfter tasks) = []
+words_of (clauses.FinalizedBy tasks) = []
 words_of (clauses.DoFirst call) = (mark_kinds.Name, call.name) ∷ []
 words_of (clauses.DoLast call) = (mark_kinds.Name, call.name) ∷ []
 words_of (clauses.OnlyIf c) = (mark_kinds.Name, c.test.name) ∷ []
@@ -120,14 +115,8 @@ script_scope names project statements =
 
 -- ---- What a fault names
 
--- the word that the fault of the task at a path takes from one of its clauses
+-- the word that the fault of a value of the task at a path takes from one of its clauses
 abbrev pub word_of : Path → Fault → Option Word
-word_of path (faults.BadName text) = Some (mark_kinds.Task, text)
-word_of path (faults.UnknownProject text) = Some (mark_kinds.Task, text)
-word_of path (faults.TaskNotFound text) = Some (mark_kinds.Task, text)
-word_of path (faults.BadPattern text) = Some (mark_kinds.Pattern, text)
-word_of path (faults.UnknownAction name) = Some (mark_kinds.Name, name)
-word_of path (faults.UnknownTransform name) = Some (mark_kinds.Name, name)
 word_of path (faults.WrongValue name) = Some (mark_kinds.Name, name)
 word_of path (faults.NoValue task name) = if bytes_eq task path then Some (mark_kinds.Name, name) else None
 word_of path (faults.BadArgument task name) =
@@ -138,8 +127,6 @@ word_of path other = None
 
 abbrev pub is_same_kind : MarkKind → MarkKind → Bool
 is_same_kind mark_kinds.Name mark_kinds.Name = true
-is_same_kind mark_kinds.Task mark_kinds.Task = true
-is_same_kind mark_kinds.Pattern mark_kinds.Pattern = true
 is_same_kind mark_kinds.Output mark_kinds.Output = true
 is_same_kind mark_kinds.Faulty mark_kinds.Faulty = true
 is_same_kind one other = false

@@ -6,7 +6,7 @@ ghost use Rattle.gb_core.specs.Path.{task_in};
 ghost use Rattle.gb_declare.specs.Declaring.{scope_in};
 ghost use Rattle.gb_registry.specs.Faults.{ReportsFirst};
 ghost use Rattle.gb_registry.specs.Tables.{tables_of};
-ghost use Rattle.gb_check.specs.Marks.{action_marks, all_of, clause_marks, fault_marks, first_number};
+ghost use Rattle.gb_check.specs.Marks.{action_marks, clause_marks, fault_marks, first_number};
 ghost use Rattle.gb_check.specs.Marks.{mark, marks_at, other_numbers, statement_marks, words_of};
 
 use crate::sites::task_path;
@@ -18,7 +18,7 @@ use gb_declare::clauses::{check_clause, check_main};
 use gb_provider::transforms::Transforms;
 use gb_registry::wrong::Scope;
 use gb_report::fault::Fault;
-use gb_script::script::{Call, Clause, InputFiles, Registration, Statement};
+use gb_script::script::{Call, Clause, Registration, Statement};
 use std::alloc::{AllocError, Global};
 
 /// What a mark says of its clause: the kind of a word, or that it has a fault.
@@ -26,10 +26,6 @@ use std::alloc::{AllocError, Global};
 pub enum MarkKind {
     /// The name of an input, an output, a kind of action or a test.
     Name,
-    /// A task that the clause names.
-    Task,
-    /// A pattern.
-    Pattern,
     /// No word: the clause declares an output.
     Output,
     /// No word: the clause has a fault by itself.
@@ -231,13 +227,11 @@ fn push_clause(
 {
     match clause {
         Clause::Input(input) => push_name(alloc, marks, path, line, &input.name),
-        Clause::InputFiles(files) => push_files(alloc, marks, path, line, files),
+        Clause::InputFiles(files) => push_name(alloc, marks, path, line, &files.name),
         Clause::OutputFile(output) | Clause::OutputDir(output) => {
             push_output(alloc, marks, path, line, &output.name)
         }
-        Clause::DependsOn(tasks) | Clause::MustRunAfter(tasks) | Clause::FinalizedBy(tasks) => {
-            push_all(alloc, marks, path, line, MarkKind::Task, tasks.as_slice())
-        }
+        Clause::DependsOn(_) | Clause::MustRunAfter(_) | Clause::FinalizedBy(_) => Ok(()),
         Clause::DoFirst(call) | Clause::DoLast(call) => {
             push_name(alloc, marks, path, line, &call.name)
         }
@@ -246,36 +240,6 @@ fn push_clause(
         }
         Clause::Enabled(_) => push_word(alloc, marks, path, line, MarkKind::Name, "enabled"),
     }
-}
-
-fn push_files(
-    alloc: Global,
-    marks: &mut Vec<ClauseMark>,
-    path: &TaskPath,
-    line: u64,
-    files: &InputFiles,
-) -> Result<(), AllocError>
-    ensures { OnOk result (marks.new.items ≡ marks.old.items
-        ++ map (mark path.now line) ((MarkKind.Name, files.now.name)
-        ∷ all_of MarkKind.Pattern files.now.include ++ all_of MarkKind.Pattern files.now.exclude)) }
-{
-    push_name(alloc, marks, path, line, &files.name)?;
-    push_all(
-        alloc,
-        marks,
-        path,
-        line,
-        MarkKind::Pattern,
-        files.include.as_slice(),
-    )?;
-    push_all(
-        alloc,
-        marks,
-        path,
-        line,
-        MarkKind::Pattern,
-        files.exclude.as_slice(),
-    )
 }
 
 fn push_output(
@@ -325,23 +289,5 @@ fn push_word(
         text,
         line,
     })?;
-    Ok(())
-}
-
-/// Adds each of these texts as a word.
-fn push_all(
-    alloc: Global,
-    marks: &mut Vec<ClauseMark>,
-    path: &TaskPath,
-    line: u64,
-    kind: MarkKind,
-    texts: &[Text],
-) -> Result<(), AllocError>
-    ensures { OnOk result (marks.new.items
-        ≡ marks.old.items ++ map (mark path.now line) (all_of kind texts.now)) }
-{
-    for text in texts {
-        push_word(alloc, marks, path, line, kind, text.as_str())?;
-    }
     Ok(())
 }

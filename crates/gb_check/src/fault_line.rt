@@ -80,19 +80,12 @@ fn line_with(
     }
 }
 
-/// The word that the fault of a task takes from one of its clauses.
+/// The word that the fault of a value of a task takes from one of its clauses.
 fn word_of<'f>(path: &TaskPath, fault: &'f Fault) -> Option<(MarkKind, &'f str)>
     ensures { option_map (λ word. (word.0, word.1.now)) result ≡ word_of path.now fault.now }
 {
     match fault {
-        Fault::BadName(text) | Fault::UnknownProject(text) | Fault::TaskNotFound(text) => {
-            Some((MarkKind::Task, text.as_str()))
-        }
-        Fault::BadPattern(text) => Some((MarkKind::Pattern, text.as_str())),
         Fault::WrongValue(name) => Some((MarkKind::Name, name.as_str())),
-        Fault::UnknownAction(name) | Fault::UnknownTransform(name) => {
-            Some((MarkKind::Name, name.as_str()))
-        }
         Fault::NoValue(task, name) | Fault::BadArgument(task, name) if *task == *path => {
             Some((MarkKind::Name, name.as_str()))
         }
@@ -147,8 +140,6 @@ fn is_same_kind(one: MarkKind, other: MarkKind) -> bool
     matches!(
         (one, other),
         (MarkKind::Name, MarkKind::Name)
-            | (MarkKind::Task, MarkKind::Task)
-            | (MarkKind::Pattern, MarkKind::Pattern)
             | (MarkKind::Output, MarkKind::Output)
             | (MarkKind::Faulty, MarkKind::Faulty)
     )

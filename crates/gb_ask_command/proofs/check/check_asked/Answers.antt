@@ -3,7 +3,7 @@ use Rattle.std.specs.Prelude.{IfOk, IsTrue}
 use Rattle.gb_build.specs.Scripts.{FolderSays}
 use Rattle.gb_check.specs.Sites.{IsUnread}
 use Rattle.gb_check.specs.declared.findings.Findings.{Findings}
-use Rattle.gb_folder.specs.Files.{Contents}
+use Rattle.gb_folder.specs.Files.{Contents, Files}
 use Rattle.gb_registry.specs.Projects.{Path}
 use Rattle.gb_registry.specs.Read.{IsRead}
 use Rattle.gb_registry.specs.Tables.{tables_of}
@@ -13,7 +13,9 @@ use Rattle.gb_script.specs.declared.script.Statement.{Statement}
 use Rattle.gb_store.proofs.Machine.{machine_after, machine_before}
 use Rattle.gb_store.specs.Faults.{IsOfMachine}
 use Rattle.gb_ask_command.specs.Check.{AreFindingsOf, IsChecked, IsFoundAt}
+use Rattle.gb_ask_command.specs.Faulty.{IsFaultless, IsTextFault}
 use Rattle.gb_ask_command.proofs.Again.{match_of, none_again}
+use Rattle.gb_ask_command.proofs.FaultyLemmas.{of_texts}
 use Rattle.gb_ask_command.proofs.Quiet.{found_at_same, found_in_same, quiet}
 use Rattle.gb_ask_command.proofs.check.check_asked.Goals as goal
 
@@ -35,7 +37,7 @@ returns-in-Ok-clause-reply g c =
     subst (λ (handed_in : tables_of_code.Tables _ _ _ _ _ _ _). IfOk c.check_configured.result (AreFindingsOf (tables_of g.T.Transforms.meanings M handed_in) F.faithful source mid)) c.in-Ok.ensures.tables c.check_configured.ensures.found in
     let Unread : Contents → Fault → Type 0 = λ contents fault. (scripts : List (Path × List Statement)) × IsRead source scripts × IsUnread contents.files scripts fault in
     let Bad : Fault → Type 0 = λ fault. IsOfMachine between after fault ⊎ Unread mid fault in
-    let Worse : Fault → Type 0 = λ fault. IsOfMachine before after fault ⊎ FolderSays tables old.files given (Err fault) in
+    let Worse : Fault → Type 0 = λ fault. IsOfMachine before after fault ⊎ IsTextFault old.files fault in
     let Replied : Findings → Type 0 = λ found. IsChecked tables F.faithful c.args.invocation.now old found ⊎ IsFoundAt tables F.faithful old.files found in
     match_of c.check_configured.result (AreFindingsOf tables F.faithful source mid) Replied F.faithful Bad Worse
     (λ findings are.
@@ -67,14 +69,21 @@ returns-in-Err-clause-reply g c =
     let refused = c.in-Err.fault in
     let Replied : Findings → Type 0 = λ found. IsChecked tables F.faithful c.args.invocation.now old found ⊎ IsFoundAt tables F.faithful old.files found in
     let Refused : List (List _ × List _) → Fault → Type 0 = λ values fault. IsOfMachine before between fault ⊎ FolderSays tables old.files values (Err fault) in
-    let Worse : Fault → Type 0 = λ fault. IsOfMachine before after fault ⊎ FolderSays tables old.files given (Err fault) in
-    match_of c.check_statements.result (IsFoundAt tables F.faithful mid.files) Replied F.faithful (λ fault. fault ≡ refused) Worse
+    let Faultless : Fault → Type 0 = λ fault. (fault ≡ refused) × IsFaultless tables mid.files in
+    let Told : Fault → Type 0 = λ fault. IsOfMachine between after fault ⊎ (IsTextFault mid.files fault ⊎ Faultless fault) in
+    let Worse : Fault → Type 0 = λ fault. IsOfMachine before after fault ⊎ IsTextFault old.files fault in
+    match_of c.check_statements.result (IsFoundAt tables F.faithful mid.files) Replied F.faithful Told Worse
     (λ found is. inr (found_at_same tables F.faithful old.files mid.files (λ faithful. ap (λ (contents : Contents). contents.files) (c.read_registry.ensures.same faithful)) found is))
-    (λ fault faithful same.
-    subst Worse (sym same)
-    (elim (subst (λ values. Refused values refused) (c.into_vec-given.ensures ∙ c.in_ok-copied.ensures) (c.in-Err.ensures.said faithful)) as (λ _. Worse refused) [
-      | inl machine ↦ inl (machine_after before between after refused c.check_statements.ensures.requests.count machine)
-      | inr says ↦ inr says
-    ]))
+    (λ fault faithful told.
+    let same_files : mid.files ≡ old.files = ap (λ (contents : Contents). contents.files) (c.read_registry.ensures.same faithful) in
+    elim told as (λ _. Worse fault) [
+      | inl machine ↦ inl (machine_before before between after fault c.read_registry.ensures.requests.count c.check_statements.ensures.requests.count machine)
+      | inr (inl text) ↦ inr (subst (λ (files : Files). IsTextFault files fault) same_files text)
+      | inr (inr (is, faultless)) ↦ subst Worse (sym is)
+          (elim (subst (λ values. Refused values refused) (c.into_vec-given.ensures ∙ c.in_ok-copied.ensures) (c.in-Err.ensures.said faithful)) as (λ _. Worse refused) [
+            | inl machine ↦ inl (machine_after before between after refused c.check_statements.ensures.requests.count machine)
+            | inr says ↦ inr (of_texts tables old.files given refused (subst (λ (files : Files). IsFaultless tables files) same_files faultless) says)
+          ])
+    ])
     c.check_statements.ensures.found
-    (λ faithful. c.check_statements.ensures.err)
+    c.check_statements.ensures.err

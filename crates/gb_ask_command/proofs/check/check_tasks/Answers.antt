@@ -16,11 +16,11 @@ find-requires g c =
     let source : Source = c.args.configured.now.registry in
     let tables = tables_of g.T.Transforms.meanings g.A.Actions.meanings c.args.configured.now.tables.now in
     let same : registry_in g.T.Transforms.meanings g.A.Actions.meanings tasks.workspace ≡ registry_said tables source = c.in_ok-tasks.ensures.registry in
-    c.as_slice.ensures.value ∙ c.in_ok-names.ensures ∙ sym c.tasks-registered.ensures.tasks ∙ c.tasks-registered.ensures.registered ∙ sym (paths_said tables source) ∙ ap paths_of (sym same)
+    c.as_slice.ensures.value ∙ c.in_ok-paths.ensures ∙ sym c.tasks.ensures.tasks ∙ c.tasks.ensures.registered ∙ sym (paths_said tables source) ∙ ap paths_of (sym same)
 
 pub returns-clause-found : goal.returns-clause-found
 returns-clause-found g c =
     let F = g.F.Folder in
     let tables = tables_of g.T.Transforms.meanings g.A.Actions.meanings c.args.configured.now.tables.now in
     let same : registry_in g.T.Transforms.meanings g.A.Actions.meanings c.in_ok-tasks.tasks.workspace ≡ registry_said tables c.args.configured.now.registry = c.in_ok-tasks.ensures.registry in
-    subst (λ (registry : Registry). IfOk c.find.result (AreFindings F.faithful (F.contents c.args.folder.now) registry (scripts_in c.args.scripts.now))) same c.find.ensures.findings
+    subst (λ (registry : Registry). IfOk c.find.result (AreFindings tables c.args.configured.now.registry.names F.faithful (F.contents c.args.folder.now) registry (scripts_in c.args.scripts.now))) same c.find.ensures.findings

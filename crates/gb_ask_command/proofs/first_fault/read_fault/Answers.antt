@@ -6,7 +6,7 @@ use Rattle.gb_registry.specs.Tables.{tables_of}
 use Rattle.gb_store.proofs.Machine.{machine_before}
 use Rattle.gb_ask_command.proofs.FaultyLemmas.{Refused, faulty, memory_alone}
 use Rattle.gb_build.proofs.PlaceLemmas.{places_good}
-use Rattle.gb_build.proofs.SaidLemmas.{handed, scripts_here, scripts_refused}
+use Rattle.gb_build.proofs.SaidLemmas.{handed, scripts_here}
 use Rattle.gb_build.specs.Scripts.{script_places}
 use Rattle.gb_ask_command.proofs.first_fault.read_fault.Goals as goal
 
@@ -25,7 +25,7 @@ returns-in_err-settings-clause-err g c = λ faithful.
     let Bad = Refused tables files (F.failures c.args.folder.now) (F.failures c.read_settings_of.new.folder) in
     let fault = c.in_err-settings.field-0.0 in
     handed _ Bad c.from_residual.result fault c.from_residual.ensures.1
-    (λ given. elim (c.in_err-settings.ensures.said faithful) [
+    (elim (c.in_err-settings.ensures.said faithful) [
       | inl machine ↦ inl machine
       | inr bad ↦ inr (inl (inl bad))
     ])
@@ -38,7 +38,7 @@ returns-in_err-projects-clause-err g c = λ faithful.
     let Bad = Refused tables files (F.failures c.args.folder.now) (F.failures c.read_settings_of.new.folder) in
     let fault = c.in_err-projects.field-0.0 in
     handed _ Bad c.from_residual-in_err-projects.result fault c.from_residual-in_err-projects.ensures.1
-    (λ given. elim c.in_err-projects.ensures.faults [
+    (elim c.in_err-projects.ensures.faults [
       | inl memory ↦ inl (inl memory)
       | inr first ↦ inr (inl (inr (c.in_ok-settings.settings, c.in_ok-settings.ensures.said faithful, first)))
     ])
@@ -52,11 +52,14 @@ returns-in_err-scripts-clause-err g c = λ faithful.
     let Bad = Refused tables files (F.failures c.args.folder.now) (F.failures c.read_scripts.new.folder) in
     let fault = c.in_err-scripts.field-0.0 in
     handed _ Bad c.from_residual-in_err-scripts.result fault c.from_residual-in_err-scripts.ensures.1
-    (λ given. elim (c.in_err-scripts.ensures.said faithful) [
+    (elim (c.in_err-scripts.ensures.said faithful) [
       | inl machine ↦ inl (machine_before _ _ _ fault c.read_settings_of.ensures.requests.count c.read_scripts.ensures.requests.count machine)
-      | inr bad ↦ inr (scripts_refused tables files given settings (c.in_ok-settings.ensures.said faithful) c.in_ok-projects.ensures.faults fault
-          (scripts_here (F.contents c.read_settings_of.new.folder) (F.contents c.args.folder.now) c.as_slice.result.now (projects_of settings) (Err fault)
-          (c.read_settings_of.ensures.same faithful) (c.as_slice.ensures.value ∙ c.in_ok-projects.ensures.projects) bad))
+      | inr bad ↦ inr (inr (
+        settings,
+        (settings, c.in_ok-settings.ensures.said faithful, (c.in_ok-projects.ensures.faults, refl)),
+        scripts_here (F.contents c.read_settings_of.new.folder) (F.contents c.args.folder.now) c.as_slice.result.now (projects_of settings) (Err fault)
+            (c.read_settings_of.ensures.same faithful) (c.as_slice.ensures.value ∙ c.in_ok-projects.ensures.projects) bad,
+      ))
     ])
 
 pub returns-clause-found : goal.returns-clause-found
