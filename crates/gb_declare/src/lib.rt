@@ -11,7 +11,7 @@
 //! scripts.
 #![tactic(auto)]
 
-mod clauses;
+pub mod clauses;
 pub mod declaring;
 mod fitting;
 mod headings;

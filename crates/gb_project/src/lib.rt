@@ -16,7 +16,7 @@ mod blocks;
 mod declared_task;
 mod named;
 mod outputs;
-mod properties;
+pub mod properties;
 mod registering;
 pub mod script_tasks;
 mod scripts;
