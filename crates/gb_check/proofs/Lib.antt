@@ -1,3 +1,4 @@
+pub mod Faulted
 pub mod Refused
 pub mod Rows
 pub mod Silence

@@ -1,6 +1,6 @@
 //! The clauses of tasks: the words by which faults name them, whether they have a fault by themselves,
 //! and their lines.
-ghost use Rattle.std.specs.Prelude.{◌≡◌, ◌∷◌, ◌++◌, [], List, IfErr, OnOk, map};
+ghost use Rattle.std.specs.Prelude.{◌≡◌, ◌≢◌, ◌∷◌, ◌++◌, [], List, IfErr, OnOk, map};
 ghost use Rattle.std.specs.Option.{option_copied};
 ghost use Rattle.gb_core.specs.Path.{task_in};
 ghost use Rattle.gb_declare.specs.Declaring.{scope_in};
@@ -10,6 +10,7 @@ ghost use Rattle.gb_check.specs.Marks.{action_marks, clause_marks, fault_marks, 
 ghost use Rattle.gb_check.specs.Marks.{mark, marks_at, other_numbers, statement_marks, words_of};
 
 use crate::sites::task_path;
+use crate::whole_plan::is_out_of_memory;
 use gb_action::actions::Actions;
 use gb_core::name::Name;
 use gb_core::path::TaskPath;
@@ -196,12 +197,28 @@ fn push_if_faulty(
 {
     match checked {
         Ok(()) => Ok(()),
-        Err(Fault::OutOfMemory) => Err(Fault::OutOfMemory),
-        Err(fault) => {
-            drop(fault);
-            Ok(push_word(alloc, marks, path, line, MarkKind::Faulty, "")?)
-        }
+        Err(fault) => push_faulty(alloc, marks, path, line, fault),
     }
+}
+
+/// Adds a mark for this fault. A fault for lack of memory is returned instead.
+fn push_faulty(
+    alloc: Global,
+    marks: &mut Vec<ClauseMark>,
+    path: &TaskPath,
+    line: u64,
+    fault: Fault,
+) -> Result<(), Fault>
+    ensures fault { OnOk result (fault ≢ Fault.OutOfMemory) }
+    ensures mark { OnOk result (marks.new.items
+        ≡ marks.old.items ++ mark path.now line (MarkKind.Faulty, []) ∷ []) }
+    ensures err { IfErr result (λ fault. fault ≡ Fault.OutOfMemory) }
+{
+    if is_out_of_memory(&fault) {
+        return Err(fault);
+    }
+    drop(fault);
+    Ok(push_word(alloc, marks, path, line, MarkKind::Faulty, "")?)
 }
 
 fn first_number(lines: &[u64]) -> (u64, &[u64])

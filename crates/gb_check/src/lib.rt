@@ -6,10 +6,11 @@
 //! no fault is found, no build is refused for a task, whatever is requested. The warnings are
 //! exactly those of four sorts, over the tasks without a fault.
 //!
-//! A fault has the line of the one clause of its task that has the word in the fault, else that of
-//! the statement that registers the task. By chance this can be another clause with the same word.
-//! Rejected: to carry the clause through the registry, since this would change every fault of a
-//! build.
+//! The clauses of a task are checked once more, each by itself, with their lines: a fault has the
+//! line of the first clause that has one. A fault of a value is of no clause by itself: it has the
+//! line of the one clause whose name it has, else that of the statement that registers the task.
+//! Rejected: to carry the clause of each value through the registry, since this would change every
+//! fault of a build.
 #![tactic(auto)]
 
 mod bare;
