@@ -15,7 +15,7 @@ use Rattle.gb_label.specs.declared.prepare.Prepared.TheVariants as prepared
 use Rattle.gb_meaning.specs.Events.{Setting, ExistsInRun, is_touched_by, may_occur, own_files, rules_in}
 use Rattle.gb_meaning.specs.Label.{CannotRead, Early, HasNoActions, HasNoSource, IsLabelAt, Moment, Skips, early_case, some_outcome}
 use Rattle.gb_meaning.specs.TrueRecord.{outside}
-use Rattle.gb_meaning.specs.Execution.{ByMachine, FullReason, FailedRunLeaves, FailedRunPrints, FailureLeaves, FailurePrints, WorldState as Exists, StartedExecution, cause_of}
+use Rattle.gb_meaning.specs.Execution.{ByMachine, Cause, FailedRunLeaves, FailedRunPrints, FailureLeaves, FailurePrints, WorldState as Exists, StartedExecution, cause_of}
 use Rattle.gb_plan.specs.Graph.{Plan, needs_in}
 use Rattle.gb_plan.specs.Task.{Path, is_output_of}
 use Rattle.gb_plan.specs.declared.task.Output.{Output}
@@ -69,14 +69,14 @@ module _ (setting : Setting) (own : Files) (options : Options) (plan : Plan) (ta
       leaves_for (Some HasNoActions) = refl
       leaves_for (Some (CannotRead hindrances)) = refl
       leaves_for (Some HasNoSource) = inl refl
-      leaves_for None = subst (λ (cause : FullReason). FailedRunLeaves setting.kinds options task fault moment.world moment.world cause) (sym machine) ((λ _. refl), inl refl)
+      leaves_for None = subst (λ (cause : Cause). FailedRunLeaves setting.kinds options task fault moment.world moment.world cause) (sym machine) ((λ _. refl), inl refl)
 
       prints_for : (early : Option Early) → FailurePrints setting.kinds options task moment.world [] fault early
       prints_for (Some Skips) = refl
       prints_for (Some HasNoActions) = refl
       prints_for (Some (CannotRead hindrances)) = refl
       prints_for (Some HasNoSource) = refl
-      prints_for None = subst (λ (cause : FullReason). FailedRunPrints setting.kinds options task moment.world [] cause) (sym machine) (inl refl)
+      prints_for None = subst (λ (cause : Cause). FailedRunPrints setting.kinds options task moment.world [] cause) (sym machine) (inl refl)
 
   fails_unread : (fault : Fault) (hindrances : List Fault) → early_case task moment.world.folder ≡ Some (CannotRead hindrances) → first_of hindrances ≡ Some fault
       → StartedExecution (rules_in setting own options plan) moment task (silent_report task path (outcomes.Failed fault)) unchanged

@@ -8,7 +8,7 @@ use Rattle.gb_meaning.specs.Kinds.{Kinds}
 use Rattle.gb_meaning.specs.Label.{AreChanges, Early, EndsWith, IsCurrent, IsLabel, IsLabelAt, Moment, early_case, run_of}
 use Rattle.gb_meaning.specs.Memory.{World}
 use Rattle.gb_meaning.specs.Tree.{has_no_source, input_faults, listing_faults, trees_of}
-use Rattle.gb_meaning.specs.Execution.{ByItself, ByMachine, FullReason, FailedRunLeaves, FailedRunPrints, FailureLeaves, FailurePrints, HadBegun, HasEnded, IsGivenUp, IsOfMachine, KeepsRightFiles, WorldState, StartedExecution, cause_of, lines_of}
+use Rattle.gb_meaning.specs.Execution.{ByItself, ByMachine, Cause, FailedRunLeaves, FailedRunPrints, FailureLeaves, FailurePrints, HadBegun, HasEnded, IsGivenUp, IsOfMachine, KeepsRightFiles, WorldState, StartedExecution, cause_of, lines_of}
 use Rattle.gb_plan.specs.Graph.{Plan}
 use Rattle.gb_plan.specs.Task.{Text, is_output_of}
 use Rattle.gb_plan.specs.declared.task.Action.{Action}
@@ -106,10 +106,10 @@ module _ (setting : Setting) (own : Files) (options : Options) (plan : Plan) (ta
     label = inr (fault, may, refl);
     leaves =
         subst (λ (early : Option Early). FailureLeaves setting.kinds options task fault moment.world new.world early) (sym due.case)
-        (subst (λ (cause : FullReason). FailedRunLeaves setting.kinds options task fault moment.world new.world cause) (sym machine) ((λ _. same), inl same));
+        (subst (λ (cause : Cause). FailedRunLeaves setting.kinds options task fault moment.world new.world cause) (sym machine) ((λ _. same), inl same));
     prints =
         subst (λ (early : Option Early). FailurePrints setting.kinds options task moment.world [] fault early) (sym due.case)
-        (subst (λ (cause : FullReason). FailedRunPrints setting.kinds options task moment.world [] cause) (sym machine) (inl refl));
+        (subst (λ (cause : Cause). FailedRunPrints setting.kinds options task moment.world [] cause) (sym machine) (inl refl));
     reading = λ place is out. same;
     begun = λ other is printed. not_false printed;
   }
@@ -132,11 +132,11 @@ module _ (setting : Setting) (own : Files) (options : Options) (plan : Plan) (ta
           (inr (due.not_current, subst (λ (ended : Option Fault). EndsWith ended (outcomes.Failed fault)) (sym faulty) refl)))
       label_for (by_machine machine may count printed) = inr (fault, may, refl)
 
-      leaves_for : (cause : FullReason) → FailedRunLeaves setting.kinds options task fault moment.world new.world cause
+      leaves_for : (cause : Cause) → FailedRunLeaves setting.kinds options task fault moment.world new.world cause
       leaves_for ByItself = (up, keeps)
       leaves_for ByMachine = ((λ current. absurd (due.not_current current)), inr (inl (up, keeps)))
 
-      itself_prints : (cause : FullReason) → lines ≡ lines_in setting.kinds task reported moment.world.folder.files (run_of setting.kinds task moment.world.folder.files).done
+      itself_prints : (cause : Cause) → lines ≡ lines_in setting.kinds task reported moment.world.folder.files (run_of setting.kinds task moment.world.folder.files).done
           → FailedRunPrints setting.kinds options task moment.world lines cause
       itself_prints ByItself printed = (reported, due.are_reported, printed)
       itself_prints ByMachine printed = inr (
@@ -150,7 +150,7 @@ module _ (setting : Setting) (own : Files) (options : Options) (plan : Plan) (ta
       prints_for : EndsFor setting own options task reported moment fault lines new → FailedRunPrints setting.kinds options task moment.world lines (cause_of fault)
       prints_for (by_itself faulty printed) = itself_prints (cause_of fault) printed
       prints_for (by_machine machine may count printed) =
-          subst (λ (cause : FullReason). FailedRunPrints setting.kinds options task moment.world lines cause) (sym machine) (inr (due.not_current, reported, count, due.are_reported, printed))
+          subst (λ (cause : Cause). FailedRunPrints setting.kinds options task moment.world lines cause) (sym machine) (inr (due.not_current, reported, count, due.are_reported, printed))
 
   pub ended : (lines : List Text) (new : WorldState) → HasEnded setting.kinds task moment.world new.world → (run_of setting.kinds task moment.world.folder.files).fault ≡ None
       → lines ≡ lines_in setting.kinds task reported moment.world.folder.files task.actions

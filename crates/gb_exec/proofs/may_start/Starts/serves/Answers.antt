@@ -2,7 +2,7 @@ use Rattle.std.proofs.Common.{◌≡◌, ◌<◌, ◌↔◌, ℕ, Bool, true, fa
 use Rattle.std.specs.Global.{Global}
 use Rattle.std.proofs.lemmas.List.{get_or_default, length-map}
 use Rattle.gb_exec.specs.Starts.{Progress, Serves, Spreads, mark_at, row, rows}
-use Rattle.gb_exec.specs.contracts.starts.Starts.{the_invariant, the_view}
+use Rattle.gb_exec.specs.contracts.may_start.Starts.{the_invariant, the_view}
 use Rattle.gb_exec.proofs.Kept.{respread}
 use Rattle.gb_exec.proofs.may_start.Starts.serves.Goals as goal
 use Rattle.gb_exec.proofs.may_start.Starts.serves.Goals.{then-not-self, else-not-self}
