@@ -23,7 +23,7 @@ TASK = """register t : copyFiles {
     outputDir out = buildDir.map(child("o"))
 }
 """
-FAIL = "The action `fail` was run"
+FAIL = "is the text of an action that failed"
 faults = []
 count = 0
 
@@ -90,6 +90,7 @@ def cures():
     for line, right in misspelt:
         syntax(line, f"is no word of the notation: did you mean {right}", cured, hasnt=others)
     syntax("    doLast printLine('a')", "instead of `'a')` write", cured, hasnt=others)
+    syntax("    onlyIf !p is isTrue", "write what the guide (docs/GUIDE.md#a-test-with-not)", hasnt=others)
     syntax("    register u {", "a bracket is open here since build.gb:1", cured, above="register t {\n")
     syntax("}", "the line above is not complete: build.gb:2: onlyIf p", above="register t {\n  onlyIf p\n")
     syntax("    input = p", "written in full: input n = EXPR", *others, hasnt=[cured])
@@ -109,9 +110,29 @@ def cures_of_tasks():
     check("52", named.explain(REFUSED.format("52 task not found complie")), ["did you mean compile?", cured])
     ran = named.explain(REFUSED.format("59 unknown output :t out"))
     check("59", ran, ["the outputs of :t are made", cured])
+    site = Folder(build="register t : markdown { doFirst chekLinks }\n")
+    ran = site.explain(REFUSED.format("40 unknown action markdown"))
+    check("40 of gb_site", ran, ["is a kind of `gb_site`: run gb_site", "build.gb:1: ", cured], ["there are"])
+    ran = site.explain(REFUSED.format("40 unknown action chekLinks"))
+    check("40 near a kind of gb_site", ran, ["did you mean checkLinks", cured])
+    placed = Folder(build='register t {\n  inputFiles a from dir(".")\n  input b = p.map(upper)\n}\n')
+    ran = placed.explain(REFUSED.format("2 bad place ."))
+    check("2", ran, ["build.gb:2: "], ["build.gb:3: "])
+    ran = placed.explain(REFUSED.format("2 bad place "))
+    check("2 of an empty text", ran, ["is no place"], ["build.gb:2: "])
+    worded = Folder(build=TASK + 'register u { outputDir out = "build/u" }\n')
+    ran = worded.explain(REFUSED.format("34 wrong value src"))
+    check("34", ran, ["build.gb:5: register u"], ["build.gb:2: "])
+    ran = worded.explain(REFUSED.format("34 wrong value enabled"))
+    check("34 of a word", ran, ["got a value of another form"], ["build.gb:5: "])
     valued = Folder(build='property v\nset v = gradleProperty("v")\nregister t { doLast printLine(v) }\n')
     ran = valued.explain(REFUSED.format("33 no value :t printLine"))
     check("33", ran, ["build.gb:3: register t", "build.gb:2: set v = "], ["`printLine` is the name"])
+    taken = Folder(settings='include "lib"', build="register t {\n  outputDir out = p\n}\n")
+    (taken.at / "lib").mkdir()
+    (taken.at / "lib" / "build.gb").write_text('register u { inputFiles src from task(":t") }\n')
+    ran = taken.explain(REFUSED.format("33 no value :lib:u src"))
+    check("33 of an output of another task", ran, ["lib/build.gb:1: register u", " build.gb:1: register t"])
     twice = Folder(build=TASK.replace('dir("src")', 'dir("in/m"), dir("in/n")'))
     for place in ("in/m", "in/n", "in/n/o"):
         (twice.at / place).mkdir(parents=True)
@@ -230,7 +251,7 @@ def printed_lines():
         wrong = ["is neither a file", "that is not allowed", "/ is ", ".. is "]
         check(f"printed: {line[:60]}", ran, [line + "\n", FAIL], wrong)
         only = folder.explain(f"> Task :t\n{line}\nBUILD SUCCESSFUL\n1 actionable task: 1 executed\n")
-        check(f"printed in a success: {line[:60]}", only, [line + "\n"], ["was run", "Causes"], status=0)
+        check(f"printed in a success: {line[:60]}", only, [line + "\n"], [FAIL, "Causes"], status=0)
     for line in ("20 syntax build.gb:100000000", "14 bad file name /", "14 bad file name ../.."):
         check(f"a first line {line}", folder.explain(REFUSED.format(line)), [line], ["/ is ", ".. is "])
 

@@ -2,7 +2,8 @@
 folder show.
 
 Its words of Gradle are those of docs/FROM_GRADLE.md; kinds, functions and forms are those of
-docs/REFERENCE.md. It reads what gb reads, and no more of it than gb takes, so that what it costs is bounded.
+docs/REFERENCE.md, kinds of gb_site those of docs/SITE.md. It reads what gb reads, and no more of it than gb
+takes, so that what it costs is bounded.
 """
 import difflib
 import itertools
@@ -58,7 +59,7 @@ class Entry:
         text = body.split("\n```", 1)[0]
         parts = [part.strip() for part in re.split(r"\n(?:\n|(?=- ))", text) if part.strip()]
         rows = [row for part in parts if part.startswith("|") for row in cells_of(part)]
-        self.signs = [(spans(row[0]), row[1]) for row in rows]
+        self.signs = [(spans(row[0]), plain(row[1])) for row in rows]
         self.parts = [plain(" ".join(part.split())) for part in parts if not part.startswith("|")]
 
     def parts_for(self, detail):
@@ -131,15 +132,20 @@ def tables(name):
     return [row for table in found for row in cells_of(table)]
 
 
-def below(heading):
-    """What the reference says below a heading."""
-    part = read(os.path.join(DOCS, "REFERENCE.md")).partition(heading + "\n")[2]
+def below(heading, name="REFERENCE.md"):
+    """What the reference, or a document of this name, says below a heading."""
+    part = read(os.path.join(DOCS, name)).partition(heading + "\n")[2]
     return re.split(r"(?m)^##", part)[0]
 
 
 def names_in(heading):
     """The first name of each row of the tables below a heading of the reference."""
     return re.findall(r"(?m)^\| `(\w+)[^`]*` \|", below(heading))
+
+
+def kinds_of_sites():
+    """The kinds that only gb_site has."""
+    return re.findall(r"(?m)^\| `(\w+)(?:\([^`|]*\))?` \|", below("## The kinds", "SITE.md"))
 
 
 def uses():
@@ -450,8 +456,10 @@ def of_name(number, word, detail, here):
     if number == "54":
         return near(word, here.names("property")), here.word(word)
     if number == "40":
-        kinds = names_in("## Kinds of actions")
-        cure = near(word, kinds) + word_of_gradle(word)
+        kinds, others = names_in("## Kinds of actions"), kinds_of_sites()
+        if word in others:
+            return [f"`{word}` is a kind of `gb_site`: run gb_site in place of gb"], here.word(word)
+        cure = near(word, kinds + others) + word_of_gradle(word)
         return cure, ([] if cure else ["there are " + ", ".join(kinds)]) + here.word(word)
     if number == "31":
         functions = uses()
@@ -596,13 +604,23 @@ def of_value(here, path):
     return [line for pattern in sets for line in here.lines_with(pattern, [script_of(path)])]
 
 
+def of_tasks_read(here, path):
+    """Where the tasks are registered whose outputs a task takes."""
+    names = re.findall(r'\btask\("([\w:-]{1,1000})"\)', "\n".join(here.lines_of_blocks(path)), re.ASCII)
+    above = path.rpartition(":")[0]
+    paths = [name if name.startswith(":") else f"{above}:{name}" for name in dict.fromkeys(names)]
+    return [line for it in paths[:MOST_LINES] for line in here.task(it)]
+
+
 def hint_for(number, detail, entry, here, task):
     """The lines to look at, and whether they have the cure, so that no other cause is printed."""
     word = detail.split(" ")[-1]
     if number == "71" and task:
         return files_at(detail.split(" ", 4)[-1], task, here), False
     if number == "33":
-        return of_tasks(detail, here) + of_value(here, detail.split(" ")[-2]), False
+        path = detail.split(" ")[-2]
+        read_by = [] if word in names_in("## Kinds of actions") else of_tasks_read(here, path)
+        return of_tasks(detail, here) + of_value(here, path) + read_by, False
     if number in ("52", "64") and (cure := of_folder()):
         return cure, True
     if number == "55":
@@ -625,9 +643,13 @@ def where(number, word, detail, here):
     if number == "90":
         return of_place(number, ".gb/tasks")
     if number in ("1", "2", "70"):
-        return here.lines_with(re.escape(detail.split(" ", 3)[-1] or '""'))
+        text = re.escape(detail.split(" ", 3)[-1])
+        return here.lines_with(f'"{text}"') or (here.lines_with(f'"{text}') if text else [])
     if detail == "34 wrong value list":
         return here.lines_with(r"\[")
+    if number == "34" and word != "enabled" and word not in uses():
+        text_for_place = r'(?:\boutput(?:File|Dir)\s+[\w-]+\s*=|\bfrom)\s*"(?:\\.|[^"\\])*"(?!\s*\.)'
+        return here.lines_with(text_for_place) or here.word(word)
     if number in ("32", "34", "35", "53", "57"):
         return here.word(word.split(":")[-1])
     if number == "30":
