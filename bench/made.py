@@ -499,23 +499,31 @@ def implemented(crate, known):
     return heads
 
 
-def handed_on(text):
-    """The names of other crates that a file hands on, a line for each crate."""
+def handed_on(crate, text):
+    """The names that a file hands on: a line for each other crate, and for each module of its own crate."""
     names = {}
     for path, group, other in re.findall(r"(?ms)^pub use ([\w:]+?)(?:::\{(.*?)\})?(?: as (\w+))?;", text):
         parts = [part.strip() for part in group.split(",") if part.strip()] or [other or path.split("::")[-1]]
-        names.setdefault(path.split("::")[0], []).extend(parts)
-    names.pop("crate", None)
+        first = path.removeprefix("crate::").split("::")[0]
+        is_own = os.path.exists(os.path.join(ROOT, f"crates/{crate}/src/{first}.rt"))
+        names.setdefault(f"{crate}::{first}" if is_own else first, []).extend(parts)
     lines = ["", "It re-exports:", ""] if names else []
     for crate, parts in names.items():
         lines += filled(f"of `{crate}`: " + ", ".join(f"`{part}`" for part in parts), "- ", "  ")
     return lines
 
 
+def place_of_private(crate, module):
+    """Where the names of a module are that is private."""
+    if re.search(rf"(?m)^pub mod {module};", read(f"crates/{crate}/src/lib.rt")):
+        return []
+    return ["", f"The module is private: its names are those of `{crate}` itself."]
+
+
 def module_lines(crate, module, heads):
     path = f"crates/{crate}/src/{module}.rt"
     owners = Reader(read(path)).items()
-    body = handed_on(read(path))
+    body = place_of_private(crate, module) + handed_on(crate, read(path))
     for owner in owners:
         if not owner.title:
             body += ["", "**functions**"] if len(owners) > 1 and owner.calls else []
@@ -542,7 +550,8 @@ def calls_page():
     for crate, head in heads.items():
         lines += filled(f"[{crate}](#{crate}): {head}", "- ", "  ")
     for crate, head in heads.items():
-        lines += ["", f"## {crate}", ""] + filled(head) + handed_on(read(f"crates/{crate}/src/lib.rt"))
+        lines += ["", f"## {crate}", ""] + filled(head)
+        lines += handed_on(crate, read(f"crates/{crate}/src/lib.rt"))
         for module in public_modules(crate):
             lines += module_lines(crate, module, implemented(crate, known))
     return "\n".join(lines) + "\n"
