@@ -1,4 +1,5 @@
 pub mod Faulted
+pub mod OfClauses
 pub mod Refused
 pub mod Rows
 pub mod Silence

@@ -1,4 +1,5 @@
 pub mod Marks
+pub mod OfClauses
 pub mod Sites
 pub mod Statement
 pub mod Findings

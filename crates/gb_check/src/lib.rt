@@ -24,6 +24,7 @@ pub mod find;
 pub mod finding_text;
 pub mod findings;
 mod guarded;
+pub mod laws;
 mod places;
 pub mod sites;
 pub mod statement;
