@@ -1,5 +1,5 @@
 -- The fault of a declaration is that of a clause.
-use Rattle.std.proofs.Common.{◌≡◌, ◌⊎◌, ◌++◌, ◌∷◌, ◌×◌, Bool, true, false, List, [], Some, inl, inr, refl, subst, sym}
+use Rattle.std.proofs.Common.{◌≡◌, ◌⊎◌, ◌++◌, ◌∷◌, Bool, true, false, List, [], Some, inl, inr, refl, subst, sym}
 use Rattle.std.specs.Prelude.{if◌then◌else◌}
 use Rattle.std.specs.List.{flat_map, list_any}
 use Rattle.gb_declare.specs.Declaring.{clash, clash_faults, clause_faults, clauses_faults, faults_within, heading, is_misshapen, main_faults, shape_faults}
@@ -63,13 +63,13 @@ faults_of_clauses tables scope task fault is =
     let clauses : List Fault = clauses_faults tables scope task.path [] task.clauses in
     let shape : List Fault = shape_faults tables task.path (joined task) in
     let own : List Fault = flat_map (clause_faults tables scope) task.clauses in
-    elim (first_in main (clauses ++ shape) fault is) [
-      | inl first ↦ inr (first_before main own fault first)
-      | inr (none, later) ↦ elim (first_in clauses shape fault later) [
-        | inl first ↦ elim (of_clauses tables scope task.path fault [] task.clauses first) [
+    elim (first_in (main ++ clauses) shape fault is) [
+      | inl here ↦ elim (first_in main clauses fault here) [
+        | inl first ↦ inr (first_before main own fault first)
+        | inr (none, later) ↦ elim (of_clauses tables scope task.path fault [] task.clauses later) [
           | inl is_shape ↦ inl is_shape
           | inr by_itself ↦ inr (first_after main own fault none by_itself)
         ]
-        | inr (no_clause, last) ↦ inl (only task.path (is_misshapen tables (joined task)) fault last)
       ]
+      | inr (none, last) ↦ inl (only task.path (is_misshapen tables (joined task)) fault last)
     ]
