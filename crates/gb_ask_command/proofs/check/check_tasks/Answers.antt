@@ -1,7 +1,9 @@
-use Rattle.std.proofs.Common.{◌≡◌, ap, subst, sym, ◌∙◌}
+use Rattle.std.proofs.Common.{◌≡◌, List, ap, subst, sym, ◌∙◌}
 use Rattle.std.specs.Prelude.{IfOk}
 use Rattle.gb_plan.specs.Graph.{Registry, paths_of}
 use Rattle.gb_registry.specs.SoFar.{scripts_in}
+use Rattle.gb_registry.specs.Projects.{Path}
+use Rattle.gb_registry.specs.References.{Names}
 use Rattle.gb_registry.specs.Source.{Source}
 use Rattle.gb_registry.specs.Tables.{tables_of}
 use Rattle.gb_check.specs.All.{AreFindings}
@@ -21,6 +23,13 @@ find-requires g c =
 pub returns-clause-found : goal.returns-clause-found
 returns-clause-found g c =
     let F = g.F.Folder in
+    let source : Source = c.args.configured.now.registry in
     let tables = tables_of g.T.Transforms.meanings g.A.Actions.meanings c.args.configured.now.tables.now in
-    let same : registry_in g.T.Transforms.meanings g.A.Actions.meanings c.in_ok-tasks.tasks.workspace ≡ registry_said tables c.args.configured.now.registry = c.in_ok-tasks.ensures.registry in
-    subst (λ (registry : Registry). IfOk c.find.result (AreFindings tables c.args.configured.now.registry.names F.faithful (F.contents c.args.folder.now) registry (scripts_in c.args.scripts.now))) same c.find.ensures.findings
+    let declared = registry_in g.T.Transforms.meanings g.A.Actions.meanings c.in_ok-tasks.tasks.workspace in
+    let same : declared ≡ registry_said tables source = c.in_ok-tasks.ensures.registry in
+    let Found : Names → Registry → Type 0 = λ names registry. IfOk c.find.result (AreFindings tables names F.faithful (F.contents c.args.folder.now) registry (scripts_in c.args.scripts.now)) in
+    let named : (projects tasks : List Path) → Names = λ projects tasks. record { projects = projects; tasks = tasks } in
+    subst (λ (registry : Registry). Found source.names registry) same
+    (subst (λ (tasks : List Path). Found (named source.names.projects tasks) declared) (c.paths.ensures ∙ c.tasks.ensures.tasks)
+    (subst (λ (projects : List Path). Found (named projects c.paths.result.now) declared) c.projects.ensures
+    c.find.ensures.findings))
