@@ -115,6 +115,24 @@ def cures_of_tasks():
     check("40 of gb_site", ran, ["is a kind of `gb_site`: run gb_site", "build.gb:1: ", cured], ["there are"])
     ran = site.explain(REFUSED.format("40 unknown action chekLinks"))
     check("40 near a kind of gb_site", ran, ["did you mean checkLinks", cured])
+    site = Folder(build='register t : copyFiles {\n  doFirst checkLinks\n}\nregister u : index("A") { }\n')
+    texts = (
+        ("no heading", "about.md:1: no heading", "the first line after the front matter"),
+        ("no date", "d/a b.md:1: no date", "the page has no front matter"),
+        ("a key", "layout.html:10: a.md has no lang", "the page lacks a key of"),
+        ("a link", "a.html:9: no file at feed.xml", "no file of `src` is there"),
+        ("a layout", "l.html: no {{main}}", "the layout has no place for a page"),
+        ("two pages", "b.markdown and b.md: both at b.html", "two files have one page"),
+        ("an order", "no order size", "its second argument is not"),
+    )
+    for name, text, why in texts:
+        check(f"42 of gb_site: {name}", site.explain(FAILED.format("", f"42 {text}")), [why, cured], ["`-x`"])
+    ran = site.explain(FAILED.format("", "42 boom"))
+    check("42 of another text", ran, ["all texts (docs/SITE.md#the-kinds)"], ["docs/SITE.md on"])
+    ran = Folder(build=TASK).explain(FAILED.format("", "42 a.md:1: no date"))
+    check("42 without a kind of gb_site", ran, ["`-x`"], ["docs/SITE.md on"])
+    for text in (":1: x has no" * 24, ": has no " * 1_000):
+        check("42 of a long text", site.explain(FAILED.format("", f"42 {text}")), [FAIL])
     placed = Folder(build='register t {\n  inputFiles a from dir(".")\n  input b = p.map(upper)\n}\n')
     ran = placed.explain(REFUSED.format("2 bad place ."))
     check("2", ran, ["build.gb:2: "], ["build.gb:3: "])
@@ -125,6 +143,12 @@ def cures_of_tasks():
     check("34", ran, ["build.gb:5: register u"], ["build.gb:2: "])
     ran = worded.explain(REFUSED.format("34 wrong value enabled"))
     check("34 of a word", ran, ["got a value of another form"], ["build.gb:5: "])
+    roots = 'from dir("a"), // "b"\n  "c".map(x),\n  "static"\n  include "d",\n  "e"'
+    rooted = Folder(build=TASK + "register v : copyFiles {\n  inputFiles src " + roots + "\n}\n")
+    ran = rooted.explain(REFUSED.format("34 wrong value src"))
+    check("34 of a root", ran, ['build.gb:8: "static"'], [f"build.gb:{line}: " for line in (2, 6, 7, 9, 10)])
+    ran = Folder(build=TASK * 5).explain(REFUSED.format("34 wrong value src"))
+    check("34 of five lines", ran, ["and 1 more line\n"])
     valued = Folder(build='property v\nset v = gradleProperty("v")\nregister t { doLast printLine(v) }\n')
     ran = valued.explain(REFUSED.format("33 no value :t printLine"))
     check("33", ran, ["build.gb:3: register t", "build.gb:2: set v = "], ["`printLine` is the name"])

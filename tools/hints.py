@@ -20,6 +20,10 @@ TOKEN = re.compile(
     r'[A-Za-z][A-Za-z0-9_-]{0,63}(?![A-Za-z0-9_-])|"(?:[^"\\\x00-\x1f]|\\["\\nt])*"|//.*|[{}()\[\],.:= \t\r]'
 )
 BRACE = re.compile(r"[{}]")
+ROOT = re.compile(r'"(?:\\.|[^"\\\n])*"?|//[^\n]*|[A-Za-z][\w-]*|[^\s\w]')
+# What in a text of docs/SITE.md stands for others: a file, a line, a key, a name, an address.
+NAMED_IN_TEXTS = r"[\w/]+\.(?:html|markdown|md|txt|org)\b(?:#\w+)?|\d+"
+NAMED_IN_TEXTS += r"|(?<=has no )date|(?<=order )name|(?<=\{\{)page"
 NAME = re.compile(r"[A-Za-z][A-Za-z0-9_-]{0,63}")
 STATEMENTS = set("register named property set convention unset disallowChanges defaultTasks".split())
 STEPS = {"map", "flatMap", "zip", "orElse"}
@@ -28,6 +32,8 @@ KEYWORDS = STATEMENTS | STEPS | set(
     input inputFiles outputFile outputDir incremental skipWhenEmpty nameOnly is true false dir file buildDir
     gradleProperty task""".split()
 )
+ROOTS_END = STATEMENTS | set("{ } include exclude doFirst doLast dependsOn mustRunAfter finalizedBy".split())
+ROOTS_END |= set("onlyIf enabled upToDateWhen input inputFiles outputFile outputDir".split())
 NAMING = "register|named|property|set|convention|unset|disallowChanges|input|inputFiles|outputFile|outputDir"
 # So many lines are shown, faults explained, projects and blocks of a task read, names compared, lines above
 # read, and entries of folders listed, at most.
@@ -35,6 +41,8 @@ MOST_LINES, MOST_FAULTS, MOST_PROJECTS, MOST_BLOCKS = 4, 20, 256, 64
 MOST_NAMES, MOST_ABOVE, MOST_ENTRIES = 5_000, 100, 50_000
 # The bytes of a script and of all scripts; the characters that are read of a fault.
 SCRIPT, SCRIPTS, DETAIL = 1 << 20, 4 << 20, 4_000
+# The characters of the text of an action that are compared.
+MOST_OF_TEXT = 300
 
 
 def read(path, most=SCRIPTS, flags=0):
@@ -143,6 +151,21 @@ def names_in(heading):
     return re.findall(r"(?m)^\| `(\w+)[^`]*` \|", below(heading))
 
 
+def reasons_of_sites(text):
+    """Why a kind of gb_site fails with a text, by the row of docs/SITE.md that has such a text."""
+    if len(text) > MOST_OF_TEXT:
+        return []
+    part = below("## The kinds", "SITE.md").partition("| Text | Why |\n")[2].replace("](#", "](SITE.md#")
+    for first, why in re.findall(r"(?m)^\| (`.*?) \| (.*) \|$", part):
+        for example in spans(first):
+            parts = [re.escape(part) for part in re.split(rf"({NAMED_IN_TEXTS})", example)]
+            parts[1::2] = [r"\d+" if part.isdigit() else ".+" for part in parts[1::2]]
+            if re.fullmatch("".join(parts), text):
+                whole = f"docs/SITE.md on `{example}`: {plain(why)}"
+                return textwrap.wrap(whole, 104, break_long_words=False, break_on_hyphens=False)
+    return []
+
+
 def kinds_of_sites():
     """The kinds that only gb_site has."""
     return re.findall(r"(?m)^\| `(\w+)(?:\([^`|]*\))?` \|", below("## The kinds", "SITE.md"))
@@ -229,8 +252,8 @@ class Scripts:
             for number, line in enumerate(text.split("\n"), 1)
             if re.search(pattern, line)
         ]
-        more = [f"and {len(found) - MOST_LINES} more lines"] if len(found) > MOST_LINES else []
-        return found[:MOST_LINES] + more
+        more = len(found) - MOST_LINES
+        return found[:MOST_LINES] + ([f"and {more} more line{'s' * (more > 1)}"] if more > 0 else [])
 
     def word(self, word):
         return self.lines_with(r"(?<![\w-])" + re.escape(word) + r"(?![\w-])")
@@ -458,7 +481,8 @@ def of_name(number, word, detail, here):
     if number == "40":
         kinds, others = names_in("## Kinds of actions"), kinds_of_sites()
         if word in others:
-            return [f"`{word}` is a kind of `gb_site`: run gb_site in place of gb"], here.word(word)
+            cure = f"`{word}` is a kind of `gb_site`: run gb_site in place of gb; gb_ask does not know it"
+            return [cure], here.word(word)
         cure = near(word, kinds + others) + word_of_gradle(word)
         return cure, ([] if cure else ["there are " + ", ".join(kinds)]) + here.word(word)
     if number == "31":
@@ -502,11 +526,16 @@ def lacks(kind, reads, makes, text):
             yield f"`{kind}` makes {made}: the task has no `{word} out = ..`{has}"
 
 
+def kinds_of(text):
+    """The kinds of the actions in blocks, in their order."""
+    kinds = re.findall(r"\b(?:doFirst|doLast)\s+([\w-]+)|\bregister\s+[\w-]+\s*:\s*([\w-]+)", text)
+    return dict.fromkeys(kind for found in kinds for kind in found if kind)
+
+
 def of_shape(here, path):
     """Which parts of a task do not fit together."""
     text = here.blocks(path)
-    kinds = re.findall(r"\b(?:doFirst|doLast)\s+([\w-]+)|\bregister\s+[\w-]+\s*:\s*([\w-]+)", text)
-    kinds = list(dict.fromkeys(kind for found in kinds for kind in found if kind))
+    kinds = kinds_of(text)
     rows = rows_of_kinds()
     hints = [line for kind in kinds if kind in rows for line in lacks(kind, *rows[kind], text)]
     if not kinds and re.search(r"\boutput(?:File|Dir)\b", text):
@@ -597,6 +626,31 @@ def of_place(number, place):
     return found
 
 
+def text_roots(text):
+    """Where a script has a text as a root, after `from`, where only a place may be."""
+    is_in_roots, is_next, depth, last = False, False, 0, None
+    for token in ROOT.finditer(text):
+        sign = token[0]
+        if sign.startswith("//"):
+            continue
+        if last is not None and sign != ".":
+            yield last
+        last = token.start() if is_next and sign.startswith('"') else None
+        if sign == "from" or sign in ROOTS_END:
+            is_in_roots, is_next, depth = sign == "from", sign == "from", 0
+        else:
+            is_next = is_in_roots and depth == 0 and sign == ","
+            depth += (sign in "([") - (sign in ")]")
+
+
+def lines_of_text_roots(here):
+    found = (
+        (place, text.count("\n", 0, at) + 1) for place, text in here.texts.items() for at in text_roots(text)
+    )
+    some = itertools.islice(found, MOST_LINES)
+    return [f"{place}:{number}: {here.line(place, number).strip()[:90]}" for place, number in some]
+
+
 def of_value(here, path):
     """Where the properties that the blocks of a task name are set."""
     words = set(re.findall(r"[\w-]+", here.blocks(path))) & here.names("property")
@@ -617,6 +671,9 @@ def hint_for(number, detail, entry, here, task):
     word = detail.split(" ")[-1]
     if number == "71" and task:
         return files_at(detail.split(" ", 4)[-1], task, here), False
+    if number == "42" and task and kinds_of(here.blocks(task)).keys() & set(kinds_of_sites()):
+        cure = reasons_of_sites(detail.partition(" ")[2])
+        return cure, bool(cure)
     if number == "33":
         path = detail.split(" ")[-2]
         read_by = [] if word in names_in("## Kinds of actions") else of_tasks_read(here, path)
@@ -648,8 +705,8 @@ def where(number, word, detail, here):
     if detail == "34 wrong value list":
         return here.lines_with(r"\[")
     if number == "34" and word != "enabled" and word not in uses():
-        text_for_place = r'(?:\boutput(?:File|Dir)\s+[\w-]+\s*=|\bfrom)\s*"(?:\\.|[^"\\])*"(?!\s*\.)'
-        return here.lines_with(text_for_place) or here.word(word)
+        text_for_place = r'\boutput(?:File|Dir)\s+[\w-]+\s*=\s*"(?:\\.|[^"\\])*"(?!\s*\.)'
+        return lines_of_text_roots(here) + here.lines_with(text_for_place) or here.word(word)
     if number in ("32", "34", "35", "53", "57"):
         return here.word(word.split(":")[-1])
     if number == "30":
