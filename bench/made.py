@@ -493,7 +493,7 @@ def implemented(crate, known):
     heads = {}
     for module in files_in(f"crates/{crate}/src", ".rt"):
         for head in re.findall(r"(?m)^(impl\b.* for .*) \{$", read(f"crates/{crate}/src/{module}")):
-            trait = re.match(r"impl(?:<.*>)? ([\w:]+?)(?:<.*>)? for (\w+)", head)
+            trait = re.match(r"impl(?:<.*>)? ([\w:]+?)(?:<.*>)? for (?:Box<dyn )?(\w+)", head)
             if trait and trait[1] in known:
                 heads.setdefault(trait[2], []).append("    " + head)
     return heads
@@ -546,7 +546,8 @@ def module_lines(crate, module, heads):
 def calls_page():
     lines = INTRODUCTION.rstrip("\n").split("\n") + [""]
     heads = {crate: plain(paragraph(head_of(f"crates/{crate}/src/lib.rt", "//!"))) for crate in PUBLIC}
-    known = traits()
+    # `From` says where `?` may turn one fault into another.
+    known = traits() | {"From"}
     for crate, head in heads.items():
         lines += filled(f"[{crate}](#{crate}): {head}", "- ", "  ")
     for crate, head in heads.items():
