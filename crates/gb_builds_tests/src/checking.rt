@@ -47,6 +47,10 @@ const BROKEN: &str = "register a {}\nregister {}\n";
 /// `a` is changed after it is final.
 const FINAL: &str = "property a\nset a =\n    \"1\" disallowChanges a\nset a = \"2\"\nset b = a\n";
 
+/// The test of the second line is right, the function of the third is none.
+const CLAUSE: &str = "register t {\n    onlyIf gradleProperty(\"go\") is isTrue\n    \
+     doLast printLine(\"a\".map(isTrue))\n}\n";
+
 const UNREAD: &str = "[{\"file\":\"build.gb\",\"kind\":\"fault\",\"line\":2,\"number\":20,\
      \"text\":\"20 syntax build.gb:2\"}]\n";
 
@@ -98,6 +102,13 @@ fn all_hold<A: Actions, T: Transforms>(alloc: Global, tables: &Tables<A, T>) -> 
             1,
         ),
         (Notation::Lines, FINAL, "", "build.gb:4: 35 final a\n", 1),
+        (
+            Notation::Lines,
+            CLAUSE,
+            "",
+            "build.gb:3: 31 unknown transform isTrue\n",
+            1,
+        ),
         (Notation::Json, BROKEN, "", UNREAD, 1),
         (Notation::Json, "", "-Pv=1", VALUE, 0),
     ];
