@@ -47,9 +47,9 @@ const BROKEN: &str = "register a {}\nregister {}\n";
 /// `a` is changed after it is final.
 const FINAL: &str = "property a\nset a =\n    \"1\" disallowChanges a\nset a = \"2\"\nset b = a\n";
 
-/// The test of the second line is right, the function of the third is none.
-const CLAUSE: &str = "register t {\n    onlyIf gradleProperty(\"go\") is isTrue\n    \
-     doLast printLine(\"a\".map(isTrue))\n}\n";
+/// Two clauses name a task that is missing.
+const CLAUSE: &str = "register t : copyFiles {\n    inputFiles src from dir(\"src\")\n    \
+     dependsOn \"u\"\n    mustRunAfter \"u\"\n    outputDir out = dir(\"build/t\")\n}\n";
 
 const UNREAD: &str = "[{\"file\":\"build.gb\",\"kind\":\"fault\",\"line\":2,\"number\":20,\
      \"text\":\"20 syntax build.gb:2\"}]\n";
@@ -106,7 +106,7 @@ fn all_hold<A: Actions, T: Transforms>(alloc: Global, tables: &Tables<A, T>) -> 
             Notation::Lines,
             CLAUSE,
             "",
-            "build.gb:3: 31 unknown transform isTrue\n",
+            "build.gb:3: 52 task not found u\n",
             1,
         ),
         (Notation::Json, BROKEN, "", UNREAD, 1),
