@@ -4,9 +4,9 @@
     bench/made.py          fails where a made part is not what would be written
     bench/made.py --write  writes them
 
-- docs/CRATES.md, in the section of each crate: a table of the files of its src/, with the first sentence of
-  each file's head, and a table of the files of its specs/, with the first sentence of each file's first
-  comment. lib.rt and Lib.antt are left out.
+- docs/CRATES.md, the section of each crate: the head of its lib.rt (or main.rt), a table of the files of its
+  src/, with the first sentence of each file's head, and a table of the files of its specs/, with the first
+  sentence of each file's first comment. lib.rt and Lib.antt are left out of the tables.
 - docs/CALLS.md: the public types and calls of the crates in PUBLIC, each call with its signature, its comment
   and its clauses.
 """
@@ -163,45 +163,40 @@ def tables(crate):
     return lines
 
 
-def without_tables(lines):
-    """The lines of a section without its tables of files, and where the first of them was."""
-    kept, at, inside = [], None, False
-    for line in lines:
-        if line in (FILES, DEFINITIONS):
-            at, inside = len(kept) if at is None else at, True
-        if inside and not line.startswith("|"):
-            inside = False
-            if line == "" and kept and kept[-1] == "":
-                continue
-        if not inside:
-            kept.append(line)
-    return kept, len(kept) if at is None else at
-
-
 def crates_page():
-    """docs/CRATES.md with the tables that the files say."""
+    """docs/CRATES.md, in which the section of each crate is made."""
     parts = re.split(r"(?m)^(?=## )", read("docs/CRATES.md"))
     return "".join(section(part) for part in parts)
 
 
-def quoted_head(crate):
-    """The head of a crate's first file, as a quotation."""
+def linked(text):
+    """A page that is named by its file becomes a link."""
+    return re.sub(r"`docs/(\w+)\.md(#[\w-]+)?`", lambda m: f"[{m[1]}]({m[1]}.md{m[2] or ''})", text)
+
+
+def whole_head(crate):
+    """The head of a crate's first file. Each paragraph is filled; a table and a list keep their lines."""
     first = "lib.rt" if "lib.rt" in files_in(f"crates/{crate}/src", ".rt") else "main.rt"
-    return [plain(f"> {line}").rstrip() for line in head_of(f"crates/{crate}/src/{first}", "//!")]
+    head = linked(plain("\n".join(head_of(f"crates/{crate}/src/{first}", "//!"))))
+    lines = []
+    for part in re.split(r"\n\n+", head):
+        lines += [""] if lines else []
+        if part.startswith("|"):
+            lines += part.split("\n")
+        elif part.startswith("- "):
+            for item in re.split(r"\n(?=- )", part):
+                lines += filled(" ".join(item.split("\n")), "", "  ")
+        else:
+            lines += filled(" ".join(part.split("\n")))
+    return lines
 
 
 def section(part):
     name = re.match(r"## (gb\w*)\n", part)
     if not name:
         return part
-    lines, at = without_tables([line for line in part.rstrip("\n").split("\n") if not line.startswith(">")])
-    while lines[1:2] == [""]:
-        del lines[1]
-        at -= 1
-    lines[1:1] = ["", *quoted_head(name[1]), ""]
-    at += len(quoted_head(name[1])) + 2
-    before, after = "\n".join(lines[:at]).rstrip("\n"), "\n".join(lines[at:]).strip("\n")
-    return "\n\n".join(text for text in (before, "\n".join(tables(name[1])), after) if text) + "\n\n"
+    parts = [part.split("\n")[0], "\n".join(whole_head(name[1])), "\n".join(tables(name[1]))]
+    return "\n\n".join(text for text in parts if text) + "\n\n"
 
 
 # The calls

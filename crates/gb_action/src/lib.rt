@@ -8,6 +8,12 @@
 //! Out of scope: a table that is generic in the closures' type, since a struct with such a bound
 //! cannot store a closure together with a fact about it. So `Actions` has the stored type as a
 //! member, and tables and lists store values of it with no bound at all.
+//!
+//! `Actions` names a type of stored actions and their `meanings`, with one law (`own_output`): a
+//! kind writes files of its own output only, and none if its shape has no output. `run_action`: if
+//! the call `IsAsked`, the reply `Answers`. No call has a premise. Laws: `full_replies_put_over` (a
+//! full reply leaves the same files over any old ones) and `changes_are_exact` (a list of changes
+//! has each change of a tree, and no other).
 #![tactic(auto)]
 
 pub mod actions;

@@ -1,8 +1,11 @@
 //! What the programs share: the text that is printed of a build, its exit status, and the macros
 //! that make their tables of kinds and of functions.
 //!
-//! Boxed closures have to be made by the program itself, so these tables are macros and not
-//! functions. They return from the function that uses them if memory runs out.
+//! The status (`status_of`) is 0 after success, 2 for arguments that ask for no build (96), else 1.
+//! `print_rest` prints what comes after the parts of the tasks; of a refusal and of a dry run that
+//! is everything. `builtin_actions!` and `builtin_functions!` make the tables of all kinds and all
+//! functions of values. Boxed closures have to be made by the program itself, so these are macros
+//! and not functions. They return from the function that uses them if memory runs out.
 #![tactic(auto)]
 
 pub mod answer;

@@ -1,6 +1,10 @@
 //! Queries about the current folder, with the built-in kinds and functions: `gb_ask why`, `tasks`,
 //! `graph`, `check`, `reads`, `makes`, `status` and `fmt`. It changes nothing except by `fmt
 //! --write`, which alone takes the locks of a build; `status` tries one for a moment.
+//!
+//! The shared lock that `status` tries keeps no other `gb_ask status` from its answer. Proved: that
+//! the program never panics and that it ends. `data` is a folder with records: the gate runs
+//! `gb_ask why` over it, and `docs/GUIDE.md#why-did-it-run` shows what is printed.
 #![tactic(auto)]
 
 use gb_action::actions::Actions;

@@ -6,13 +6,43 @@
 //! [`Report`]. [`Tables`] has the kinds and functions that scripts may name: `builtin_actions!` and
 //! `builtin_functions!` of `gb_answer` make them.
 //!
-//! This crate also re-exports the single calls of which a build consists, by purpose: [`scripts`],
-//! [`plans`], [`trees`] and [`records`]. `docs/CRATES.md` has a table of them.
+//! This crate also re-exports the single calls of which a build consists, in modules by purpose:
+//! [`scripts`], [`plans`], [`trees`] and [`records`]. `docs/CRATES.md` has a table of them.
 //!
 //! Inside, a build has three steps. [`workspace`] reads the settings and then, if they have no
 //! fault, the scripts, each file once. [`invoking`] passes their declarations to [`requested`].
 //! This plans, reads the records and executes the tasks. `specs/Words.antt` re-exports the
 //! definitions that the contracts use.
+//!
+//! The crate carries the theorem (`docs/PROOF.md`). Its calls:
+//!
+//! | Step | What it does |
+//! |---|---|
+//! | `read_registry` | reads the settings and the script of each project, each file once, or reports |
+//! | | the first fault |
+//! | `build_requested` | (inside; call `invoke`, or `execute` for a plan) plans what is asked of any |
+//! | | `Tasks`, |
+//! | | reads the records, and executes the plan; each declared task has to be buildable (`AreBuildable`) |
+//! | `invoke` | one invocation over the scripts of a folder: both of the above. That each declared task |
+//! | | can be |
+//! | | built is proved of what is read |
+//! | `run_events` | any list of edits, lost records and invocations, each with its answer |
+//! | `run_from_nothing` | the same over an empty folder in memory, where all premises are proved |
+//!
+//! `invoke` and `run_events` ask nothing of their caller. Their clauses are of three sorts:
+//!
+//! - **Where contents are known and kinds agree** (`IsAssumed` of `gb_records`): each event is a
+//!   step by the definitions (`holds`, `leads`), and `promise` is the theorem.
+//! - **Where contents are known**, whatever the kinds and the device do: a refusal changes nothing
+//!   and has its reason, a dry run changes nothing, and a build changes only `.gb` and the build
+//!   folders of its projects.
+//! - **Over any folder**: what is asked for, which tasks start and what each may answer, what
+//!   listeners hear and what is printed. The device is blamed no more often than it failed, and by
+//!   no fault of a script or a task.
+//!
+//! Laws: `folders_say_one_thing` (a folder declares one thing, or has one fault),
+//! `own_files_say_nothing` (the files of `.gb` do not count for that), `scripts_give_one_plan` (so
+//! the premise of `states_are_one` holds of scripts).
 #![tactic(auto)]
 
 mod before;

@@ -3,6 +3,11 @@
 //! Each is a small type over text. Only parsing constructs a value, so every value is well formed.
 //! Contracts view each as the list of its bytes. Places are compared segment by segment: `srcx` is
 //! not under `src`.
+//!
+//! Two laws concern paths of tasks: `task_paths_have_parts` and `parts_make_task_paths` say that a
+//! task path is a project path and a name, in both directions. `beneath_is_by_segments` and its two
+//! neighbours say that comparing bytes is comparing segments. A `Text` of at most 22 bytes
+//! allocates nothing.
 #![tactic(auto)]
 
 pub mod bytes;

@@ -20,11 +20,11 @@
 //! A folder for one build ([`for_one_build`](disk::DiskFolder::for_one_build)) also remembers the
 //! last eight listings, of at most 65,536 places each: a hundred tasks that each take their part of
 //! one folder list it once. A write or a removal forgets the listings of its place, of roots above
-//! and under it and of `.gb`; a failure forgets all. So the build finds each change of its own. What
-//! others add or remove meanwhile it may not find, as if the folder had been listed earlier. A record
-//! has what was worked on, so the next build finds the difference. It has to ask the system again,
-//! so it needs a new folder; one that serves many builds ([`new`](disk::DiskFolder::new)) remembers
-//! no listing.
+//! and under it and of `.gb`; a failure forgets all. So the build finds each change of its own.
+//! What others add or remove meanwhile it may not find, as if the folder had been listed earlier. A
+//! record has what was worked on, so the next build finds the difference. It has to ask the system
+//! again, so it needs a new folder; one that serves many builds ([`new`](disk::DiskFolder::new))
+//! remembers no listing.
 //!
 //! All bytes that a read returns come from one open file. A small file is complete if it has
 //! exactly the listed length. For a larger file and for a part, length and time of the open file
@@ -43,6 +43,15 @@
 //! contents after a loss of power are not known, nor an error that it reports only when a written
 //! file is closed. The kit has no flags for `open`: if somebody puts a pipe in place between
 //! look-up and open, the open waits for it.
+//!
+//! `DiskFolder` keeps the clauses of `Folder` that need no known contents. Each call that it makes
+//! to the system has a clause on its path (`path_in`): the path of the place, or one under
+//! `.gb/new` for a file that is not complete. No contract can say that links are not followed, that
+//! a read is of one file and that a write is whole, since the system's calls have no such contract.
+//! Tests show it.
+//!
+//! That a remembered listing is in order and under its root is proved. That it is an earlier one of
+//! the same root, and that a change ends it, is tested.
 #![tactic(auto)]
 
 mod bytes;

@@ -12,6 +12,18 @@
 //!
 //! Whoever builds from scripts calls `gb_build`. `specs/Words.antt` re-exports the definitions that
 //! the contract of [`execute`] names, so that the clauses of a caller can use them.
+//!
+//! Premises of `execute`: the plan can be built (`CanBuild`), and there is a record or none for
+//! each task. `build`: where contents are known, kinds agree (`IsAssumed`) and the records are
+//! those that are remembered (`AreWorth`), it is a build of the plan by the definitions, as long as
+//! no two contents that it met share a digest (`HasBuilt`). `outline` leaves free which of the
+//! outcomes that it may have a started task with actions has, with which fault it fails, and what
+//! it prints if it ran or failed.
+//!
+//! `starts_of`, `does_start`, `has_executed_need` and `end` decide by number which tasks start; the
+//! last three take no memory. `starts_by_number` and `needs_by_number` are the laws that this is
+//! the definition by path (`Execution.DoesStart`). `reported_more` and `reported_is_heard` are the
+//! laws of listeners.
 #![tactic(auto)]
 
 pub mod building;

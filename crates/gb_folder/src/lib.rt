@@ -1,20 +1,26 @@
 //! The only way in which the build accesses files.
 //!
 //! [`Folder`](folder::Folder) is five calls over places. Code over a folder is proved once, for
-//! every type of folder. Where the contents of a folder are known, as those of a
-//! [`MemoryFolder`](memory::MemoryFolder), each answer is exact. Elsewhere, as on a disk, contracts
-//! promise what holds whatever the device does. `proofs/Changes.antt` has lemmas for callers.
+//! every type of folder. Its contracts say over any folder which calls were made, with which bytes,
+//! and what they returned; that holds on a disk too. If the type of the folder is `faithful`, its
+//! contents are known, and each result is exact. A refused call changes nothing. Only a device
+//! fault in a write or a removal may leave something else, at the place of the call.
+//! `proofs/Changes.antt` has lemmas for callers.
 //!
 //! A list of calls with their answers is a value too. `specs/Device.antt` defines when such a list
 //! leads from one folder to another, over any folder. `specs/Semantics.antt` defines the answer of
 //! each call over known contents, and [`calls`] has the five calls with one clause each.
 //! `specs/Each.antt` has the calls of a function that processes a list.
 //!
-//! [`FaultyFolder`](faulty::FaultyFolder) fails at a chosen call of its inner folder, and
-//! [`NotedFolder`](noted::NotedFolder) records the requested changes.
+//! [`MemoryFolder`](memory::MemoryFolder) has files in memory.
+//! [`FaultyFolder`](faulty::FaultyFolder) makes a chosen call of its inner folder fail, and all
+//! later ones unless it is to fail once. [`NotedFolder`](noted::NotedFolder) records the writes and
+//! removals that are requested. [`FileMap`](file_map::FileMap) stores files without being a folder:
+//! one may be in the way of another.
 //!
-//! [`FileMap`](file_map::FileMap) stores files without being a folder: one may be in the way of
-//! another.
+//! Two laws: `calls_are_exact` (over known contents a call returns and leaves what its definition
+//! says) and `calls_ask_for_no_more` (calls that change files only where a test holds change
+//! nothing else).
 //!
 //! Out of scope: handles, streams, folders as objects of their own, permissions and times. A folder
 //! exists where a file exists under it, and a large file is read in parts.

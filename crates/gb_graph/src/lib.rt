@@ -15,6 +15,9 @@
 //! are found by binary searches in one sorted row ([`overlaps`]).
 //!
 //! Set aside: to compare each place with each other, and paths in place of numbers.
+//!
+//! The plan is `IsPlanOf`, a fault `IsRefusalOf` (`docs/REFERENCE.md#refusals` has their order).
+//! [`tasks::Tasks`] is the trait of registered tasks that `plan` asks.
 #![tactic(auto)]
 
 mod arrange;

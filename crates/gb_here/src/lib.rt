@@ -10,6 +10,10 @@
 //! its output is printed. It waits where another build holds one. No file is made for a lock, and
 //! the system releases it with the process. A dry run, refused arguments and refused tables take
 //! none.
+//!
+//! `locks` takes the same locks for other programs that write in the folder. If two kinds have one
+//! name (41) or memory runs out (3), there is no table, and `print_refused` prints the refusal. The
+//! exit status is at most 2.
 #![tactic(auto)]
 
 pub mod here;

@@ -1,10 +1,13 @@
-//! SHA-256 of four contents side by side, each in one lane of a vector.
+//! SHA-256 of four contents side by side, each in one lane of a vector (FIPS 180-4).
 //!
-//! The contents may be of any lengths. The blocks that all four have are hashed side by side. The
-//! remaining blocks of the longer ones are hashed one content at a time, in all lanes. This pays if
-//! the four are of about the same length; otherwise `sha2` digests them one after another. Out of
-//! scope: rounds of one content next to those of four; `sha2` has them, but cannot start from a
-//! state.
+//! `digest_four` returns, for four contents of any lengths, the digest that the kit's `sha2`
+//! defines. It takes no memory.
+//!
+//! The blocks that all four have are hashed side by side. The remaining blocks of the longer ones
+//! are hashed one content at a time, in all lanes. This takes half the time if the four are of
+//! about one length; otherwise `sha2` digests them one after another. No clause says how fast it
+//! is. Out of scope: rounds of one content next to those of four; `sha2` has them, but cannot start
+//! from a state.
 #![tactic(auto)]
 
 ghost use Rattle.std.specs.Prelude.{◌≡◌, ◌≤◌, [], ◌∷◌};

@@ -1,8 +1,11 @@
 //! Lines of edits and builds, replayed over a folder in memory.
 //!
-//! It is proved that the escapes of a text are undone (`line`), what is printed of each answer
-//! (`texts`) and of the files that are shown (`show`), and that lines are counted from 1. Only
-//! tests check how a line is split into its words, and how the lines follow one another.
+//! `replay` replays the lines of an input over an empty folder in memory, and returns the status.
+//!
+//! Proved: how the escapes of a text are undone (`unescaped`), what is printed of each answer
+//! (`answer_text`) and of the files at a place (`shown_files`), that the parts of a build's tasks
+//! are printed first (`parts_of`), and that a bad line is reported by its number, counted from 1.
+//! Only tests check how a line is split into its words, and how the lines follow one another.
 #![tactic(auto)]
 
 mod line;

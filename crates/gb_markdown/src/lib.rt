@@ -12,6 +12,8 @@
 //!
 //! What is not read is shown as text, so no HTML passes through. Not proved: that each tag that
 //! begins an element is ended in its order, and that a page takes time in proportion to its length.
+//!
+//! `docs/SITE.md#the-markdown-that-it-reads` says what it reads.
 #![tactic(auto)]
 
 pub mod address;

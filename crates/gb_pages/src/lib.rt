@@ -10,6 +10,10 @@
 //!
 //! A page alone is made file by file, so an edit costs one page. What depends on all pages, as a
 //! list or the link to the next page, is made from all of them and compared with the old files.
+//!
+//! `docs/SITE.md` says what each kind makes. `page_actions` is a table with `markdown`,
+//! `htmlPages`, `template`, `sitePages`, `index`, `checkPages` and `checkLinks`. Its clause has the
+//! version of each.
 #![tactic(auto)]
 
 pub mod actions;

@@ -4,6 +4,11 @@
 //! execution of its task has ended, the rest once the report is complete. A printer also decides
 //! what happens to values that a build no longer needs: [`last::Last`], for a program that ends
 //! after the build, does not drop them.
+//!
+//! A printer prints all that it is given, or a beginning and then nothing more (`Prints`). No call
+//! of it fails; `is_whole` says whether everything was printed. `Page` prints to any writer,
+//! `Silent` prints nothing. `parts_come_first` is the law that the text of a report is the parts of
+//! its tasks, one after another, and then the rest.
 #![tactic(auto)]
 
 pub mod last;

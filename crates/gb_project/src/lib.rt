@@ -10,6 +10,11 @@
 //! [`script_tasks::ScriptTasks`] is the same in the form that a plan requests.
 //!
 //! Set aside: declaring on demand, which would walk from task to task for each read.
+//!
+//! `Workspace::declare` takes a `Configured` without further premise. The first fault that
+//! `Workspace::realise` reports is one of the task's declaration (as `declare` of `gb_declare` has
+//! them), one of its expressions as they are evaluated, or 50 or 52 if no such task is registered.
+//! Laws: `tasks_in_table`, `tasks_are_good`, `declared_names_rise`.
 #![tactic(auto)]
 
 mod blocks;

@@ -9,7 +9,7 @@
 //! expression has the value that its operands had after round n - 1. An expression that never gets
 //! a value depends on itself, and 30 is reported with the names on the circle: of the lists that
 //! begin at each of its names in turn, the least. The only premise of a call is that a node is one
-//! of the table.
+//! of the table (`has`).
 //!
 //! [`search`] evaluates with a work list in place of a recursion, so no chain of expressions is too
 //! long, and the same search finds the tasks that produce a value. A value that was read is
@@ -19,6 +19,9 @@
 //! Set aside: a graph of cells that inform their readers of a change. It costs memory for each
 //! reader, and a build changes its properties before it reads them. Which functions run how often
 //! is in no clause.
+//!
+//! Laws of that definition: `answers_stay`, `rounds_are_bounded`, and `plain_ones_keep_answers`, by
+//! which one more node that is no output changes no value.
 #![tactic(auto)]
 
 mod carriers;

@@ -2,11 +2,24 @@
 //! read a place and which make it, and what each file of `.gb` is.
 //!
 //! The promise: a query finds exactly what its definition says, in the order of registration or of
-//! places. It asks for no change of the folder. Answers are lines, or JSON that reads back as the
-//! value of a definition; so is the graph of a plan.
+//! places, and asks for no change of the folder. Answers are lines, or JSON that reads back as the
+//! value of a definition (`found_data`, `status_data`, `tasks_data`); so is the graph of a plan
+//! (`graph_data`).
 //!
 //! A task reads a place if one of its file properties takes it in, whether a file is there or not:
 //! the same definition by which builds read files.
+//!
+//! - `search` finds, in the order of registration, exactly the file properties that take a place
+//!   in, or the outputs that are the place or above it (`found_in`). A task whose declaration has a
+//!   fault is found with it, so the only error is that memory ran out. The law `files_are_taken_in`
+//!   says that the files of a property, as builds read them, are those whose places it takes in.
+//! - `inventory` has an entry for exactly each file under `.gb`, in the order of places
+//!   (`AreEntriesOf`): the record of a registered task or of another one, a damaged one, or a file
+//!   that is no record's. That is said where contents are known. Over any folder it asks for no
+//!   change. An error is that memory ran out, that the device failed, or that a file there has a
+//!   name that no place has (`IsUnlisted`).
+//!
+//! The calls on all tasks have as premise that the paths are those of the registry.
 #![tactic(auto)]
 
 pub mod answer_lines;

@@ -9,6 +9,11 @@
 //! Scripts are checked in one pass ([`checking`]) with the state of the statements before
 //! ([`so_far`]): the tasks of all scripts, and the properties of the script itself. A look-up of a
 //! task or a project takes one hash.
+//!
+//! `projects` has the projects of the settings, `select` the tasks that a word selects.
+//! `Registry::configure` has what the scripts register, with the tables that they were checked
+//! against. It registers no path twice (`paths_are_new`). `first_fault` has the fault for which it
+//! is refused, and the statement at which that arises (`IsFirstAt`).
 #![tactic(auto)]
 
 pub mod checking;

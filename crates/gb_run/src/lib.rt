@@ -5,7 +5,8 @@
 //! fails. None of it depends on a folder. Then `work_parts` and `doing` carry out the steps, for
 //! full and incremental executions alike. Their contract is one clause over any folder: which calls
 //! were made, with which bytes. So nothing is changed before all actions were called and all files
-//! checked. The cost: all files that one task makes are in memory until they are written.
+//! checked. The cost: all files that one task makes are in memory until they are written. No call
+//! has a premise about the folder.
 //!
 //! [`run::run_in_full`] starts from emptied outputs. The files of an action are checked by place,
 //! together with those of the actions before it, and written by place, in whatever order the action
@@ -14,10 +15,21 @@
 //! some of its first files.
 //!
 //! [`by_changes::run_by_changes`] starts from the files at the outputs, if they were made of the
-//! inputs as they were. The one action that writes gets a request for the changes alone, and only
-//! the places that its reply names are touched. All that the task then holds is checked. So this
-//! fails with the fault of a full execution. Rejected: to empty the outputs first, which would lose
-//! right files if the run is stopped.
+//! inputs as they were. The one action that writes (`has_one_writer`) gets a request for the
+//! changes alone, and only the places that its reply names are touched. All that the task then
+//! holds is checked. So this fails with the fault of a full execution. Rejected: to empty the
+//! outputs first, which would lose right files if the run is stopped.
+//!
+//! Over any folder, `calls` has the list of calls that were made, with their bytes and results
+//! (`RunsInFull`, `RunsByChanges`). Where contents are known, `ok` (`EndsWell`) and `err` (`Fails`)
+//! say what is left. The laws (`laws.rt`, `change_laws.rt`) lead from these clauses to the
+//! definitions of builds. So a failed run invents nothing, keeps the files that were right if it is
+//! incremental, and prints the lines of the actions that ended.
+//!
+//! By the code, and in no clause: in a full run the contents of the inputs are held once for all
+//! actions, and dropped before the first write. Each file is written once. The outputs are counted
+//! one by one only if the task has made more files than one output may have. What four steps write
+//! is digested together.
 #![tactic(auto)]
 
 mod after_reply;

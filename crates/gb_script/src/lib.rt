@@ -6,13 +6,16 @@
 //! is returned is one that the bytes parse as, and a script that they parse as is returned. A fault
 //! is the first in the text and is reported with its line: no script has that token after the ones
 //! before it, or it passes a limit (`specs/Verdict.antt`, `specs/Notation.antt`). Bytes never have
-//! two meanings (`laws`).
+//! two meanings (`bytes_say_one_thing`).
 //!
 //! There are two phases: `lexing` cuts the text into tokens with their lines; `reading`, `values`,
 //! `clauses` and `statements` have a function for each part of the notation. Rejected: tokens that
 //! borrow from the text, since contracts would then have to mention their positions; reading
 //! characters without tokens, since a fault is reported by its token; continuing after a fault,
 //! since only the first one counts.
+//!
+//! The faults are 20 to 23. `read_script_lines` reads the tokens once more for the lines of
+//! statements and clauses, so `read_script` does not pay for lines.
 #![tactic(auto)]
 
 mod clauses;

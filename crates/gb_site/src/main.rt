@@ -1,5 +1,8 @@
 //! Builds the site in the current folder: `gb` with the kinds of pages and of feeds and the
 //! built-in ones.
+//!
+//! The kinds are those of `gb_pages` and `gb_feed`. `data` has a site that the gate builds. Proved:
+//! that the program never panics and that it ends.
 #![tactic(auto)]
 
 use gb_action::actions::Actions;

@@ -8,8 +8,33 @@
 //! execution starts from the files at the outputs, and keeps those that are right, also where it
 //! fails.
 //!
-//! The executor decides by digests. [`case_laws`] has the laws that a decision by whole contents is
-//! the same.
+//! `execute_task` executes a task; `last` is the record that was read of it. Premises: the task
+//! `IsBuildable`, its outputs do not overlap, and it reads none of them. Where contents are known
+//! and kinds agree, the execution is that of the definitions (`HasExecuted`). Over any folder:
+//!
+//! - `answer`: which outcomes there may be, and which print nothing; `alone`: a task that is
+//!   skipped or has no actions is reported so.
+//! - `requests` (`ExecutionRequests`): what the execution asks for, by its outcome
+//!   (`docs/PROOF.md#over-a-disk`).
+//!
+//! Its steps are the crate's own: `settle` decides, and changes nothing; then
+//! `execute_without_source`, `execute_in_full` or `execute_by_changes` does what is due.
+//! `recheck_task` reads what was not kept, and decides again on the digests of exactly what the run
+//! works on, whoever else writes in the folder (`IsRecheck`).
+//!
+//! | Laws (`laws.rt`) | What they say |
+//! |---|---|
+//! | `unread_executions_keep` | an execution that ends before it has read changes nothing: record and |
+//! | | outputs stay |
+//! | `full_runs_are_true` | the record that a full run stores is true (`IsTextOfTrue`) |
+//! | `runs_by_changes_stay_true` | so is that of an incremental run, if the record that it was based on |
+//! | | is |
+//! | | true, and no two contents share a digest |
+//! | `up_to_date_is_made` | if the record is true so, the outputs of a task that is up to date are what |
+//! | | its actions make |
+//!
+//! The executor decides by digests. The laws of [`case_laws`] say that a decision by whole contents
+//! is the same.
 #![tactic(auto)]
 
 mod adding;

@@ -1,6 +1,9 @@
 //! `gb` with three kinds of its own: `upperCase` makes of each file the same in capital letters,
 //! `headed` puts a line before each file, and `wholeLines` fails if the last line of a file has no
 //! end.
+//!
+//! An example of `docs/EMBEDDING.md`. Proved: that each kind makes what its definition says, that
+//! the program never panics and that it ends.
 #![tactic(auto)]
 
 mod headed;

@@ -8,6 +8,23 @@
 //! once; [`renamed::Renamed`] is a `TreeKind` that makes a file from each file at a path of its
 //! own. [`both::Both`] combines two implementations of `Actions`, so that one table holds the kinds
 //! of all.
+//!
+//! `docs/EMBEDDING.md` shows all of it in use.
+//!
+//! | You write | You get | It |
+//! |---|---|---|
+//! | a `FileKind` | `ByFile<K>` | makes a file of each file, in full or incrementally |
+//! | a `TryFileKind` | `TryByFile<K>` | does so, and fails with the failure of the first file, its path |
+//! | | | in front |
+//! | a `Renaming` | `Renamed<K>` | makes each file at a path of its own; fails if a file has no path, |
+//! | | | or two have one |
+//! | a `TreeKind` | `OfTrees<K>` | makes files of arguments and all files; its failure is a text |
+//! | a `CheckKind` | `Checks<K>` | makes no file, and fails with what it finds |
+//!
+//! `ByFile` and `TryByFile` print a line for each change, `OfTrees` prints none. Asked for changes,
+//! `TryByFile`, `Renamed` and `OfTrees` make all files, write those that differ, and remove those
+//! that are made no more (`IsRecheck`). `Both<A, B>` joins the actions and functions of two,
+//! `beside` joins two tables.
 #![tactic(auto)]
 
 mod anew;
