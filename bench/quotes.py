@@ -13,8 +13,10 @@
 - Files and definitions in that page's table of rules are there.
 - The words of the notation in docs/REFERENCE.md are in the files of tools/ for editors, and the options of
   the command line in those for shells.
+- The table of wrong bodies in docs/PROOF.md names edits that exist, and the documents count them right.
 - No line of a document is longer than 110 columns, except rows of tables.
 """
+import glob
 import os
 import re
 import sys
@@ -74,6 +76,26 @@ def check_quotes(path):
             file = kind.removeprefix("quote ")
             if not os.path.isfile(os.path.join(ROOT, file)) or not has_piece(lines_of(file), block):
                 faults.append(f"{path}:{number}: this does not stand so in {file}")
+
+
+def check_wrong_bodies():
+    """The table of wrong bodies names edits that exist: with a star those of bench/edits, else those of the gate."""
+    text = "\n".join(lines_of("docs/PROOF.md"))
+    for crate, name, star in re.findall(r"\| `(gb_\w+)`: `(\w+)`( \*)? \|", text):
+        path = f"bench/edits/{crate}/{name}.edit" if star else f"crates/{crate}/must-fail/{name}.edit"
+        if not os.path.isfile(os.path.join(ROOT, path)):
+            faults.append(f"docs/PROOF.md: {path} is not there")
+
+
+def check_counts():
+    """The numbers of wrong edits in the documents are those of the files."""
+    gate = len(glob.glob(f"{ROOT}/crates/*/must-fail/*.edit"))
+    manual = len(glob.glob(f"{ROOT}/bench/edits/*/*.edit"))
+    counts = [("README.md", f"all proofs, {gate} wrong edits"), ("README.md", f"{manual} wrong edits, `tools/`")]
+    counts += [("docs/PROOF.md", f"must refuse; {manual} more"), ("docs/CONTRIBUTING.md", f"libraries; {manual} are")]
+    for path, words in counts:
+        if words not in " ".join(lines_of(path)):
+            faults.append(f"{path}: it does not say: {words}")
 
 
 def theorem():
@@ -221,6 +243,8 @@ def main(words):
     check_rules()
     check_theorem()
     check_tools()
+    check_wrong_bodies()
+    check_counts()
     for fault in faults:
         print(fault)
     print(f"{len(DOCS)} documents, {len(faults)} faults")
