@@ -151,8 +151,9 @@ def specs_of(crate):
 
 def tables(crate):
     """The tables of a crate's files, as lines."""
-    lines = [FILES, "|---|---|"]
-    sources = [name for name in files_in(f"crates/{crate}/src", ".rt") if name != "lib.rt"]
+    names = files_in(f"crates/{crate}/src", ".rt")
+    sources = [name for name in names if name not in ("lib.rt", "main.rt")]
+    lines = [FILES, "|---|---|"] if sources else []
     for name in sources:
         lines += row(name, f"crates/{crate}/src/{name}", "//!")
     specs = specs_of(crate)

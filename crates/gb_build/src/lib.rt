@@ -7,7 +7,8 @@
 //! `builtin_functions!` of `gb_answer` make them.
 //!
 //! This crate also re-exports the single calls of which a build consists, in modules by purpose:
-//! [`scripts`], [`plans`], [`trees`] and [`records`]. `docs/CRATES.md` has a table of them.
+//! [`scripts`], [`plans`], [`trees`] and [`records`]
+//! (`docs/CRATES.md#from-the-task-at-hand-to-the-call`).
 //!
 //! Inside, a build has three steps. [`workspace`] reads the settings and then, if they have no
 //! fault, the scripts, each file once. [`invoking`] passes their declarations to [`requested`].
@@ -16,16 +17,15 @@
 //!
 //! The crate carries the theorem (`docs/PROOF.md`). Its calls:
 //!
-//! | Step | What it does |
+//! | Call | What it does |
 //! |---|---|
-//! | `read_registry` | reads the settings and the script of each project, each file once, or reports |
-//! | | the first fault |
+//! | `read_registry` | reads the settings and the script of each project, each file once, or reports the |
+//! | | first fault |
 //! | `build_requested` | (inside; call `invoke`, or `execute` for a plan) plans what is asked of any |
-//! | | `Tasks`, |
-//! | | reads the records, and executes the plan; each declared task has to be buildable (`AreBuildable`) |
-//! | `invoke` | one invocation over the scripts of a folder: both of the above. That each declared task |
-//! | | can be |
-//! | | built is proved of what is read |
+//! | | `Tasks`, reads the records, and executes the plan; each declared task has to be buildable |
+//! | | (`AreBuildable`) |
+//! | `invoke` | one invocation over the scripts of a folder: both of the above. That each declared |
+//! | | task can be built is proved of what is read |
 //! | `run_events` | any list of edits, lost records and invocations, each with its answer |
 //! | `run_from_nothing` | the same over an empty folder in memory, where all premises are proved |
 //!

@@ -3,14 +3,13 @@
 //!
 //! The clauses of a task may be spread over several blocks of several scripts. The promise of
 //! [`declaring`]: they are combined in their order (`joined`), or the first fault of
-//! `faults_within` is returned: 40, 54, 2, 1, 50, 52, 31, 32, 70 and 55 in the order of the
-//! clauses, then 55 for the shape; or out of memory. `gb_evaluate` has the code that evaluates the
-//! result.
+//! `faults_within` is returned, or out of memory. The order of faults is that of the clauses; 55
+//! for the shape of the task comes last. `gb_evaluate` has the code that evaluates the result.
 //!
-//! `specs/Registered` defines without the engine what a folder's scripts register: the promise of
-//! whole builds is stated on it. Expressions are numbered in one list of all expressions of all
-//! scripts. The laws relate this whole table to a part of it, as the code has it while it processes
-//! scripts.
+//! `specs/Registered` defines what a folder's scripts register, without the steps of the code: the
+//! promise of whole builds is stated on it. Expressions are numbered in one list of all expressions
+//! of all scripts. The laws relate this whole table to a part of it, as the code has it while it
+//! processes scripts.
 //!
 //! | Laws | What they say |
 //! |---|---|
@@ -18,8 +17,7 @@
 //! | `circles_stay`, `parts_grow` | gives the values of the whole table |
 //! | `expressions_in_table` | each expression is in the whole table under its number |
 //! | `realised_is_sound` | a realised task has its path, no outputs without actions, outputs under its |
-//! | | build |
-//! | | folder, and actions that can be asked |
+//! | | build folder, and actions that can be asked |
 //! | `realised_names_tasks`, `realised_needs_are_registered` | what it names is registered |
 //! | `realised_in_order`, `realised_names_rise` | its tasks and its names are in order, each once |
 //! | `troubles_are_reported_one_way`, | an expression without a value has one fault; the |

@@ -1,4 +1,7 @@
-//! A folder on a disk.
+//! A folder on a disk: the `Folder` with which the programs build.
+//!
+//! What each call answers (10 the device failed, 11 missing, 12 blocked, 14 a bad file name:
+//! `docs/FAULTS.md`):
 //!
 //! | At the place | `list` | `read`, `read_part` | `write` | `remove` |
 //! |---|---|---|---|---|
@@ -11,11 +14,11 @@
 //! | a name under it that cannot be part of a place | 14 | 10 | 10 | 10 |
 //! | no permission, a full disk, an error | 10 | 10 | 10 | 10 |
 //!
-//! Each segment of a place is looked up before anything is opened. So no link leads out of the
-//! folder, and no call waits for a pipe. Two look-ups are saved, on the assumption that nobody else
-//! writes there during a build: `list`, `read` and `read_part` trust a folder that they found
-//! earlier, until something is missing or a call fails; and a read trusts the length of a file that
-//! is the only one listed by the preceding call.
+//! Each segment of a place is looked up before anything is opened. So, if nobody puts one there
+//! meanwhile, no link leads out of the folder, and no call waits for a pipe. Two look-ups are
+//! saved, on the assumption that nobody else writes there during a build: `list`, `read` and
+//! `read_part` trust a folder that they found earlier, until something is missing or a call fails;
+//! and a read trusts the length of a file that is the only one listed by the preceding call.
 //!
 //! A folder for one build ([`for_one_build`](disk::DiskFolder::for_one_build)) also remembers the
 //! last eight listings, of at most 65,536 places each: a hundred tasks that each take their part of
@@ -44,11 +47,13 @@
 //! file is closed. The kit has no flags for `open`: if somebody puts a pipe in place between
 //! look-up and open, the open waits for it.
 //!
-//! `DiskFolder` keeps the clauses of `Folder` that need no known contents. Each call that it makes
-//! to the system has a clause on its path (`path_in`): the path of the place, or one under
-//! `.gb/new` for a file that is not complete. No contract can say that links are not followed, that
-//! a read is of one file and that a write is whole, since the system's calls have no such contract.
-//! Tests show it.
+//! `DiskFolder` keeps the clauses of `Folder` that need no known contents. After a read, a write or
+//! a removal that succeeded, the path in use is that of the place (`at`, by `path_in`). A listing
+//! is in byte order and under its root, and a read returns no more than was asked. No clause is on
+//! the path of `create_dir`, or of what is removed under `.gb/new`: that is to be read in
+//! `device.rt` and `putting.rt`. No contract can say that links are not followed, that a read is of
+//! one file and that a write is whole, since the system's calls have no such contract. Tests show
+//! it.
 //!
 //! That a remembered listing is in order and under its root is proved. That it is an earlier one of
 //! the same root, and that a change ends it, is tested.

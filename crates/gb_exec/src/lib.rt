@@ -16,9 +16,9 @@
 //! Premises of `execute`: the plan can be built (`CanBuild`), and there is a record or none for
 //! each task. `build`: where contents are known, kinds agree (`IsAssumed`) and the records are
 //! those that are remembered (`AreWorth`), it is a build of the plan by the definitions, as long as
-//! no two contents that it met share a digest (`HasBuilt`). `outline` leaves free which of the
-//! outcomes that it may have a started task with actions has, with which fault it fails, and what
-//! it prints if it ran or failed.
+//! no two contents that it met share a digest (`HasBuilt`). `outline`: over any folder, which tasks
+//! start, and which outcomes each may have. It does not say which of these a started task with
+//! actions has, with which fault it fails, nor what it prints if it ran or failed.
 //!
 //! `starts_of`, `does_start`, `has_executed_need` and `end` decide by number which tasks start; the
 //! last three take no memory. `starts_by_number` and `needs_by_number` are the laws that this is

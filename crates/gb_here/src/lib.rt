@@ -5,11 +5,11 @@
 //! exit status. `gb` is such a program with only the built-in kinds, and prints no more than this
 //! crate does.
 //!
-//! One build at a time works in a folder. A build holds the system's locks on the folder itself and
-//! on the folders of its projects, in the order of projects, from before it reads a script until
-//! its output is printed. It waits where another build holds one. No file is made for a lock, and
-//! the system releases it with the process. A dry run, refused arguments and refused tables take
-//! none.
+//! One build at a time works in a folder. No contract says so: it is tested. A build holds the
+//! system's locks on the folder itself and on the folders of its projects, in the order of
+//! projects, from before it reads a script until its output is printed. It waits where another
+//! build holds one. No file is made for a lock, and the system releases it with the process. A dry
+//! run, refused arguments and refused tables take none.
 //!
 //! `locks` takes the same locks for other programs that write in the folder. If two kinds have one
 //! name (41) or memory runs out (3), there is no table, and `print_refused` prints the refusal. The

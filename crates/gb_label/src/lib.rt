@@ -4,17 +4,17 @@
 //! Why: the decision and the run must be based on one reading of the files. A decision needs
 //! digests alone, a run needs contents.
 //!
-//! How it works: the inputs and the outputs are read once. What was read is kept in memory while
-//! there is room for it, and a run completes it. A file that was not kept is read again, and its
-//! digest is computed again. So the digests that a record gets are those of the very contents that
-//! the actions worked on.
+//! How it works: for the decision the inputs and the outputs are read once, and kept in memory up
+//! to a budget; which contents are kept is left open. The run reads and digests again what was not
+//! kept. So the digests that a record gets are those of the very contents that the actions worked
+//! on.
 //!
-//! `prepare` decides (`IsPrepared`): skipped, without actions or source (`early_case`), or, by the
-//! record of the task and the digests of what it has now, up to date, incremental or full. It also
-//! returns what the decision goes by (`goes_by`), so `gb_predict` has no decision of its own, and
-//! what it has read (`Observed`), which `complete_inputs` and `complete_outputs` complete to whole
-//! contents for the run. Its one premise: the names of the task's values, file properties and
-//! outputs rise (`HasNamesInOrder`). It changes nothing.
+//! The promise: `prepare` decides (`IsPrepared`): skipped, without actions or source
+//! (`early_case`), or, by the record of the task and the digests of what it has now, up to date,
+//! incremental or full. It also returns what the decision goes by (`goes_by`), so `gb_predict` has
+//! no decision of its own, and what it has read (`Observed`), which `complete_inputs` and
+//! `complete_outputs` complete to whole contents for the run. Its one premise: the names of the
+//! task's values, file properties and outputs ascend (`HasNamesInOrder`). It changes nothing.
 //!
 //! Where contents are known, the decision is exact, and an error is the first of what hinders
 //! reading the inputs or listing the outputs (`IsHindered`), or a fault of the machine. Over any
@@ -22,8 +22,6 @@
 //! to date by its record, on just this. A skipped task and one without actions read nothing. Only a
 //! task with outputs that is not stale, and of which no rerun is asked, is decided to be up to date
 //! (`may_decide`).
-//!
-//! Left open: which contents are kept between decision and run. They are kept up to a budget.
 #![tactic(auto)]
 
 mod completing;

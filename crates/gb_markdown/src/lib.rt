@@ -3,7 +3,7 @@
 //! The promise: the page of a text is `Blocks.html` of it, a definition by blocks and by texts in
 //! them. Three laws hold of every page, whatever is written on it: no text becomes a tag; each
 //! address of a link has no scheme or `http`, `https` or `mailto`, and neither a control character
-//! nor white space; and neither has an address that is made of a file's path.
+//! nor white space; and an address that is made of a file's path is safe in the same way.
 //!
 //! A page is parsed line by line: first the labels that it defines are taken out ([`gathered`]),
 //! then each line continues or ends the open blocks ([`blocks`]), and the text of a finished block

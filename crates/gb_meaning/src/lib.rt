@@ -20,8 +20,7 @@
 //! | `states_are_one` | the states of a run are determined by its answers, if no task failed and |
 //! | | nothing was hindered |
 //! | `some_kinds_agree`, `memory_grants` | the premises hold: of any table without a repeated name, and |
-//! | | of an |
-//! | | empty folder in memory |
+//! | | of an empty folder in memory |
 //!
 //! `proofs/Rows` has worked builds, and what the definitions refuse.
 #![tactic(auto)]

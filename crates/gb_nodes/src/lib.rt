@@ -9,8 +9,8 @@
 //! a task, in the order in which they are evaluated.
 //!
 //! What was made for the scripts so far is a part of the table of all scripts, so no number changes
-//! later: a part stays one as trees, rows and properties are added. All scripts are made without a
-//! fault unless a build folder is no place, and it is one if the settings are not at fault.
+//! later: a part stays one as trees, rows and properties are added. The nodes of all scripts
+//! are made without a fault if each build folder is a place. It is, if the settings have no fault.
 #![tactic(auto)]
 
 pub mod given;

@@ -1,12 +1,11 @@
 //! The execution of one started task: decide, run, and store its record.
 //!
-//! How it works: the executor reads everything that the task needs once, before the first change.
-//! Then it deletes the record of the task, runs its actions, and stores a new record. The new
-//! record has the inputs that the actions worked on, and the outputs as the actions made them,
-//! whatever is in the folder by then. So a build that is stopped between the two finds no record,
-//! and executes the task in full. A full execution empties the outputs first. An incremental
-//! execution starts from the files at the outputs, and keeps those that are right, also where it
-//! fails.
+//! How it works: all that the task needs is read before the first change (`gb_label`). Then it
+//! deletes the record of the task, runs its actions, and stores a new record. The new record has
+//! the inputs that the actions worked on, and the outputs as the actions made them, whatever is in
+//! the folder by then. So a build that is stopped between the two finds no record, and executes the
+//! task in full. A full execution empties the outputs first. An incremental execution starts from
+//! the files at the outputs, and keeps those that are right, also where it fails.
 //!
 //! `execute_task` executes a task; `last` is the record that was read of it. Premises: the task
 //! `IsBuildable`, its outputs do not overlap, and it reads none of them. Where contents are known
@@ -28,10 +27,9 @@
 //! | | outputs stay |
 //! | `full_runs_are_true` | the record that a full run stores is true (`IsTextOfTrue`) |
 //! | `runs_by_changes_stay_true` | so is that of an incremental run, if the record that it was based on |
-//! | | is |
-//! | | true, and no two contents share a digest |
-//! | `up_to_date_is_made` | if the record is true so, the outputs of a task that is up to date are what |
-//! | | its actions make |
+//! | | is true, and no two contents share a digest |
+//! | `up_to_date_is_made` | on the same two conditions, the outputs of a task that is up to date are |
+//! | | what its actions make |
 //!
 //! The executor decides by digests. The laws of [`case_laws`] say that a decision by whole contents
 //! is the same.

@@ -10,9 +10,9 @@
 //! [`outputs`](output::outputs) reads the files at a place.
 //!
 //! [`reading_of`](property::reading_of) and [`output_reading`](output::output_reading) read such
-//! files once: they take the digests, of files below 65,536 bytes four at a time, and keep the
-//! bytes where there is room for them. From such a [`Reading`](kept::Reading) a run gets the
-//! contents by [`completed`](kept::Reading::completed), with the digests of these very contents.
+//! files once, take their digests, and keep the bytes where there is room for them. From such a
+//! [`Reading`](kept::Reading) a run gets the contents by [`completed`](kept::Reading::completed),
+//! with the digests of these very contents.
 //!
 //! The digests of such files are remembered: [`prints`](digest::prints) takes them from contents,
 //! [`prints_of`](property::prints_of) and [`output_prints`](output::output_prints) from the folder,
@@ -20,18 +20,18 @@
 //! modified or removed between two such states.
 //!
 //! Patterns are refused with 70. The faults in reading are 14, 72, 71 and 13, in this order; 11 and
-//! 12 can only come from a folder whose contents are not known. An output in `.gb` has no files. No
-//! call has a premise. Where contents are known, each result is exact. Over any folder, the entries
-//! are those of listings that the folder returned, and each digest is that of bytes that it
-//! returned (`Answered`).
+//! 12 can only come from a folder whose contents are not known. An output in `.gb` has no files.
+//! The promise, without a premise: where contents are known, each result is exact. Over any folder,
+//! the entries are those of listings that the folder returned, and each digest is that of bytes
+//! that it returned (`Answered`).
 //!
 //! No clause says how much memory is held or how often a file is read. By the code, each content is
-//! read once, after everything that can be refused without it. Four small files are digested
-//! together where they follow each other with no larger one between them, so at most four are held
-//! beyond what is kept. Finding equal roots takes n log n in the roots, and finding where to look n
-//! log n in the includes of each; the places to look at are held for one root at a time. A path is
-//! tried against each pattern with a wildcard and looked up among the others. No more entries are
-//! held than needed to find that there are too many.
+//! read once, after everything that can be refused without it. Four files below 65,536 bytes are
+//! digested together where they follow each other with no larger one between them, so at most four
+//! are held beyond what is kept. Finding equal roots takes n log n in the roots, and finding where
+//! to look n log n in the includes of each; the places to look at are held for one root at a time.
+//! A path is tried against each pattern with a wildcard and looked up among the others. No more
+//! entries are held than needed to find that there are too many.
 //!
 //! Left out: regular expressions, character classes and negation in patterns, and one digest for a
 //! whole tree, which could not show which file changed.

@@ -1,21 +1,17 @@
 //! A program's own kinds, which it combines with the built-in ones and with each other.
 //!
-//! A function on bytes that is written as a [`file_kind::FileKind`] gives a kind of actions:
-//! [`by_file::ByFile`] provides its signature, what it makes and prints, its replies to changes,
-//! and the fact that it writes only to its own output, all proved here once.
-//! [`try_by_file::TryByFile`] does the same for a [`try_file_kind::TryFileKind`], whose function
-//! may fail, and [`of_trees::OfTrees`] for a [`tree_kind::TreeKind`], which works on all files at
-//! once; [`renamed::Renamed`] is a `TreeKind` that makes a file from each file at a path of its
-//! own. [`both::Both`] combines two implementations of `Actions`, so that one table holds the kinds
-//! of all.
+//! Each trait of the table gives a kind. Its signature, what it makes and prints, its replies to
+//! changes, and the fact that it writes only to its own output are proved here, once.
+//! [`both::Both`] combines two implementations of `Actions` and of functions, so that one table
+//! holds the kinds of all; `beside` joins two tables.
 //!
 //! `docs/EMBEDDING.md` shows all of it in use.
 //!
 //! | You write | You get | It |
 //! |---|---|---|
 //! | a `FileKind` | `ByFile<K>` | makes a file of each file, in full or incrementally |
-//! | a `TryFileKind` | `TryByFile<K>` | does so, and fails with the failure of the first file, its path |
-//! | | | in front |
+//! | a `TryFileKind` | `TryByFile<K>` | makes a file of each file, all again after any change; fails |
+//! | | | with the failure of the first file, its path in front |
 //! | a `Renaming` | `Renamed<K>` | makes each file at a path of its own; fails if a file has no path, |
 //! | | | or two have one |
 //! | a `TreeKind` | `OfTrees<K>` | makes files of arguments and all files; its failure is a text |
@@ -23,8 +19,7 @@
 //!
 //! `ByFile` and `TryByFile` print a line for each change, `OfTrees` prints none. Asked for changes,
 //! `TryByFile`, `Renamed` and `OfTrees` make all files, write those that differ, and remove those
-//! that are made no more (`IsRecheck`). `Both<A, B>` joins the actions and functions of two,
-//! `beside` joins two tables.
+//! that are made no more (`IsRecheck`).
 #![tactic(auto)]
 
 mod anew;
