@@ -24,4 +24,5 @@ pub mod Planned
 pub mod Bridges
 pub mod Numbered
 pub mod Thinned
+pub mod Nearby
 pub mod Judged

@@ -15,6 +15,7 @@ use Rattle.gb_graph.specs.declared.conflicting.Search.{Search}
 use Rattle.gb_graph.specs.declared.conflicting.Search.TheVariants.{Overlaps, OwnInputs, Undeclared}
 use Rattle.gb_graph.specs.declared.places.TaskPlace.{TaskPlace}
 use Rattle.gb_graph.specs.Conflicts.{IsMet, counts}
+use Rattle.gb_graph.specs.Near.{by_number}
 use Rattle.gb_graph.specs.Places.{AreSamePlaces, IsRising, IsSame, IsThinned, OccursTwice, is_before, place_at}
 use Rattle.gb_graph.proofs.Numbered.{differ_so}
 
@@ -139,18 +140,18 @@ module _ (search : Search) (chains : List (List ℕ)) where
   record Pair (places outputs : List TaskPlace) (at output : TaskPlace) : Type 0 where
     place : Kept places at
     out : Kept outputs output
-    counted : counts search chains place.kept out.kept ≡ true
+    counted : counts search chains place.kept (by_number out.kept) ≡ true
 
-pair_by_task : (search : Search) (chains : List (List ℕ)) → ((at output p o : TaskPlace) → p.task ≡ at.task → o.task ≡ output.task → counts search chains p o ≡ counts search chains at output)
+pair_by_task : (search : Search) (chains : List (List ℕ)) → ((at output p o : TaskPlace) → p.task ≡ at.task → o.task ≡ output.task → counts search chains p (by_number o) ≡ counts search chains at (by_number output))
     → (whole thinned : List TaskPlace) → IsThinned whole thinned → (outputs kept : List TaskPlace) → IsThinned outputs kept
-    → (at output : TaskPlace) → Contains whole at → Contains outputs output → counts search chains at output ≡ true → Pair search chains thinned kept at output
+    → (at output : TaskPlace) → Contains whole at → Contains outputs output → counts search chains at (by_number output) ≡ true → Pair search chains thinned kept at output
 pair_by_task search chains by_task whole thinned t outputs kept u at output c d counted =
     let p = kept_of whole thinned t at c in
     let o = kept_of outputs kept u output d in
     record { place = p; out = o; counted = by_task at output p.kept o.kept p.same.0 o.same.0 ∙ counted }
 
 pair_of : (search : Search) (chains : List (List ℕ)) (whole thinned : List TaskPlace) → IsThinned whole thinned → (outputs kept : List TaskPlace) → IsThinned outputs kept
-    → (at output : TaskPlace) → Contains whole at → Contains outputs output → counts search chains at output ≡ true → Pair search chains thinned kept at output
+    → (at output : TaskPlace) → Contains whole at → Contains outputs output → counts search chains at (by_number output) ≡ true → Pair search chains thinned kept at output
 pair_of Overlaps chains whole thinned t outputs kept u at output c d counted = elim (u.exists output d) [
   | inr two ↦
       let p = kept_of whole thinned t at c in

@@ -15,9 +15,11 @@ use Rattle.gb_graph.specs.declared.least.Found.{Found}
 use Rattle.gb_graph.specs.declared.least.Met.{Met}
 use Rattle.gb_graph.specs.declared.conflicting.Search.{Search}
 use Rattle.gb_graph.specs.declared.conflicting.Search.TheVariants.{Overlaps, OwnInputs, Undeclared}
+use Rattle.gb_graph.specs.declared.near.Near.{Near}
 use Rattle.gb_graph.specs.declared.places.TaskPlace.{TaskPlace}
 use Rattle.gb_graph.specs.declared.plan_tables.Tables.{Tables}
 use Rattle.gb_graph.specs.Places.{IsRising, IsThinned, place_at, places_from, with_places}
+use Rattle.gb_graph.specs.Near.{by_number}
 
 -- the rows have the tasks that each comes after by a chain
 abbrev pub GiveChains : List Planned → List (List ℕ) → Type 0
@@ -27,7 +29,7 @@ GiveChains tasks chains = (task before : ℕ) (d : Planned) → task < length ta
 
 -- The two count: an output and another one; a root and an output of its own task; a root and an output of
 -- another task that the root's task does not come after.
-abbrev pub counts : Search → List (List ℕ) → TaskPlace → TaskPlace → Bool
+abbrev pub counts : Search → List (List ℕ) → TaskPlace → Near → Bool
 counts Overlaps chains at output = not (at.number == output.number)
 counts OwnInputs chains at output = at.task == output.task
 counts Undeclared chains at output =
@@ -39,7 +41,7 @@ module _ (search : Search) (chains : List (List ℕ)) where
     pub output : TaskPlace
     pub output_in : Contains outputs output
     pub is_task : output.task ≡ task
-    pub counted : counts search chains at output ≡ true
+    pub counted : counts search chains at (by_number output) ≡ true
     pub overlapped : overlaps at.place output.place ≡ true
 
   -- the task of one of the places conflicts with the task of an output there

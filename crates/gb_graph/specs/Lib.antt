@@ -8,5 +8,6 @@ pub mod Words
 pub mod Circle
 pub mod Places
 pub mod Overlaps
+pub mod Near
 pub mod Conflicts
 pub mod Answer

@@ -33,10 +33,6 @@ is_before a b = is_lt (byte_order a b)
 abbrev pub by_place : TaskPlace → TaskPlace → Ordering
 by_place a b = ordering_then (byte_order a.place b.place) (nat_cmp a.task b.task)
 
--- by task, and then by place
-abbrev pub by_task : TaskPlace → TaskPlace → Ordering
-by_task a b = ordering_then (nat_cmp a.task b.task) (byte_order a.place b.place)
-
 -- the places before a text come first, for every text
 abbrev pub IsRising : List TaskPlace → Type 0
 IsRising row = (text : List ℕ) (i j : ℕ) → i ≤ j → j < length row

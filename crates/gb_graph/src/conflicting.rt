@@ -1,11 +1,12 @@
 //! The tasks with outputs that conflict with a place.
-ghost use Rattle.std.specs.Prelude.{◌≡◌, ◌↔◌, ℕ, Contains, IfOk, IsTrue};
+ghost use Rattle.std.specs.Prelude.{◌≡◌, ◌↔◌, ℕ, List, Contains, IfOk, IsTrue};
 ghost use Rattle.gb_graph.specs.Order.{row, rows};
 ghost use Rattle.gb_graph.specs.Chains.{bit_in};
-ghost use Rattle.gb_graph.specs.Places.{IsRising};
+ghost use Rattle.gb_graph.specs.Near.{AreNear};
 ghost use Rattle.gb_graph.specs.Conflicts.{IsMetTask, counts};
+ghost use Rattle.gb_graph.specs.declared.places.TaskPlace.{TaskPlace};
 
-use crate::overlaps::overlapped;
+use crate::near::Near;
 use crate::places::TaskPlace;
 use std::alloc::{AllocError, Global};
 
@@ -34,8 +35,8 @@ fn is_chained(chains: &[Vec<u64>], task: usize, before: usize) -> bool
 }
 
 /// Whether a place and an output that overlap are a conflict of the kind that is searched for.
-fn counts(search: Search, chains: &[Vec<u64>], at: &TaskPlace, output: &TaskPlace) -> bool
-    ensures { result ≡ counts search (rows chains.now) at.now output.now }
+fn counts(search: Search, chains: &[Vec<u64>], at: &TaskPlace, output: Near) -> bool
+    ensures { result ≡ counts search (rows chains.now) at.now output }
 {
     match search {
         Search::Overlaps => at.number != output.number,
@@ -46,23 +47,20 @@ fn counts(search: Search, chains: &[Vec<u64>], at: &TaskPlace, output: &TaskPlac
     }
 }
 
-/// The tasks with outputs that conflict with a place.
+/// The tasks with outputs that conflict with a place, of the outputs that overlap it.
 pub fn met_at(
     alloc: Global,
     search: Search,
     chains: &[Vec<u64>],
-    outputs: &[TaskPlace],
+    near: &[Near],
     at: &TaskPlace,
 ) -> Result<Vec<usize>, AllocError>
-    requires { IsRising outputs.now }
-    ensures { IfOk result (λ tasks. (task : ℕ) → Contains tasks.items task
-        ↔ IsMetTask search (rows chains.now) outputs.now at.now task) }
+    ensures { IfOk result (λ tasks. (outputs : List TaskPlace) → AreNear outputs at.now.place near.now
+        → (task : ℕ) → Contains tasks.items task ↔ IsMetTask search (rows chains.now) outputs at.now task) }
 {
-    let found = overlapped(alloc, outputs, &at.place)?;
     let mut tasks = Vec::new(alloc);
-    for index in &found {
-        let output = &outputs[*index];
-        if counts(search, chains, at, output) {
+    for output in near {
+        if counts(search, chains, at, *output) {
             tasks.push(output.task)?;
         }
     }

@@ -6,13 +6,14 @@ ghost use Rattle.gb_core.specs.Lists.{byte_order};
 ghost use Rattle.gb_plan.specs.Refusal.{is_before};
 ghost use Rattle.gb_graph.specs.Order.{rows};
 ghost use Rattle.gb_graph.specs.Circle.{path_at};
-ghost use Rattle.gb_graph.specs.Places.{IsRising, place_at};
+ghost use Rattle.gb_graph.specs.Places.{IsRising};
 ghost use Rattle.gb_graph.specs.declared.places.TaskPlace.{TaskPlace};
 ghost use Rattle.gb_graph.specs.Conflicts.{IsLeast, IsLeastTask, IsMet, IsWithin};
 ghost use Rattle.gb_graph.specs.Conflicts.{found_by, lesser, conflict_by};
 
 use crate::conflicting::{Search, met_at};
-use crate::places::TaskPlace;
+use crate::last::{near_at, no_place};
+use crate::places::{TaskPlace, place_of};
 use gb_core::path::TaskPath;
 use gb_core::place::Place;
 use gb_plan::plan::Planned;
@@ -46,13 +47,6 @@ fn path_of(tasks: &[Planned], number: usize) -> &TaskPath
     ensures { result.now ≡ path_at tasks.now number }
 {
     &tasks[number].task.path
-}
-
-fn place_of(places: &[TaskPlace], index: usize) -> &Place
-    requires { index < length places.now }
-    ensures { result.now ≡ place_at places.now index }
-{
-    &places[index].place
 }
 
 /// Whether one comes before another: by the first task, then by the other, then by the place.
@@ -164,7 +158,8 @@ fn copied(
 }
 
 /// The least conflict of the tasks of these places with the tasks of outputs. It visits only the
-/// pairs that overlap, and skips the places of tasks that come after a task with a conflict.
+/// pairs that overlap, of each task at most two outputs at once, and skips the places of tasks that
+/// come after a task with a conflict.
 pub fn least_met(
     alloc: Global,
     search: Search,
@@ -180,10 +175,12 @@ pub fn least_met(
         IsLeast (IsMet search (rows chains.now) tasks.now outputs.now places.now) least) }
 {
     let mut least = None;
+    let mut last = no_place(alloc);
     for place in 0..places.len() {
         let task = places[place].task;
         if !is_later(tasks, task, least) {
-            let others = met_at(alloc, search, chains, outputs, &places[place])?;
+            last = near_at(alloc, outputs, places, place, last)?;
+            let others = met_at(alloc, search, chains, last.near.as_slice(), &places[place])?;
             let met = least_at(tasks, task, place, others.as_slice());
             least = lesser(tasks, places, least, met);
         }

@@ -12,7 +12,8 @@
 //! a circle ([`circle`]). [`chains`] computes for each task, as a row of bits, which tasks come
 //! before it by a chain. With the chains the other rules are checked: of two tasks at one place one
 //! has to wait for the other, and [`refusal`] reports the first of all faults. Places that overlap
-//! are found by binary searches in one sorted row ([`overlaps`]).
+//! are found by binary searches in one sorted row ([`overlaps`]), once for equal places ([`last`]).
+//! Of the outputs of one task at most two are compared ([`near`]).
 //!
 //! Set aside: to compare each place with each other, and paths in place of numbers.
 //!
@@ -26,7 +27,9 @@ mod chained;
 mod chains;
 mod circle;
 mod conflicting;
+mod last;
 mod least;
+mod near;
 mod order;
 pub mod overlaps;
 pub mod places;

@@ -1,10 +1,10 @@
 //! The places of a plan's tasks, in rows.
-ghost use Rattle.std.specs.Prelude.{◌≡◌, ◌↔◌, ◌∷◌, [], map, IfOk, OnOk, IsTrue};
+ghost use Rattle.std.specs.Prelude.{◌≡◌, ◌<◌, ◌↔◌, ◌∷◌, [], map, length, IfOk, OnOk, IsTrue};
 ghost use Rattle.std.specs.Bool.{OnTrue};
 ghost use Rattle.std.specs.List.{flat_map};
 ghost use Rattle.gb_plan.specs.Task.{roots_of, output_places};
 ghost use Rattle.gb_graph.specs.Places.{AreSamePlaces, IsRising, IsSame, IsThinned, OccursTwice, by_place};
-ghost use Rattle.gb_graph.specs.Places.{by_task, places_from, with_places};
+ghost use Rattle.gb_graph.specs.Places.{place_at, places_from, with_places};
 
 use gb_core::place::Place;
 use gb_plan::plan::Planned;
@@ -21,6 +21,14 @@ pub struct TaskPlace {
     pub number: usize,
     /// The place itself, as its task declares it.
     pub place: Place,
+}
+
+/// The place at an index of a row.
+pub(crate) fn place_of(places: &[TaskPlace], index: usize) -> &Place
+    requires { index < length places.now }
+    ensures { result.now ≡ place_at places.now index }
+{
+    &places[index].place
 }
 
 fn add(row: &mut Vec<TaskPlace>, task: usize, place: &Place) -> Result<(), AllocError>
@@ -104,19 +112,6 @@ pub fn sort_by_place(row: &mut Vec<TaskPlace>)
     ensures same { AreSamePlaces row.old.items row.new.items }
 {
     row.sort_unstable_by(|a, b| by_place(a, b));
-}
-
-fn by_task(a: &TaskPlace, b: &TaskPlace) -> Ordering
-    ensures { result ≡ by_task a.now b.now }
-{
-    a.task.cmp(&b.task).then(a.place.cmp(&b.place))
-}
-
-/// Sorts places by their tasks, and the places of one task by their bytes.
-pub fn sort_by_task(row: &mut Vec<TaskPlace>)
-    ensures { AreSamePlaces row.old.items row.new.items }
-{
-    row.sort_unstable_by(|a, b| by_task(a, b));
 }
 
 fn is_same(a: &TaskPlace, b: &TaskPlace) -> bool

@@ -6,7 +6,7 @@ ghost use Rattle.gb_graph.specs.Conflicts.{AreTables, IsLeast, Meets, places_for
 use crate::chained::chains_in;
 use crate::conflicting::Search;
 use crate::least::{Found, least_met};
-use crate::places::{TaskPlace, outputs_of, roots_of, sort_by_place, sort_by_task, thinned};
+use crate::places::{TaskPlace, outputs_of, roots_of, sort_by_place, thinned};
 use gb_plan::plan::Planned;
 use std::alloc::{AllocError, Global};
 
@@ -17,7 +17,7 @@ pub struct Tables {
     pub chains: Vec<Vec<u64>>,
     /// The outputs of all tasks, sorted by place and thinned.
     pub outputs: Vec<TaskPlace>,
-    /// The roots of the input files of all tasks, thinned.
+    /// The roots of the input files of all tasks, sorted by place and thinned.
     pub roots: Vec<TaskPlace>,
 }
 
@@ -31,7 +31,7 @@ pub fn tables_of(alloc: Global, tasks: &[Planned]) -> Result<Tables, AllocError>
     let mut outputs = outputs_of(alloc, tasks)?;
     sort_by_place(&mut outputs);
     let mut roots = roots_of(alloc, tasks)?;
-    sort_by_task(&mut roots);
+    sort_by_place(&mut roots);
     Ok(Tables {
         chains,
         outputs: thinned(alloc, outputs)?,

@@ -8,5 +8,5 @@ returns c = record {
   chains = c.in_ok-chains.ensures;
   rising = c.in_ok-thinned.ensures.rising c.sort_by_place.ensures.rising;
   outputs = thinned_same _ c.sort_by_place.new.row.items _ (subst (λ row. AreSamePlaces row c.sort_by_place.new.row.items) c.in_ok-outputs.ensures c.sort_by_place.ensures.same) c.in_ok-thinned.ensures.thinned;
-  roots = thinned_same _ c.sort_by_task.new.row.items _ (subst (λ row. AreSamePlaces row c.sort_by_task.new.row.items) c.in_ok-roots.ensures c.sort_by_task.ensures) c.in_ok-thinned-2.ensures.thinned;
+  roots = thinned_same _ c.sort_by_place-2.new.row.items _ (subst (λ row. AreSamePlaces row c.sort_by_place-2.new.row.items) c.in_ok-roots.ensures c.sort_by_place-2.ensures.same) c.in_ok-thinned-2.ensures.thinned;
 }

@@ -1,5 +1,5 @@
 use Rattle.std.proofs.lemmas.List.Sorted.{Contains-permutation, IsPermutation-sym}
-use Rattle.gb_graph.proofs.places.sort_by_task.Goals as goal
+use Rattle.gb_graph.proofs.near.sort_by_task.Goals as goal
 
 pub returns : goal.returns
 returns c =
