@@ -17,7 +17,7 @@ use gb_core::text::Text;
 use gb_folder::folder::Folder;
 use gb_provider::transforms::Transforms;
 use gb_registry::configured::Configured;
-use gb_registry::projects::projects;
+use gb_registry::projects::ProjectSet;
 use gb_registry::registry::Registry;
 use gb_registry::tables::Tables;
 use gb_report::fault::Fault;
@@ -52,9 +52,9 @@ pub fn read_registry<'a, A: Actions, T: Transforms, F: Folder>(
         (F.contents folder.old).files given.items (Err fault)) }
 {
     let settings = read_settings_of(alloc, folder)?;
-    let projects = projects(alloc, &settings)?;
+    let projects = ProjectSet::of(alloc, &settings)?;
     let scripts = read_scripts(alloc, folder, projects.as_slice())?;
-    Registry::configure(alloc, &settings, scripts, given, tables)
+    Registry::configure_projects(alloc, projects, scripts, given, tables)
 }
 
 /// The settings of a folder.

@@ -65,6 +65,10 @@ pub record IsBefore (before : List Said) (so_far : SoFar) : Type 0 where
   pub tasks : so_far.tasks ≡ paths_of before
   pub count : so_far.count ≡ count_of before
 
+-- nothing is before the first script
+pub starts : (so_far : SoFar) → so_far ≡ record { tasks = []; properties = []; finals = []; count = 0 } → IsBefore [] so_far
+starts so_far is = record { tasks = ap (λ s. s.tasks) is; count = ap (λ s. s.count) is }
+
 pub begins : (before : List Said) (project : Path) (so_far : SoFar) → IsBefore before so_far → script_of before project ≡ [] → IsObserved before project (begun so_far)
 begins before project so_far is new = record {
   tasks = is.tasks;

@@ -1,5 +1,5 @@
 -- Which projects settings name.
-use Rattle.std.specs.Prelude.{ℕ, Bool, ◌||◌, ◌==◌, List, [], ◌∷◌, ◌++◌, map, drop, length, if◌then◌else◌}
+use Rattle.std.specs.Prelude.{◌≡◌, ℕ, Bool, ◌||◌, ◌==◌, List, [], ◌∷◌, ◌++◌, map, drop, length, if◌then◌else◌}
 use Rattle.std.specs.Prelude.{Option, Some, None, codes, bytes_eq, nat_eq, nat_le, nat_lt}
 use Rattle.std.specs.List.{flat_map, list_any, slice_split, starts_with}
 use Rattle.gb_core.specs.Path.{is_project_path, task_in, task_name}
@@ -107,3 +107,8 @@ texts_faults there (text ∷ texts) =
 -- the faults of settings, in the order of the text
 abbrev pub settings_faults : List (List (List ℕ)) → List Fault
 settings_faults settings = texts_faults (root_path ∷ []) (included settings)
+
+-- these are the projects of settings without a fault
+abbrev pub AreOfSettings : List Path → Type 0
+AreOfSettings projects =
+    (settings : List (List (List ℕ))) × (settings_faults settings ≡ []) × (projects ≡ project_paths settings)

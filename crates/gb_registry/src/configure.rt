@@ -13,7 +13,7 @@ ghost use Rattle.gb_registry.specs.Tables.{tables_of};
 use crate::checking::{Scripted, check_missing, check_scripts};
 use crate::names::Names;
 use crate::project::{Project, copy_folder};
-use crate::projects::{ProjectSet, projects_in};
+use crate::projects::ProjectSet;
 use crate::so_far::SoFar;
 use crate::tables::Tables;
 use crate::tasks::Tasks;

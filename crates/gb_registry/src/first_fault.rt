@@ -15,7 +15,7 @@ use crate::checking::{Scripted, check_statement, check_statement_missing};
 use crate::configure::with_projects;
 use crate::names::Names;
 use crate::project::Project;
-use crate::projects::{ProjectSet, projects_in};
+use crate::projects::ProjectSet;
 use crate::so_far::SoFar;
 use crate::tables::Tables;
 use gb_action::actions::Actions;
@@ -67,7 +67,7 @@ fn projects_of(alloc: Global, settings: &Settings) -> Result<ProjectSet, Fault>
     ensures projects { IfOk result (λ projects. projects ≡ project_paths settings.now) }
     ensures err { IfErr result (λ fault. fault ≡ Fault.OutOfMemory) }
 {
-    projects_in(alloc, settings.includes())
+    ProjectSet::of(alloc, settings)
 }
 
 /// The first fault of these scripts: of a statement after those before it, or else of one that

@@ -68,6 +68,17 @@ impl ProjectSet {
         }
     }
 
+    /// The projects of settings: the root, and then what the settings include, in their order, each
+    /// after its parents.
+    /// Refused, in the order of the text: a text that is no path (1), a project named `build` or
+    /// with a folder of more than 896 bytes (57), and the 257th project (58).
+    pub fn of(alloc: Global, settings: &Settings) -> Result<ProjectSet, Fault>
+        ensures projects { IfOk result (λ projects. projects ≡ project_paths settings.now) }
+        ensures faults { ReportsFirst (settings_faults settings.now) result }
+    {
+        projects_in(alloc, settings.includes())
+    }
+
     /// Whether there is such a project. Takes no memory.
     pub fn contains(&self, path: &str) -> bool
         ensures { result ≡ is_among self.now path.now }
@@ -195,10 +206,8 @@ fn name_of(path: &str) -> &str
     }
 }
 
-/// The projects, each with its folder (the root has none): the root, and then what the settings
-/// include, in their order, each after its parents.
-/// Refused, in the order of the text: a text that is no path (1), a project named `build` or with a
-/// folder of more than 896 bytes (57), and the 257th project (58).
+/// The projects of settings, each with its folder (the root has none). Refused as `ProjectSet::of`
+/// is.
 pub fn projects(
     alloc: Global,
     settings: &Settings,
@@ -206,12 +215,12 @@ pub fn projects(
     ensures projects { IfOk result (λ projects. projects.items ≡ projects_of settings.now) }
     ensures faults { ReportsFirst (settings_faults settings.now) result }
 {
-    let projects = projects_in(alloc, settings.includes())?;
+    let projects = ProjectSet::of(alloc, settings)?;
     Ok(projects.into_vec())
 }
 
 /// The projects that includes name.
-pub(crate) fn projects_in(alloc: Global, includes: &[Texts]) -> Result<ProjectSet, Fault>
+fn projects_in(alloc: Global, includes: &[Texts]) -> Result<ProjectSet, Fault>
     ensures projects { IfOk result (λ projects. projects ≡ project_paths includes.now) }
     ensures faults { ReportsFirst (settings_faults includes.now) result }
 {

@@ -7,12 +7,13 @@ ghost use Rattle.gb_core.specs.Tasks.{with_tasks};
 ghost use Rattle.gb_report.specs.declared.fault.Fault.TheVariants.{OutOfMemory};
 ghost use Rattle.gb_registry.specs.Faults.{ReportsFirst};
 ghost use Rattle.gb_registry.specs.Configure.{configure_faults};
-ghost use Rattle.gb_registry.specs.Projects.{absolute, project_paths, root_path, settings_faults};
+ghost use Rattle.gb_registry.specs.Projects.{AreOfSettings, absolute, project_paths, root_path};
+ghost use Rattle.gb_registry.specs.Projects.{settings_faults};
 ghost use Rattle.gb_registry.specs.References.{lookup_faults, name_faults, reference_faults};
 ghost use Rattle.gb_registry.specs.Said.{paths_of};
 ghost use Rattle.gb_registry.specs.Read.{IsRead};
 ghost use Rattle.gb_registry.specs.SoFar.{said_in, scripts_in};
-ghost use Rattle.gb_registry.specs.Source.{source_of};
+ghost use Rattle.gb_registry.specs.Source.{source_of, source_with};
 ghost use Rattle.gb_registry.specs.Tables.{tables_of};
 ghost use Rattle.gb_registry.specs.Select.{default_tasks, defaults_after, is_path, name_word_faults};
 ghost use Rattle.gb_registry.specs.Select.{selected, tasks_named, texts_or_none, word_faults};
@@ -22,7 +23,7 @@ use crate::configure::{checked, with_projects};
 use crate::configured::Configured;
 use crate::names::Names;
 use crate::paths::absolute;
-use crate::projects::{ProjectSet, projects_in};
+use crate::projects::ProjectSet;
 use crate::tables::Tables;
 use crate::tasks::Tasks;
 use gb_action::actions::Actions;
@@ -95,8 +96,35 @@ impl Registry {
             (configure_faults (tables_of T.meanings A.meanings tables.now)
             (source_of settings.now scripts.items given.items)) result }
     {
-        match read_all(alloc, settings, scripts, tables) {
-            Ok((projects, scripts, tasks)) => {
+        match ProjectSet::of(alloc, settings) {
+            Ok(projects) => Registry::configure_projects(alloc, projects, scripts, given, tables),
+            Err(fault) => {
+                drop(scripts);
+                drop(given);
+                Err(fault)
+            }
+        }
+    }
+
+    /// The same with projects that were made of the settings, one script for each.
+    pub fn configure_projects<'a, A: Actions, T: Transforms>(
+        alloc: Global,
+        projects: ProjectSet,
+        scripts: Vec<Script>,
+        given: Vec<(Name, Text)>,
+        tables: &'a Tables<A, T>,
+    ) -> Result<Configured<'a, A, T>, Fault>
+        requires of_settings { AreOfSettings projects }
+        requires one_each { length scripts.items ≡ length projects }
+        ensures tables { IfOk result (λ configured. configured.tables.now ≡ tables.now) }
+        ensures registry { IfOk result (λ configured.
+            configured.registry ≡ source_with projects scripts.items given.items) }
+        ensures faults { ReportsFirst
+            (configure_faults (tables_of T.meanings A.meanings tables.now)
+            (source_with projects scripts.items given.items)) result }
+    {
+        match read_all(alloc, &projects, scripts, tables) {
+            Ok((scripts, tasks)) => {
                 let registry = Registry {
                     projects,
                     scripts,
@@ -106,6 +134,7 @@ impl Registry {
                 Ok(Configured { tables, registry })
             }
             Err(fault) => {
+                drop(projects);
                 drop(given);
                 Err(fault)
             }
@@ -210,29 +239,25 @@ impl Registry {
     }
 }
 
-/// The projects of settings, the scripts with their projects, and the tasks that these register.
+/// The scripts with their projects, and the tasks that these register.
 fn read_all<A: Actions, T: Transforms>(
     alloc: Global,
-    settings: &Settings,
+    projects: &ProjectSet,
     scripts: Vec<Script>,
     tables: &Tables<A, T>,
-) -> Result<(ProjectSet, Vec<Scripted>, Tasks), Fault>
-    requires good { settings_faults settings.now ≡ [] }
-    requires one_each { length scripts.items ≡ length (project_paths settings.now) }
-    ensures projects { IfOk result (λ read. read.0 ≡ project_paths settings.now) }
-    ensures scripts { IfOk result (λ read.
-        scripts_in read.1.items ≡ zip (project_paths settings.now) scripts.items) }
-    ensures tasks { IfOk result (λ read. read.2 ≡ paths_of (said_in read.1.items)) }
+) -> Result<(Vec<Scripted>, Tasks), Fault>
+    requires of_settings { AreOfSettings projects.now }
+    requires one_each { length scripts.items ≡ length projects.now }
+    ensures scripts { IfOk result (λ read. scripts_in read.0.items ≡ zip projects.now scripts.items) }
+    ensures tasks { IfOk result (λ read. read.1 ≡ paths_of (said_in read.0.items)) }
     ensures faults { ReportsFirst
         (configure_faults (tables_of T.meanings A.meanings tables.now)
-        (source_of settings.now scripts.items [])) result }
+        (source_with projects.now scripts.items [])) result }
 {
-    let projects = projects_in(alloc, settings.includes())?;
-    let scripts = with_projects(alloc, &projects, scripts)?;
-    match checked(alloc, tables, &projects, scripts.as_slice()) {
-        Ok(tasks) => Ok((projects, scripts, tasks)),
+    let scripts = with_projects(alloc, projects, scripts)?;
+    match checked(alloc, tables, projects, scripts.as_slice()) {
+        Ok(tasks) => Ok((scripts, tasks)),
         Err(fault) => {
-            drop(projects);
             drop(scripts);
             Err(fault)
         }

@@ -1,9 +1,12 @@
-use Rattle.std.proofs.Common.{Ok, Err, ap, ◌∙◌, inl, inr}
+use Rattle.std.proofs.Common.{◌≡◌, List, Ok, Err, ap, subst, ◌∙◌, inl, inr}
+use Rattle.std.proofs.lemmas.List.{length-map}
 use Rattle.std.proofs.lemmas.Result.{err_from_is_err_and}
+use Rattle.std.specs.Prelude.{IfOk, length}
 use Rattle.std.specs.List.{list_all}
 use Rattle.gb_core.specs.Place.{is_place}
-use Rattle.gb_registry.specs.Projects.{projects_of, settings_faults}
-use Rattle.gb_registry.specs.Source.{source_of}
+use Rattle.gb_registry.specs.Faults.{ReportsFirst}
+use Rattle.gb_registry.specs.Projects.{Path, folder_of, projects_of, settings_faults, with_folders}
+use Rattle.gb_registry.specs.Source.{source_with}
 use Rattle.gb_registry.specs.Configure.{configure_faults}
 use Rattle.gb_registry.specs.Tables.{tables_of}
 use Rattle.gb_store.proofs.Machine.{handed_on, machine_before}
@@ -29,7 +32,7 @@ returns-in_err-projects-clause-blamed g c = λ place device.
 pub read_scripts-requires : goal.read_scripts-requires
 read_scripts-requires g c = record {
   places =
-      ap (λ projects. list_all is_place (script_places projects)) (c.as_slice.ensures.value ∙ c.in_ok-projects.ensures.projects)
+      ap (λ projects. list_all is_place (script_places projects)) (c.as_slice.ensures ∙ ap with_folders c.in_ok-projects.ensures.projects)
       ∙ places_good c.in_ok-settings.settings c.in_ok-projects.ensures.faults;
 }
 
@@ -45,27 +48,40 @@ returns-in_err-scripts-clause-said g c = λ faithful.
       | inr bad ↦ inr (scripts_refused (tables_of g.T.Transforms.meanings g.A.Actions.meanings c.args.tables.now) files c.args.given.items settings
           (c.in_ok-settings.ensures.said faithful) c.in_ok-projects.ensures.faults fault (
           scripts_here (F.contents c.read_settings_of.new.folder) (F.contents c.args.folder.now) c.as_slice.result.now (projects_of settings) (Err fault)
-          (c.read_settings_of.ensures.same faithful) (c.as_slice.ensures.value ∙ c.in_ok-projects.ensures.projects) bad))
+          (c.read_settings_of.ensures.same faithful) (c.as_slice.ensures ∙ ap with_folders c.in_ok-projects.ensures.projects) bad))
     ])
+
+pub configure_projects-requires : goal.configure_projects-requires
+configure_projects-requires g c = record {
+  of_settings = (c.in_ok-settings.settings, c.in_ok-projects.ensures.faults, c.in_ok-projects.ensures.projects);
+  one_each =
+      c.in_ok-scripts.ensures.one_each ∙ ap length c.as_slice.ensures
+      ∙ length-map c.in_ok-projects.projects (λ (path : Path). (path, folder_of path));
+}
 
 pub returns-clause-blame : goal.returns-clause-blame
 returns-clause-blame g c = λ place device.
     let tables = tables_of g.T.Transforms.meanings g.A.Actions.meanings c.args.tables.now in
-    absurd (none_blamed (configure_faults tables (source_of c.in_ok-settings.settings c.in_ok-scripts.scripts.items c.args.given.items)) c.configure.result place
-    (configure_blameless tables (source_of c.in_ok-settings.settings c.in_ok-scripts.scripts.items c.args.given.items)) c.configure.ensures.faults device)
+    let source = source_with c.in_ok-projects.projects c.in_ok-scripts.scripts.items c.args.given.items in
+    absurd (none_blamed (configure_faults tables source) c.configure_projects.result place (configure_blameless tables source) c.configure_projects.ensures.faults device)
 
 pub returns-clause-blamed : goal.returns-clause-blamed
 returns-clause-blamed g c = λ place device.
     let tables = tables_of g.T.Transforms.meanings g.A.Actions.meanings c.args.tables.now in
-    absurd (none_blamed (configure_faults tables (source_of c.in_ok-settings.settings c.in_ok-scripts.scripts.items c.args.given.items)) c.configure.result place
-    (configure_blameless tables (source_of c.in_ok-settings.settings c.in_ok-scripts.scripts.items c.args.given.items)) c.configure.ensures.faults device)
+    let source = source_with c.in_ok-projects.projects c.in_ok-scripts.scripts.items c.args.given.items in
+    absurd (none_blamed (configure_faults tables source) c.configure_projects.result place (configure_blameless tables source) c.configure_projects.ensures.faults device)
 
 pub returns-clause-said : goal.returns-clause-said
 returns-clause-said g c = λ faithful.
     let F = g.F.Folder in
+    let tables = tables_of g.T.Transforms.meanings g.A.Actions.meanings c.args.tables.now in
     let files = (F.contents c.args.folder.now).files in
-    put_together (tables_of g.T.Transforms.meanings g.A.Actions.meanings c.args.tables.now) files c.args.given.items c.in_ok-settings.settings
-    (c.in_ok-settings.ensures.said faithful) c.in_ok-projects.ensures.faults c.in_ok-scripts.scripts.items _ _ c.configure.result (λ configured. configured.registry)
-    (scripts_here (F.contents c.read_settings_of.new.folder) (F.contents c.args.folder.now) c.as_slice.result.now (projects_of c.in_ok-settings.settings) (Ok c.in_ok-scripts.scripts.items)
-    (c.read_settings_of.ensures.same faithful) (c.as_slice.ensures.value ∙ c.in_ok-projects.ensures.projects) (c.in_ok-scripts.ensures.said faithful))
-    c.configure.ensures.registry c.configure.ensures.faults
+    let settings = c.in_ok-settings.settings in
+    let texts = c.in_ok-scripts.scripts.items in
+    let given = c.args.given.items in
+    let projects = c.in_ok-projects.ensures.projects in
+    put_together tables files given settings (c.in_ok-settings.ensures.said faithful) c.in_ok-projects.ensures.faults texts _ _ c.configure_projects.result (λ configured. configured.registry)
+    (scripts_here (F.contents c.read_settings_of.new.folder) (F.contents c.args.folder.now) c.as_slice.result.now (projects_of settings) (Ok texts)
+    (c.read_settings_of.ensures.same faithful) (c.as_slice.ensures ∙ ap with_folders projects) (c.in_ok-scripts.ensures.said faithful))
+    (subst (λ (paths : List Path). IfOk c.configure_projects.result (λ configured. configured.registry ≡ source_with paths texts given)) projects c.configure_projects.ensures.registry)
+    (subst (λ (paths : List Path). ReportsFirst (configure_faults tables (source_with paths texts given)) c.configure_projects.result) projects c.configure_projects.ensures.faults)
