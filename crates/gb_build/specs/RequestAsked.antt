@@ -17,7 +17,8 @@ use Rattle.gb_report.specs.declared.report.Report.{Report}
 use Rattle.gb_report.specs.declared.report.TaskReport.{TaskReport}
 
 -- First no change is requested, and calls return these records of the plan's tasks, except in a dry run. From
--- there on the tasks are executed, each by its record and its report.
+-- there on the tasks are executed, each by its record and its report. What is up to date is found so on what
+-- calls return from there on.
 pub record PlanRequests {F S : Type 0} (failures : F → ℕ) (may_leave : F → Tearing)
     (allowed : F → Call → F → Type 0) (meanings : Meanings S) (rows : Rows S) (options : Options)
     (plan : Plan) (reports : List TaskReport)
@@ -28,7 +29,7 @@ pub record PlanRequests {F S : Type 0} (failures : F → ℕ) (may_leave : F →
   pub answered : options.dry_run ≡ false
       → AllZip (WasAnswered failures may_leave allowed old begun) (order plan) records
   pub executions : ExecutionsRequest failures may_leave allowed meanings rows options plan records reports
-      begun new
+      begun begun new
 
 -- a refused build requests no change; another makes the calls of its plan
 abbrev pub BuildRequests : {F S : Type 0} → (F → ℕ) → (F → Tearing) → (F → Call → F → Type 0) → Meanings S

@@ -8,18 +8,18 @@ use Rattle.gb_plan.specs.Ready.{Rows}
 use Rattle.gb_plan.specs.declared.plan.Planned.{Planned}
 use Rattle.gb_report.specs.declared.report.Options.{Options}
 use Rattle.gb_report.specs.declared.report.TaskReport.{TaskReport}
-use Rattle.gb_task.specs.ByOutcome.{ExecutionRequests}
+use Rattle.gb_task.specs.ByOutcome.{ExecutionRequests, since_after}
 
 module _ {F S : Type 0} (failures : F → ℕ) (may_leave : F → Tearing) (allowed : F → Call → F → Type 0)
     (meanings : Meanings S) (rows : Rows S) (options : Options) where
   -- The executions of the tasks of a plan, one after another, each from the state in which the one before it
-  -- ended: for each task the record that was read of it, and its report.
-  abbrev pub ExecutionsRequest : List Planned → List (Option Record) → List TaskReport → F → F → Type 0
-  ExecutionsRequest [] [] [] old new = new ≡ old
-  ExecutionsRequest (planned ∷ plan) (last ∷ records) (report ∷ reports) old new =
+  -- ended: for each task the record that was read of it, and its report. The first of the three states is
+  -- that of the last change: what is up to date was found so on what calls returned since then.
+  abbrev pub ExecutionsRequest : List Planned → List (Option Record) → List TaskReport → F → F → F → Type 0
+  ExecutionsRequest [] [] [] since old new = new ≡ old
+  ExecutionsRequest (planned ∷ plan) (last ∷ records) (report ∷ reports) since old new =
       (mid : F)
       × ExecutionRequests failures may_leave allowed meanings rows options planned.task last report.outcome
-      report.lines
-      old mid
-      × ExecutionsRequest plan records reports mid new
-  ExecutionsRequest plan records reports old new = ⊥
+      report.lines since old mid
+      × ExecutionsRequest plan records reports (since_after report.outcome since mid) mid new
+  ExecutionsRequest plan records reports since old new = ⊥

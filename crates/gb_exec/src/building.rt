@@ -66,10 +66,11 @@ pub fn execute<A: Actions, F: Folder, L: TaskListener, P: Printer>(
     ensures count { F.failures folder.old ≤ F.failures folder.new }
     ensures tearing { SameTearing (F.may_leave folder.old) (F.may_leave folder.new) }
     // Over any folder: task after task, each from the state in which the one before it ended, makes
-    // the calls that its outcome permits.
+    // the calls that its outcome permits. What is up to date was found so on what calls returned
+    // since the last change of the build, or since the build began.
     ensures requests { IfOk result (λ report. ExecutionsRequest F.failures F.may_leave F.allowed A.meanings
         table.now
-        options plan.now records.now report.tasks folder.old folder.new) }
+        options plan.now records.now report.tasks folder.old folder.old folder.new) }
     // Faults are attributed to the device no more often than it failed.
     ensures device { IfOk result (λ report.
         HasFailed (times_blamed report.tasks) (F.failures folder.old) (F.failures folder.new)) }

@@ -35,6 +35,7 @@ use gb_folder::folder::Folder;
 use gb_printer::printer::Printer;
 use gb_report::report::TaskReport;
 use gb_task::case_laws::what_is_read_is_known;
+use gb_tree::seen::Seen;
 use std::alloc::Global;
 
 /// Appends a report. There is room for it.
@@ -79,7 +80,8 @@ pub(crate) fn execute_tasks<A: Actions, F: Folder, L: TaskListener, P: Printer>(
     ensures printed { Prints P.contents P.whole (flat_map task_text reports.new.items)
         printer.old printer.new }
     ensures requests { ExecutionsRequest F.failures F.may_leave F.allowed A.meanings build.now.table.now
-        build.now.options build.now.tasks.now build.now.records.now reports.new.items folder.old folder.new }
+        build.now.options build.now.tasks.now build.now.records.now reports.new.items folder.old folder.old
+        folder.new }
     ensures device { HasFailed (times_blamed reports.new.items)
         (F.failures folder.old) (F.failures folder.new) }
     ensures changes { IsTrue F.faithful
@@ -103,11 +105,14 @@ pub(crate) fn execute_tasks<A: Actions, F: Folder, L: TaskListener, P: Printer>(
     reported_more();
     let mut all_heard = true;
     let mut index = 0;
+    let mut seen = Seen::new(alloc);
     for path in paths {
         // For the proof alone: `as_str` states that this is a task's path, which the contract about
         // records needs.
         let _path = path.as_str();
-        let taken = execute_one::<A, F, L>(alloc, folder, build, starts, index, path, listeners);
+        let taken = execute_one::<A, F, L>(
+            alloc, folder, build, starts, index, path, listeners, &mut seen,
+        );
         all_heard = all_heard && taken.all_heard;
         printer.print_task(alloc, &taken.report);
         starts.end(index, &taken.report.outcome);

@@ -1,6 +1,7 @@
 //! The execution of one task of a plan.
 ghost use Rattle.std.specs.Prelude.{◌≡◌, ◌<◌, [], ◌∷◌, ℕ, List, None, Some, false, map, length};
 ghost use Rattle.std.specs.Prelude.{slice_get, slice_index_or, IsTrue};
+ghost use Rattle.gb_folder.specs.Calls.{Requests, no_change};
 ghost use Rattle.gb_folder.specs.Files.{HasRisen};
 ghost use Rattle.gb_meaning.specs.Kinds.{Kinds};
 ghost use Rattle.gb_meaning.specs.Label.{Moment};
@@ -12,8 +13,9 @@ ghost use Rattle.gb_records.specs.Assumed.{IsAssumed};
 ghost use Rattle.gb_records.specs.Holding.{HoldsRecords};
 ghost use Rattle.gb_report.specs.declared.report.Outcome.TheVariants.{Failed, NotRun};
 ghost use Rattle.gb_store.specs.Changes.{ChangesOnly};
+ghost use Rattle.gb_tree.specs.Seen.{AreSeen, AreSeenIn};
 ghost use Rattle.gb_task.specs.Case.{IsKnown};
-ghost use Rattle.gb_task.specs.ByOutcome.{ExecutionRequests};
+ghost use Rattle.gb_task.specs.ByOutcome.{ExecutionRequests, since_after};
 ghost use Rattle.gb_task.specs.Executing.{Registering, is_of_execution, setting_with};
 ghost use Rattle.gb_exec.specs.Notifying.{AllReported};
 ghost use Rattle.gb_exec.specs.Plans.{AreEndings, AreOfPlan};
@@ -36,6 +38,7 @@ use gb_plan::plan::Planned;
 use gb_report::fault::Fault;
 use gb_report::report::{Options, Outcome, TaskReport};
 use gb_task::execution::execute_task;
+use gb_tree::seen::Seen;
 use std::alloc::Global;
 
 /// The input of a build: its tasks in their order, what is stored of their actions, the record that
@@ -68,7 +71,8 @@ fn not_run_report(alloc: Global, planned: &Planned, path: TaskPath) -> TaskRepor
     }
 }
 
-/// Executes the task of a number, if it starts. The path is the task's own.
+/// Executes the task of a number, if it starts. The path is the task's own. `seen` has the digests
+/// of files that were read since the last change.
 pub(crate) fn execute_one<A: Actions, F: Folder, L: TaskListener>(
     alloc: Global,
     folder: &mut F,
@@ -77,6 +81,7 @@ pub(crate) fn execute_one<A: Actions, F: Folder, L: TaskListener>(
     index: usize,
     path: TaskPath,
     listeners: &mut Vec<L>,
+    seen: &mut Seen,
 ) -> OneEnded
     requires can { CanBuild A.meanings build.now.table.now build.now.tasks.now }
     requires of_plan { AreOfPlan build.now.tasks.now starts.old }
@@ -89,11 +94,18 @@ pub(crate) fn execute_one<A: Actions, F: Folder, L: TaskListener>(
         → IsOf planned result.report }
     ensures heard { AllReported (heard_of false (result.report ∷ [])) result.all_heard
         (map L.ear listeners.old.items) (map L.ear listeners.new.items) }
-    // Over any folder: it makes the calls that its outcome permits.
+    // Over any folder: it makes the calls that its outcome permits; and what is remembered was read
+    // since the last change.
     ensures requests { (planned : Planned) → slice_get build.now.tasks.now index ≡ Some planned
+        → (since : _) → Requests F.failures F.may_leave F.allowed no_change since folder.old
+        → AreSeen F.failures F.may_leave F.allowed since folder.old seen.old
         → ExecutionRequests F.failures F.may_leave F.allowed A.meanings build.now.table.now build.now.options
         planned.task (slice_index_or build.now.records.now index None) result.report.outcome
-        result.report.lines folder.old folder.new }
+        result.report.lines since folder.old folder.new }
+    ensures seen { (since : _) → Requests F.failures F.may_leave F.allowed no_change since folder.old
+        → AreSeen F.failures F.may_leave F.allowed since folder.old seen.old
+        → AreSeen F.failures F.may_leave F.allowed (since_after result.report.outcome since folder.new)
+        folder.new seen.new }
     ensures blame { (place : List ℕ) → result.report.outcome ≡ Failed (Fault.Device place)
         → HasRisen (F.failures folder.old) (F.failures folder.new) }
     ensures changes { IsTrue F.faithful → (planned : Planned)
@@ -105,10 +117,13 @@ pub(crate) fn execute_one<A: Actions, F: Folder, L: TaskListener>(
         → slice_get build.now.tasks.now index ≡ Some planned
         → AreEndings build.now.tasks.now moment.outcomes starts.old.endings
         → IsOutline build.now.options build.now.tasks.now moment planned result.report }
+    ensures seen_in { IsTrue F.faithful → AreSeenIn (F.contents folder.old).files seen.old
+        → AreSeenIn (F.contents folder.new).files seen.new }
     // If the record that was read is a true record of the task (`IsKnown`), this is its execution
     // as defined.
-    ensures execution { IsTrue F.faithful → (kinds : Kinds) (registry_of : Registering) (moment : Moment)
-        (planned : Planned) → slice_get build.now.tasks.now index ≡ Some planned
+    ensures execution { IsTrue F.faithful → AreSeenIn (F.contents folder.old).files seen.old
+        → (kinds : Kinds) (registry_of : Registering) (moment : Moment) (planned : Planned)
+        → slice_get build.now.tasks.now index ≡ Some planned
         → IsAssumed A.meanings build.now.table.now kinds (F.may_leave folder.old)
         → moment.world.folder ≡ outside (F.contents folder.old)
         → moment.failures ≡ F.failures folder.old
@@ -141,6 +156,7 @@ pub(crate) fn execute_one<A: Actions, F: Folder, L: TaskListener>(
         build.options,
         last,
         need,
+        seen,
     );
     let ended = notify(alloc, listeners, &planned.task.path, Some(&report.outcome));
     OneEnded {

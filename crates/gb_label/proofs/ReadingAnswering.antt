@@ -134,3 +134,13 @@ module _ {F : Type 0} {failures : F → ℕ} {may_leave : F → Tearing} {allowe
   files_longer {first = first} {old = old} {new = new} {end = end} before following task observed were =
       all_zip_more (IsOutputRead failures may_leave allowed old new) (IsOutputRead failures may_leave allowed first end) (files_read_longer before following)
       task.outputs observed were
+
+-- ---- What may be remembered of them
+
+-- the files of each output were read
+pub outputs_were_read : {F : Type 0} (failures : F → ℕ) (may_leave : F → Tearing) (allowed : F → Call → F → Type 0) (old new : F) (outputs : List Output) (readings : List Read)
+    → AllZip (IsOutputAnswered failures may_leave allowed old new) outputs readings → AllByRecursion (λ reading. WereObserved failures may_leave allowed old new reading.1) readings
+outputs_were_read failures may_leave allowed old new [] [] all = tt
+outputs_were_read failures may_leave allowed old new [] (reading ∷ readings) all = absurd all
+outputs_were_read failures may_leave allowed old new (output ∷ outputs) [] all = absurd all
+outputs_were_read failures may_leave allowed old new (output ∷ outputs) (reading ∷ readings) all = (all.0.1, outputs_were_read failures may_leave allowed old new outputs readings all.1)

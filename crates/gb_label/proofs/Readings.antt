@@ -143,3 +143,13 @@ outputs_made files (output ∷ outputs) (reading ∷ readings) observed =
 pub prints_recorded : (files : Files) (outputs : List Output) → prints_observed (map (observed_of files) outputs) ≡ prints_in (map (recorded_of files) outputs)
 prints_recorded files [] = refl
 prints_recorded files (output ∷ outputs) = ap (λ (prints : List Prints). (recorded_of files output).prints ∷ prints) (prints_recorded files outputs)
+
+-- ---- What may be remembered of them
+
+-- the files of each output are as they were read
+pub outputs_as_read : (files : Files) (outputs : List Output) (readings : List Read) → AllZip (IsOutputObserved files) outputs readings
+    → AllByRecursion (λ reading. AllByRecursion (IsObservedIn files) reading.1) readings
+outputs_as_read files [] [] all = tt
+outputs_as_read files [] (reading ∷ readings) all = absurd all
+outputs_as_read files (output ∷ outputs) [] all = absurd all
+outputs_as_read files (output ∷ outputs) (reading ∷ readings) all = (all.0.each, outputs_as_read files outputs readings all.1)

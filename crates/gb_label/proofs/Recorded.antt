@@ -44,7 +44,7 @@ read_for task (decisions.Incremental changes) outputs are = are
 read_for task decisions.Full outputs are = tt
 
 pub observed_for : (task : Task) (files : Files) (decision : Decision) (outputs : List Read) → AreOutputsObserved task files outputs → AreOutputsObservedFor task files decision outputs
-observed_for task files decisions.UpToDate outputs are = tt
+observed_for task files decisions.UpToDate outputs are = are
 observed_for task files (decisions.Incremental changes) outputs are = are
 observed_for task files decisions.Full outputs are = tt
 

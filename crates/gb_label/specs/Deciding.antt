@@ -93,9 +93,9 @@ AreOutputsFor task decisions.UpToDate outputs = ⊤
 AreOutputsFor task (decisions.Incremental changes) outputs = AreOutputs task outputs
 AreOutputsFor task decisions.Full outputs = ⊤
 
--- and they are so in these files
+-- What was compared with a record is so in these files.
 abbrev pub AreOutputsObservedFor : Task → Files → Decision → List Read → Type 0
-AreOutputsObservedFor task files decisions.UpToDate outputs = ⊤
+AreOutputsObservedFor task files decisions.UpToDate outputs = AreOutputsObserved task files outputs
 AreOutputsObservedFor task files (decisions.Incremental changes) outputs = AreOutputsObserved task files
     outputs
 AreOutputsObservedFor task files decisions.Full outputs = ⊤

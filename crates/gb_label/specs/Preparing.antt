@@ -61,9 +61,9 @@ IsRead task prepared.HasNoActions = ⊤
 IsRead task prepared.HasNoSource = ⊤
 IsRead task (prepared.Decided decision basis observed) = IsReadFor task observed decision
 
--- And it is so in these files.
+-- And it is so in these files, and so are the outputs of what is up to date.
 abbrev pub IsObservedFor : Task → Files → Observed → Decision → Type 0
-IsObservedFor task files observed decisions.UpToDate = ⊤
+IsObservedFor task files observed decisions.UpToDate = AreOutputsObserved task files observed.outputs.items
 IsObservedFor task files observed (decisions.Incremental changes) =
     AreInputsObserved task files observed.inputs.items × AreOutputsObserved task files observed.outputs.items
 IsObservedFor task files observed decisions.Full = AreInputsObserved task files observed.inputs.items

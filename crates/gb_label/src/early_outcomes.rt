@@ -5,6 +5,7 @@ ghost use Rattle.gb_folder.specs.Calls.{Requests, no_change};
 ghost use Rattle.gb_folder.specs.Files.{is_empty};
 ghost use Rattle.gb_plan.specs.Task.{is_output_of};
 ghost use Rattle.gb_store.specs.Faults.{Blames, BlamesOnly};
+ghost use Rattle.gb_tree.specs.Seen.{AreSeen, AreSeenIn};
 ghost use Rattle.gb_label.specs.Answered.{IsEarlyCaseRead};
 ghost use Rattle.gb_label.specs.Looking.{IsCase, IsHindered, MayBe, gives_no_source, lacks_source};
 ghost use Rattle.gb_label.specs.Reading.{is_input_of};
@@ -15,6 +16,7 @@ use gb_folder::folder::Folder;
 use gb_plan::task::{FileProperty, TaskDeclaration};
 use gb_report::fault::Fault;
 use gb_tree::kept::Reading;
+use gb_tree::seen::Seen;
 use std::alloc::Global;
 
 /// What a task is found to be before its record is considered.
@@ -70,6 +72,7 @@ fn look_at_files<F: Folder>(
     alloc: Global,
     folder: &mut F,
     task: &TaskDeclaration,
+    seen: &Seen,
     mut room: u64,
 ) -> Result<EarlyCase, Fault>
     requires runs { task.now.runs ≡ true }
@@ -78,14 +81,18 @@ fn look_at_files<F: Folder>(
     ensures blame { Blames result (F.failures folder.old) (F.failures folder.new) }
     ensures blamed { BlamesOnly (λ place. is_input_of task.now place || is_output_of task.now place) result }
     ensures may_be { IfOk result (MayBe task.now) }
-    ensures answered { IfOk result
-        (IsEarlyCaseRead F.failures F.may_leave F.allowed folder.old folder.new task.now) }
+    ensures answered { (first : _) → Requests F.failures F.may_leave F.allowed no_change first folder.old
+        → AreSeen F.failures F.may_leave F.allowed first folder.old seen.now
+        → IfOk result
+        (IsEarlyCaseRead F.failures F.may_leave F.allowed first folder.new task.now) }
     ensures same { IsTrue F.faithful → F.contents folder.new ≡ F.contents folder.old }
-    ensures case { IsTrue F.faithful → IfOk result (IsCase task.now (F.contents folder.old)) }
-    ensures err { IsTrue F.faithful → IfErr result
+    ensures case { IsTrue F.faithful → AreSeenIn (F.contents folder.old).files seen.now
+        → IfOk result (IsCase task.now (F.contents folder.old)) }
+    ensures err { IsTrue F.faithful → AreSeenIn (F.contents folder.old).files seen.now
+        → IfErr result
         (IsHindered task.now (F.contents folder.old) (F.failures folder.old) (F.failures folder.new)) }
 {
-    let inputs = read_inputs(alloc, folder, task, &mut room)?;
+    let inputs = read_inputs(alloc, folder, task, seen, &mut room)?;
     if is_without_source(task.files.as_slice(), inputs.as_slice()) {
         check_outputs(alloc, folder, task)?;
         return Ok(EarlyCase::HasNoSource);
@@ -93,14 +100,15 @@ fn look_at_files<F: Folder>(
     Ok(EarlyCase::Open(inputs))
 }
 
-/// What a task is found to be before its record is considered. The bytes of its inputs are kept
-/// while there is `room` for them. Nothing is changed, even if it fails. The error is the first
-/// fault in reading the inputs or, if there is no source, in listing the outputs; or that memory
-/// ran out or the device failed.
+/// What a task is found to be before its record is considered. Inputs that were seen are not read;
+/// the bytes of the others are kept while there is `room` for them. Nothing is changed, even if it
+/// fails. The error is the first fault in reading the inputs or, if there is no source, in listing
+/// the outputs; or that memory ran out or the device failed.
 pub fn early_case_of<F: Folder>(
     alloc: Global,
     folder: &mut F,
     task: &TaskDeclaration,
+    seen: &Seen,
     room: u64,
 ) -> Result<EarlyCase, Fault>
     ensures requests { Requests F.failures F.may_leave F.allowed no_change folder.old folder.new }
@@ -109,12 +117,16 @@ pub fn early_case_of<F: Folder>(
     // Over any folder: which of them it may be, and that nothing is read if it is skipped or has no
     // actions.
     ensures may_be { IfOk result (MayBe task.now) }
-    ensures answered { IfOk result
-        (IsEarlyCaseRead F.failures F.may_leave F.allowed folder.old folder.new task.now) }
+    ensures answered { (first : _) → Requests F.failures F.may_leave F.allowed no_change first folder.old
+        → AreSeen F.failures F.may_leave F.allowed first folder.old seen.now
+        → IfOk result
+        (IsEarlyCaseRead F.failures F.may_leave F.allowed first folder.new task.now) }
     ensures reads { OnErr result ((task.now.runs ≡ true) × (is_empty task.now.actions ≡ false)) }
     ensures same { IsTrue F.faithful → F.contents folder.new ≡ F.contents folder.old }
-    ensures case { IsTrue F.faithful → IfOk result (IsCase task.now (F.contents folder.old)) }
-    ensures err { IsTrue F.faithful → IfErr result
+    ensures case { IsTrue F.faithful → AreSeenIn (F.contents folder.old).files seen.now
+        → IfOk result (IsCase task.now (F.contents folder.old)) }
+    ensures err { IsTrue F.faithful → AreSeenIn (F.contents folder.old).files seen.now
+        → IfErr result
         (IsHindered task.now (F.contents folder.old) (F.failures folder.old) (F.failures folder.new)) }
 {
     if !task.runs {
@@ -123,5 +135,5 @@ pub fn early_case_of<F: Folder>(
     if task.actions.is_empty() {
         return Ok(EarlyCase::HasNoActions);
     }
-    look_at_files(alloc, folder, task, room)
+    look_at_files(alloc, folder, task, seen, room)
 }

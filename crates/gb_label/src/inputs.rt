@@ -8,6 +8,7 @@ ghost use Rattle.gb_store.specs.Faults.{Blames, BlamesOnly, IsOfMachine};
 ghost use Rattle.gb_tree.specs.Prints.{digests_of};
 ghost use Rattle.gb_tree.specs.Property.{is_under_any};
 ghost use Rattle.gb_tree.specs.Reading.{digests_observed};
+ghost use Rattle.gb_tree.specs.Seen.{AreSeen, AreSeenIn};
 ghost use Rattle.gb_label.specs.ReadingAnswered.{AreInputsAnswered, AreInputsRead, IsInputAnswered};
 ghost use Rattle.gb_label.specs.Reading.{AreInputs, AreInputsObserved, CannotRead, IsPropertyObserved};
 ghost use Rattle.gb_label.specs.Reading.{digests_in, is_input_of, prints_read};
@@ -21,6 +22,7 @@ use gb_report::fault::Fault;
 use gb_tree::kept::Reading;
 use gb_tree::prints::Prints;
 use gb_tree::property::reading_of;
+use gb_tree::seen::Seen;
 use std::alloc::Global;
 
 /// The files of one file property.
@@ -28,6 +30,7 @@ fn read_one<F: Folder>(
     alloc: Global,
     folder: &mut F,
     property: &FileProperty,
+    seen: &Seen,
     room: &mut u64,
 ) -> Result<Reading, Fault>
     ensures requests { Requests F.failures F.may_leave F.allowed no_change folder.old folder.new }
@@ -38,14 +41,19 @@ fn read_one<F: Folder>(
     ensures within { IfOk result
         (λ reading. AllByRecursion (λ observed. IsTrue (is_under_any property.now.roots observed.place))
         reading.1) }
-    ensures answered { IfOk result
-        (IsInputAnswered F.failures F.may_leave F.allowed folder.old folder.new property.now) }
-    ensures digests { IsTrue F.faithful → IfOk result (λ reading. digests_observed reading.1
+    ensures answered { (first : _) → Requests F.failures F.may_leave F.allowed no_change first folder.old
+        → AreSeen F.failures F.may_leave F.allowed first folder.old seen.now
+        → IfOk result
+        (IsInputAnswered F.failures F.may_leave F.allowed first folder.new property.now) }
+    ensures digests { IsTrue F.faithful → AreSeenIn (F.contents folder.old).files seen.now
+        → IfOk result (λ reading. digests_observed reading.1
         ≡ digests_of (tree_of property.now (F.contents folder.old).files)) }
-    ensures observed { IsTrue F.faithful
+    ensures observed { IsTrue F.faithful → AreSeenIn (F.contents folder.old).files seen.now
         → IfOk result (IsPropertyObserved (F.contents folder.old).files property.now) }
-    ensures fit { IsTrue F.faithful → OnOk result (tree_faults property.now (F.contents folder.old) ≡ []) }
-    ensures err { IsTrue F.faithful → IfErr result
+    ensures fit { IsTrue F.faithful → AreSeenIn (F.contents folder.old).files seen.now
+        → OnOk result (tree_faults property.now (F.contents folder.old) ≡ []) }
+    ensures err { IsTrue F.faithful → AreSeenIn (F.contents folder.old).files seen.now
+        → IfErr result
         (CannotRead (F.failures folder.old) (F.failures folder.new) (tree_faults property.now
         (F.contents folder.old))) }
 {
@@ -57,6 +65,7 @@ fn read_one<F: Folder>(
         property.roots.as_slice(),
         property.include.as_slice(),
         property.exclude.as_slice(),
+        seen,
         room,
     ) {
         Ok(reading) => Ok(reading),
@@ -64,35 +73,43 @@ fn read_one<F: Folder>(
     }
 }
 
-/// The files of all file properties of a task, in the order of their names. Their bytes are kept
-/// while there is `room` for them, and reduce it. Nothing is changed, even if it fails. The error
-/// is the first fault in reading them.
+/// The files of all file properties of a task, in the order of their names. Those that were seen
+/// are not read. The bytes of the others are kept while there is `room` for them, and reduce it.
+/// Nothing is changed, even if it fails. The error is the first fault in reading them.
 pub(crate) fn read_inputs<F: Folder>(
     alloc: Global,
     folder: &mut F,
     task: &TaskDeclaration,
+    seen: &Seen,
     room: &mut u64,
 ) -> Result<Vec<Reading>, Fault>
     ensures requests { Requests F.failures F.may_leave F.allowed no_change folder.old folder.new }
     ensures blame { Blames result (F.failures folder.old) (F.failures folder.new) }
     ensures blamed { BlamesOnly (is_input_of task.now) result }
     ensures read { IfOk result (λ readings. AreInputs task.now readings.items) }
-    // Over any folder: the files are those that calls answered, and so are their digests and bytes.
-    ensures answered { IfOk result (λ readings. AreInputsAnswered F.failures F.may_leave F.allowed
-        folder.old folder.new task.now readings.items) }
+    // Over any folder: the files are those that calls answered, and so are their digests and bytes,
+    // since the state from which the files are seen.
+    ensures answered { (first : _) → Requests F.failures F.may_leave F.allowed no_change first folder.old
+        → AreSeen F.failures F.may_leave F.allowed first folder.old seen.now
+        → IfOk result (λ readings. AreInputsAnswered F.failures F.may_leave F.allowed
+        first folder.new task.now readings.items) }
     ensures same { IsTrue F.faithful → F.contents folder.new ≡ F.contents folder.old }
-    ensures prints { IsTrue F.faithful → IfOk result (λ readings.
+    ensures prints { IsTrue F.faithful → AreSeenIn (F.contents folder.old).files seen.now
+        → IfOk result (λ readings.
         prints_read readings.items ≡ digests_in (trees_of task.now (F.contents folder.old).files)) }
-    ensures observed { IsTrue F.faithful → IfOk result
+    ensures observed { IsTrue F.faithful → AreSeenIn (F.contents folder.old).files seen.now
+        → IfOk result
         (λ readings. AreInputsObserved task.now (F.contents folder.old).files readings.items) }
-    ensures fit { IsTrue F.faithful → OnOk result (input_faults task.now (F.contents folder.old) ≡ []) }
-    ensures err { IsTrue F.faithful → IfErr result
+    ensures fit { IsTrue F.faithful → AreSeenIn (F.contents folder.old).files seen.now
+        → OnOk result (input_faults task.now (F.contents folder.old) ≡ []) }
+    ensures err { IsTrue F.faithful → AreSeenIn (F.contents folder.old).files seen.now
+        → IfErr result
         (CannotRead (F.failures folder.old) (F.failures folder.new) (input_faults task.now
         (F.contents folder.old))) }
 {
     let mut readings = Vec::new(alloc);
     for property in task.files.as_slice() {
-        readings.push(read_one(alloc, folder, property, room)?)?;
+        readings.push(read_one(alloc, folder, property, seen, room)?)?;
     }
     Ok(readings)
 }

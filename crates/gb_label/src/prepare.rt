@@ -4,6 +4,7 @@ ghost use Rattle.gb_folder.specs.Calls.{Requests, no_change};
 ghost use Rattle.gb_folder.specs.Files.{is_empty};
 ghost use Rattle.gb_plan.specs.Task.{is_output_of};
 ghost use Rattle.gb_store.specs.Faults.{Blames, BlamesOnly};
+ghost use Rattle.gb_tree.specs.Seen.{AreSeen, AreSeenIn};
 ghost use Rattle.gb_label.specs.Deciding.{HasNamesInOrder};
 ghost use Rattle.gb_label.specs.Looking.{IsHindered};
 ghost use Rattle.gb_label.specs.Answered.{WasPrepared};
@@ -20,6 +21,7 @@ use gb_plan::task::{FileProperty, TaskDeclaration};
 use gb_report::fault::Fault;
 use gb_report::report::Options;
 use gb_tree::kept::Reading;
+use gb_tree::seen::Seen;
 use std::alloc::Global;
 
 /// The outcome of a task that starts.
@@ -48,16 +50,17 @@ pub struct Observed {
 /// How many bytes of a task's inputs are kept for its run, and as many of its outputs.
 const KEPT: u64 = 67_108_864;
 
-/// The outcome of a task by its record, its inputs and its outputs as they are. If an execution
-/// follows, bytes that were read are kept for it. Nothing is changed, even if it fails. The error
-/// is the first fault in reading its inputs or listing its outputs, or that memory ran out or the
-/// device failed.
+/// The outcome of a task by its record, its inputs and its outputs as they are. Inputs that were
+/// seen are not read: with an empty `Seen` all of them are. If an execution follows, bytes that were
+/// read are kept for it. Nothing is changed, even if it fails. The error is the first fault in
+/// reading its inputs or listing its outputs, or that memory ran out or the device failed.
 pub fn prepare<F: Folder>(
     alloc: Global,
     folder: &mut F,
     task: &TaskDeclaration,
     options: Options,
     old: Option<&Record>,
+    seen: &Seen,
     follows: bool,
 ) -> Result<Prepared, Fault>
     requires in_order { HasNamesInOrder task.now }
@@ -71,20 +74,26 @@ pub fn prepare<F: Folder>(
     ensures goes_by { IfOk result (FollowsFromAs options task.now (option_copied old.entry)) }
     ensures reads { OnErr result ((task.now.runs ≡ true) × (is_empty task.now.actions ≡ false)) }
     ensures same { IsTrue F.faithful → F.contents folder.new ≡ F.contents folder.old }
-    // What a run is based on was read; and it is so in a folder whose contents are known.
+    // What a run is based on was read; and it is so in a folder whose contents are known, and so
+    // are the outputs of what is up to date.
     ensures read { IfOk result (IsRead task.now) }
-    // Over any folder it is what calls answered; and what is up to date was found so on exactly
-    // this.
-    ensures answered { IfOk result (WasPrepared F.failures F.may_leave F.allowed folder.old folder.new options
+    // Over any folder it is what calls answered, since the state from which the files are seen;
+    // and what is up to date was found so on exactly this.
+    ensures answered { (first : _) → Requests F.failures F.may_leave F.allowed no_change first folder.old
+        → AreSeen F.failures F.may_leave F.allowed first folder.old seen.now
+        → IfOk result (WasPrepared F.failures F.may_leave F.allowed first folder.new options
         task.now (option_copied old.entry)) }
-    ensures prepared { IsTrue F.faithful → IfOk result
+    ensures prepared { IsTrue F.faithful → AreSeenIn (F.contents folder.old).files seen.now
+        → IfOk result
         (IsPrepared options task.now (F.contents folder.old) (option_copied old.entry)) }
-    ensures observed { IsTrue F.faithful → IfOk result (IsObserved task.now (F.contents folder.old).files) }
-    ensures err { IsTrue F.faithful → IfErr result
+    ensures observed { IsTrue F.faithful → AreSeenIn (F.contents folder.old).files seen.now
+        → IfOk result (IsObserved task.now (F.contents folder.old).files) }
+    ensures err { IsTrue F.faithful → AreSeenIn (F.contents folder.old).files seen.now
+        → IfErr result
         (IsHindered task.now (F.contents folder.old) (F.failures folder.old) (F.failures folder.new)) }
 {
     let room = input_room(task, options, old, follows);
-    match early_case_of(alloc, folder, task, room)? {
+    match early_case_of(alloc, folder, task, seen, room)? {
         EarlyCase::Skips => Ok(Prepared::Skips),
         EarlyCase::HasNoActions => Ok(Prepared::HasNoActions),
         EarlyCase::HasNoSource => Ok(Prepared::HasNoSource),

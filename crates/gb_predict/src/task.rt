@@ -22,6 +22,7 @@ use gb_plan::task::TaskDeclaration;
 use gb_report::fault::Fault;
 use gb_report::report::Options;
 use gb_run::emptying::listed_outputs;
+use gb_tree::seen::Seen;
 use std::alloc::Global;
 
 /// The outcome of a task on the folder as it is. `old` is the record that was read of it.
@@ -43,7 +44,8 @@ pub(crate) fn predicted_outcome<A: Actions, F: Folder>(
         → IsPredictedOf kinds options task.now (F.contents folder.old) (option_copied old.entry)
         (F.failures folder.old) (F.failures folder.new) result }
 {
-    match prepare(alloc, folder, task, options, old, false) {
+    let seen = Seen::new(alloc);
+    match prepare(alloc, folder, task, options, old, &seen, false) {
         Ok(Prepared::Skips) => PredictedOutcome::Skips,
         Ok(Prepared::HasNoActions) => PredictedOutcome::HasNoActions,
         Ok(Prepared::HasNoSource) => reported(sourceless(alloc, folder, task)),

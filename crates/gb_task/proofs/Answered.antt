@@ -12,7 +12,7 @@ use Rattle.gb_folder.specs.Files.{Tearing}
 use Rattle.gb_history.specs.Record.{Prints, Record}
 use Rattle.gb_history.specs.declared.decide.Decision.{Decision}
 use Rattle.gb_history.specs.declared.decide.Decision.TheVariants as decisions
-use Rattle.gb_label.specs.Answered.{IsFoundCurrent, WasDecided, WasPrepared}
+use Rattle.gb_label.specs.Answered.{IsFoundCurrent, WasDecided}
 use Rattle.gb_label.specs.Deciding.{IsPresentOf}
 use Rattle.gb_label.specs.Preparing.{MayPrepare}
 use Rattle.gb_label.specs.declared.prepare.Prepared.{Prepared}
@@ -31,7 +31,7 @@ use Rattle.gb_tree.specs.declared.kept.ScannedFile.{ScannedFile}
 use Rattle.gb_label.specs.ReadingAnswered.{AreInputsAnswered, AreInputsRead, AreOutputsAnswered, AreOutputsRead, IsInputAnswered, IsInputRead, IsOutputAnswered, IsOutputRead}
 use Rattle.gb_label.specs.Reading.{AreInputs, AreOutputs, Read, digests_in, prints_read, prints_observed, records_with}
 use Rattle.gb_task.specs.Recheck.{recheck_by}
-use Rattle.gb_task.specs.Current.{IsCurrentOn, WasReadRecheck, WasSettled}
+use Rattle.gb_task.specs.Current.{IsCurrentOn, WasPreparedSince, WasReadRecheck, WasSettled}
 use Rattle.gb_task.specs.Settled.{settled_as}
 use Rattle.gb_task.specs.Executing.{cleared_outcome, outcome_of}
 use Rattle.gb_label.specs.declared.inputs.Inputs.{Inputs}
@@ -145,18 +145,6 @@ module _ {F : Type 0} (failures : F → ℕ) (may_leave : F → Tearing) (allowe
     decides = found.decides;
   }
 
-  pub was_settled : (options : Options) (task : Task) (last : Option Record) (path : Path) (need : Bool) (result : Result Prepared Fault)
-      → IfOk result (MayPrepare task) → IfOk result (WasPrepared failures may_leave allowed old new options task last)
-      → WasSettled failures may_leave allowed old new options task last (settled_as task path result need)
-  was_settled options task last path need (Err fault) may was = λ reported acts. absurd (let e = reported in (cc))
-  was_settled options task last path need (Ok prepared.Skips) may was = λ reported acts. absurd (let e = reported in (cc))
-  was_settled options task last path need (Ok prepared.HasNoActions) may was = λ reported acts. absurd (true≢false (sym may.1 ∙ acts))
-  was_settled options task last path need (Ok prepared.HasNoSource) may was = was
-  was_settled options task last path need (Ok (prepared.Decided decisions.UpToDate basis observed)) may was =
-      λ reported acts. current_on options task last observed.inputs.items observed.outputs.items was.0 was.1 was.2.0 was.2.1 was.2.2
-  was_settled options task last path need (Ok (prepared.Decided (decisions.Incremental changes) basis observed)) may was = (was.1, was.2)
-  was_settled options task last path need (Ok (prepared.Decided decisions.Full basis observed)) may was = (was.1, was.2)
-
   -- where an incremental run was decided, calls returned the outputs that the decision is based on
   pub outputs_answered : (options : Options) (task : Task) (last : Option Record) (inputs : List Read) (decision : Decision) (changes : List Changes) (outputs : List Read)
       → decision ≡ decisions.Incremental changes → WasDecided failures may_leave allowed old new options task last inputs decision outputs
@@ -172,6 +160,21 @@ module _ {F : Type 0} (failures : F → ℕ) (may_leave : F → Tearing) (allowe
   read_recheck task decisions.UpToDate inputs outputs read existed = read
   read_recheck task (decisions.Incremental changes) inputs outputs read existed = (read, existed)
   read_recheck task decisions.Full inputs outputs read existed = read
+
+-- ---- what is reported, or due
+
+module _ {F : Type 0} (failures : F → ℕ) (may_leave : F → Tearing) (allowed : F → Call → F → Type 0) (since old new : F) (options : Options) (task : Task) (last : Option Record) where
+  pub was_settled : (path : Path) (need : Bool) (result : Result Prepared Fault) → IfOk result (MayPrepare task)
+      → IfOk result (WasPreparedSince failures may_leave allowed since old new options task last)
+      → WasSettled failures may_leave allowed since old new options task last (settled_as task path result need)
+  was_settled path need (Err fault) may was = λ reported acts. absurd (let e = reported in (cc))
+  was_settled path need (Ok prepared.Skips) may was = λ reported acts. absurd (let e = reported in (cc))
+  was_settled path need (Ok prepared.HasNoActions) may was = λ reported acts. absurd (true≢false (sym may.1 ∙ acts))
+  was_settled path need (Ok prepared.HasNoSource) may was = was
+  was_settled path need (Ok (prepared.Decided decisions.UpToDate basis observed)) may was =
+      λ reported acts. current_on failures may_leave allowed since new options task last observed.inputs.items observed.outputs.items was.0 was.1 was.2.0 was.2.1 was.2.2
+  was_settled path need (Ok (prepared.Decided (decisions.Incremental changes) basis observed)) may was = (was.1, was.2)
+  was_settled path need (Ok (prepared.Decided decisions.Full basis observed)) may was = (was.1, was.2)
 
 -- the outcome of a run, or of deleted outputs, is never that the task is up to date
 pub run_not_current : (ended : Result (Unit {0}) Fault) → ¬ (outcome_of ended ≡ outcomes.UpToDate)

@@ -43,9 +43,9 @@ module _ {F S : Type 0} (failures : F → ℕ) (may_leave : F → Tearing) (allo
   was_run task options last lines result first new one (inr (inl in_full)) = inr (inl in_full)
   was_run task options last lines result first new one (inr (inr by)) = inr (inr (last, refl, one, by))
 
-  module _ (options : Options) (task : Task) (last : Option Record) (lines : List Text) (old new : F) where
+  module _ (options : Options) (task : Task) (last : Option Record) (lines : List Text) (since old new : F) where
     abbrev requests_by : Outcome → Type 0
-    requests_by outcome = ExecutionRequests failures may_leave allowed meanings rows options task last outcome lines old new
+    requests_by outcome = ExecutionRequests failures may_leave allowed meanings rows options task last outcome lines since old new
 
     abbrev Only : Ending → Type 0
     Only result = OnlyRead failures may_leave allowed lines result old new
@@ -58,7 +58,7 @@ module _ {F S : Type 0} (failures : F → ℕ) (may_leave : F → Tearing) (allo
 
     -- what is reported before anything is changed
     pub reported_requests : (outcome : Outcome) → lines ≡ [] → IsTrue (is_started outcome) → (outcome ≡ outcomes.Executed → is_empty task.actions ≡ true) → outcome ≢ outcomes.NoSource
-        → Requests failures may_leave allowed no_change old new → IsReportedCurrent failures may_leave allowed options task last old new outcome → requests_by outcome
+        → Requests failures may_leave allowed no_change old new → IsReportedCurrent failures may_leave allowed options task last since new outcome → requests_by outcome
     reported_requests outcomes.NotRun silent started idle source requests current = absurd (let e = started in cc)
     reported_requests outcomes.Skipped silent started idle source requests current = requests
     reported_requests outcomes.UpToDate silent started idle source requests current = (requests, current)
@@ -133,5 +133,5 @@ module _ {F S : Type 0} (failures : F → ℕ) (may_leave : F → Tearing) (allo
     unread_keeps (outcomes.Failed fault) never (inr (inr ran)) = absurd (never (run_read (Err fault) ran))
 
 pub unread_executions_keep : {F S : Type 0} (failures : F → ℕ) (may_leave : F → Tearing) (allowed : F → Call → F → Type 0) (meanings : Meanings S) → UnreadExecutionsKeep failures may_leave allowed meanings
-unread_executions_keep failures may_leave allowed meanings rows options task last outcome lines old new never requests =
-    unread_keeps failures may_leave allowed meanings rows options task last lines old new outcome never requests
+unread_executions_keep failures may_leave allowed meanings rows options task last outcome lines since old new never requests =
+    unread_keeps failures may_leave allowed meanings rows options task last lines since old new outcome never requests

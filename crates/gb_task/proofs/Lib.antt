@@ -36,3 +36,4 @@ mod Truth
 pub mod Answered
 mod Ran
 pub mod ByOutcome
+mod SeenAfter

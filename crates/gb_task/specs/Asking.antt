@@ -27,6 +27,6 @@ abbrev pub UnreadExecutionsKeep : {F S : Type 0} → (F → ℕ) → (F → Tear
     → Meanings S → Type 0
 UnreadExecutionsKeep {F = F} {S = S} failures may_leave allowed meanings =
     (rows : Rows S) (options : Options) (task : Task) (last : Option Record) (outcome : Outcome)
-    (lines : List Text) (old new : F) → ¬ HasRead failures may_leave allowed old task
-    → ExecutionRequests failures may_leave allowed meanings rows options task last outcome lines old new
+    (lines : List Text) (since old new : F) → ¬ HasRead failures may_leave allowed old task
+    → ExecutionRequests failures may_leave allowed meanings rows options task last outcome lines since old new
     → Requests failures may_leave allowed no_change old new

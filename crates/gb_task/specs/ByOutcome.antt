@@ -18,21 +18,30 @@ module _ {F S : Type 0} (failures : F → ℕ) (may_leave : F → Tearing) (allo
   -- The execution of a task, from the state of the folder in which it begins to that in which it ends, by its
   -- outcome, its lines and the record that was read of it. A task that was not run makes no call. A task that
   -- was skipped or is up to date requests no change, and a task that is up to date was found so on what calls
-  -- returned since the execution began. A task without source was cleared. A task that was executed was run,
-  -- if it has actions. A task that failed only read, or was cleared or run up to the call that failed.
-  abbrev pub ExecutionRequests : Task → Option Record → Outcome → List Text → F → F → Type 0
-  ExecutionRequests task last outcomes.NotRun lines old new = new ≡ old
-  ExecutionRequests task last outcomes.Skipped lines old new = Requests failures may_leave allowed
+  -- returned since an earlier state, without a change between. A task without source was cleared. A task that
+  -- was executed was run, if it has actions. A task that failed only read, or was cleared or run up to the
+  -- call that failed. What was cleared or run goes by what calls returned since its execution began.
+  abbrev pub ExecutionRequests : Task → Option Record → Outcome → List Text → F → F → F → Type 0
+  ExecutionRequests task last outcomes.NotRun lines since old new = new ≡ old
+  ExecutionRequests task last outcomes.Skipped lines since old new = Requests failures may_leave allowed
       no_change old new
-  ExecutionRequests task last outcomes.UpToDate lines old new =
+  ExecutionRequests task last outcomes.UpToDate lines since old new =
       Requests failures may_leave allowed no_change old new
-      × IsReportedCurrent failures may_leave allowed options task last old new outcomes.UpToDate
-  ExecutionRequests task last outcomes.NoSource lines old new =
+      × IsReportedCurrent failures may_leave allowed options task last since new outcomes.UpToDate
+  ExecutionRequests task last outcomes.NoSource lines since old new =
       WasCleared failures may_leave allowed task (is_some last) lines (Ok tt) old new
-  ExecutionRequests task last outcomes.Executed lines old new =
+  ExecutionRequests task last outcomes.Executed lines since old new =
       ((is_empty task.actions ≡ true) × Requests failures may_leave allowed no_change old new)
       ⊎ WasRun failures may_leave allowed meanings rows task options last lines (Ok tt) old new
-  ExecutionRequests task last (outcomes.Failed fault) lines old new =
+  ExecutionRequests task last (outcomes.Failed fault) lines since old new =
       OnlyRead failures may_leave allowed lines (Err fault) old new
       ⊎ WasCleared failures may_leave allowed task (is_some last) lines (Err fault) old new
       ⊎ WasRun failures may_leave allowed meanings rows task options last lines (Err fault) old new
+
+-- The state of the last change after an execution: that before it, where its outcome asks for no change, or
+-- else that in which it ended.
+abbrev pub since_after : {F : Type 0} → Outcome → F → F → F
+since_after outcomes.NotRun since new = since
+since_after outcomes.Skipped since new = since
+since_after outcomes.UpToDate since new = since
+since_after outcome since new = new

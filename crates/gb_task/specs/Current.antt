@@ -8,10 +8,12 @@ use Rattle.gb_history.specs.Decision.{DecidesFrom}
 use Rattle.gb_history.specs.Record.{Record}
 use Rattle.gb_history.specs.declared.decide.Decision.TheVariants as decisions
 use Rattle.gb_history.specs.declared.decide.Present.{Present}
-use Rattle.gb_label.specs.Answered.{WasDecided, WasSourceless}
+use Rattle.gb_label.specs.Answered.{WasDecided, WasPrepared, WasSourceless}
 use Rattle.gb_label.specs.Deciding.{IsPresentOf}
 use Rattle.gb_label.specs.ReadingAnswered.{AreInputsAnswered, AreInputsRead, AreOutputsRead}
 use Rattle.gb_label.specs.Reading.{digests_in, prints_observed, records_with}
+use Rattle.gb_label.specs.declared.prepare.Prepared.{Prepared}
+use Rattle.gb_label.specs.declared.prepare.Prepared.TheVariants as prepared
 use Rattle.gb_plan.specs.Task.{given_files, given_outputs}
 use Rattle.gb_plan.specs.declared.task.TaskDeclaration.{TaskDeclaration as Task}
 use Rattle.gb_report.specs.declared.report.Options.{Options}
@@ -47,14 +49,25 @@ IsReportedCurrent failures may_leave allowed options task last old new outcome =
     outcome ≡ outcomes.UpToDate → is_empty task.actions ≡ false
     → IsCurrentOn failures may_leave allowed options task last old new
 
--- what is decided is based on what calls returned
-abbrev pub WasSettled : {F : Type 0} → (F → ℕ) → (F → Tearing) → (F → Call → F → Type 0) → F → F → Options
+-- An execution is prepared on the basis of what calls returned meanwhile. Where it is found that the task is
+-- up to date, they may have returned it since an earlier state.
+abbrev pub WasPreparedSince : {F : Type 0} → (F → ℕ) → (F → Tearing) → (F → Call → F → Type 0) → F → F → F
+    → Options → Task → Option Record → Prepared → Type 0
+WasPreparedSince failures may_leave allowed since old new options task last
+    (prepared.Decided decisions.UpToDate basis observed) =
+    WasPrepared failures may_leave allowed since new options task last
+    (prepared.Decided decisions.UpToDate basis observed)
+WasPreparedSince failures may_leave allowed since old new options task last found =
+    WasPrepared failures may_leave allowed old new options task last found
+
+-- what is decided is based on what calls returned, and so are reports
+abbrev pub WasSettled : {F : Type 0} → (F → ℕ) → (F → Tearing) → (F → Call → F → Type 0) → F → F → F → Options
     → Task → Option Record → Settled → Type 0
-WasSettled failures may_leave allowed old new options task last (settled.Reported report) =
-    IsReportedCurrent failures may_leave allowed options task last old new report.outcome
-WasSettled failures may_leave allowed old new options task last (settled.Sourceless path) =
+WasSettled failures may_leave allowed since old new options task last (settled.Reported report) =
+    IsReportedCurrent failures may_leave allowed options task last since new report.outcome
+WasSettled failures may_leave allowed since old new options task last (settled.Sourceless path) =
     WasSourceless failures may_leave allowed old new task
-WasSettled failures may_leave allowed old new options task last (settled.Due path decision observed) =
+WasSettled failures may_leave allowed since old new options task last (settled.Due path decision observed) =
     AreInputsAnswered failures may_leave allowed old new task observed.inputs.items
     × WasDecided failures may_leave allowed old new options task last observed.inputs.items decision
     observed.outputs.items

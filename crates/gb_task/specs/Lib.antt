@@ -14,3 +14,4 @@ pub mod Current
 pub mod Stages
 pub mod Ran
 pub mod ByOutcome
+pub mod Seen

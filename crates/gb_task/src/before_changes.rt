@@ -1,5 +1,5 @@
 //! The part of a task's execution that is decided before anything is changed.
-ghost use Rattle.std.specs.Prelude.{◌≡◌, ◌||◌, false, IsTrue, option_copied};
+ghost use Rattle.std.specs.Prelude.{◌≡◌, ◌||◌, ◌++◌, List, false, IsTrue, option_copied};
 ghost use Rattle.std.specs.List.{list_any};
 ghost use Rattle.gb_folder.specs.Calls.{Requests, no_change};
 ghost use Rattle.gb_folder.specs.Files.{is_empty, is_own};
@@ -9,13 +9,16 @@ ghost use Rattle.gb_meaning.specs.Label.{Moment, some_outcome};
 ghost use Rattle.gb_meaning.specs.TrueRecord.{outside};
 ghost use Rattle.gb_plan.specs.Graph.{Plan, needs_in};
 ghost use Rattle.gb_report.specs.Outcome.{is_executed};
+ghost use Rattle.gb_tree.specs.Seen.{AreSeen, AreSeenIn, SeenFile};
 ghost use Rattle.gb_task.specs.Case.{IsKnown};
 ghost use Rattle.gb_task.specs.Current.{WasSettled};
+ghost use Rattle.gb_task.specs.Seen.{Remembers, seen_by};
 ghost use Rattle.gb_task.specs.Settled.{AnswersAlone, IsOfTask, SettlesExecution, ReportsAnswer};
 ghost use Rattle.gb_task.specs.Settled.{idle_outcome};
 ghost use Rattle.gb_task.specs.Settled.{settled_as, silent_report};
 ghost use Rattle.gb_task.specs.Executing.{Registering, setting_with};
 
+use crate::by_seen::prepare_by_seen;
 use crate::case_laws::{
     idle_executions_are_executions, outside_is_enough, prepared_is_case, runs_are_of_case,
 };
@@ -24,10 +27,11 @@ use gb_core::text::Texts;
 use gb_folder::folder::Folder;
 use gb_history::decide::Decision;
 use gb_history::record::Record;
-use gb_label::prepare::{Observed, Prepared, prepare};
+use gb_label::prepare::{Observed, Prepared};
 use gb_plan::task::TaskDeclaration;
 use gb_report::fault::Fault;
 use gb_report::report::{Options, Outcome, TaskReport};
+use gb_tree::seen::Seen;
 use std::alloc::Global;
 
 /// What is decided of a started task's execution before anything is changed.
@@ -44,7 +48,9 @@ pub enum Settled {
 /// Decides how a started task is executed, and reports its outcome where nothing is to be done.
 /// Nothing is changed. `last` is the record that was read of the task, and `has_executed_need` says
 /// whether a task that it needs was executed in this build. `path` is a copy of the task's path,
-/// made in advance: it is moved into the report, so that a report allocates nothing.
+/// made in advance: it is moved into the report, so that a report allocates nothing. The outputs of
+/// a task that is up to date are remembered in `seen`; and where a change may follow, or the report
+/// tells of one, nothing is.
 pub fn settle<F: Folder>(
     alloc: Global,
     folder: &mut F,
@@ -53,6 +59,7 @@ pub fn settle<F: Folder>(
     options: Options,
     last: Option<&Record>,
     has_executed_need: bool,
+    seen: &mut Seen,
 ) -> Settled
     requires in_order { HasNamesInOrder task.now }
     requires not_own { list_any (λ output. is_own output.place) task.now.outputs ≡ false }
@@ -65,13 +72,20 @@ pub fn settle<F: Folder>(
     ensures alone { AnswersAlone task.now.runs (is_empty task.now.actions) has_executed_need result }
     ensures answer { ReportsAnswer options task.now result }
     // And the decision is based on what calls returned.
-    ensures answered { WasSettled F.failures F.may_leave F.allowed folder.old folder.new options task.now
+    ensures answered { (since : _) → Requests F.failures F.may_leave F.allowed no_change since folder.old
+        → AreSeen F.failures F.may_leave F.allowed since folder.old seen.old
+        → WasSettled F.failures F.may_leave F.allowed since folder.old folder.new options task.now
         (option_copied last.entry) result }
+    ensures remembers { Remembers F.failures F.may_leave F.allowed folder.old folder.new seen.old seen.new
+        result }
     ensures same { IsTrue F.faithful → F.contents folder.new ≡ F.contents folder.old }
+    ensures seen_in { IsTrue F.faithful → AreSeenIn (F.contents folder.old).files seen.old
+        → AreSeenIn (F.contents folder.new).files seen.new }
     // If there is a report, it is that of the task's execution. Otherwise the result says which
     // case of the definition applies.
-    ensures settled { IsTrue F.faithful → (kinds : Kinds) (registry_of : Registering) (plan : Plan)
-        (moment : Moment) → moment.world.folder ≡ outside (F.contents folder.old)
+    ensures settled { IsTrue F.faithful → AreSeenIn (F.contents folder.old).files seen.old
+        → (kinds : Kinds) (registry_of : Registering) (plan : Plan) (moment : Moment)
+        → moment.world.folder ≡ outside (F.contents folder.old)
         → moment.failures ≡ F.failures folder.old
         → some_outcome is_executed moment (needs_in plan task.now) ≡ has_executed_need
         → IsKnown kinds task.now moment.world (option_copied last.entry)
@@ -83,32 +97,47 @@ pub fn settle<F: Folder>(
     prepared_is_case();
     idle_executions_are_executions();
     runs_are_of_case();
-    let prepared = prepare(alloc, folder, task, options, last, true);
-    settled_by(alloc, task, path, prepared, has_executed_need)
+    let prepared = prepare_by_seen(alloc, folder, task, options, last, seen);
+    settled_by(alloc, task, path, prepared, has_executed_need, seen)
 }
 
-/// What is decided, from the result of `prepare`.
+/// What is decided, from the result of `prepare_by_seen`.
 fn settled_by(
     alloc: Global,
     task: &TaskDeclaration,
     path: TaskPath,
     prepared: Result<Prepared, Fault>,
     has_executed_need: bool,
+    seen: &mut Seen,
 ) -> Settled
-    ensures { result ≡ settled_as task.now path prepared has_executed_need }
+    ensures settled { result ≡ settled_as task.now path prepared has_executed_need }
+    ensures seen { (forgotten : List SeenFile)
+        × (forgotten ++ seen.new ≡ seen_by prepared has_executed_need seen.old) }
 {
     match prepared {
         Ok(Prepared::Skips) => reported(alloc, task, path, Outcome::Skipped),
-        Ok(Prepared::HasNoActions) => reported(alloc, task, path, idle_outcome(has_executed_need)),
-        Ok(Prepared::HasNoSource) => Settled::Sourceless(path),
-        Ok(Prepared::Decided(Decision::UpToDate, _, _)) => reported(
-            alloc,
-            task,
-            path,
-            Outcome::UpToDate,
-        ),
-        Ok(Prepared::Decided(decision, _, observed)) => Settled::Due(path, decision, observed),
-        Err(fault) => reported(alloc, task, path, Outcome::Failed(fault)),
+        Ok(Prepared::HasNoActions) => {
+            if has_executed_need {
+                seen.forget();
+            }
+            reported(alloc, task, path, idle_outcome(has_executed_need))
+        }
+        Ok(Prepared::HasNoSource) => {
+            seen.forget();
+            Settled::Sourceless(path)
+        }
+        Ok(Prepared::Decided(Decision::UpToDate, _, observed)) => {
+            seen.remember(alloc, observed.outputs);
+            reported(alloc, task, path, Outcome::UpToDate)
+        }
+        Ok(Prepared::Decided(decision, _, observed)) => {
+            seen.forget();
+            Settled::Due(path, decision, observed)
+        }
+        Err(fault) => {
+            seen.forget();
+            reported(alloc, task, path, Outcome::Failed(fault))
+        }
     }
 }
 

@@ -21,10 +21,11 @@ ghost use Rattle.gb_report.specs.declared.report.Options.{Options};
 ghost use Rattle.gb_report.specs.declared.report.Outcome.TheVariants.{Failed};
 ghost use Rattle.gb_run.specs.AskingChanges.{CanGoOn};
 ghost use Rattle.gb_store.specs.Changes.{ChangesOnly};
+ghost use Rattle.gb_tree.specs.Seen.{AreSeen, AreSeenIn};
 ghost use Rattle.gb_task.specs.Buildable.{IsBuildable};
 ghost use Rattle.gb_task.specs.Case.{IsCaseFor, IsKnown};
 ghost use Rattle.gb_task.specs.Executions.{IsRunFor, is_by_changes};
-ghost use Rattle.gb_task.specs.ByOutcome.{ExecutionRequests};
+ghost use Rattle.gb_task.specs.ByOutcome.{ExecutionRequests, since_after};
 ghost use Rattle.gb_task.specs.Ran.{EndsAs, OnlyRead, WasRun};
 ghost use Rattle.gb_task.specs.Settled.{IsAnswer, IsAnsweredAlone};
 ghost use Rattle.gb_task.specs.Executing.{BeginsAt, HasExecuted, IsReportedOf, Registering};
@@ -45,11 +46,14 @@ use gb_plan::task::TaskDeclaration;
 use gb_report::fault::Fault;
 use gb_report::report::{Options, TaskReport};
 use gb_run::calling_changes::has_one_writer;
+use gb_tree::seen::Seen;
 use std::alloc::Global;
 
 /// Executes a started task. `last` is the record that was read of it, and `has_executed_need` says
 /// whether a task that it needs was executed in this build. `path` is a copy of the task's path,
-/// made in advance: it is moved into the report, so that a report allocates nothing.
+/// made in advance: it is moved into the report, so that a report allocates nothing. A file that was
+/// seen is not read again to find that the task is up to date; whatever runs reads all that it works
+/// on.
 pub fn execute_task<A: Actions, F: Folder>(
     alloc: Global,
     folder: &mut F,
@@ -59,6 +63,7 @@ pub fn execute_task<A: Actions, F: Folder>(
     options: Options,
     last: Option<&Record>,
     has_executed_need: bool,
+    seen: &mut Seen,
 ) -> TaskReport
     requires buildable { IsBuildable A.meanings table.now task.now }
     requires separate { reads_output_of task.now task.now ≡ false }
@@ -68,10 +73,16 @@ pub fn execute_task<A: Actions, F: Folder>(
     ensures has_actions { result.has_actions ≡ not (is_empty task.now.actions) }
     // Over any folder: which calls were made, stage by stage, up to the first that failed; with which
     // bytes; and what they were based on. A task that is skipped or up to date requests no change, and
-    // it is up to date only if it was found so on what the calls of this execution returned.
-    ensures requests { ExecutionRequests F.failures F.may_leave F.allowed A.meanings table.now options
-        task.now
-        (option_copied last.entry) result.outcome result.lines folder.old folder.new }
+    // it is up to date only if it was found so on what calls returned since the last change.
+    ensures requests { (since : _) → Requests F.failures F.may_leave F.allowed no_change since folder.old
+        → AreSeen F.failures F.may_leave F.allowed since folder.old seen.old
+        → ExecutionRequests F.failures F.may_leave F.allowed A.meanings table.now options task.now
+        (option_copied last.entry) result.outcome result.lines since folder.old folder.new }
+    // What is remembered was read since the last change.
+    ensures seen { (since : _) → Requests F.failures F.may_leave F.allowed no_change since folder.old
+        → AreSeen F.failures F.may_leave F.allowed since folder.old seen.old
+        → AreSeen F.failures F.may_leave F.allowed (since_after result.outcome since folder.new) folder.new
+        seen.new }
     ensures blame { (place : List ℕ) → result.outcome ≡ Failed (Fault.Device place)
         → HasRisen (F.failures folder.old) (F.failures folder.new) }
     ensures blamed { (place : List ℕ) → result.outcome ≡ Failed (Fault.Device place)
@@ -85,10 +96,13 @@ pub fn execute_task<A: Actions, F: Folder>(
     ensures answer { IsAnswer options task.now result }
     ensures changes { IsTrue F.faithful
         → ChangesOnly (is_of_execution task.now) (F.contents folder.old) (F.contents folder.new) }
+    ensures seen_in { IsTrue F.faithful → AreSeenIn (F.contents folder.old).files seen.old
+        → AreSeenIn (F.contents folder.new).files seen.new }
     // If the record that was read is a true record of the task (`IsKnown`), this is its execution
     // as defined.
-    ensures execution { IsTrue F.faithful → (kinds : Kinds) (registry_of : Registering) (plan : Plan)
-        (moment : Moment) → IsAssumed A.meanings table.now kinds (F.may_leave folder.old)
+    ensures execution { IsTrue F.faithful → AreSeenIn (F.contents folder.old).files seen.old
+        → (kinds : Kinds) (registry_of : Registering) (plan : Plan) (moment : Moment)
+        → IsAssumed A.meanings table.now kinds (F.may_leave folder.old)
         → BeginsAt task.now (is_some (option_copied last.entry)) (F.contents folder.old)
         (F.failures folder.old) moment
         → some_outcome is_executed moment (needs_in plan task.now) ≡ has_executed_need
@@ -96,7 +110,16 @@ pub fn execute_task<A: Actions, F: Folder>(
         → HasExecuted (setting_with kinds registry_of (F.may_leave folder.old)) options plan task.now moment
         result (F.contents folder.old) (F.failures folder.new) (F.contents folder.new) }
 {
-    match settle(alloc, folder, task, path, options, last, has_executed_need) {
+    match settle(
+        alloc,
+        folder,
+        task,
+        path,
+        options,
+        last,
+        has_executed_need,
+        seen,
+    ) {
         Settled::Reported(report) => report,
         Settled::Sourceless(path) => {
             execute_without_source(alloc, folder, task, path, last.is_some())

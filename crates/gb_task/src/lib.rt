@@ -7,6 +7,11 @@
 //! task in full. A full execution empties the outputs first. An incremental execution starts from
 //! the files at the outputs, and keeps those that are right, also where it fails.
 //!
+//! A file that an earlier task made is an output there and an input here. So the digests of the
+//! outputs of tasks that are up to date are remembered (`Seen` of `gb_tree`) until the build asks
+//! for a change, and a task is first looked at by these: if it is up to date by them, nothing of
+//! what was seen is read again. In any other case all is read, as above.
+//!
 //! `execute_task` executes a task; `last` is the record that was read of it. Premises: the task
 //! `IsBuildable`, its outputs do not overlap, and it reads none of them. Where contents are known
 //! and kinds agree, the execution is that of the definitions (`HasExecuted`). Over any folder:
@@ -38,6 +43,7 @@
 mod adding;
 mod before_changes;
 mod by_changes;
+mod by_seen;
 pub mod case_laws;
 mod changes;
 mod clearing;

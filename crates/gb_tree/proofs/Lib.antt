@@ -26,3 +26,4 @@ pub mod Above
 pub mod Small
 pub mod Comparing
 pub mod Rooted
+pub mod Remembering

@@ -74,6 +74,13 @@ impl Reading {
         self.files.is_empty()
     }
 
+    /// The files as they were read.
+    pub(crate) fn into_files(self) -> Vec<ScannedFile>
+        ensures { result.items ≡ self.1 }
+    {
+        self.files
+    }
+
     /// The digests that were taken as the files were read.
     pub fn prints(&self, alloc: Global) -> Result<Prints, AllocError>
         ensures { IfOk result (λ prints. prints ≡ (self.now.0, digests_observed self.now.1)) }

@@ -13,6 +13,8 @@
 //! files once, take their digests, and keep the bytes where there is room for them. From such a
 //! [`Reading`](kept::Reading) a run gets the contents by [`completed`](kept::Reading::completed),
 //! with the digests of these very contents.
+//! [`Seen`](seen::Seen) remembers the digests of readings, and `reading_of` reads no file whose
+//! digest it remembers.
 //!
 //! The digests of such files are remembered: [`prints`](digest::prints) takes them from contents,
 //! [`prints_of`](property::prints_of) and [`output_prints`](output::output_prints) from the folder,
@@ -51,6 +53,7 @@ pub mod prints;
 pub mod property;
 mod reading;
 mod scanning;
+pub mod seen;
 mod shortcut;
 mod sieve;
 mod starts;

@@ -19,6 +19,7 @@ use crate::path::path_from;
 use crate::prints::Prints;
 use crate::reading::{digest_all, listed, read_all};
 use crate::scanning::scan_all;
+use crate::seen::Seen;
 use gb_action::snapshot::Snapshot;
 use gb_core::name::Name;
 use gb_core::place::{Place, RelPath};
@@ -154,7 +155,8 @@ fn read_output_once<F: Folder>(
         (output_faults name.now place.now (F.contents folder.old)) fault) }
 {
     let entries = entries_at(alloc, folder, name, place)?;
-    let observed = scan_all(alloc, folder, entries.as_slice(), room)?;
+    let seen = Seen::new(alloc);
+    let observed = scan_all(alloc, folder, entries.as_slice(), &seen, room)?;
     Ok(Reading::new(name.copy()?, observed))
 }
 

@@ -7,6 +7,7 @@ ghost use Rattle.gb_tree.specs.Prints.{digests_of};
 ghost use Rattle.gb_tree.specs.Property.{entries_of, is_under_any, tree_faults, tree_of};
 ghost use Rattle.gb_tree.specs.Answered.{AreEntriesListed, WereObserved};
 ghost use Rattle.gb_tree.specs.Reading.{AreObserved, digests_observed, entries_observed};
+ghost use Rattle.gb_tree.specs.Seen.{AreSeen, AreSeenIn};
 
 use crate::entries::entries_of;
 use crate::fault::{TreeFault, is_gone};
@@ -15,6 +16,7 @@ use crate::pattern::Pattern;
 use crate::prints::Prints;
 use crate::reading::{digest_all, read_all};
 use crate::scanning::scan_all;
+use crate::seen::Seen;
 use gb_action::snapshot::Snapshot;
 use gb_core::name::Name;
 use gb_core::place::Place;
@@ -102,8 +104,9 @@ pub fn prints_of<F: Folder>(
 }
 
 /// The files that [`snapshot`] returns, each read once, from the same listings and with the same
-/// faults. Their bytes are kept where `room` is left for them; kept bytes reduce `room`. If a
-/// listed file is gone when it is read, all are listed and read once more, and only then 11.
+/// faults. A file that was seen is not read: it has the digest that is remembered of it. Of the
+/// others the bytes are kept where `room` is left for them; kept bytes reduce `room`. If a listed
+/// file is gone when it is read, all are listed and read once more, and only then 11.
 pub fn reading_of<F: Folder>(
     alloc: Global,
     folder: &mut F,
@@ -112,6 +115,7 @@ pub fn reading_of<F: Folder>(
     roots: &[Place],
     include: &[Pattern],
     exclude: &[Pattern],
+    seen: &Seen,
     room: &mut u64,
 ) -> Result<Reading, TreeFault>
     ensures requests { Requests F.failures F.may_leave F.allowed no_change folder.old folder.new }
@@ -126,26 +130,35 @@ pub fn reading_of<F: Folder>(
     ensures listed { IfOk result (λ reading. AreEntriesListed F.failures F.may_leave F.allowed naming
         roots.now
         include.now exclude.now folder.old folder.new (entries_observed reading.1)) }
-    ensures answered { IfOk result
-        (λ reading. WereObserved F.failures F.may_leave F.allowed folder.old folder.new reading.1) }
-    ensures digests { IsTrue F.faithful → IfOk result (λ reading. digests_observed reading.1
+    ensures answered { (first : _) → Requests F.failures F.may_leave F.allowed no_change first folder.old
+        → AreSeen F.failures F.may_leave F.allowed first folder.old seen.now
+        → IfOk result
+        (λ reading. WereObserved F.failures F.may_leave F.allowed first folder.new reading.1) }
+    ensures digests { IsTrue F.faithful → AreSeenIn (F.contents folder.old).files seen.now
+        → IfOk result (λ reading. digests_observed reading.1
         ≡ digests_of (tree_of naming roots.now include.now exclude.now (F.contents folder.old).files)) }
-    ensures observed { IsTrue F.faithful → IfOk result (λ reading. AreObserved (F.contents folder.old).files
+    ensures observed { IsTrue F.faithful → AreSeenIn (F.contents folder.old).files seen.now
+        → IfOk result (λ reading. AreObserved (F.contents folder.old).files
         (entries_of naming roots.now include.now exclude.now (F.contents folder.old).files) reading.1) }
-    ensures fit { IsTrue F.faithful → OnOk result
+    ensures fit { IsTrue F.faithful → AreSeenIn (F.contents folder.old).files seen.now → OnOk result
         (tree_faults name.now naming roots.now include.now exclude.now (F.contents folder.old) ≡ []) }
-    ensures err { IsTrue F.faithful → IfErr result (λ fault.
+    ensures err { IsTrue F.faithful → AreSeenIn (F.contents folder.old).files seen.now
+        → IfErr result (λ fault.
         IsRefused (F.failures folder.old) (F.failures folder.new)
         (tree_faults name.now naming roots.now include.now exclude.now (F.contents folder.old)) fault) }
 {
     let free = *room;
-    let first = read_once(alloc, folder, name, naming, roots, include, exclude, room);
+    let first = read_once(
+        alloc, folder, name, naming, roots, include, exclude, seen, room,
+    );
     if !is_gone(&first) {
         return first;
     }
     drop(first);
     *room = free;
-    read_once(alloc, folder, name, naming, roots, include, exclude, room)
+    read_once(
+        alloc, folder, name, naming, roots, include, exclude, seen, room,
+    )
 }
 
 /// The files as one listing has them.
@@ -157,6 +170,7 @@ fn read_once<F: Folder>(
     roots: &[Place],
     include: &[Pattern],
     exclude: &[Pattern],
+    seen: &Seen,
     room: &mut u64,
 ) -> Result<Reading, TreeFault>
     ensures requests { Requests F.failures F.may_leave F.allowed no_change folder.old folder.new }
@@ -171,19 +185,24 @@ fn read_once<F: Folder>(
     ensures listed { IfOk result (λ reading. AreEntriesListed F.failures F.may_leave F.allowed naming
         roots.now
         include.now exclude.now folder.old folder.new (entries_observed reading.1)) }
-    ensures answered { IfOk result
-        (λ reading. WereObserved F.failures F.may_leave F.allowed folder.old folder.new reading.1) }
-    ensures digests { IsTrue F.faithful → IfOk result (λ reading. digests_observed reading.1
+    ensures answered { (first : _) → Requests F.failures F.may_leave F.allowed no_change first folder.old
+        → AreSeen F.failures F.may_leave F.allowed first folder.old seen.now
+        → IfOk result
+        (λ reading. WereObserved F.failures F.may_leave F.allowed first folder.new reading.1) }
+    ensures digests { IsTrue F.faithful → AreSeenIn (F.contents folder.old).files seen.now
+        → IfOk result (λ reading. digests_observed reading.1
         ≡ digests_of (tree_of naming roots.now include.now exclude.now (F.contents folder.old).files)) }
-    ensures observed { IsTrue F.faithful → IfOk result (λ reading. AreObserved (F.contents folder.old).files
+    ensures observed { IsTrue F.faithful → AreSeenIn (F.contents folder.old).files seen.now
+        → IfOk result (λ reading. AreObserved (F.contents folder.old).files
         (entries_of naming roots.now include.now exclude.now (F.contents folder.old).files) reading.1) }
-    ensures fit { IsTrue F.faithful → OnOk result
+    ensures fit { IsTrue F.faithful → AreSeenIn (F.contents folder.old).files seen.now → OnOk result
         (tree_faults name.now naming roots.now include.now exclude.now (F.contents folder.old) ≡ []) }
-    ensures err { IsTrue F.faithful → IfErr result (λ fault.
+    ensures err { IsTrue F.faithful → AreSeenIn (F.contents folder.old).files seen.now
+        → IfErr result (λ fault.
         IsRefused (F.failures folder.old) (F.failures folder.new)
         (tree_faults name.now naming roots.now include.now exclude.now (F.contents folder.old)) fault) }
 {
     let entries = entries_of(alloc, folder, name, naming, roots, include, exclude)?;
-    let observed = scan_all(alloc, folder, entries.as_slice(), room)?;
+    let observed = scan_all(alloc, folder, entries.as_slice(), seen, room)?;
     Ok(Reading::new(name.copy()?, observed))
 }

@@ -13,18 +13,20 @@ ghost use Rattle.gb_tree.specs.Tree.{Blames, IsRefused, IsTreeFaultOfMachine, by
 ghost use Rattle.gb_tree.specs.Tree.{too_large};
 ghost use Rattle.gb_tree.specs.Answered.{WasObserved, WereObserved};
 ghost use Rattle.gb_tree.specs.Reading.{IsReading, IsObservedIn, KeepsOnly, entries_observed, is_digest_of};
+ghost use Rattle.gb_tree.specs.Seen.{AreSeen, AreSeenIn};
 ghost use Rattle.gb_tree.specs.Waiting.{digest_in, file_in, kept_in};
 ghost use Rattle.sha2.specs.Sha256.{sha256};
 
 use crate::fault::TreeFault;
 use crate::kept::ScannedFile;
 use crate::reading::read_file;
+use crate::seen::Seen;
 use crate::waiting::{Found, SmallFile, Waiting, add, digest_waiting};
 use gb_core::bytes::Bytes;
 use gb_core::place::{Place, RelPath};
 use gb_folder::folder::Folder;
 use sha2::{Digest, Sha256};
-use std::alloc::Global;
+use std::alloc::{AllocError, Global};
 
 /// A file of fewer bytes waits for others, to be digested with them.
 const SMALL: u64 = 65_536;
@@ -141,11 +143,60 @@ fn scan_file<F: Folder>(
     }
 }
 
-/// The files at these places as they are read, by their paths.
+/// One file with a digest that was taken of it before; its bytes are not kept.
+fn recalled(path: &RelPath, place: &Place, digest: [u8; 32]) -> Result<Found, AllocError>
+    ensures { IfOk result (λ found.
+        file_in found ≡ record { path = path.now; place = place.now; digest = digest; kept = None }) }
+{
+    Ok(Found::Observed(ScannedFile {
+        path: path.copy()?,
+        place: place.copy()?,
+        digest,
+        kept: None,
+    }))
+}
+
+/// One file: with the digest that is remembered of it, or else as it is read.
+fn find_file<F: Folder>(
+    alloc: Global,
+    folder: &mut F,
+    path: &RelPath,
+    place: &Place,
+    seen: &Seen,
+    room: &mut u64,
+) -> Result<Found, TreeFault>
+    ensures requests { Requests F.failures F.may_leave F.allowed no_change folder.old folder.new }
+    ensures blame { Blames (λ at. at ≡ place.now)
+        (F.failures folder.old) (F.failures folder.new) result }
+    ensures same { IsTrue F.faithful → F.contents folder.new ≡ F.contents folder.old }
+    ensures path { IfOk result (λ found. (file_in found).path ≡ path.now) }
+    ensures place { IfOk result (λ found. (file_in found).place ≡ place.now) }
+    ensures digested { IfOk result
+        (λ found. IsTrue (is_digest_of (file_in found).kept (file_in found).digest)) }
+    ensures answered { (first : _) → Requests F.failures F.may_leave F.allowed no_change first folder.old
+        → AreSeen F.failures F.may_leave F.allowed first folder.old seen.now
+        → IfOk result
+        (λ found. WasObserved F.failures F.may_leave F.allowed first folder.new (file_in found)) }
+    ensures observed { IsTrue F.faithful → AreSeenIn (F.contents folder.old).files seen.now → IfOk result
+        (λ found. IsObservedIn (F.contents folder.old).files (file_in found)) }
+    ensures err { IsTrue F.faithful → IsSome (file_at (F.contents folder.old).files place.now)
+        → IfErr result (λ fault. IsTreeFaultOfMachine (F.failures folder.old) (F.failures folder.new) fault
+        ⊎ ((is_large (F.contents folder.old).files place.now ≡ true)
+        × (fault ≡ TreeFault.TooLarge place.now))) }
+{
+    match seen.digest_at(place) {
+        Some(digest) => Ok(recalled(path, place, digest)?),
+        None => scan_file(alloc, folder, path, place, room),
+    }
+}
+
+/// The files at these places, by their paths: those that were seen with the digests that are
+/// remembered of them, the others as they are read.
 pub(crate) fn scan_all<F: Folder>(
     alloc: Global,
     folder: &mut F,
     entries: &[(RelPath, Place)],
+    seen: &Seen,
     room: &mut u64,
 ) -> Result<Vec<ScannedFile>, TreeFault>
     requires { IsTrue (is_sorted byte_order entries.now) }
@@ -155,13 +206,15 @@ pub(crate) fn scan_all<F: Folder>(
     ensures same { IsTrue F.faithful → F.contents folder.new ≡ F.contents folder.old }
     ensures placed { IfOk result (λ observed. entries_observed observed.items ≡ entries.now) }
     ensures reading { IfOk result (λ observed. IsReading observed.items) }
-    ensures answered { IfOk result
-        (λ observed. WereObserved F.failures F.may_leave F.allowed folder.old folder.new observed.items) }
-    ensures observed { IsTrue F.faithful → IfOk result
+    ensures answered { (first : _) → Requests F.failures F.may_leave F.allowed no_change first folder.old
+        → AreSeen F.failures F.may_leave F.allowed first folder.old seen.now
+        → IfOk result
+        (λ observed. WereObserved F.failures F.may_leave F.allowed first folder.new observed.items) }
+    ensures observed { IsTrue F.faithful → AreSeenIn (F.contents folder.old).files seen.now → IfOk result
         (λ observed. AllByRecursion (IsObservedIn (F.contents folder.old).files) observed.items) }
-    ensures small { IsTrue F.faithful → OnOk result
+    ensures small { IsTrue F.faithful → AreSeenIn (F.contents folder.old).files seen.now → OnOk result
         (too_large (F.contents folder.old).files entries.now ≡ []) }
-    ensures err { IsTrue F.faithful
+    ensures err { IsTrue F.faithful → AreSeenIn (F.contents folder.old).files seen.now
         → AllByRecursion (λ entry. IsSome (file_at (F.contents folder.old).files entry.1)) entries.now
         → IfErr result (λ fault.
         IsRefused (F.failures folder.old) (F.failures folder.new)
@@ -170,7 +223,7 @@ pub(crate) fn scan_all<F: Folder>(
     let mut observed = Vec::with_capacity(alloc, entries.len())?;
     let mut waiting = Waiting::Nothing;
     for (path, place) in entries.iter() {
-        let found = match scan_file(alloc, folder, path, place, room) {
+        let found = match find_file(alloc, folder, path, place, seen, room) {
             Ok(found) => found,
             Err(fault) => {
                 drop(waiting);

@@ -94,7 +94,7 @@ returns-clause-changes g c = λ faithful.
 pub returns-then-options-clause-requests : goal.returns-then-options-clause-requests
 returns-then-options-clause-requests g c =
     let F = g.F.Folder in
-    subst (λ (rs : List TaskReport). ExecutionsRequest F.failures F.may_leave F.allowed g.A.Actions.meanings c.args.table.now c.args.options c.args.plan.now c.args.records.now rs c.args.folder.now c.args.folder.now)
+    subst (λ (rs : List TaskReport). ExecutionsRequest F.failures F.may_leave F.allowed g.A.Actions.meanings c.args.table.now c.args.options c.args.plan.now c.args.records.now rs c.args.folder.now c.args.folder.now c.args.folder.now)
     (sym (c.with_reports.ensures.tasks ∙ c.in_ok-dry_reports.ensures ∙ ap dry_reports c.as_slice-tasks.ensures))
     (dry_requests F.failures F.may_leave F.allowed g.A.Actions.meanings c.args.table.now c.args.options c.args.plan.now c.args.records.now c.args.folder.now c.requires.each)
 
@@ -102,22 +102,22 @@ pub returns-clause-requests : goal.returns-clause-requests
 returns-clause-requests g c =
     let F = g.F.Folder in
     let start = c.args.folder.now in
-    subst (λ (rs : List TaskReport). ExecutionsRequest F.failures F.may_leave F.allowed g.A.Actions.meanings c.args.table.now c.args.options c.args.plan.now c.args.records.now rs start c.execute_tasks-all_heard.new.folder) (sym c.with_reports-2.ensures.tasks)
-    (subst (λ (ps : List Planned). ExecutionsRequest F.failures F.may_leave F.allowed g.A.Actions.meanings c.args.table.now c.args.options ps c.args.records.now c.execute_tasks-all_heard.new.reports.items start c.execute_tasks-all_heard.new.folder)
+    subst (λ (rs : List TaskReport). ExecutionsRequest F.failures F.may_leave F.allowed g.A.Actions.meanings c.args.table.now c.args.options c.args.plan.now c.args.records.now rs start start c.execute_tasks-all_heard.new.folder) (sym c.with_reports-2.ensures.tasks)
+    (subst (λ (ps : List Planned). ExecutionsRequest F.failures F.may_leave F.allowed g.A.Actions.meanings c.args.table.now c.args.options ps c.args.records.now c.execute_tasks-all_heard.new.reports.items start start c.execute_tasks-all_heard.new.folder)
     c.as_slice-tasks.ensures c.execute_tasks-all_heard.ensures.requests)
 
 pub returns-clause-count : goal.returns-clause-count
 returns-clause-count g c =
     let F = g.F.Folder in
     let start = c.args.folder.now in
-    (executions_places F.failures F.may_leave F.allowed g.A.Actions.meanings c.args.table.now c.args.options c.args.plan.now c.args.records.now c.execute_tasks-all_heard.new.reports.items start c.execute_tasks-all_heard.new.folder
-    (subst (λ (ps : List Planned). ExecutionsRequest F.failures F.may_leave F.allowed g.A.Actions.meanings c.args.table.now c.args.options ps c.args.records.now c.execute_tasks-all_heard.new.reports.items start c.execute_tasks-all_heard.new.folder)
+    (executions_places F.failures F.may_leave F.allowed g.A.Actions.meanings c.args.table.now c.args.options c.args.plan.now c.args.records.now c.execute_tasks-all_heard.new.reports.items start start c.execute_tasks-all_heard.new.folder
+    (subst (λ (ps : List Planned). ExecutionsRequest F.failures F.may_leave F.allowed g.A.Actions.meanings c.args.table.now c.args.options ps c.args.records.now c.execute_tasks-all_heard.new.reports.items start start c.execute_tasks-all_heard.new.folder)
     c.as_slice-tasks.ensures c.execute_tasks-all_heard.ensures.requests)).count
 
 pub returns-clause-tearing : goal.returns-clause-tearing
 returns-clause-tearing g c =
     let F = g.F.Folder in
     let start = c.args.folder.now in
-    (executions_places F.failures F.may_leave F.allowed g.A.Actions.meanings c.args.table.now c.args.options c.args.plan.now c.args.records.now c.execute_tasks-all_heard.new.reports.items start c.execute_tasks-all_heard.new.folder
-    (subst (λ (ps : List Planned). ExecutionsRequest F.failures F.may_leave F.allowed g.A.Actions.meanings c.args.table.now c.args.options ps c.args.records.now c.execute_tasks-all_heard.new.reports.items start c.execute_tasks-all_heard.new.folder)
+    (executions_places F.failures F.may_leave F.allowed g.A.Actions.meanings c.args.table.now c.args.options c.args.plan.now c.args.records.now c.execute_tasks-all_heard.new.reports.items start start c.execute_tasks-all_heard.new.folder
+    (subst (λ (ps : List Planned). ExecutionsRequest F.failures F.may_leave F.allowed g.A.Actions.meanings c.args.table.now c.args.options ps c.args.records.now c.execute_tasks-all_heard.new.reports.items start start c.execute_tasks-all_heard.new.folder)
     c.as_slice-tasks.ensures c.execute_tasks-all_heard.ensures.requests)).tearing

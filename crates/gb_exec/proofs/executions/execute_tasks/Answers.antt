@@ -30,10 +30,11 @@ use Rattle.gb_store.specs.Changes.{ChangesOnly}
 use Rattle.gb_store.proofs.Machine.{changes_none}
 use Rattle.gb_task.proofs.Parts.{differs_outside}
 use Rattle.gb_task.proofs.Recorded.{assumed_later}
+use Rattle.gb_tree.proofs.Remembering.{none_seen_in}
 use Rattle.gb_exec.specs.Asking.{ExecutionsRequest}
 use Rattle.gb_exec.specs.Building.{is_of_executions}
 use Rattle.gb_task.specs.Buildable.{IsBuildable}
-use Rattle.gb_exec.proofs.Asking.{executions_more, executions_places}
+use Rattle.gb_exec.proofs.Asking.{AreSoFar, executions_places, executions_until, more_so_far, none_so_far}
 use Rattle.gb_task.proofs.ByOutcome.{execution_places}
 use Rattle.gb_meaning.specs.Headline.{HasFailed}
 use Rattle.gb_exec.specs.Failing.{times_blamed}
@@ -87,7 +88,9 @@ loop-path-init g c =
       heard = subst (λ (rs : List TaskReport). AllReported (heard_of false rs) true ears ears) (sym none) (unnotified ears);
       printed = subst (λ (rs : List TaskReport). Prints P.contents P.whole (flat_map task_text rs) c.args.printer.now c.args.printer.now) (sym none)
           (prints_nothing P.contents P.whole c.args.printer.now);
-      requests = subst (λ (rs : List TaskReport). ExecutionsRequest F.failures F.may_leave F.allowed g.A.Actions.meanings c.args.build.now.table.now c.args.build.now.options [] [] rs start start) (sym none) refl;
+      requests = subst (λ (rs : List TaskReport). AreSoFar F.failures F.may_leave F.allowed g.A.Actions.meanings c.args.build.now.table.now c.args.build.now.options [] [] rs start start c.new-seen.result) (sym none)
+          (none_so_far F.failures F.may_leave F.allowed g.A.Actions.meanings c.args.build.now.table.now c.args.build.now.options start c.new-seen.result c.new-seen.ensures);
+      seen_in = λ faithful. none_seen_in (F.contents start).files c.new-seen.result c.new-seen.ensures;
       device = subst (λ (rs : List TaskReport). HasFailed (times_blamed rs) (F.failures start) (F.failures start)) (sym none) (inl (omega arith));
       changes = λ faithful. changes_none (is_of_executions []) (F.contents start) (F.contents start) refl;
       build = λ faithful kinds registry_of remembered clear observed assumed worth.
@@ -124,9 +127,13 @@ loop-path-preserved g c =
     let is = (at_index tasks i less).1 in
     let along = next_path tasks i planned c.in-Some.path rest is left in
     let of_task = c.execute_one-taken.ensures.of_task planned is in
-    let way = executions_places F.failures F.may_leave F.allowed g.A.Actions.meanings build.table.now build.options (take i tasks) (take i build.records.now) reports start now inv.requests in
-    let taken = c.execute_one-taken.ensures.requests planned is in
-    let count = (execution_places F.failures F.may_leave F.allowed g.A.Actions.meanings build.table.now build.options planned.task (slice_index_or build.records.now i None) report.lines now next report.outcome taken).count in
+    let remembered_now = c.execute_one-taken.new.seen in
+    let far = inv.requests in
+    let way = executions_places F.failures F.may_leave F.allowed g.A.Actions.meanings build.table.now build.options (take i tasks) (take i build.records.now) reports start start now
+    (executions_until F.failures F.may_leave F.allowed g.A.Actions.meanings build.table.now build.options (take i tasks) (take i build.records.now) reports start start far.last now far.executions) in
+    let taken = c.execute_one-taken.ensures.requests planned is far.last far.none far.were in
+    let count = (execution_places F.failures F.may_leave F.allowed g.A.Actions.meanings build.table.now build.options planned.task (slice_index_or build.records.now i None) report.lines far.last now next
+    report.outcome taken).count in
     let read = take_more build.records.now i None (omega (arith, c.requires.each, less)) in
     let can = each_at (λ (p : Planned). IsBuildable g.A.Actions.meanings build.table.now p.task) tasks i planned is c.requires.can.tasks in
     let is_path : IsTrue (is_task_path planned.task.path) = subst (λ (p : Path). IsTrue (is_task_path p)) along.0 c.as_str-path.ensures.path in
@@ -171,10 +178,12 @@ loop-path-preserved g c =
       printed = subst (λ (rs : List TaskReport). Prints P.contents P.whole (flat_map task_text rs) c.args.printer.now c.print_task.new.self) (sym items)
           (subst (λ (text : List ℕ). Prints P.contents P.whole text c.args.printer.now c.print_task.new.self) (sym (parts_more reports report))
           (prints_more P.contents P.whole (flat_map task_text reports) (task_text report) c.args.printer.now c.loop-path.printer c.print_task.new.self inv.printed c.print_task.ensures));
-      requests = subst (λ (ps : List Planned). ExecutionsRequest F.failures F.may_leave F.allowed g.A.Actions.meanings build.table.now build.options ps (take (i + 1) build.records.now) c.push_reserved.new.reports.items start next) (sym take_is)
-          (subst (λ (last : List (Option Record)). ExecutionsRequest F.failures F.may_leave F.allowed g.A.Actions.meanings build.table.now build.options (take i tasks ++ planned ∷ []) last c.push_reserved.new.reports.items start next) (sym read)
-          (subst (λ (rs : List TaskReport). ExecutionsRequest F.failures F.may_leave F.allowed g.A.Actions.meanings build.table.now build.options (take i tasks ++ planned ∷ []) (take i build.records.now ++ slice_index_or build.records.now i None ∷ []) rs start next) (sym items)
-          (executions_more F.failures F.may_leave F.allowed g.A.Actions.meanings build.table.now build.options (take i tasks) (take i build.records.now) reports planned (slice_index_or build.records.now i None) report start now next inv.requests taken)));
+      requests = subst (λ (ps : List Planned). AreSoFar F.failures F.may_leave F.allowed g.A.Actions.meanings build.table.now build.options ps (take (i + 1) build.records.now) c.push_reserved.new.reports.items start next remembered_now) (sym take_is)
+          (subst (λ (last : List (Option Record)). AreSoFar F.failures F.may_leave F.allowed g.A.Actions.meanings build.table.now build.options (take i tasks ++ planned ∷ []) last c.push_reserved.new.reports.items start next remembered_now) (sym read)
+          (subst (λ (rs : List TaskReport). AreSoFar F.failures F.may_leave F.allowed g.A.Actions.meanings build.table.now build.options (take i tasks ++ planned ∷ []) (take i build.records.now ++ slice_index_or build.records.now i None ∷ []) rs start next remembered_now) (sym items)
+          (more_so_far F.failures F.may_leave F.allowed g.A.Actions.meanings build.table.now build.options (take i tasks) (take i build.records.now) reports start now c.loop-path.seen far planned (slice_index_or build.records.now i None) report next remembered_now
+          taken (c.execute_one-taken.ensures.seen far.last far.none far.were))));
+      seen_in = λ faithful. c.execute_one-taken.ensures.seen_in faithful (inv.seen_in faithful);
       device = subst (λ (rs : List TaskReport). HasFailed (times_blamed rs) (F.failures start) (F.failures next)) (sym items)
           (failed_more reports report (F.failures start) (F.failures now) (F.failures next) inv.device count c.execute_one-taken.ensures.blame);
       changes = λ faithful.
@@ -194,7 +203,7 @@ loop-path-preserved g c =
           (g.met.F.Folder.sound next) (differs_outside planned.task (F.contents now).files (F.contents next).files changes.elsewhere) changes.special c.requires.can.sound.outputs_separate
           (F.may_leave now) way.tearing (once_after (take i tasks) (drop (i + 1) tasks) planned (subst (λ (ps : List Planned). no_repeats (order ps) ≡ true) (whole_at tasks i planned is) c.requires.can.once))
           (λ given still.
-          c.execute_one-taken.ensures.execution faithful kinds registry_of u.moment planned is (assumed_later (F.may_leave start) (F.may_leave now) way.tearing assumed) u.folder u.failures still.existing
+          c.execute_one-taken.ensures.execution faithful (inv.seen_in faithful) kinds registry_of u.moment planned is (assumed_later (F.may_leave start) (F.may_leave now) way.tearing assumed) u.folder u.failures still.existing
           (subst (λ (os : List (Path × Outcome)). AreEndings tasks os c.loop-path.starts.endings) (sym u.outcomes) inv.endings)
           (knows c.what_is_read_is_known.ensures kinds tasks build.records.now observed u.observed_now (F.contents start) remembered u.moment.world i planned is (worth given.0) is_path still.same.0
           (subst (λ (folder : Contents). IsFolder folder.files) (sym u.folder) (folder_where (λ place. not (is_own place)) (F.contents now).files (g.met.F.Folder.sound now)))
@@ -248,11 +257,13 @@ returns-clause-requests g c =
     let build = c.args.build.now in
     let tasks = build.tasks.now in
     let i = c.loop-path.index in
-    let inv = c.loop-path.invariant in
+    let start = c.args.folder.now in
+    let far = c.loop-path.invariant.requests in
     let empty : length (into_iter_items c.loop-path.path-iterator) ≡ 0 = omega (arith, c.loop-path.path-iterator.rest.ok.0, c.in-None.ensures.steps.0) in
     let mapped : length (order (drop i tasks)) ≡ length (drop i tasks) = length-map _ _ in
     let dropped : length (drop i tasks) ≡ length tasks - i = length-drop i tasks in
-    let all : length tasks ≤ i = omega (arith, empty, ap length inv.left, mapped, dropped) in
-    subst (λ (ps : List Planned). ExecutionsRequest F.failures F.may_leave F.allowed g.A.Actions.meanings build.table.now build.options ps build.records.now c.loop-path.reports.items c.args.folder.now c.loop-path.folder) (take_all i tasks all)
-    (subst (λ (read : List (Option Record)). ExecutionsRequest F.failures F.may_leave F.allowed g.A.Actions.meanings build.table.now build.options (take i tasks) read c.loop-path.reports.items c.args.folder.now c.loop-path.folder)
-    (take_all i build.records.now (omega (arith, all, c.requires.each))) inv.requests)
+    let all : length tasks ≤ i = omega (arith, empty, ap length c.loop-path.invariant.left, mapped, dropped) in
+    subst (λ (ps : List Planned). ExecutionsRequest F.failures F.may_leave F.allowed g.A.Actions.meanings build.table.now build.options ps build.records.now c.loop-path.reports.items start start c.loop-path.folder) (take_all i tasks all)
+    (subst (λ (read : List (Option Record)). ExecutionsRequest F.failures F.may_leave F.allowed g.A.Actions.meanings build.table.now build.options (take i tasks) read c.loop-path.reports.items start start c.loop-path.folder)
+    (take_all i build.records.now (omega (arith, all, c.requires.each)))
+    (executions_until F.failures F.may_leave F.allowed g.A.Actions.meanings build.table.now build.options (take i tasks) (take i build.records.now) c.loop-path.reports.items start start far.last c.loop-path.folder far.executions))

@@ -16,7 +16,8 @@ use Rattle.gb_exec.specs.Plans.{AreEndings, AreOfPlan}
 use Rattle.gb_store.specs.Changes.{ChangesOnly}
 use Rattle.gb_records.specs.Assumed.{IsAssumed}
 use Rattle.gb_task.specs.Executing.{Registering}
-use Rattle.gb_exec.specs.Asking.{ExecutionsRequest}
+use Rattle.gb_tree.specs.Seen.{AreSeenIn}
+use Rattle.gb_exec.proofs.Asking.{AreSoFar}
 use Rattle.gb_exec.specs.Building.{is_of_executions}
 use Rattle.gb_exec.specs.Built.{AreWorth}
 use Rattle.gb_exec.specs.Failing.{times_blamed}
@@ -46,7 +47,8 @@ invariant-loop-path g l =
       places : AllByRecursion HasOwnPlaces done;
       heard : AllReported (heard_of false l.reports.items) l.all_heard (map ear l.fn.listeners.items) (map ear l.listeners.items);
       printed : Prints P.contents P.whole (flat_map task_text l.reports.items) l.fn.printer l.printer;
-      requests : ExecutionsRequest F.failures F.may_leave F.allowed g.A.Actions.meanings l.build.table.now l.build.options done (take l.index l.build.records.now) l.reports.items start l.folder;
+      requests : AreSoFar F.failures F.may_leave F.allowed g.A.Actions.meanings l.build.table.now l.build.options done (take l.index l.build.records.now) l.reports.items start l.folder l.seen;
+      seen_in : IsTrue F.faithful → AreSeenIn (F.contents l.folder).files l.seen;
       device : HasFailed (times_blamed l.reports.items) (F.failures start) (F.failures l.folder);
       changes : IsTrue F.faithful → ChangesOnly (is_of_executions done) (F.contents start) (F.contents l.folder);
       build : IsTrue F.faithful → (kinds : Kinds) (registry_of : Registering) (remembered : Memory) (clear : Bool) (observed : List Bytes) → IsAssumed g.A.Actions.meanings l.build.table.now kinds (F.may_leave start)

@@ -21,7 +21,8 @@ use Rattle.gb_exec.proofs.Hearing.{heard_passed, heard_started, unnotified}
 use Rattle.gb_exec.proofs.Outlining.{outline_passed, outline_started}
 use Rattle.gb_exec.proofs.Taking.{own_separate, read_so, execution_passed, execution_started}
 use Rattle.gb_history.specs.Record.{Record}
-use Rattle.gb_task.specs.ByOutcome.{ExecutionRequests}
+use Rattle.gb_task.specs.ByOutcome.{ExecutionRequests, since_after}
+use Rattle.gb_tree.specs.Seen.{AreSeen}
 use Rattle.std.specs.Prelude.{Option}
 use Rattle.gb_exec.proofs.one_task.execute_one.Goals as goal
 use Rattle.gb_exec.proofs.one_task.execute_one.Goals.{then-begun, else-begun}
@@ -42,7 +43,7 @@ returns-then-not-does_start-clause-outline g c = λ moment planned is endings.
     (λ starts. not_false (sym (c.does_start.ensures.starts.1 (by_number.0 starts)) ∙ c.if-not-does_start.true))
 
 pub returns-then-not-does_start-clause-execution : goal.returns-then-not-does_start-clause-execution
-returns-then-not-does_start-clause-execution g c = λ faithful kinds registry_of moment planned is assumed folder failures exists endings known.
+returns-then-not-does_start-clause-execution g c = λ faithful there kinds registry_of moment planned is assumed folder failures exists endings known.
     let F = g.F.Folder in
     let tasks = c.args.build.now.tasks.now in
     let got = slice_get-get_or tasks c.args.index c.index-build-index.result c.requires.index in
@@ -125,7 +126,7 @@ returns-clause-outline g c = λ moment planned is endings.
     (by_number.1 (c.does_start.ensures.starts.0 c.if-not-does_start.false)) need report.ensures.alone report.ensures.answer)
 
 pub returns-clause-execution : goal.returns-clause-execution
-returns-clause-execution g c = λ faithful kinds registry_of moment planned is assumed folder failures exists endings known.
+returns-clause-execution g c = λ faithful there kinds registry_of moment planned is assumed folder failures exists endings known.
     let F = g.F.Folder in
     let build = c.args.build.now in
     let tasks = build.tasks.now in
@@ -147,7 +148,7 @@ returns-clause-execution g c = λ faithful kinds registry_of moment planned is a
     (by_number.1 (c.does_start.ensures.starts.0 (not_not c.does_start.result c.if-not-does_start.false)))
     (let known_so : IsKnown kinds task.task moment.world (option_copied c.as_ref-last.result) =
     subst (IsKnown kinds task.task moment.world) (sym last) (subst (λ (p : Planned). IsKnown kinds p.task moment.world (slice_index_or build.records.now index None)) (sym same) known) in
-    c.execute_task-report.ensures.execution faithful kinds registry_of tasks moment assumed
+    c.execute_task-report.ensures.execution faithful there kinds registry_of tasks moment assumed
     (record { folder = folder; failures = failures; records = exists; read = read_so kinds task.task moment.world (option_copied c.as_ref-last.result) known_so })
     need known_so))
   where
@@ -155,14 +156,20 @@ returns-clause-execution g c = λ faithful kinds registry_of moment planned is a
     not_not b e = e
 
 pub returns-then-not-does_start-clause-requests : goal.returns-then-not-does_start-clause-requests
-returns-then-not-does_start-clause-requests g c = λ planned is.
+returns-then-not-does_start-clause-requests g c = λ planned is since before was.
     let F = g.F.Folder in
     let build = c.args.build.now in
     subst (λ (r : TaskReport). ExecutionRequests F.failures F.may_leave F.allowed g.A.Actions.meanings build.table.now build.options planned.task (slice_index_or build.records.now c.args.index None) r.outcome r.lines
-    c.args.folder.now c.args.folder.now) (sym c.not_run_report.ensures) refl
+    since c.args.folder.now c.args.folder.now) (sym c.not_run_report.ensures) refl
+
+pub returns-then-not-does_start-clause-seen : goal.returns-then-not-does_start-clause-seen
+returns-then-not-does_start-clause-seen g c = λ since before was.
+    let F = g.F.Folder in
+    let now = c.args.folder.now in
+    subst (λ (r : TaskReport). AreSeen F.failures F.may_leave F.allowed (since_after r.outcome since now) now c.args.seen.now) (sym c.not_run_report.ensures) was
 
 pub returns-clause-requests : goal.returns-clause-requests
-returns-clause-requests g c = λ planned at.
+returns-clause-requests g c = λ planned at since before was.
     let F = g.F.Folder in
     let build = c.args.build.now in
     let tasks = build.tasks.now in
@@ -173,7 +180,8 @@ returns-clause-requests g c = λ planned at.
     let within : index < length build.records.now = omega (arith, c.requires.each, c.requires.index) in
     let last : option_copied c.as_ref-last.result ≡ slice_index_or build.records.now index None =
     c.as_ref-last.ensures.value ∙ get_or_default build.records.now index c.index-build-index-2.result None within in
-    subst (λ (read : Option Record). ExecutionRequests F.failures F.may_leave F.allowed g.A.Actions.meanings build.table.now build.options planned.task read outcome lines c.args.folder.now c.execute_task-report.new.folder) last
+    subst (λ (read : Option Record). ExecutionRequests F.failures F.may_leave F.allowed g.A.Actions.meanings build.table.now build.options planned.task read outcome lines since c.args.folder.now
+    c.execute_task-report.new.folder) last
     (subst (λ (p : Planned). ExecutionRequests F.failures F.may_leave F.allowed g.A.Actions.meanings build.table.now build.options p.task (option_copied c.as_ref-last.result) outcome lines
-    c.args.folder.now c.execute_task-report.new.folder) same
-    c.execute_task-report.ensures.requests)
+    since c.args.folder.now c.execute_task-report.new.folder) same
+    (c.execute_task-report.ensures.requests since before was))

@@ -14,8 +14,10 @@ use Rattle.gb_store.proofs.Machine.{at_err, handed_on, machine_before}
 use Rattle.gb_tree.proofs.Answering.{all_zip_more}
 use Rattle.gb_tree.proofs.Holding.{all_wider}
 use Rattle.gb_tree.proofs.Observed.{each_more}
+use Rattle.gb_tree.proofs.Remembering.{known_still, seen_longer}
 use Rattle.gb_tree.specs.Prints.{digests_of}
 use Rattle.gb_tree.specs.Property.{is_under_any}
+use Rattle.gb_tree.specs.Seen.{AreSeenIn}
 use Rattle.gb_tree.specs.declared.kept.ScannedFile.{ScannedFile}
 use Rattle.gb_meaning.specs.Tree.{tree_faults, tree_of, input_faults}
 use Rattle.gb_label.specs.ReadingAnswered.{IsInputAnswered}
@@ -37,7 +39,7 @@ returns-in_err-read_one-clause-blamed g c = λ place device.
     (c.read_one.ensures.blamed place (handed_on c.from_residual.result c.read_one.result p.0 c.in_err-read_one.field-0.0 place p.1 p.2 c.in_err-read_one.was device))
 
 pub returns-in_err-read_one-clause-err : goal.returns-in_err-read_one-clause-err
-returns-in_err-read_one-clause-err g c = λ faithful.
+returns-in_err-read_one-clause-err g c = λ faithful known.
     let p = err_from_is_err_and c.from_residual.result c.from_residual.ensures.1 in
     let old = g.F.Folder.contents c.args.folder.now in
     let files = c.args.task.now.files in
@@ -46,9 +48,9 @@ returns-in_err-read_one-clause-err g c = λ faithful.
     let less = subst (λ (fs : List FileProperty). index < length fs) c.as_slice-property-items.ensures c.loop-property-test.true in
     let is = subst (λ (fs : List FileProperty). item ≡ get_or fs index item) c.as_slice-property-items.ensures c.property-item.is in
     let IsFault : Fault → Type 0 = CannotRead (g.F.Folder.failures c.args.folder.now) (g.F.Folder.failures c.read_one.new.folder) (input_faults c.args.task.now old) in
-    at_err (λ r. IfErr r IsFault) c.from_residual.result p.0 c.in_err-read_one.field-0.0 p.1 p.2 (elim (c.in_err-read_one.ensures.err faithful) [
+    at_err (λ r. IfErr r IsFault) c.from_residual.result p.0 c.in_err-read_one.field-0.0 p.1 p.2 (elim (c.in_err-read_one.ensures.err faithful (known_still _ _ c.args.seen.now (c.loop-property.invariant.same faithful) known)) [
       | inl machine ↦ inl (machine_before _ _ _ _ c.loop-property.invariant.requests.count c.read_one.ensures.requests.count machine)
-      | inr first ↦ inr (first_of_all (λ property. tree_faults property old) files index item _ less is (c.loop-property.invariant.fit faithful)
+      | inr first ↦ inr (first_of_all (λ property. tree_faults property old) files index item _ less is (c.loop-property.invariant.fit faithful known)
           (ap (λ folder. first_of (tree_faults item folder)) (sym (c.loop-property.invariant.same faithful)) ∙ first))
     ])
 
@@ -67,6 +69,7 @@ loop-property-preserved g c =
     let added = c.in_ok-push.ensures.items in
     let one = c.in_ok-read_one.ensures in
     let x : Read = c.in_ok-read_one.field-0 in
+    let known_now = λ (faithful : IsTrue g.F.Folder.faithful) (known : AreSeenIn old.files c.args.seen.now). known_still _ _ c.args.seen.now (so_far.same faithful) known in
     let reported : FileProperty → Prints = λ property. (property.name, digests_of (tree_of property old.files)) in
     record {
       requests = requests_then so_far.requests c.read_one.ensures.requests;
@@ -76,23 +79,23 @@ loop-property-preserved g c =
           each_more (λ (reading : Read). AllByRecursion (λ observed. IsTrue (is_input_of task observed.place)) reading.1) readings next x added so_far.within
           (all_wider (λ (observed : ScannedFile). IsTrue (is_under_any item.roots observed.place)) (λ (observed : ScannedFile). IsTrue (is_input_of task observed.place)) x.1
           (λ observed under. any_of_one (is_under observed.place) (λ property. property.roots) files index item less is under) one.within);
-      answered =
+      answered = λ first before known.
           let F = g.F.Folder in
-          let before = c.args.folder.now in
           let now = c.read_one.new.folder in
-          let Answered : FileProperty → Read → Type 0 = IsInputAnswered F.failures F.may_leave F.allowed before now in
+          let Answered : FileProperty → Read → Type 0 = IsInputAnswered F.failures F.may_leave F.allowed first now in
           observed_more Answered files readings next index item x less is added
-          (all_zip_more (IsInputAnswered F.failures F.may_leave F.allowed before c.loop-property.folder) Answered (input_longer (requests_nothing before) c.read_one.ensures.requests)
-          (take index files) readings so_far.answered)
-          (input_longer so_far.requests (requests_nothing now) item x one.answered);
-      prints = λ faithful.
-          prints_more reported readings next x files index item less is added one.named (one.digests faithful ∙ ap (λ folder. digests_of (tree_of item folder.files)) (so_far.same faithful)) (so_far.prints faithful);
-      observed = λ faithful.
-          observed_more (IsPropertyObserved old.files) files readings next index item x less is added (so_far.observed faithful)
-          (subst (λ (now : Contents). IsPropertyObserved now.files item x) (so_far.same faithful) (one.observed faithful));
-      fit = λ faithful.
+          (all_zip_more (IsInputAnswered F.failures F.may_leave F.allowed first c.loop-property.folder) Answered (input_longer (requests_nothing first) c.read_one.ensures.requests)
+          (take index files) readings (so_far.answered first before known))
+          (one.answered first (requests_then before so_far.requests) (seen_longer (requests_nothing first) so_far.requests c.args.seen.now known));
+      prints = λ faithful known.
+          prints_more reported readings next x files index item less is added one.named
+          (one.digests faithful (known_now faithful known) ∙ ap (λ folder. digests_of (tree_of item folder.files)) (so_far.same faithful)) (so_far.prints faithful known);
+      observed = λ faithful known.
+          observed_more (IsPropertyObserved old.files) files readings next index item x less is added (so_far.observed faithful known)
+          (subst (λ (now : Contents). IsPropertyObserved now.files item x) (so_far.same faithful) (one.observed faithful (known_now faithful known)));
+      fit = λ faithful known.
           one_more (λ property. tree_faults property old) files index item less is
-          ∙ ap (λ xs. xs ++ tree_faults item old) (so_far.fit faithful) ∙ (ap (tree_faults item) (sym (so_far.same faithful)) ∙ one.fit faithful);
+          ∙ ap (λ xs. xs ++ tree_faults item old) (so_far.fit faithful known) ∙ (ap (tree_faults item) (sym (so_far.same faithful)) ∙ one.fit faithful (known_now faithful known));
     }
 
 pub returns-clause-read : goal.returns-clause-read
@@ -106,28 +109,28 @@ returns-clause-read g c =
     }
 
 pub returns-clause-prints : goal.returns-clause-prints
-returns-clause-prints g c = λ faithful.
+returns-clause-prints g c = λ faithful known.
     let old = g.F.Folder.contents c.args.folder.now in
     let files = c.args.task.now.files in
     let index = c.loop-property.property-index in
     let long : length files ≤ index = omega (arith, c.loop-property-test.false, ap length c.as_slice-property-items.ensures) in
-    c.loop-property.invariant.prints faithful
+    c.loop-property.invariant.prints faithful known
     ∙ ap (map (λ (property : FileProperty). (property.name, digests_of (tree_of property old.files)))) (take_all index files long)
     ∙ map_twice (λ (property : FileProperty). (property.name, tree_of property old.files)) (λ tree. (tree.0, digests_of tree.1)) files
 
 pub returns-clause-observed : goal.returns-clause-observed
-returns-clause-observed g c = λ faithful.
+returns-clause-observed g c = λ faithful known.
     let old = g.F.Folder.contents c.args.folder.now in
     let files = c.args.task.now.files in
     let index = c.loop-property.property-index in
     let long : length files ≤ index = omega (arith, c.loop-property-test.false, ap length c.as_slice-property-items.ensures) in
-    subst (λ (fs : List FileProperty). AllZip (IsPropertyObserved old.files) fs c.loop-property.readings.items) (take_all index files long) (c.loop-property.invariant.observed faithful)
+    subst (λ (fs : List FileProperty). AllZip (IsPropertyObserved old.files) fs c.loop-property.readings.items) (take_all index files long) (c.loop-property.invariant.observed faithful known)
 
 pub returns-clause-answered : goal.returns-clause-answered
-returns-clause-answered g c =
+returns-clause-answered g c = λ first before known.
     let F = g.F.Folder in
     let files = c.args.task.now.files in
     let index = c.loop-property.property-index in
     let long : length files ≤ index = omega (arith, c.loop-property-test.false, ap length c.as_slice-property-items.ensures) in
-    subst (λ (fs : List FileProperty). AllZip (IsInputAnswered F.failures F.may_leave F.allowed c.args.folder.now c.loop-property.folder) fs c.loop-property.readings.items)
-    (take_all index files long) c.loop-property.invariant.answered
+    subst (λ (fs : List FileProperty). AllZip (IsInputAnswered F.failures F.may_leave F.allowed first c.loop-property.folder) fs c.loop-property.readings.items)
+    (take_all index files long) (c.loop-property.invariant.answered first before known)

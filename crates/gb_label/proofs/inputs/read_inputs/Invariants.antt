@@ -2,6 +2,7 @@ use Rattle.std.proofs.Common.{◌≡◌, [], take, map, IsTrue}
 use Rattle.std.specs.List.{AllZip, flat_map}
 use Rattle.gb_folder.specs.Calls.{Requests, no_change}
 use Rattle.gb_tree.specs.Prints.{digests_of}
+use Rattle.gb_tree.specs.Seen.{AreSeen, AreSeenIn}
 use Rattle.gb_meaning.specs.Tree.{tree_faults, tree_of}
 use Rattle.gb_label.specs.ReadingAnswered.{IsInputAnswered}
 use Rattle.gb_label.specs.Reading.{AreWithin, IsPropertyObserved, is_input_of, prints_read}
@@ -17,8 +18,10 @@ invariant-loop-property g l =
       same : IsTrue g.F.Folder.faithful → contents l.folder ≡ old;
       named : map (λ reading. reading.0) l.readings.items ≡ map (λ property. property.name) done;
       within : AreWithin (is_input_of l.task) l.readings.items;
-      answered : AllZip (IsInputAnswered g.F.Folder.failures g.F.Folder.may_leave g.F.Folder.allowed l.fn.folder l.folder) done l.readings.items;
-      prints : IsTrue g.F.Folder.faithful → prints_read l.readings.items ≡ map (λ property. (property.name, digests_of (tree_of property old.files))) done;
-      observed : IsTrue g.F.Folder.faithful → AllZip (IsPropertyObserved old.files) done l.readings.items;
-      fit : IsTrue g.F.Folder.faithful → flat_map (λ property. tree_faults property old) done ≡ [];
+      answered : (first : _) → Requests g.F.Folder.failures g.F.Folder.may_leave g.F.Folder.allowed no_change first l.fn.folder
+          → AreSeen g.F.Folder.failures g.F.Folder.may_leave g.F.Folder.allowed first l.fn.folder l.seen
+          → AllZip (IsInputAnswered g.F.Folder.failures g.F.Folder.may_leave g.F.Folder.allowed first l.folder) done l.readings.items;
+      prints : IsTrue g.F.Folder.faithful → AreSeenIn old.files l.seen → prints_read l.readings.items ≡ map (λ property. (property.name, digests_of (tree_of property old.files))) done;
+      observed : IsTrue g.F.Folder.faithful → AreSeenIn old.files l.seen → AllZip (IsPropertyObserved old.files) done l.readings.items;
+      fit : IsTrue g.F.Folder.faithful → AreSeenIn old.files l.seen → flat_map (λ property. tree_faults property old) done ≡ [];
     }

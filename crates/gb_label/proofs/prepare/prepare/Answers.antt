@@ -1,5 +1,5 @@
 use Rattle.std.proofs.Common.{List, option_copied, subst}
-use Rattle.gb_folder.proofs.Asked.{requests_nothing}
+use Rattle.gb_folder.proofs.Asked.{requests_nothing, requests_then}
 use Rattle.gb_label.proofs.ReadingAnswering.{inputs_longer}
 use Rattle.gb_label.specs.Reading.{Read}
 use Rattle.gb_label.specs.Answered.{WasDecided, IsEarlyCaseRead}
@@ -9,9 +9,8 @@ use Rattle.gb_label.proofs.Answering.{decided_longer}
 use Rattle.gb_label.proofs.prepare.prepare.Goals as goal
 
 pub returns-in_ok-found-in-Open-clause-answered : goal.returns-in_ok-found-in-Open-clause-answered
-returns-in_ok-found-in-Open-clause-answered g c =
+returns-in_ok-found-in-Open-clause-answered g c = λ first before known.
     let F = g.F.Folder in
-    let old = c.args.folder.now in
     let mid = c.early_case_of.new.folder in
     let new = c.decided.new.folder in
     let task = c.args.task.now in
@@ -19,9 +18,9 @@ returns-in_ok-found-in-Open-clause-answered g c =
     let inputs = c.in-Open.inputs.items in
     let found = c.in_ok-found-in-Open.found in (
       (subst (MayBe task) c.in-Open.is c.in_ok-early_case_of.ensures.may_be).2,
-      inputs_longer (requests_nothing old) c.decided.ensures.requests task inputs
-          (subst (λ (look : EarlyCase). IsEarlyCaseRead F.failures F.may_leave F.allowed old mid task look) c.in-Open.is c.in_ok-early_case_of.ensures.answered),
-      decided_longer c.early_case_of.ensures.requests (requests_nothing new) c.args.options task last inputs found.decision found.outputs.items
+      inputs_longer (requests_nothing first) c.decided.ensures.requests task inputs
+          (subst (λ (look : EarlyCase). IsEarlyCaseRead F.failures F.may_leave F.allowed first mid task look) c.in-Open.is (c.in_ok-early_case_of.ensures.answered first before known)),
+      decided_longer (requests_then before c.early_case_of.ensures.requests) (requests_nothing new) c.args.options task last inputs found.decision found.outputs.items
           (subst (λ (observed : List Read). WasDecided F.failures F.may_leave F.allowed mid new c.args.options task last observed found.decision found.outputs.items)
           c.as_slice-in-Open.ensures.value c.in_ok-found-in-Open.ensures.answered),
     )

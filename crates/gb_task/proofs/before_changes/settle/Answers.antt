@@ -1,49 +1,75 @@
 use Rattle.std.proofs.Common.{option_copied, sym, subst}
-use Rattle.gb_folder.specs.Files.{is_empty}
+use Rattle.gb_folder.specs.Files.{Contents, is_empty}
+use Rattle.gb_tree.specs.Seen.{AreSeenIn}
 use Rattle.gb_task.specs.Settled.{AnswersAlone, IsOfTask, SettlesExecution, ReportsAnswer}
 use Rattle.gb_task.specs.Executing.{setting_with}
 use Rattle.gb_task.specs.declared.before_changes.Settled.{Settled}
 use Rattle.gb_task.proofs.Answering.{faithful as reports_answer}
 use Rattle.gb_task.proofs.Idle.{alone, of_task, settles}
 use Rattle.gb_task.specs.Current.{WasSettled}
+use Rattle.gb_task.specs.Seen.{Remembers}
 use Rattle.gb_task.proofs.Answered.{was_settled}
+use Rattle.gb_task.proofs.SeenAfter.{remembers, remembers_in}
 use Rattle.gb_task.proofs.before_changes.settle.Goals as goal
 
 pub returns-clause-of_task : goal.returns-clause-of_task
 returns-clause-of_task g c =
     let F = g.F.Folder in
-    let found = c.prepare-prepared in
-    subst (λ (s : Settled). IsOfTask c.args.task.now (F.failures c.args.folder.now) (F.failures found.new.folder) s) (sym c.settled_by.ensures)
+    let found = c.prepare_by_seen-prepared in
+    subst (λ (s : Settled). IsOfTask c.args.task.now (F.failures c.args.folder.now) (F.failures found.new.folder) s) (sym c.settled_by.ensures.settled)
     (of_task c.args.task.now c.args.path c.requires.path (F.failures c.args.folder.now) (F.failures found.new.folder) c.args.has_executed_need found.result found.ensures.may_be found.ensures.read found.ensures.blame
     found.ensures.blamed)
 
 pub returns-clause-alone : goal.returns-clause-alone
 returns-clause-alone g c =
     let F = g.F.Folder in
-    let found = c.prepare-prepared in
-    subst (λ (s : Settled). AnswersAlone c.args.task.now.runs (is_empty c.args.task.now.actions) c.args.has_executed_need s) (sym c.settled_by.ensures)
+    let found = c.prepare_by_seen-prepared in
+    subst (λ (s : Settled). AnswersAlone c.args.task.now.runs (is_empty c.args.task.now.actions) c.args.has_executed_need s) (sym c.settled_by.ensures.settled)
     (alone c.args.task.now c.args.path c.requires.path (F.failures c.args.folder.now) (F.failures found.new.folder) c.args.has_executed_need found.result found.ensures.may_be found.ensures.reads)
 
 pub returns-clause-answer : goal.returns-clause-answer
 returns-clause-answer g c =
-    let found = c.prepare-prepared in
-    subst (λ (s : Settled). ReportsAnswer c.args.options c.args.task.now s) (sym c.settled_by.ensures)
+    let found = c.prepare_by_seen-prepared in
+    subst (λ (s : Settled). ReportsAnswer c.args.options c.args.task.now s) (sym c.settled_by.ensures.settled)
     (reports_answer c.args.options c.args.task.now c.args.path c.args.has_executed_need found.result found.ensures.may_be found.ensures.may_decide)
 
 pub returns-clause-settled : goal.returns-clause-settled
-returns-clause-settled g c = λ faithful kinds registry_of plan moment folder count needed known.
+returns-clause-settled g c = λ faithful there kinds registry_of plan moment folder count needed known.
     let F = g.F.Folder in
     let start = c.args.folder.now in
-    let found = c.prepare-prepared in
+    let found = c.prepare_by_seen-prepared in
     let now = found.new.folder in
-    subst (λ (s : Settled). SettlesExecution (setting_with kinds registry_of (F.may_leave start)) c.args.options plan c.args.task.now moment (F.contents start) (F.failures now) s) (sym c.settled_by.ensures)
+    subst (λ (s : Settled). SettlesExecution (setting_with kinds registry_of (F.may_leave start)) c.args.options plan c.args.task.now moment (F.contents start) (F.failures now) s) (sym c.settled_by.ensures.settled)
     (settles (setting_with kinds registry_of (F.may_leave start)) c.args.options plan c.args.task.now c.args.path moment (F.contents start) (F.failures start) (F.failures now) c.args.has_executed_need
     (option_copied c.args.last) c.requires.not_own folder count needed known c.outside_is_enough.ensures c.prepared_is_case.ensures c.idle_executions_are_executions.ensures c.runs_are_of_case.ensures
-    found.result (found.ensures.prepared faithful) (found.ensures.observed faithful) (found.ensures.err faithful) found.ensures.reads found.ensures.blamed)
+    found.result (found.ensures.prepared faithful there) (found.ensures.observed faithful there) (found.ensures.err faithful) found.ensures.reads found.ensures.blamed)
 
 pub returns-clause-answered : goal.returns-clause-answered
-returns-clause-answered g c =
+returns-clause-answered g c = λ since before was.
     let F = g.F.Folder in
-    let found = c.prepare-prepared in
-    subst (λ (s : Settled). WasSettled F.failures F.may_leave F.allowed c.args.folder.now found.new.folder c.args.options c.args.task.now (option_copied c.args.last) s) (sym c.settled_by.ensures)
-    (was_settled F.failures F.may_leave F.allowed c.args.folder.now found.new.folder c.args.options c.args.task.now (option_copied c.args.last) c.args.path c.args.has_executed_need found.result found.ensures.may_be found.ensures.answered)
+    let found = c.prepare_by_seen-prepared in
+    let start = c.args.folder.now in
+    let now = found.new.folder in
+    subst (λ (s : Settled). WasSettled F.failures F.may_leave F.allowed since start now c.args.options c.args.task.now (option_copied c.args.last) s) (sym c.settled_by.ensures.settled)
+    (was_settled F.failures F.may_leave F.allowed since start now c.args.options c.args.task.now (option_copied c.args.last) c.args.path c.args.has_executed_need found.result found.ensures.may_be
+    (found.ensures.answered since before was))
+
+pub returns-clause-remembers : goal.returns-clause-remembers
+returns-clause-remembers g c =
+    let F = g.F.Folder in
+    let found = c.prepare_by_seen-prepared in
+    let start = c.args.folder.now in
+    let now = found.new.folder in
+    let kept = c.settled_by.ensures.seen in
+    subst (λ (s : Settled). Remembers F.failures F.may_leave F.allowed start now c.args.seen.now c.settled_by.new.seen s) (sym c.settled_by.ensures.settled)
+    (remembers F.failures F.may_leave F.allowed start now c.args.options c.args.task.now (option_copied c.args.last) kept.0 c.settled_by.new.seen c.args.seen.now found.ensures.requests
+    c.args.path c.args.has_executed_need found.result kept.1 found.ensures.answered)
+
+pub returns-clause-seen_in : goal.returns-clause-seen_in
+returns-clause-seen_in g c = λ faithful there.
+    let F = g.F.Folder in
+    let found = c.prepare_by_seen-prepared in
+    let start = c.args.folder.now in
+    let kept = c.settled_by.ensures.seen in
+    subst (λ (contents : Contents). AreSeenIn contents.files c.settled_by.new.seen) (sym (found.ensures.same faithful))
+    (remembers_in c.args.task.now (F.contents start).files kept.0 c.settled_by.new.seen c.args.seen.now c.args.has_executed_need found.result kept.1 (found.ensures.observed faithful there) there)

@@ -3,12 +3,14 @@ use Rattle.std.proofs.Common.{◌≡◌, ◌≤◌, ℕ, Bool, List, sym, subst,
 use Rattle.gb_folder.specs.Files.{Contents}
 use Rattle.gb_label.specs.Preparing.{IsObservedFor}
 use Rattle.gb_meaning.specs.Label.{Moment}
+use Rattle.gb_task.specs.ByOutcome.{since_after}
 use Rattle.gb_task.specs.Executing.{BeginsAt, HasExecuted, setting_with}
 use Rattle.gb_task.proofs.ByOutcome.{cleared_requests, ran_requests, reported_requests}
 use Rattle.gb_task.proofs.Answering.{cleared_answers, run_answers, reported_answers}
 use Rattle.gb_task.proofs.Later.{cleared_started, comes_later, copied_some, run_started, reported_turned, turned_before}
 use Rattle.gb_task.proofs.Recorded.{assumed_later, observed_later}
 use Rattle.gb_plan.specs.Task.{Text}
+use Rattle.gb_tree.proofs.Remembering.{none_seen, none_seen_in}
 use Rattle.gb_task.specs.Stages.{Clears}
 use Rattle.gb_task.proofs.Ran.{all_answered}
 use Rattle.gb_task.proofs.execution.execute_task.Goals as goal
@@ -28,15 +30,15 @@ pub returns-in-Due-clause-answer : goal.returns-in-Due-clause-answer
 returns-in-Due-clause-answer g c = run_answers c.args.options c.args.task.now c.run.result c.run.ensures.outcome
 
 pub returns-in-Reported-clause-execution : goal.returns-in-Reported-clause-execution
-returns-in-Reported-clause-execution g c = λ faithful kinds registry_of plan moment given at needed known.
+returns-in-Reported-clause-execution g c = λ faithful there kinds registry_of plan moment given at needed known.
     let F = g.F.Folder in
     let start = c.args.folder.now in
     let now = c.settle.new.folder in
     reported_turned kinds registry_of (F.may_leave start) c.args.options plan c.args.task.now _ moment c.in-Reported.report (F.contents start) (F.failures start) (F.failures now) (F.contents now) at
-    (c.settle.ensures.same faithful) (c.in-Reported.ensures.settled faithful kinds registry_of plan moment at.folder at.failures needed known)
+    (c.settle.ensures.same faithful) (c.in-Reported.ensures.settled faithful there kinds registry_of plan moment at.folder at.failures needed known)
 
 pub returns-in-Sourceless-clause-execution : goal.returns-in-Sourceless-clause-execution
-returns-in-Sourceless-clause-execution g c = λ faithful kinds registry_of plan moment given at needed known.
+returns-in-Sourceless-clause-execution g c = λ faithful there kinds registry_of plan moment given at needed known.
     let F = g.F.Folder in
     let task = c.args.task.now in
     let start = c.args.folder.now in
@@ -50,7 +52,7 @@ returns-in-Sourceless-clause-execution g c = λ faithful kinds registry_of plan 
     (subst (λ (n : ℕ). n ≤ F.failures then) (sym at.failures) c.settle.ensures.requests.count) c.execute_without_source.result (F.contents start) (F.failures now) (F.contents now) c.execute_without_source.ensures.requests.count
     (subst (λ (folder : Contents). HasExecuted (setting_with kinds registry_of (F.may_leave then)) c.args.options plan task later c.execute_without_source.result folder (F.failures now) (F.contents now)) same
     (c.execute_without_source.ensures.execution faithful kinds registry_of c.args.options plan later (observed_later _ _ c.settle.ensures.requests.tearing given.tears) came
-    (c.in-Sourceless.ensures.settled faithful kinds registry_of plan moment at.folder at.failures needed known)))
+    (c.in-Sourceless.ensures.settled faithful there kinds registry_of plan moment at.folder at.failures needed known)))
 
 pub run-requires-clause-due : goal.run-requires-clause-due
 run-requires-clause-due g c = c.in-Due.ensures.of_task.1
@@ -59,7 +61,7 @@ pub run-requires-clause-read : goal.run-requires-clause-read
 run-requires-clause-read g c = c.in-Due.ensures.of_task.2
 
 pub returns-in-Due-clause-execution : goal.returns-in-Due-clause-execution
-returns-in-Due-clause-execution g c = λ faithful kinds registry_of plan moment given at needed known.
+returns-in-Due-clause-execution g c = λ faithful there kinds registry_of plan moment given at needed known.
     let F = g.F.Folder in
     let task = c.args.task.now in
     let start = c.args.folder.now in
@@ -68,7 +70,7 @@ returns-in-Due-clause-execution g c = λ faithful kinds registry_of plan moment 
     let same : F.contents then ≡ F.contents start = c.settle.ensures.same faithful in
     let came = comes_later task _ (F.contents start) (F.failures start) moment (F.contents then) (F.failures then) same at in
     let later : Moment = record { world = moment.world; outcomes = moment.outcomes; failures = F.failures then } in
-    let due = c.in-Due.ensures.settled faithful kinds registry_of plan moment at.folder at.failures needed known in
+    let due = c.in-Due.ensures.settled faithful there kinds registry_of plan moment at.folder at.failures needed known in
     turned_before kinds registry_of (F.may_leave start) (F.may_leave then) c.settle.ensures.requests.tearing c.args.options plan task moment (F.failures then)
     (subst (λ (n : ℕ). n ≤ F.failures then) (sym at.failures) c.settle.ensures.requests.count) c.run.result (F.contents start) (F.failures now) (F.contents now) c.run.ensures.count
     (subst (λ (folder : Contents). HasExecuted (setting_with kinds registry_of (F.may_leave then)) c.args.options plan task later c.run.result folder (F.failures now) (F.contents now)) same
@@ -85,23 +87,23 @@ pub returns-in-Due-clause-started : goal.returns-in-Due-clause-started
 returns-in-Due-clause-started g c = run_started c.run.result.outcome c.run.ensures.outcome
 
 pub returns-in-Reported-clause-requests : goal.returns-in-Reported-clause-requests
-returns-in-Reported-clause-requests g c =
+returns-in-Reported-clause-requests g c = λ since before was.
     let F = g.F.Folder in
     let report = c.in-Reported.report in
-    reported_requests F.failures F.may_leave F.allowed g.A.Actions.meanings c.args.table.now c.args.options c.args.task.now (option_copied c.args.last) report.lines c.args.folder.now c.settle.new.folder
-    report.outcome c.in-Reported.ensures.of_task.2 c.in-Reported.ensures.of_task.4 c.in-Reported.ensures.of_task.5 c.in-Reported.ensures.of_task.6 c.settle.ensures.requests c.in-Reported.ensures.answered
+    reported_requests F.failures F.may_leave F.allowed g.A.Actions.meanings c.args.table.now c.args.options c.args.task.now (option_copied c.args.last) report.lines since c.args.folder.now c.settle.new.folder
+    report.outcome c.in-Reported.ensures.of_task.2 c.in-Reported.ensures.of_task.4 c.in-Reported.ensures.of_task.5 c.in-Reported.ensures.of_task.6 c.settle.ensures.requests (c.in-Reported.ensures.answered since before was)
 
 pub returns-in-Sourceless-clause-requests : goal.returns-in-Sourceless-clause-requests
-returns-in-Sourceless-clause-requests g c =
+returns-in-Sourceless-clause-requests g c = λ since before was.
     let F = g.F.Folder in
     let task = c.args.task.now in
     let done = c.execute_without_source in
     let led = done.ensures.calls in
-    cleared_requests F.failures F.may_leave F.allowed g.A.Actions.meanings c.args.table.now c.args.options task (option_copied c.args.last) done.result.lines c.args.folder.now done.new.folder
+    cleared_requests F.failures F.may_leave F.allowed g.A.Actions.meanings c.args.table.now c.args.options task (option_copied c.args.last) done.result.lines since c.args.folder.now done.new.folder
     done.result.outcome led.1 led.4 (
       c.settle.new.folder,
       c.settle.ensures.requests,
-      c.in-Sourceless.ensures.answered,
+      c.in-Sourceless.ensures.answered since before was,
       (
         led.0,
         all_answered F.failures F.may_leave F.allowed F.faithful F.contents F.device g.met.F.Folder.said led.0 c.settle.new.folder done.new.folder led.2,
@@ -111,7 +113,30 @@ returns-in-Sourceless-clause-requests g c =
     )
 
 pub returns-in-Due-clause-requests : goal.returns-in-Due-clause-requests
-returns-in-Due-clause-requests g c =
+returns-in-Due-clause-requests g c = λ since before was.
     let F = g.F.Folder in
-    ran_requests F.failures F.may_leave F.allowed g.A.Actions.meanings c.args.table.now c.args.options c.args.task.now (option_copied c.args.last) c.run.result.lines c.args.folder.now c.run.new.folder c.run.result.outcome
-    (c.run.ensures.ran c.args.folder.now c.settle.ensures.requests c.in-Due.ensures.answered.0 c.in-Due.ensures.answered.1)
+    let answered = c.in-Due.ensures.answered since before was in
+    ran_requests F.failures F.may_leave F.allowed g.A.Actions.meanings c.args.table.now c.args.options c.args.task.now (option_copied c.args.last) c.run.result.lines since c.args.folder.now c.run.new.folder
+    c.run.result.outcome (c.run.ensures.ran c.args.folder.now c.settle.ensures.requests answered.0 answered.1)
+
+pub returns-in-Reported-clause-seen : goal.returns-in-Reported-clause-seen
+returns-in-Reported-clause-seen g c = c.in-Reported.ensures.remembers
+
+pub returns-in-Sourceless-clause-seen : goal.returns-in-Sourceless-clause-seen
+returns-in-Sourceless-clause-seen g c = λ since before was.
+    let F = g.F.Folder in
+    let done = c.execute_without_source in
+    none_seen F.failures F.may_leave F.allowed (since_after done.result.outcome since done.new.folder) done.new.folder c.settle.new.seen c.in-Sourceless.ensures.remembers
+
+pub returns-in-Due-clause-seen : goal.returns-in-Due-clause-seen
+returns-in-Due-clause-seen g c = λ since before was.
+    let F = g.F.Folder in
+    none_seen F.failures F.may_leave F.allowed (since_after c.run.result.outcome since c.run.new.folder) c.run.new.folder c.settle.new.seen c.in-Due.ensures.remembers
+
+pub returns-in-Sourceless-clause-seen_in : goal.returns-in-Sourceless-clause-seen_in
+returns-in-Sourceless-clause-seen_in g c = λ faithful there.
+    none_seen_in (g.F.Folder.contents c.execute_without_source.new.folder).files c.settle.new.seen c.in-Sourceless.ensures.remembers
+
+pub returns-in-Due-clause-seen_in : goal.returns-in-Due-clause-seen_in
+returns-in-Due-clause-seen_in g c = λ faithful there.
+    none_seen_in (g.F.Folder.contents c.run.new.folder).files c.settle.new.seen c.in-Due.ensures.remembers

@@ -12,6 +12,7 @@ use Rattle.gb_tree.proofs.Answering.{all_observed_longer, output_entries_longer}
 use Rattle.gb_tree.proofs.Blame.{among_read, blamed_before}
 use Rattle.gb_tree.proofs.Refused.{at_err}
 use Rattle.gb_tree.proofs.Observed.{at_entries, observed_digests}
+use Rattle.gb_tree.proofs.Remembering.{none_seen, none_seen_in}
 use Rattle.gb_tree.proofs.Reported.{outputs_exist, refused_listing, refused_reading}
 use Rattle.gb_tree.proofs.output.read_output_once.Goals as goal
 
@@ -26,7 +27,7 @@ returns-in_err-observed-clause-err g c = λ faithful.
     let listing = output_listing_faults name root old in
     at_err (λ r. IfErr r (λ fault. IsRefused (failures c.args.folder.now) (failures c.scan_all.new.folder) (listing ++ too_large old.files entries) fault)) c.from_residual-in_err-observed.result p.0 c.in_err-observed.field-0.0 p.1 p.2
     (refused_reading (failures c.args.folder.now) _ _ old _ listing entries c.as_slice.result.now c.in_err-observed.field-0.0 (c.in_ok-entries.ensures.same faithful) (c.as_slice.ensures.value ∙ c.in_ok-entries.ensures.entries faithful)
-    c.in_ok-entries.ensures.requests.count c.in_err-observed.ensures.requests.count (c.in_ok-entries.ensures.fit faithful) (outputs_exist old.files root) (c.in_err-observed.ensures.err faithful))
+    c.in_ok-entries.ensures.requests.count c.in_err-observed.ensures.requests.count (c.in_ok-entries.ensures.fit faithful) (outputs_exist old.files root) (c.in_err-observed.ensures.err faithful (none_seen_in _ _ c.new-seen.ensures)))
 
 pub returns-in_err-entries-clause-blame : goal.returns-in_err-entries-clause-blame
 returns-in_err-entries-clause-blame g c =
@@ -62,7 +63,8 @@ pub returns-clause-answered : goal.returns-clause-answered
 returns-clause-answered g c =
     let F = g.F.Folder in
     subst (λ (reading : List ℕ × List ScannedFile). WereObserved F.failures F.may_leave F.allowed c.args.folder.now c.scan_all.new.folder reading.1) (sym c.new.ensures)
-    (all_observed_longer c.in_ok-entries.ensures.requests (requests_nothing c.scan_all.new.folder) c.in_ok-observed.observed.items c.in_ok-observed.ensures.answered)
+    (all_observed_longer c.in_ok-entries.ensures.requests (requests_nothing c.scan_all.new.folder) c.in_ok-observed.observed.items
+    (c.in_ok-observed.ensures.answered c.entries_at.new.folder (requests_nothing c.entries_at.new.folder) (none_seen F.failures F.may_leave F.allowed c.entries_at.new.folder c.entries_at.new.folder _ c.new-seen.ensures)))
 
 pub returns-clause-under : goal.returns-clause-under
 returns-clause-under g c =
@@ -77,5 +79,5 @@ returns-clause-digests g c = λ faithful.
     ap (λ (reading : List ℕ × List ScannedFile). digests_observed reading.1) c.new.ensures
     ∙ observed_digests files (output_entries files c.args.place.now) observed (record {
       placed = c.in_ok-observed.ensures.placed ∙ c.as_slice.ensures.value ∙ c.in_ok-entries.ensures.entries faithful;
-      each = subst (λ (now : Contents). AllByRecursion (IsObservedIn now.files) observed) (c.in_ok-entries.ensures.same faithful) (c.in_ok-observed.ensures.observed faithful);
+      each = subst (λ (now : Contents). AllByRecursion (IsObservedIn now.files) observed) (c.in_ok-entries.ensures.same faithful) (c.in_ok-observed.ensures.observed faithful (none_seen_in _ _ c.new-seen.ensures));
     })

@@ -7,15 +7,17 @@ use Rattle.gb_folder.proofs.Asked.{requests_nothing, requests_then}
 use Rattle.gb_folder.specs.Files.{Contents, Place, file_at}
 use Rattle.gb_tree.specs.Answered.{WasObserved}
 use Rattle.gb_tree.specs.Reading.{IsReading, IsObservedIn, is_digest_of}
+use Rattle.gb_tree.specs.Seen.{AreSeenIn}
 use Rattle.gb_tree.specs.Tree.{is_among, is_large, too_large}
 use Rattle.gb_tree.specs.Waiting.{file_in, waiting_files}
 use Rattle.gb_tree.specs.declared.fault.TreeFault.TheVariants as faults
 use Rattle.gb_tree.specs.declared.kept.ScannedFile.{ScannedFile}
-use Rattle.gb_tree.proofs.Answering.{all_observed_longer, observed_longer}
+use Rattle.gb_tree.proofs.Answering.{all_observed_longer}
 use Rattle.gb_tree.proofs.Blame.{at_entry, blamed_before}
 use Rattle.gb_tree.proofs.Loops.{step_here}
 use Rattle.gb_tree.proofs.Refused.{machine_before}
 use Rattle.gb_tree.proofs.Observed.{all_at, each_more, placed_more, observed_sorted, test_more}
+use Rattle.gb_tree.proofs.Remembering.{seen_longer}
 use Rattle.gb_tree.proofs.scanning.scan_all.Goals as goal
 
 pub returns-in-Err-clause-blame : goal.returns-in-Err-clause-blame
@@ -26,7 +28,7 @@ returns-in-Err-clause-blame g c =
     (at_entry entries c.loop-path.path-index entry c.loop-path-test.true c.loop-path-item.is) c.in-Err.ensures.blame
 
 pub returns-in-Err-clause-err : goal.returns-in-Err-clause-err
-returns-in-Err-clause-err g c = λ faithful exists.
+returns-in-Err-clause-err g c = λ faithful known exists.
     let files = (g.F.Folder.contents c.args.folder.now).files in
     let entries = c.args.entries.now in
     let so_far = c.loop-path.invariant in
@@ -40,7 +42,7 @@ returns-in-Err-clause-err g c = λ faithful exists.
       | inl machine ↦ inl (machine_before _ _ _ _ so_far.requests.count c.in-Err.ensures.requests.count machine)
       | inr large ↦
           let here : is_large files e.1 ≡ true = sym (ap (λ (now : Contents). is_large now.files e.1) (so_far.same faithful)) ∙ large.0 in
-          inr (sym (so_far.large faithful)
+          inr (sym (so_far.large faithful known)
           ∙ step_here (λ es. first_of (too_large files es)) entries i e within is
           ∙ ap (λ b. first_of (map (λ (f : List ℕ × List ℕ). faults.TooLarge f.1) (cond b (e ∷ rest) rest))) here
           ∙ ap Some (sym large.1))
@@ -59,20 +61,25 @@ loop-path-preserved g c =
     let within = c.loop-path-test.true in
     let is = c.loop-path-item.is in
     let added = c.in_ok-waiting.ensures in
-    let is_observed = λ (faithful : IsTrue g.F.Folder.faithful). subst (λ (now : Contents). IsObservedIn now.files x) (old.invariant.same faithful) (c.in-Ok.ensures.observed faithful) in
+    let seen = c.args.seen.now in
+    let is_observed : IsTrue g.F.Folder.faithful → AreSeenIn files seen → IsObservedIn files x = λ faithful known. subst (λ (now : Contents). IsObservedIn now.files x) (old.invariant.same faithful)
+    (c.in-Ok.ensures.observed faithful (subst (λ (now : Contents). AreSeenIn now.files seen) (sym (old.invariant.same faithful)) known)) in
     record {
-      requests = requests_then old.invariant.requests c.scan_file.ensures.requests;
-      same = λ faithful. c.scan_file.ensures.same faithful ∙ old.invariant.same faithful;
-      answered = each_more (WasObserved g.F.Folder.failures g.F.Folder.may_leave g.F.Folder.allowed c.args.folder.now c.scan_file.new.folder) read _ x added
-          (all_observed_longer (requests_nothing c.args.folder.now) c.scan_file.ensures.requests read old.invariant.answered)
-          (observed_longer old.invariant.requests (requests_nothing c.scan_file.new.folder) x c.in-Ok.ensures.answered);
+      requests = requests_then old.invariant.requests c.find_file.ensures.requests;
+      same = λ faithful. c.find_file.ensures.same faithful ∙ old.invariant.same faithful;
+      answered = λ first before known.
+          let F = g.F.Folder in
+          let now = c.find_file.new.folder in
+          each_more (WasObserved F.failures F.may_leave F.allowed first now) read _ x added
+          (all_observed_longer (requests_nothing first) c.find_file.ensures.requests read (old.invariant.answered first before known))
+          (c.in-Ok.ensures.answered first (requests_then before old.invariant.requests) (seen_longer (requests_nothing first) old.invariant.requests seen known));
       placed = placed_more entries i e read _ x within is added c.in-Ok.ensures.path c.in-Ok.ensures.place old.invariant.placed;
       digested = test_more (λ (file : ScannedFile). is_digest_of file.kept file.digest) read _ x added old.invariant.digested c.in-Ok.ensures.digested;
-      each = λ faithful. each_more (IsObservedIn files) read _ x added (old.invariant.each faithful) (is_observed faithful);
-      large = λ faithful.
-          let small : is_large files e.1 ≡ _ = ap (is_large files) (sym c.in-Ok.ensures.place) ∙ (is_observed faithful).small in
+      each = λ faithful known. each_more (IsObservedIn files) read _ x added (old.invariant.each faithful known) (is_observed faithful known);
+      large = λ faithful known.
+          let small : is_large files e.1 ≡ _ = ap (is_large files) (sym c.in-Ok.ensures.place) ∙ (is_observed faithful known).small in
           sym (step_here (λ es. first_of (too_large files es)) entries i e within is ∙ ap (λ b. first_of (map (λ (f : List ℕ × List ℕ). faults.TooLarge f.1) (cond b (e ∷ filter (λ f. is_large files f.1) (drop (i + 1) entries)) (filter (λ f. is_large files f.1) (drop (i + 1) entries))))) small)
-          ∙ old.invariant.large faithful;
+          ∙ old.invariant.large faithful known;
     }
 
 pub returns-clause-reading : goal.returns-clause-reading

@@ -4,6 +4,7 @@ use Rattle.gb_core.specs.Lists.{first_of}
 use Rattle.gb_folder.specs.Calls.{Requests, no_change}
 use Rattle.gb_tree.specs.Answered.{WereObserved}
 use Rattle.gb_tree.specs.Reading.{IsObservedIn, entries_observed, is_digest_of}
+use Rattle.gb_tree.specs.Seen.{AreSeen, AreSeenIn}
 use Rattle.gb_tree.specs.Tree.{too_large}
 use Rattle.gb_tree.specs.Waiting.{waiting_files}
 use Rattle.gb_tree.proofs.scanning.scan_all.Given as goal
@@ -16,9 +17,11 @@ invariant-loop-path g l =
     record {
       requests : Requests g.F.Folder.failures g.F.Folder.may_leave g.F.Folder.allowed no_change l.fn.folder l.folder;
       same : IsTrue g.F.Folder.faithful → contents l.folder ≡ contents l.fn.folder;
-      answered : WereObserved g.F.Folder.failures g.F.Folder.may_leave g.F.Folder.allowed l.fn.folder l.folder read;
+      answered : (first : _) → Requests g.F.Folder.failures g.F.Folder.may_leave g.F.Folder.allowed no_change first l.fn.folder
+          → AreSeen g.F.Folder.failures g.F.Folder.may_leave g.F.Folder.allowed first l.fn.folder l.seen
+          → WereObserved g.F.Folder.failures g.F.Folder.may_leave g.F.Folder.allowed first l.folder read;
       placed : entries_observed read ≡ take l.path-index l.entries;
       digested : IsTrue (list_all (λ file. is_digest_of file.kept file.digest) read);
-      each : IsTrue g.F.Folder.faithful → AllByRecursion (IsObservedIn old) read;
-      large : IsTrue g.F.Folder.faithful → first_of (too_large old (drop l.path-index l.entries)) ≡ first_of (too_large old l.entries);
+      each : IsTrue g.F.Folder.faithful → AreSeenIn old l.seen → AllByRecursion (IsObservedIn old) read;
+      large : IsTrue g.F.Folder.faithful → AreSeenIn old l.seen → first_of (too_large old (drop l.path-index l.entries)) ≡ first_of (too_large old l.entries);
     }

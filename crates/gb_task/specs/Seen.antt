@@ -1,0 +1,31 @@
+-- What is remembered of files that were read, when a task's execution is decided.
+use Rattle.std.specs.Prelude.{ℕ, ◌≡◌, ◌++◌, Bool, false, [], List, Result, Ok}
+use Rattle.gb_folder.specs.Calls.{Requests, Call, no_change}
+use Rattle.gb_folder.specs.Files.{Tearing}
+use Rattle.gb_history.specs.declared.decide.Decision.TheVariants as decisions
+use Rattle.gb_label.specs.declared.prepare.Prepared.{Prepared}
+use Rattle.gb_label.specs.declared.prepare.Prepared.TheVariants as prepared
+use Rattle.gb_report.specs.declared.fault.Fault.{Fault}
+use Rattle.gb_tree.specs.Seen.{AreSeen, SeenFile, seen_in}
+use Rattle.gb_task.specs.ByOutcome.{since_after}
+use Rattle.gb_task.specs.declared.before_changes.Settled.{Settled}
+use Rattle.gb_task.specs.declared.before_changes.Settled.TheVariants as settled
+
+-- What is remembered after an execution was prepared: what was before, where no change follows, with the
+-- outputs of what is up to date; or else nothing.
+abbrev pub seen_by : Result Prepared Fault → Bool → List SeenFile → List SeenFile
+seen_by (Ok prepared.Skips) need seen = seen
+seen_by (Ok prepared.HasNoActions) false seen = seen
+seen_by (Ok (prepared.Decided decisions.UpToDate basis observed)) need seen =
+    seen ++ seen_in observed.outputs.items
+seen_by found need seen = []
+
+-- What is remembered after a report was read since the last change: that before the execution, where the
+-- report tells of none. Where the execution goes on, nothing is remembered.
+abbrev pub Remembers : {F : Type 0} → (F → ℕ) → (F → Tearing) → (F → Call → F → Type 0) → F → F
+    → List SeenFile → List SeenFile → Settled → Type 0
+Remembers failures may_leave allowed old new before seen (settled.Reported report) =
+    (since : _) → Requests failures may_leave allowed no_change since old
+    → AreSeen failures may_leave allowed since old before
+    → AreSeen failures may_leave allowed (since_after report.outcome since new) new seen
+Remembers failures may_leave allowed old new before seen result = seen ≡ []

@@ -1,0 +1,111 @@
+//! Whether a task is up to date by files that were seen, or else by what is read of it now.
+//!
+//! In a build where nothing is out of date a file between two tasks would be read twice: as output
+//! and as input. So a task is first compared with its record by the digests of files that were read
+//! since the last change. Only that it is up to date is concluded from this. Otherwise all of it is
+//! read now, and its execution goes by that alone.
+ghost use Rattle.std.specs.Prelude.{◌≡◌, ◌||◌, true, false, IsTrue, option_copied};
+ghost use Rattle.std.specs.Prelude.{IfOk, IfSome, IfErr, OnErr};
+ghost use Rattle.gb_folder.specs.Calls.{Requests, no_change};
+ghost use Rattle.gb_folder.specs.Files.{is_empty};
+ghost use Rattle.gb_label.specs.Deciding.{HasNamesInOrder};
+ghost use Rattle.gb_label.specs.Looking.{IsHindered};
+ghost use Rattle.gb_label.specs.Preparing.{IsPrepared, IsRead, IsObserved, MayDecideAs, MayPrepare};
+ghost use Rattle.gb_label.specs.Reading.{is_input_of};
+ghost use Rattle.gb_plan.specs.Task.{is_output_of};
+ghost use Rattle.gb_store.specs.Faults.{Blames, BlamesOnly};
+ghost use Rattle.gb_tree.specs.Seen.{AreSeen, AreSeenIn};
+ghost use Rattle.gb_task.specs.Current.{WasPreparedSince};
+
+use gb_folder::folder::Folder;
+use gb_history::decide::Decision;
+use gb_history::record::Record;
+use gb_label::prepare::{Prepared, prepare};
+use gb_plan::task::TaskDeclaration;
+use gb_report::fault::Fault;
+use gb_report::report::Options;
+use gb_tree::seen::Seen;
+use std::alloc::Global;
+
+/// What the execution of a started task is prepared for: that the task is up to date, where it is
+/// so by files that were seen; or else what is found by reading all of it. Nothing is changed, even
+/// if it fails.
+pub(crate) fn prepare_by_seen<F: Folder>(
+    alloc: Global,
+    folder: &mut F,
+    task: &TaskDeclaration,
+    options: Options,
+    last: Option<&Record>,
+    seen: &Seen,
+) -> Result<Prepared, Fault>
+    requires in_order { HasNamesInOrder task.now }
+    ensures requests { Requests F.failures F.may_leave F.allowed no_change folder.old folder.new }
+    ensures blame { Blames result (F.failures folder.old) (F.failures folder.new) }
+    ensures blamed { BlamesOnly (λ place. is_input_of task.now place || is_output_of task.now place) result }
+    ensures may_be { IfOk result (MayPrepare task.now) }
+    ensures may_decide { IfOk result (MayDecideAs options task.now) }
+    ensures reads { OnErr result ((task.now.runs ≡ true) × (is_empty task.now.actions ≡ false)) }
+    ensures read { IfOk result (IsRead task.now) }
+    // Over any folder: only what is up to date was found so on what calls returned before.
+    ensures answered { (since : _) → Requests F.failures F.may_leave F.allowed no_change since folder.old
+        → AreSeen F.failures F.may_leave F.allowed since folder.old seen.now
+        → IfOk result (WasPreparedSince F.failures F.may_leave F.allowed since folder.old folder.new options
+        task.now (option_copied last.entry)) }
+    ensures same { IsTrue F.faithful → F.contents folder.new ≡ F.contents folder.old }
+    ensures prepared { IsTrue F.faithful → AreSeenIn (F.contents folder.old).files seen.now
+        → IfOk result (IsPrepared options task.now (F.contents folder.old) (option_copied last.entry)) }
+    ensures observed { IsTrue F.faithful → AreSeenIn (F.contents folder.old).files seen.now
+        → IfOk result (IsObserved task.now (F.contents folder.old).files) }
+    ensures err { IsTrue F.faithful → IfErr result
+        (IsHindered task.now (F.contents folder.old) (F.failures folder.old) (F.failures folder.new)) }
+{
+    if let Some(current) = current_by_seen(alloc, folder, task, options, last, seen) {
+        return Ok(current);
+    }
+    let none = Seen::new(alloc);
+    prepare(alloc, folder, task, options, last, &none, true)
+}
+
+/// That the task is up to date, with what it was found so on, where it is so by files that were
+/// seen. Any other result is dropped, and so is a fault.
+fn current_by_seen<F: Folder>(
+    alloc: Global,
+    folder: &mut F,
+    task: &TaskDeclaration,
+    options: Options,
+    last: Option<&Record>,
+    seen: &Seen,
+) -> Option<Prepared>
+    requires in_order { HasNamesInOrder task.now }
+    ensures requests { Requests F.failures F.may_leave F.allowed no_change folder.old folder.new }
+    ensures may_be { IfSome result (MayPrepare task.now) }
+    ensures may_decide { IfSome result (MayDecideAs options task.now) }
+    ensures read { IfSome result (IsRead task.now) }
+    ensures answered { (since : _) → Requests F.failures F.may_leave F.allowed no_change since folder.old
+        → AreSeen F.failures F.may_leave F.allowed since folder.old seen.now
+        → IfSome result (WasPreparedSince F.failures F.may_leave F.allowed since folder.old folder.new options
+        task.now (option_copied last.entry)) }
+    ensures same { IsTrue F.faithful → F.contents folder.new ≡ F.contents folder.old }
+    ensures prepared { IsTrue F.faithful → AreSeenIn (F.contents folder.old).files seen.now
+        → IfSome result (IsPrepared options task.now (F.contents folder.old) (option_copied last.entry)) }
+    ensures observed { IsTrue F.faithful → AreSeenIn (F.contents folder.old).files seen.now
+        → IfSome result (IsObserved task.now (F.contents folder.old).files) }
+{
+    if last.is_none() || options.rerun || !reads_seen(task, seen) {
+        return None;
+    }
+    match prepare(alloc, folder, task, options, last, seen, false) {
+        Ok(Prepared::Decided(Decision::UpToDate, basis, observed)) => {
+            Some(Prepared::Decided(Decision::UpToDate, basis, observed))
+        }
+        _ => None,
+    }
+}
+
+/// Whether an input of the task may have been seen. It is a guess, and only speed depends on it.
+fn reads_seen(task: &TaskDeclaration, seen: &Seen) -> bool {
+    task.files
+        .as_slice()
+        .iter()
+        .any(|property| seen.serves(property.roots.as_slice()))
+}

@@ -1,0 +1,43 @@
+-- The digests of files that were read earlier, by their places.
+use Rattle.std.specs.Prelude.{ℕ, ◌≡◌, false, List, map, IsSome}
+use Rattle.std.specs.List.{AllByRecursion, flat_map}
+use Rattle.sha2.specs.Sha256.{sha256}
+use Rattle.gb_folder.specs.Answers.{WereRead}
+use Rattle.gb_folder.specs.Calls.{Call}
+use Rattle.gb_folder.specs.Files.{Bytes, Files, Place, Tearing, file_at}
+use Rattle.gb_tree.specs.Tree.{bytes_at, is_large}
+use Rattle.gb_tree.specs.declared.kept.ScannedFile.{ScannedFile}
+
+-- the place of a file, and the digest of its bytes
+abbrev pub SeenFile : Type 0
+SeenFile = Place × List ℕ
+
+-- what is remembered of files that were read
+abbrev pub places_read : List ScannedFile → List SeenFile
+places_read files = map (λ file. (file.place, file.digest)) files
+
+-- what is remembered of readings, in their order
+abbrev pub seen_in : List (List ℕ × List ScannedFile) → List SeenFile
+seen_in readings = flat_map (λ reading. places_read reading.1) readings
+
+-- a call returned the bytes of the file, and the digest is theirs
+abbrev pub WasSeen : {F : Type 0} → (F → ℕ) → (F → Tearing) → (F → Call → F → Type 0) → F → F → SeenFile
+    → Type 0
+WasSeen failures may_leave allowed old new file =
+    (bytes : Bytes) × WereRead failures may_leave allowed old new file.0 bytes × (file.1 ≡ sha256 bytes)
+
+-- the same holds for each file
+abbrev pub AreSeen : {F : Type 0} → (F → ℕ) → (F → Tearing) → (F → Call → F → Type 0) → F → F
+    → List SeenFile → Type 0
+AreSeen failures may_leave allowed since now seen =
+    AllByRecursion (WasSeen failures may_leave allowed since now) seen
+
+-- a file is at the place and is not too large, and the digest is that of its bytes
+pub record IsSeenIn (files : Files) (file : SeenFile) : Type 0 where
+  pub exists : IsSome (file_at files file.0)
+  pub small : is_large files file.0 ≡ false
+  pub digested : file.1 ≡ sha256 (bytes_at files file.0)
+
+-- the same holds for each file
+abbrev pub AreSeenIn : Files → List SeenFile → Type 0
+AreSeenIn files seen = AllByRecursion (IsSeenIn files) seen

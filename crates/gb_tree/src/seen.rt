@@ -1,0 +1,149 @@
+//! The digests of files that were read since the last change that the build asked for.
+ghost use Rattle.std.specs.Prelude.{◌≡◌, ◌++◌, List, ℕ, [], IfOk, IfSome, OnOk};
+ghost use Rattle.std.specs.List.{Contains};
+ghost use Rattle.gb_tree.specs.Seen.{SeenFile, places_read, seen_in};
+
+use crate::kept::{Reading, ScannedFile};
+use gb_core::place::Place;
+use std::alloc::{AllocError, Global};
+use std::marker::Model;
+
+/// Of so many readings the digests are kept.
+const READINGS: usize = 16;
+
+/// The digests of files that were read since the last change that the build asked for.
+#[derive(Drop)]
+pub struct Seen {
+    /// Those of one reading are in its order, which for an output is that of the places.
+    readings: Vec<Vec<(Place, [u8; 32])>>,
+}
+
+impl Model for Seen {
+    ghost use Rattle.std.specs.Prelude.{List};
+    ghost use Rattle.std.specs.List.{flat_map};
+    ghost use Rattle.gb_tree.specs.Seen.{SeenFile};
+
+    ghost Value = { List SeenFile };
+
+    ghost view = { λ s. flat_map (λ files. files.items) s.readings.items };
+}
+
+impl Seen {
+    /// No files. It takes no memory.
+    pub fn new(alloc: Global) -> Seen
+        ensures { result ≡ [] }
+    {
+        Seen {
+            readings: Vec::new(alloc),
+        }
+    }
+
+    /// Forgets all files.
+    pub fn forget(&mut self)
+        ensures { self.new ≡ [] }
+    {
+        self.readings.clear();
+    }
+
+    /// Remembers the files of these readings too, without the bytes that are kept of them. Of more
+    /// than 16 readings the oldest are forgotten, and where memory lacks, all that were remembered.
+    pub fn remember(&mut self, alloc: Global, readings: Vec<Reading>)
+        ensures { (forgotten : List SeenFile) × (forgotten ++ self.new ≡ self.old ++ seen_in readings.items) }
+    {
+        for reading in readings {
+            self.add(alloc, reading.into_files());
+        }
+    }
+
+    /// Remembers the files of one reading too.
+    fn add(&mut self, alloc: Global, files: Vec<ScannedFile>)
+        ensures { (forgotten : List SeenFile) × (forgotten ++ self.new ≡ self.old ++ places_read files.items) }
+    {
+        self.drop_oldest();
+        match places_read(alloc, files) {
+            Ok(places) => self.push(places),
+            Err(_) => self.forget(),
+        }
+    }
+
+    /// Forgets the oldest reading, where there is room for no other.
+    fn drop_oldest(&mut self)
+        ensures { (forgotten : List SeenFile) × (forgotten ++ self.new ≡ self.old) }
+    {
+        if self.readings.len() >= READINGS {
+            self.readings.remove(0);
+        }
+    }
+
+    /// Remembers these files too. Where memory lacks, all are forgotten.
+    fn push(&mut self, places: Vec<(Place, [u8; 32])>)
+        ensures { (forgotten : List SeenFile) × (forgotten ++ self.new ≡ self.old ++ places.items) }
+    {
+        if self.readings.push(places).is_err() {
+            self.forget();
+        }
+    }
+
+    /// The digest of the file at the place, if it is remembered. It is found in a reading that is
+    /// in the order of its places; in another it may be missed.
+    pub fn digest_at(&self, place: &Place) -> Option<[u8; 32]>
+        ensures { IfSome result (λ digest. Contains self.now (place.now, digest)) }
+    {
+        for files in self.readings.iter() {
+            if let Some(digest) = digest_among(files.as_slice(), place) {
+                return Some(digest);
+            }
+        }
+        None
+    }
+
+    /// Whether a file at or under one of these roots may be remembered. It is a guess by the first
+    /// and the last file of each reading, and only speed depends on it. If no file is remembered,
+    /// it is false.
+    pub fn serves(&self, roots: &[Place]) -> bool {
+        self.readings.iter().any(|files| roots
+            .iter()
+            .any(|root| may_lie_at(files.as_slice(), root)))
+    }
+}
+
+/// The places of the files, with their digests.
+fn places_read(alloc: Global, files: Vec<ScannedFile>) -> Result<Vec<(Place, [u8; 32])>, AllocError>
+    ensures { IfOk result (λ places. places.items ≡ places_read files.items) }
+{
+    let mut places = Vec::with_capacity(alloc, files.len())?;
+    for file in files {
+        let digest = file.digest;
+        places.push((file.place, digest))?;
+    }
+    Ok(places)
+}
+
+/// Whether the place is not before the first and not after the last of these files.
+fn may_have(files: &[(Place, [u8; 32])], place: &Place) -> bool {
+    match (files.first(), files.last()) {
+        (Some(first), Some(last)) => first.0 <= *place && *place <= last.0,
+        _ => false,
+    }
+}
+
+/// Whether one of these files may be at or under the root.
+fn may_lie_at(files: &[(Place, [u8; 32])], root: &Place) -> bool {
+    may_have(files, root)
+        || files.first().is_some_and(|first| first.0.is_beneath(root))
+        || files.last().is_some_and(|last| last.0.is_beneath(root))
+}
+
+/// The digest of the file at the place, if it is among these files, which are in the order of their
+/// places.
+fn digest_among(files: &[(Place, [u8; 32])], place: &Place) -> Option<[u8; 32]>
+    ensures { IfSome result (λ digest. Contains files.now (place.now, digest)) }
+{
+    if !may_have(files, place) {
+        return None;
+    }
+    match files.binary_search_by(|file| file.0.cmp(place)) {
+        Ok(at) => Some(files[at].1),
+        Err(_) => None,
+    }
+}
