@@ -20,14 +20,14 @@ use Rattle.gb_build.proofs.workspace.read_registry.Goals as goal
 pub returns-in_err-projects-clause-blame : goal.returns-in_err-projects-clause-blame
 returns-in_err-projects-clause-blame g c = λ place device.
     let p = err_from_is_err_and c.from_residual-in_err-projects.result c.from_residual-in_err-projects.ensures.1 in
-    absurd (none_blamed (settings_faults c.in_ok-settings.settings) c.projects.result place (settings_blameless c.in_ok-settings.settings) c.projects.ensures.faults
-    (handed_on c.from_residual-in_err-projects.result c.projects.result p.0 c.in_err-projects.field-0.0 place p.1 p.2 c.in_err-projects.was device))
+    absurd (none_blamed (settings_faults c.in_ok-settings.settings) c.of.result place (settings_blameless c.in_ok-settings.settings) c.of.ensures.faults
+    (handed_on c.from_residual-in_err-projects.result c.of.result p.0 c.in_err-projects.field-0.0 place p.1 p.2 c.in_err-projects.was device))
 
 pub returns-in_err-projects-clause-blamed : goal.returns-in_err-projects-clause-blamed
 returns-in_err-projects-clause-blamed g c = λ place device.
     let p = err_from_is_err_and c.from_residual-in_err-projects.result c.from_residual-in_err-projects.ensures.1 in
-    absurd (none_blamed (settings_faults c.in_ok-settings.settings) c.projects.result place (settings_blameless c.in_ok-settings.settings) c.projects.ensures.faults
-    (handed_on c.from_residual-in_err-projects.result c.projects.result p.0 c.in_err-projects.field-0.0 place p.1 p.2 c.in_err-projects.was device))
+    absurd (none_blamed (settings_faults c.in_ok-settings.settings) c.of.result place (settings_blameless c.in_ok-settings.settings) c.of.ensures.faults
+    (handed_on c.from_residual-in_err-projects.result c.of.result p.0 c.in_err-projects.field-0.0 place p.1 p.2 c.in_err-projects.was device))
 
 pub read_scripts-requires : goal.read_scripts-requires
 read_scripts-requires g c = record {
