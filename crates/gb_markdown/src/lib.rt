@@ -5,7 +5,7 @@
 //! address of a link has no scheme or `http`, `https` or `mailto`, and neither a control character
 //! nor white space; and an address that is made of a file's path is safe in the same way.
 //!
-//! A page is parsed line by line: first the labels that it defines are taken out ([`gathered`]),
+//! A page is parsed line by line: first the labels that it defines are read ([`gathered`]),
 //! then each line continues or ends the open blocks ([`blocks`]), and the text of a finished block
 //! is split at its signs ([`inline`]). Stressed words go by CommonMark's runs of signs, with a
 //! stack of the open ones.

@@ -13,8 +13,8 @@
 //! `projects` has the projects of the settings, `select` the tasks that a word selects.
 //! `Registry::configure` has what the scripts register, with the tables that they were checked
 //! against; `Registry::configure_projects` is the same where the projects have been made, as for a
-//! reading of their scripts. It registers no path twice (`paths_are_new`). `first_fault` has the fault for which it
-//! is refused, and the statement at which that arises (`IsFirstAt`).
+//! reading of their scripts. It registers no path twice (`paths_are_new`). `first_fault` has the
+//! fault for which it is refused, and the statement at which that arises (`IsFirstAt`).
 #![tactic(auto)]
 
 pub mod checking;

@@ -20,8 +20,8 @@ seen_by (Ok (prepared.Decided decisions.UpToDate basis observed)) need seen =
     seen ++ seen_in observed.outputs.items
 seen_by found need seen = []
 
--- What is remembered after a report was read since the last change: that before the execution, where the
--- report tells of none. Where the execution goes on, nothing is remembered.
+-- What is remembered after a report was read since the last change, as before the execution. Where the
+-- execution goes on, nothing is remembered.
 abbrev pub Remembers : {F : Type 0} → (F → ℕ) → (F → Tearing) → (F → Call → F → Type 0) → F → F
     → List SeenFile → List SeenFile → Settled → Type 0
 Remembers failures may_leave allowed old new before seen (settled.Reported report) =

@@ -48,9 +48,9 @@ pub enum Settled {
 /// Decides how a started task is executed, and reports its outcome where nothing is to be done.
 /// Nothing is changed. `last` is the record that was read of the task, and `has_executed_need` says
 /// whether a task that it needs was executed in this build. `path` is a copy of the task's path,
-/// made in advance: it is moved into the report, so that a report allocates nothing. The outputs of
-/// a task that is up to date are remembered in `seen`; and where a change may follow, or the report
-/// tells of one, nothing is.
+/// made in advance: it is moved into the report, so that a report allocates nothing. `seen` gets the
+/// outputs of a task that is up to date. It is emptied where a change may follow, or where the
+/// report is of one.
 pub fn settle<F: Folder>(
     alloc: Global,
     folder: &mut F,

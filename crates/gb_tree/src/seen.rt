@@ -57,7 +57,8 @@ impl Seen {
 
     /// Remembers the files of one reading too.
     fn add(&mut self, alloc: Global, files: Vec<ScannedFile>)
-        ensures { (forgotten : List SeenFile) × (forgotten ++ self.new ≡ self.old ++ places_read files.items) }
+        ensures { (forgotten : List SeenFile)
+            × (forgotten ++ self.new ≡ self.old ++ places_read files.items) }
     {
         self.drop_oldest();
         match places_read(alloc, files) {
