@@ -25,4 +25,4 @@ module _ {F : Type 0} {failures : F → ℕ} {may_leave : F → Tearing} {allowe
   pub read_longer : {first old new end : F} → Requests failures may_leave allowed no_change first old → Requests failures may_leave allowed no_change new end
       → (place : Place) (bytes : Bytes) → WereRead failures may_leave allowed old new place bytes
       → WereRead failures may_leave allowed first end place bytes
-  read_longer before following place bytes read = (read.0, on_longer_way before following read.1)
+  read_longer before following place bytes read = on_longer_way before following read

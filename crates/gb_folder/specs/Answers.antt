@@ -2,6 +2,7 @@
 use Rattle.std.specs.Prelude.{ℕ, List, Ok}
 use Rattle.gb_folder.specs.Calls.{Requests, Call, Lists, Reads, no_change}
 use Rattle.gb_folder.specs.Files.{Bytes, Place, Tearing}
+use Rattle.gb_folder.specs.Limits.{max_file}
 
 -- The call was made between the two states of the folder, and no change was requested between them.
 pub record IsOnWay {F : Type 0} (failures : F → ℕ) (may_leave : F → Tearing) (allowed : F → Call → F → Type 0)
@@ -12,11 +13,11 @@ pub record IsOnWay {F : Type 0} (failures : F → ℕ) (may_leave : F → Tearin
   pub is : allowed before call after
   pub rest : Requests failures may_leave allowed no_change after new
 
--- the bytes were returned as those of the file at the place, in one call
+-- the bytes were returned as those of the file at the place, in one call that reads any file
 abbrev pub WereRead : {F : Type 0} → (F → ℕ) → (F → Tearing) → (F → Call → F → Type 0) → F → F → Place → Bytes
     → Type 0
 WereRead failures may_leave allowed old new place bytes =
-    (limit : ℕ) × IsOnWay failures may_leave allowed (Reads place limit (Ok bytes)) old new
+    IsOnWay failures may_leave allowed (Reads place max_file (Ok bytes)) old new
 
 -- these places were returned as all those at or under the root
 abbrev pub WereListed : {F : Type 0} → (F → ℕ) → (F → Tearing) → (F → Call → F → Type 0) → F → F → Place

@@ -1,5 +1,5 @@
 -- What the outcome of a task is based on, as calls answered it, over any folder.
-use Rattle.std.specs.Prelude.{ℕ, ◌≡◌, true, List, Option, Some, ⊤}
+use Rattle.std.specs.Prelude.{ℕ, ◌≡◌, true, false, List, Option, Some, ⊤}
 use Rattle.gb_folder.specs.Calls.{Call}
 use Rattle.gb_folder.specs.Files.{Tearing}
 use Rattle.gb_history.specs.Decision.{DecidesFrom}
@@ -24,6 +24,13 @@ abbrev pub WasSourceless : {F : Type 0} → (F → ℕ) → (F → Tearing) → 
 WasSourceless failures may_leave allowed old new task =
     (inputs : List Read) × AreInputsAnswered failures may_leave allowed old new task inputs
     × (lacks_source task.files inputs ≡ true)
+
+-- inputs were answered that give it a source
+abbrev pub WasSourced : {F : Type 0} → (F → ℕ) → (F → Tearing) → (F → Call → F → Type 0) → F → F → Task
+    → Type 0
+WasSourced failures may_leave allowed old new task =
+    (inputs : List Read) × AreInputsAnswered failures may_leave allowed old new task inputs
+    × (lacks_source task.files inputs ≡ false)
 
 -- If its record is to decide, its inputs were answered, and if it has no source they were found so.
 abbrev pub IsEarlyCaseRead : {F : Type 0} → (F → ℕ) → (F → Tearing) → (F → Call → F → Type 0) → F → F → Task

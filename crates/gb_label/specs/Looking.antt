@@ -43,7 +43,7 @@ MayBe task early_cases.HasNoSource =
     × (list_any (λ property. property.skip_when_empty) task.files ≡ true)
 MayBe task (early_cases.Open inputs) =
     (task.runs ≡ true) × (is_empty task.actions ≡ false)
-    × AreInputs task inputs.items
+    × AreInputs task inputs.items × (lacks_source task.files inputs.items ≡ false)
 
 -- the machine failed between these counts, or the fault is the first that prevents reading the task
 abbrev pub IsHindered : Task → Contents → ℕ → ℕ → Fault → Type 0

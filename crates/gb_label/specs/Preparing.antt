@@ -10,6 +10,7 @@ use Rattle.gb_plan.specs.declared.task.TaskDeclaration.{TaskDeclaration as Task}
 use Rattle.gb_report.specs.declared.report.Options.{Options}
 use Rattle.gb_label.specs.Reading.{AreInputs, AreInputsObserved, AreOutputs, AreOutputsObserved}
 use Rattle.gb_label.specs.Deciding.{FollowsFrom, IsBasisIn, MayDecide}
+use Rattle.gb_label.specs.Looking.{lacks_source}
 use Rattle.gb_label.specs.declared.prepare.Prepared.{Prepared}
 use Rattle.gb_label.specs.declared.prepare.Prepared.TheVariants as prepared
 use Rattle.gb_label.specs.declared.prepare.Observed.{Observed}
@@ -31,7 +32,7 @@ MayPrepare task prepared.HasNoSource =
     (task.runs ≡ true) × (is_empty task.actions ≡ false)
     × (list_any (λ property. property.skip_when_empty) task.files ≡ true)
 MayPrepare task (prepared.Decided decision basis observed) = (task.runs ≡ true)
-    × (is_empty task.actions ≡ false)
+    × (is_empty task.actions ≡ false) × (lacks_source task.files observed.inputs.items ≡ false)
 
 -- what may be decided over any folder, if that is the outcome
 abbrev pub MayDecideAs : Options → Task → Prepared → Type 0

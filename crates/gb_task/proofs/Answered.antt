@@ -14,6 +14,7 @@ use Rattle.gb_history.specs.declared.decide.Decision.{Decision}
 use Rattle.gb_history.specs.declared.decide.Decision.TheVariants as decisions
 use Rattle.gb_label.specs.Answered.{IsFoundCurrent, WasDecided}
 use Rattle.gb_label.specs.Deciding.{IsPresentOf}
+use Rattle.gb_label.specs.Looking.{lacks_source}
 use Rattle.gb_label.specs.Preparing.{MayPrepare}
 use Rattle.gb_label.specs.declared.prepare.Prepared.{Prepared}
 use Rattle.gb_label.specs.declared.prepare.Prepared.TheVariants as prepared
@@ -125,15 +126,17 @@ module _ {F : Type 0} (failures : F → ℕ) (may_leave : F → Tearing) (allowe
 
   -- ---- what is decided
 
-  current_on : (options : Options) (task : Task) (last : Option Record) (inputs outputs : List Read) → AreInputs task inputs → AreInputsAnswered failures may_leave allowed old new task inputs
+  current_on : (options : Options) (task : Task) (last : Option Record) (inputs outputs : List Read) → AreInputs task inputs → lacks_source task.files inputs ≡ false
+      → AreInputsAnswered failures may_leave allowed old new task inputs
       → AreOutputs task outputs → AreOutputsAnswered failures may_leave allowed old new task outputs
       → IsFoundCurrent options task last (prints_read inputs) (prints_read outputs) → IsCurrentOn failures may_leave allowed options task last old new
-  current_on options task last inputs outputs of read are existed found = record {
+  current_on options task last inputs outputs of source read are existed found = record {
     run = found.run;
     remembered = found.read;
     trees = trees_observed task.files inputs read;
     inputs_read = trees_were_read task.files inputs read;
     named = trees_named task.files inputs read ∙ of.named;
+    sourced = (inputs, read, source);
     observed = files_observed task.outputs outputs existed;
     outputs_read = files_were_read task.outputs outputs existed;
     formed = files_formed task.outputs outputs existed are.named;
@@ -172,7 +175,7 @@ module _ {F : Type 0} (failures : F → ℕ) (may_leave : F → Tearing) (allowe
   was_settled path need (Ok prepared.HasNoActions) may was = λ reported acts. absurd (true≢false (sym may.1 ∙ acts))
   was_settled path need (Ok prepared.HasNoSource) may was = was
   was_settled path need (Ok (prepared.Decided decisions.UpToDate basis observed)) may was =
-      λ reported acts. current_on failures may_leave allowed since new options task last observed.inputs.items observed.outputs.items was.0 was.1 was.2.0 was.2.1 was.2.2
+      λ reported acts. current_on failures may_leave allowed since new options task last observed.inputs.items observed.outputs.items was.0 may.2 was.1 was.2.0 was.2.1 was.2.2
   was_settled path need (Ok (prepared.Decided (decisions.Incremental changes) basis observed)) may was = (was.1, was.2)
   was_settled path need (Ok (prepared.Decided decisions.Full basis observed)) may was = (was.1, was.2)
 

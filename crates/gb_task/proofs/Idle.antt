@@ -170,8 +170,8 @@ module _ (task : Task) (path : Path) (is_path : path ≡ task.path) (before afte
   of_task (Ok prepared.HasNoActions) may read_so rises blamed = (is_path, refl, refl, silent (idle_outcome need) (failed_idly need), started_idly need, (λ e. may.1), has_source need)
   of_task (Ok prepared.HasNoSource) may read_so rises blamed = (is_path, may.2)
   of_task (Ok (prepared.Decided decisions.UpToDate basis observed)) may read_so rises blamed = (is_path, refl, refl, silent outcomes.UpToDate refl, refl, (λ e. absurd (let d = e in (cc))), λ e. cc)
-  of_task (Ok (prepared.Decided (decisions.Incremental changes) basis observed)) may read_so rises blamed = (is_path, (λ e. absurd (let d = e in (cc))), read_so)
-  of_task (Ok (prepared.Decided decisions.Full basis observed)) may read_so rises blamed = (is_path, (λ e. absurd (let d = e in (cc))), read_so)
+  of_task (Ok (prepared.Decided (decisions.Incremental changes) basis observed)) may read_so rises blamed = (is_path, (λ e. absurd (let d = e in (cc))), read_so, may.2)
+  of_task (Ok (prepared.Decided decisions.Full basis observed)) may read_so rises blamed = (is_path, (λ e. absurd (let d = e in (cc))), read_so, may.2)
 
   pub alone : (result : Result Prepared Fault) → IfOk result (MayPrepare task) → OnErr result ((task.runs ≡ true) × (is_empty task.actions ≡ false))
       → AnswersAlone task.runs (is_empty task.actions) need (settled_as task path result need)

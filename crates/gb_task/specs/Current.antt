@@ -8,7 +8,7 @@ use Rattle.gb_history.specs.Decision.{DecidesFrom}
 use Rattle.gb_history.specs.Record.{Record}
 use Rattle.gb_history.specs.declared.decide.Decision.TheVariants as decisions
 use Rattle.gb_history.specs.declared.decide.Present.{Present}
-use Rattle.gb_label.specs.Answered.{WasDecided, WasPrepared, WasSourceless}
+use Rattle.gb_label.specs.Answered.{WasDecided, WasPrepared, WasSourced, WasSourceless}
 use Rattle.gb_label.specs.Deciding.{IsPresentOf}
 use Rattle.gb_label.specs.ReadingAnswered.{AreInputsAnswered, AreInputsRead, AreOutputsRead}
 use Rattle.gb_label.specs.Reading.{digests_in, prints_observed, records_with}
@@ -24,7 +24,8 @@ use Rattle.gb_task.specs.declared.recheck.Recheck.TheVariants as recheck
 use Rattle.gb_task.specs.declared.before_changes.Settled.{Settled}
 use Rattle.gb_task.specs.declared.before_changes.Settled.TheVariants as settled
 
--- The record that was read of the task finds it up to date, on trees and files that calls returned.
+-- The record that was read of the task finds it up to date, on trees and files that calls returned. By what
+-- they returned it has a source.
 pub record IsCurrentOn {F : Type 0} (failures : F → ℕ) (may_leave : F → Tearing)
     (allowed : F → Call → F → Type 0) (options : Options) (task : Task) (last : Option Record)
     (old new : F) : Type 0 where
@@ -33,6 +34,7 @@ pub record IsCurrentOn {F : Type 0} (failures : F → ℕ) (may_leave : F → Te
   pub trees : Trees
   pub inputs_read : AreInputsRead failures may_leave allowed old new task trees
   pub named : map (λ tree. tree.0) trees ≡ given_files task.files
+  pub sourced : WasSourced failures may_leave allowed old new task
   pub observed : List OutputFiles
   pub outputs_read : AreOutputsRead failures may_leave allowed old new task observed
   pub formed : map (λ output. (output.name, output.form)) observed ≡ given_outputs task.outputs

@@ -9,7 +9,7 @@ use Rattle.gb_folder.specs.Calls.{Requests, Call, no_change}
 use Rattle.gb_folder.specs.Device.{Leads, device_of}
 use Rattle.gb_folder.specs.Files.{Tearing}
 use Rattle.gb_history.specs.Record.{Record}
-use Rattle.gb_label.specs.Answered.{WasSourceless}
+use Rattle.gb_label.specs.Answered.{WasSourced, WasSourceless}
 use Rattle.gb_label.specs.ReadingAnswered.{AreInputsRead, AreOutputsRead}
 use Rattle.gb_meaning.specs.Headline.{Agrees}
 use Rattle.gb_meaning.specs.Kinds.{Kinds}
@@ -32,12 +32,14 @@ AreAnswered failures may_leave allowed old calls new =
     Leads (device_of failures may_leave allowed false (λ folder. record { files = []; special = [] })) old
     calls new
 
--- Calls returned these trees of the inputs whole since this state of the folder, and nothing was changed.
+-- Calls returned these trees of the inputs whole since this state of the folder, and nothing was changed. By
+-- what they returned the task has a source.
 pub record HaveRead {F : Type 0} (failures : F → ℕ) (may_leave : F → Tearing)
     (allowed : F → Call → F → Type 0) (task : Task) (trees : Trees) (first read : F) : Type 0 where
   pub requests : Requests failures may_leave allowed no_change first read
   pub inputs : AreInputsRead failures may_leave allowed first read task trees
   pub named : map (λ tree. tree.0) trees ≡ given_files task.files
+  pub sourced : WasSourced failures may_leave allowed first read task
 
 -- So they did with these files of its outputs, and by the record and the digests of just these and of these
 -- trees the run is one by these changes.

@@ -4,6 +4,7 @@ use Rattle.std.specs.Prelude.{IsTrue, ⊤}
 use Rattle.std.specs.List.{list_any}
 use Rattle.gb_folder.specs.Files.{Contents, HasRisen, Place, is_empty}
 use Rattle.gb_history.specs.declared.decide.Decision.TheVariants as decisions
+use Rattle.gb_label.specs.Looking.{lacks_source}
 use Rattle.gb_label.specs.Preparing.{IsReadFor, IsObservedFor}
 use Rattle.gb_label.specs.declared.prepare.Prepared.{Prepared}
 use Rattle.gb_label.specs.declared.prepare.Prepared.TheVariants as prepared
@@ -51,7 +52,7 @@ settled_as task path (Ok (prepared.Decided decision basis observed)) need = sett
 -- A report is of the task, has no line, and says that the task was started. It attributes a fault to the
 -- device only if the device failed meanwhile. A task that is reported as executed here has no actions, and
 -- none is reported as one without source. A task without source has a property that skips it; and a task that
--- is due is not up to date.
+-- is due is not up to date, and has a source.
 abbrev pub IsOfTask : Task → ℕ → ℕ → Settled → Type 0
 IsOfTask task before after (settled.Reported report) =
     (report.path ≡ task.path) × (report.has_actions ≡ not (is_empty task.actions)) × (report.lines ≡ [])
@@ -64,6 +65,7 @@ IsOfTask task before after (settled.Sourceless path) =
     (path ≡ task.path) × (list_any (λ property. property.skip_when_empty) task.files ≡ true)
 IsOfTask task before after (settled.Due path decision observed) =
     (path ≡ task.path) × (decision ≢ decisions.UpToDate) × IsReadFor task observed decision
+    × (lacks_source task.files observed.inputs.items ≡ false)
 
 -- the whole execution is reported, with this outcome
 abbrev pub IsReportedAs : Outcome → Settled → Type 0

@@ -4,6 +4,7 @@ ghost use Rattle.std.specs.Prelude.{◌≡◌, ◌≤◌, ◌⊎◌, ◌||◌, [
 ghost use Rattle.std.specs.List.{AllByRecursion};
 ghost use Rattle.gb_folder.specs.Calls.{Requests, no_change};
 ghost use Rattle.gb_folder.specs.Files.{HasRisen, is_empty};
+ghost use Rattle.gb_label.specs.Looking.{lacks_source};
 ghost use Rattle.gb_label.specs.ReadingAnswered.{AreInputsAnswered, AreOutputsAnswered};
 ghost use Rattle.gb_label.specs.Reading.{AreInputs, AreInputsObserved, AreOutputs};
 ghost use Rattle.gb_label.specs.Reading.{AreOutputsObserved, is_input_of};
@@ -55,6 +56,7 @@ pub fn execute_by_changes<A: Actions, F: Folder>(
     requires outputs_separate { some_overlap (output_places task.now) ≡ false }
     requires path { path ≡ task.now.path }
     requires inputs { AreInputs task.now observed.inputs.items }
+    requires source { lacks_source task.now.files observed.inputs.items ≡ false }
     requires outputs { AreOutputs task.now observed.outputs.items }
     ensures path { result.path ≡ task.now.path }
     ensures has_actions { result.has_actions ≡ not (is_empty task.now.actions) }
@@ -113,6 +115,7 @@ fn go_on<A: Actions, F: Folder>(
     requires separate { reads_output_of task.now task.now ≡ false }
     requires outputs_separate { some_overlap (output_places task.now) ≡ false }
     requires inputs { AreInputs task.now observed.inputs.items }
+    requires source { lacks_source task.now.files observed.inputs.items ≡ false }
     requires outputs { AreOutputs task.now observed.outputs.items }
     requires no_lines { lines.old ≡ [] }
     // Over any folder: where calls returned its inputs and outputs since a state of the folder, without

@@ -6,6 +6,7 @@ ghost use Rattle.gb_action.specs.Changes.{Changes};
 ghost use Rattle.gb_folder.specs.Calls.{Requests, no_change};
 ghost use Rattle.gb_folder.specs.Files.{HasRisen, is_empty};
 ghost use Rattle.gb_label.specs.Answered.{WasDecided};
+ghost use Rattle.gb_label.specs.Looking.{lacks_source};
 ghost use Rattle.gb_label.specs.Preparing.{IsReadFor, IsObservedFor};
 ghost use Rattle.gb_label.specs.ReadingAnswered.{AreInputsAnswered};
 ghost use Rattle.gb_label.specs.Reading.{is_input_of};
@@ -148,6 +149,7 @@ fn run<A: Actions, F: Folder>(
     requires path { path ≡ task.now.path }
     requires due { decision ≢ Decision.UpToDate }
     requires read { IsReadFor task.now observed decision }
+    requires source { lacks_source task.now.files observed.inputs.items ≡ false }
     ensures path { result.path ≡ task.now.path }
     ensures has_actions { result.has_actions ≡ not (is_empty task.now.actions) }
     ensures outcome { IsReportedOf outcome_of result.outcome }

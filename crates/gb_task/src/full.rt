@@ -5,6 +5,7 @@ ghost use Rattle.gb_folder.specs.Calls.{Requests, Call, changes_at, no_change};
 ghost use Rattle.gb_folder.specs.Device.{Leads};
 ghost use Rattle.gb_folder.specs.Files.{HasRisen, is_empty};
 ghost use Rattle.gb_label.specs.Deciding.{HasNamesInOrder};
+ghost use Rattle.gb_label.specs.Looking.{lacks_source};
 ghost use Rattle.gb_label.specs.ReadingAnswered.{AreInputsAnswered};
 ghost use Rattle.gb_label.specs.Reading.{AreInputs, AreInputsObserved, digests_in, is_input_of};
 ghost use Rattle.gb_meaning.specs.Headline.{Agrees};
@@ -67,6 +68,7 @@ pub fn execute_in_full<A: Actions, F: Folder>(
     requires separate { reads_output_of task.now task.now ≡ false }
     requires path { path ≡ task.now.path }
     requires inputs { AreInputs task.now inputs.items }
+    requires source { lacks_source task.now.files inputs.items ≡ false }
     ensures path { result.path ≡ task.now.path }
     ensures has_actions { result.has_actions ≡ not (is_empty task.now.actions) }
     ensures outcome { IsReportedOf outcome_of result.outcome }
@@ -127,6 +129,7 @@ fn run_with_record<A: Actions, F: Folder>(
     requires buildable { IsBuildable A.meanings table.now task.now }
     requires separate { reads_output_of task.now task.now ≡ false }
     requires inputs { AreInputs task.now inputs.items }
+    requires source { lacks_source task.now.files inputs.items ≡ false }
     requires no_lines { lines.old ≡ [] }
     // Over any folder: where calls returned its inputs since a state of the folder, without a change,
     // it only read and failed, or it ran on just these, in full.

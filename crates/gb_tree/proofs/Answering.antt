@@ -36,6 +36,8 @@ module _ {F : Type 0} {failures : F → ℕ} {may_leave : F → Tearing} {allowe
     listed = all_zip_more (IsStartListed failures may_leave allowed old new) (IsStartListed failures may_leave allowed first end)
         (λ start places was. on_longer_way before following was) _ were.listings were.listed;
     are = were.are;
+    few = were.few;
+    single = were.single;
   }
 
   pub output_entries_longer : {first old new end : F} → Requests failures may_leave allowed no_change first old → Requests failures may_leave allowed no_change new end

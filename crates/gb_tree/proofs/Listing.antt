@@ -28,6 +28,16 @@ length-in_order (entry ∷ entries) = length-inserted entry (in_order entries) �
 too_many-in_order : (name : List ℕ) (entries : Entries) → too_many name (in_order entries) ≡ too_many name entries
 too_many-in_order name entries = ap (λ n. cond (nat_lt max_files n) (faults.TooManyFiles name ∷ []) []) (length-in_order entries)
 
+not_many : (b : Bool) (fault : TreeFault) → cond b (fault ∷ []) [] ≡ [] → b ≡ false
+not_many true fault none = absurd (cc)
+not_many false fault none = refl
+
+-- entries that are not too many are not too many in order
+pub few_in_order : (name : List ℕ) (entries sorted : Entries) → too_many name entries ≡ [] → sorted ≡ in_order entries → nat_lt max_files (length sorted) ≡ false
+few_in_order name entries sorted few same =
+    ap (λ (es : Entries). nat_lt max_files (length es)) same ∙ ap (nat_lt max_files) (length-in_order entries)
+    ∙ not_many (nat_lt max_files (length entries)) (faults.TooManyFiles name) few
+
 first_map : {X Y : Type 0} (f : X → Y) (xs : List X) (x : X) → first_of xs ≡ Some x → first_of (map f xs) ≡ Some (f x)
 first_map f [] x e = absurd (cc)
 first_map {X} {Y} f (y ∷ xs) x e = ap (λ o. mapped o) e

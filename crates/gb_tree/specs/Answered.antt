@@ -1,10 +1,11 @@
 -- Files as calls on any folder returned them: listed, and read.
-use Rattle.std.specs.Prelude.{ℕ, ◌≡◌, ◌⊎◌, true, List, []}
+use Rattle.std.specs.Prelude.{ℕ, ◌≡◌, ◌⊎◌, true, false, nat_lt, length, List, []}
 use Rattle.std.specs.List.{AllByRecursion, AllZip, flat_map, zip}
 use Rattle.gb_folder.specs.Answers.{WereListed, WereRead}
 use Rattle.gb_folder.specs.Calls.{Call}
 use Rattle.gb_folder.specs.Files.{Bytes, Files, Place, Tearing, is_own}
-use Rattle.gb_tree.specs.Property.{distinct, entries_in, in_order, starts_in}
+use Rattle.gb_folder.specs.Limits.{max_files}
+use Rattle.gb_tree.specs.Property.{distinct, doubled, entries_in, in_order, paths_of, starts_in}
 use Rattle.gb_tree.specs.Reading.{KeepsOnly}
 use Rattle.gb_tree.specs.Tree.{Entries, entries_from}
 use Rattle.gb_tree.specs.declared.kept.ScannedFile.{ScannedFile}
@@ -23,7 +24,7 @@ IsStartListed failures may_leave allowed old new start places =
     WereListed failures may_leave allowed old new start.1 places
 
 -- The entries of a property: what belongs to it, among the places that calls returned as all at or under
--- each of its starts.
+-- each of its starts. They are no more than are allowed, and all of their paths can be in one tree.
 pub record AreEntriesListed {F : Type 0} (failures : F → ℕ) (may_leave : F → Tearing)
     (allowed : F → Call → F → Type 0) (naming : Naming) (roots : List Place) (include exclude : List (List ℕ))
     (old new : F) (entries : Entries) : Type 0 where
@@ -32,6 +33,8 @@ pub record AreEntriesListed {F : Type 0} (failures : F → ℕ) (may_leave : F �
       listings
   pub are : entries
       ≡ in_order (listed_in naming include exclude (zip (starts_in include (distinct roots)) listings))
+  pub few : nat_lt max_files (length entries) ≡ false
+  pub single : doubled (paths_of entries) ≡ []
 
 -- those of an output: what calls returned as all at or under its place; in the tool's own folder there are
 -- none

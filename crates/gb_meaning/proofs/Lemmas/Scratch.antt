@@ -258,3 +258,22 @@ module _ (kinds : Kinds) (options : Options) (may_occur : May) (plan : Plan) (fo
             (not_of_true (is_failed report.outcome) (right_of (is_started report.outcome) (not (is_failed report.outcome)) (left_of (ended_well report) (list_all ended_well reports) well))) sorted trusted.0 started.1)
         | inr passed ↦ not_true (sym (ap is_started passed.1.outcome) ∙ left_of (is_started report.outcome) (not (is_failed report.outcome)) (left_of (ended_well report) (list_all ended_well reports) well))
       ]
+
+-- ---- Tasks that were done, however it is known
+
+-- Each task was skipped, had nothing to do, or its outputs were then what its actions make: one after another.
+abbrev pub AreDone : Kinds → List Planned → World → World → Type 0
+AreDone kinds [] old new = new.folder.files ≡ old.folder.files
+AreDone kinds (planned ∷ rest) old new =
+    (mid : World) × IsFolder mid.folder.files × Did kinds planned.task old mid × AreDone kinds rest mid new
+
+module _ (kinds : Kinds) (folder : Contents) where
+  pub done_follows : (rest : List Planned) (old new : World) → folder.special ≡ old.folder.special → IsFolder old.folder.files
+      → AllFit (actives rest) → AllTrusted kinds old.memory rest → PathsDistinct rest
+      → AreDone kinds rest old new → Built kinds folder (actives rest) old.folder.files new.folder.files
+  done_follows [] old new special sorted fit trusted separate done =
+      ap Some (where_all (no_out []) (λ q. refl) old.folder.files ∙ sym done)
+  done_follows (planned ∷ rest) old new special sorted fit trusted separate done =
+      after_execution kinds folder planned rest old done.0 new
+      (λ special' fit' trusted'. done_follows rest done.0 new special' done.1 fit' trusted' separate.1 done.3)
+      special sorted.in_order fit trusted separate done.2

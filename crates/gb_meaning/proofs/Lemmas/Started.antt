@@ -7,7 +7,7 @@ use Rattle.gb_report.specs.declared.fault.Fault.{Fault}
 use Rattle.gb_report.specs.declared.report.Outcome.{Outcome}
 use Rattle.gb_report.specs.declared.report.Options.{Options}
 use Rattle.gb_report.specs.declared.report.TaskReport.{TaskReport}
-use Rattle.gb_folder.specs.Files.{Bytes}
+use Rattle.gb_folder.specs.Files.{Bytes, is_empty}
 use Rattle.gb_plan.specs.Task.{Path, has_path}
 use Rattle.gb_plan.specs.declared.task.TaskDeclaration.{TaskDeclaration as Task}
 use Rattle.gb_plan.proofs.Registered.{in_with_tasks}
@@ -20,6 +20,7 @@ use Rattle.gb_report.specs.declared.report.Outcome.TheVariants as outcomes
 use Rattle.gb_meaning.specs.Label.{Moment, Early, Skips, HasNoActions, CannotRead, HasNoSource, early_case, some_outcome, IsLabelAt, EndsWith, run_of}
 use Rattle.gb_report.specs.Outcome.{is_failed, is_executed, is_started}
 use Rattle.gb_meaning.specs.Execution.{May, Executions, StartedExecution, DoesStart, has_not_ended_well, is_uncalled, finalizes_started, moment_after}
+use Rattle.gb_meaning.specs.Outline.{AnswersAlone, AreOutlines, MayAnswer, idle_outcome, moment_by}
 use Rattle.gb_plan.proofs.Tests.{at_member, not_true, any_append, any_map, all_at, itself, none_left, none_right, no_longer}
 use Rattle.gb_meaning.proofs.Common.{all_assumed}
 use Rattle.gb_meaning.proofs.Lemmas.Files.{left_of, right_of}
@@ -145,6 +146,27 @@ label_started kinds options plan task moment None outcome label = elim label [
   | inr run ↦ ran_started (run_of kinds task moment.world.folder.files).fault outcome run.1
 ]
 
+-- so is what an outline leaves open
+outline_started : (options : Options) (plan : Plan) (moment : Moment) (task : Task) (runs idle : Bool) (outcome : Outcome)
+    → AnswersAlone options plan moment task runs idle outcome → is_started outcome ≡ true
+outline_started options plan moment task false idle outcome (inl skipped) = ap is_started skipped
+outline_started options plan moment task false idle outcome (inr failed) = ap is_started failed
+outline_started options plan moment task true true outcome (inl is) = ap is_started is ∙ started_idly (some_outcome is_executed moment (needs_in plan task))
+  where
+    started_idly : (b : Bool) → is_started (idle_outcome b) ≡ true
+    started_idly true = refl
+    started_idly false = refl
+outline_started options plan moment task true true outcome (inr failed) = ap is_started failed
+outline_started options plan moment task true false outcome may = may_started outcome may
+  where
+    may_started : (o : Outcome) → MayAnswer options task o → is_started o ≡ true
+    may_started outcomes.Executed may = refl
+    may_started outcomes.UpToDate may = refl
+    may_started outcomes.Skipped may = absurd may
+    may_started outcomes.NoSource may = refl
+    may_started (outcomes.Failed fault) may = refl
+    may_started outcomes.NotRun may = absurd may
+
 -- ---- A task that is ready starts
 
 all_right : {X : Type 0} (p : X → Bool) (xs ys : List X) → list_all p (xs ++ ys) ≡ true → list_all p ys ≡ true
@@ -269,3 +291,27 @@ module _ (options : Options) (request : Request) (plan : Plan) (schedule : IsSch
             | inl label ↦ label_started kinds options plan planned.task moment (early_case planned.task moment.world.folder) r.outcome label
             | inr fault ↦ ap is_started fault.2
           ]) (ap not e)
+
+  -- The same by outlines, whatever the folder is.
+  pub outlines_started : (placed rest : List Planned) (done : Outcomes) (reports : List TaskReport)
+      → plan ≡ placed ++ rest → all_well done ≡ true → stuck plan (paths_done done) rest ≡ []
+      → list_any (λ (report : TaskReport). is_failed report.outcome) reports ≡ false
+      → AreOutlines options plan done rest reports → list_all ended_well reports ≡ true
+  outlines_started placed [] done [] whole well ready none outlines = refl
+  outlines_started placed [] done (report ∷ reports) whole well ready none outlines = absurd outlines
+  outlines_started placed (planned ∷ rest) done [] whole well ready none outlines = absurd outlines
+  outlines_started placed (planned ∷ rest) done (report ∷ reports) whole well ready none outlines =
+      let is_next = ready_here plan (paths_done done) planned rest ready in
+      let not_failed = none_left (is_failed report.outcome) (list_any (λ (r : TaskReport). is_failed r.outcome) reports) none in
+      elim outlines.0.answer [
+        | inl started ↦
+            let here = both_true (is_started report.outcome) (not (is_failed report.outcome))
+            (outline_started options plan (moment_by done) planned.task planned.task.runs (is_empty planned.task.actions) report.outcome started.1) (ap not not_failed) in
+            both_true (ended_well report) (list_all ended_well reports) here
+            (outlines_started (placed ++ planned ∷ []) rest (done ++ (report.path, report.outcome) ∷ []) reports
+            (whole ∙ grouped placed planned rest)
+            (all_push done (report.path, report.outcome) well here)
+            (ap (λ s. stuck plan s rest) (paths_push done report.path report.outcome ∙ ap (λ p. paths_done done ++ p ∷ []) outlines.0.path) ∙ stuck_rest plan (paths_done done) planned rest ready)
+            (none_right (is_failed report.outcome) (list_any (λ (r : TaskReport). is_failed r.outcome) reports) none) outlines.1)
+        | inr passed ↦ absurd (passed.0 (does_start (moment_by done) placed planned rest whole well is_next))
+      ]

@@ -20,7 +20,7 @@ use Rattle.gb_plan.specs.Task.{IsShaped}
 use Rattle.gb_meaning.specs.Execution.{first_moment, May, Builds}
 use Rattle.gb_meaning.specs.Scratch.{from_scratch, cleared, add_task}
 use Rattle.gb_meaning.proofs.Lemmas.Worked.{IsTrusted}
-use Rattle.gb_meaning.proofs.Lemmas.Scratch.{actives, ended_well, follows, where_all, no_out}
+use Rattle.gb_meaning.proofs.Lemmas.Scratch.{AreDone, actives, done_follows, ended_well, follows, where_all, no_out}
 use Rattle.gb_meaning.proofs.Lemmas.Sound.{sound_fits, paths_distinct}
 use Rattle.gb_meaning.specs.Promise.{SuccessIsFromScratch, TruthIsKept, any_fault_comes}
 use Rattle.gb_meaning.proofs.Lemmas.Kept.{executions_keep}
@@ -52,6 +52,20 @@ from_scratch_follows kinds options may_occur request plan observed before after 
       (sound_fits plan is_plan.schedule.once is_plan.all_ready is_plan.sound shaped) (all_trusted plan) (paths_distinct plan is_plan.schedule.once)
       (all_end_well kinds options may_occur request plan observed before after old new reports is_plan none run.0 (inr run)) run.1
 ]
+  where
+    all_trusted : (zs : List Planned) → AllByRecursion (λ (planned : Planned). IsTrusted kinds old.memory planned.task) zs
+    all_trusted [] = tt
+    all_trusted (z ∷ zs) = (trusted_in kinds old.memory z.task made, all_trusted zs)
+
+-- Where each task of a plan was done, the folder is what the plan makes from scratch.
+pub done_from_scratch : (kinds : Kinds) (options : Options) (request : Request) (plan : Plan) (old new : World)
+    → IsPlan request plan → AllByRecursion (λ (planned : Planned). IsShaped planned.task) plan
+    → IsFolder old.folder.files → AllMade kinds old.memory → options.dry_run ≡ false
+    → AreDone kinds plan old new → from_scratch kinds options plan old.folder ≡ Some new.folder.files
+done_from_scratch kinds options request plan old new is_plan shaped folder made wet done =
+    ap (λ b. fold (add_task kinds old.folder) (Some (cleared (cond b [] (actives plan)) old.folder.files)) (cond b [] (actives plan))) wet
+    ∙ done_follows kinds old.folder plan old new refl folder
+    (sound_fits plan is_plan.schedule.once is_plan.all_ready is_plan.sound shaped) (all_trusted plan) (paths_distinct plan is_plan.schedule.once) done
   where
     all_trusted : (zs : List Planned) → AllByRecursion (λ (planned : Planned). IsTrusted kinds old.memory planned.task) zs
     all_trusted [] = tt

@@ -50,16 +50,25 @@ returns-clause-case g c = λ faithful known.
       c.in_ok-inputs.ensures.observed faithful known,
     )
 
--- what was found of the readings is that they give no source
-sourceless : (properties other : List FileProperty) (inputs observed : List Read) (found : Bool) → properties ≡ other → observed ≡ inputs → found ≡ lacks_source properties observed → found ≡ true
-    → lacks_source other inputs ≡ true
-sourceless properties other inputs observed found is same reported decided =
+-- whether the readings give no source is what was found of them
+found_of : (properties other : List FileProperty) (inputs observed : List Read) (found b : Bool) → properties ≡ other → observed ≡ inputs → found ≡ lacks_source properties observed → found ≡ b
+    → lacks_source other inputs ≡ b
+found_of properties other inputs observed found b is same reported decided =
     ap (lacks_source other) (sym same) ∙ ap (λ ps. lacks_source ps observed) (sym is) ∙ sym reported ∙ decided
+
+pub returns-clause-may_be : goal.returns-clause-may_be
+returns-clause-may_be g c = (
+  c.requires.runs,
+  c.requires.acts,
+  c.in_ok-inputs.ensures.read,
+  found_of c.as_slice.result.now c.args.task.now.files c.in_ok-inputs.inputs.items c.as_slice-2.result.now c.is_without_source.result false c.as_slice.ensures
+      c.as_slice-2.ensures.value c.is_without_source.ensures c.if-is_without_source.false,
+)
 
 pub returns-then-is_without_source-clause-answered : goal.returns-then-is_without_source-clause-answered
 returns-then-is_without_source-clause-answered g c = λ first before known. (
   c.in_ok-inputs.inputs.items,
   inputs_longer (requests_nothing first) c.check_outputs.ensures.requests c.args.task.now c.in_ok-inputs.inputs.items (c.in_ok-inputs.ensures.answered first before known),
-  sourceless c.as_slice.result.now c.args.task.now.files c.in_ok-inputs.inputs.items c.as_slice-2.result.now c.is_without_source.result c.as_slice.ensures
+  found_of c.as_slice.result.now c.args.task.now.files c.in_ok-inputs.inputs.items c.as_slice-2.result.now c.is_without_source.result true c.as_slice.ensures
       c.as_slice-2.ensures.value c.is_without_source.ensures c.if-is_without_source.true,
 )

@@ -12,7 +12,8 @@ use Rattle.gb_task.specs.Executing.{HasExecuted, report_of, setting_with}
 use Rattle.gb_task.proofs.ByChanges.{reading_failed}
 use Rattle.gb_task.proofs.Later.{comes_later, due_since, turned_before}
 use Rattle.gb_task.proofs.Recorded.{assumed_later}
-use Rattle.gb_folder.proofs.Asked.{requests_then}
+use Rattle.gb_folder.proofs.Asked.{requests_nothing, requests_then}
+use Rattle.gb_label.proofs.ReadingAnswering.{inputs_longer}
 use Rattle.gb_task.proofs.Ran.{all_answered}
 use Rattle.gb_task.proofs.changes.go_on.Goals as goal
 
@@ -74,7 +75,7 @@ returns-in-ByChanges-clause-ran g c = λ first before inputs outputs.
       c.in-ByChanges.changes,
       c.in-ByChanges.outputs.observed,
       then,
-      record { requests = requests_then before c.recheck_task.ensures.requests; inputs = was.0; named = is_recheck.0.named },
+      record { requests = requests_then before c.recheck_task.ensures.requests; inputs = was.0; named = is_recheck.0.named; sourced = (c.args.observed.inputs.items, inputs_longer (requests_nothing first) c.recheck_task.ensures.requests task c.args.observed.inputs.items inputs, c.requires.source) },
       record { outputs = was.1; formed = is_recheck.1.formed; decided = is_recheck.2 },
       (
         ran.0,
@@ -94,7 +95,7 @@ returns-in-InFull-clause-ran g c = λ first before inputs outputs.
     inr (inl (
       c.in-InFull.inputs.trees,
       then,
-      record { requests = requests_then before c.recheck_task.ensures.requests; inputs = was; named = is_recheck.named },
+      record { requests = requests_then before c.recheck_task.ensures.requests; inputs = was; named = is_recheck.named; sourced = (c.args.observed.inputs.items, inputs_longer (requests_nothing first) c.recheck_task.ensures.requests task c.args.observed.inputs.items inputs, c.requires.source) },
       (
         ran.0,
         all_answered F.failures F.may_leave F.allowed F.faithful F.contents F.device g.met.F.Folder.said ran.0 then c.run_on.new.folder ran.1,

@@ -10,7 +10,8 @@ use Rattle.gb_task.specs.Executing.{HasExecuted, report_of, setting_with}
 use Rattle.gb_task.proofs.Later.{comes_later, turned_before}
 use Rattle.gb_task.proofs.Recorded.{assumed_later}
 use Rattle.gb_task.proofs.Whole.{reading_failed}
-use Rattle.gb_folder.proofs.Asked.{requests_then}
+use Rattle.gb_folder.proofs.Asked.{requests_nothing, requests_then}
+use Rattle.gb_label.proofs.ReadingAnswering.{inputs_longer}
 use Rattle.gb_task.proofs.Ran.{all_answered}
 use Rattle.gb_task.proofs.full.run_with_record.Goals as goal
 
@@ -59,6 +60,11 @@ returns-clause-ran g c = λ first before inputs.
         requests = requests_then before c.complete_inputs.ensures.requests;
         inputs = c.in_ok-inputs.ensures.answered first before inputs;
         named = c.in_ok-inputs.ensures.named;
+        sourced = (
+          c.args.inputs.items,
+          inputs_longer (requests_nothing first) c.complete_inputs.ensures.requests c.args.task.now c.args.inputs.items inputs,
+          c.requires.source,
+        );
       },
       (
         ran.0,

@@ -5,12 +5,12 @@ use Rattle.gb_core.specs.Place.{is_under}
 use Rattle.gb_folder.specs.Files.{Place}
 use Rattle.gb_tree.specs.declared.fault.TreeFault.TheVariants as faults
 use Rattle.gb_tree.specs.Answered.{IsStartListed, listed_in}
-use Rattle.gb_tree.specs.Property.{distinct, entry_faults, in_order, is_under_any, places_of, starts_in}
+use Rattle.gb_tree.specs.Property.{distinct, doubled, entry_faults, in_order, is_under_any, paths_of, places_of, starts_in}
 use Rattle.gb_tree.specs.Tree.{Entries, IsRefused}
 use Rattle.gb_tree.proofs.Blame.{blamed_before}
 use Rattle.gb_tree.proofs.Found.{distinct_under}
 use Rattle.gb_tree.proofs.Holding.{all_wider}
-use Rattle.gb_tree.proofs.Listing.{doubled_first, found_refused, in_their_order, only_doubled}
+use Rattle.gb_tree.proofs.Listing.{doubled_first, few_in_order, found_refused, in_their_order, only_doubled}
 use Rattle.gb_tree.proofs.Refused.{at_err}
 use Rattle.gb_tree.proofs.Sorting.{all_in_order}
 use Rattle.gb_tree.proofs.Starting.{beneath_roots}
@@ -86,6 +86,8 @@ returns-clause-listed g c =
       listings = reported.0;
       listed = subst (λ (starts : List (Place × Place)). AllZip (IsStartListed g.F.Folder.failures g.F.Folder.may_leave g.F.Folder.allowed c.args.folder.now c.found_few.new.folder) starts reported.0) same reported.1;
       are = c.sort.ensures.sorted ∙ ap in_order (reported.2 ∙ ap (λ (starts : List (Place × Place)). listed_in naming include exclude (zip starts reported.0)) same);
+      few = few_in_order c.args.name.now c.in_ok-entries.entries.items _ c.in_ok-entries.ensures.few c.sort.ensures.sorted;
+      single = ap (λ (es : Entries). doubled (paths_of es)) (sym c.as_slice-2.ensures.value) ∙ c.in_ok-check_doubled.ensures.fit;
     }
 
 pub returns-clause-entries : goal.returns-clause-entries
