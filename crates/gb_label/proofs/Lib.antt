@@ -6,6 +6,6 @@ pub mod Cases
 mod Current
 pub mod Growth
 mod Names
-mod Sources
+pub mod Sources
 pub mod Recorded
 pub mod Answering

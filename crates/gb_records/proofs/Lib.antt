@@ -9,4 +9,4 @@ pub mod Since
 pub mod Going
 pub mod Asked
 pub mod Answering
-mod Called
+pub mod Called

@@ -20,7 +20,7 @@ pub mod WorkingBy
 pub mod RanBy
 pub mod Invented
 pub mod FailedRuns
-mod Listed
+pub mod Listed
 pub mod CutEmptying
 pub mod Digested
 pub mod ByPlace

@@ -3,4 +3,4 @@ pub mod Emptied
 pub mod Loops
 pub mod Removing
 pub mod Asking
-mod Called
+pub mod Called

@@ -1,5 +1,5 @@
 -- Records stay true over any folder.
-use Rattle.std.specs.Prelude.{◌≡◌, ◌++◌, ℕ, Bool, true, false, cond, List, [], ◌∷◌, map, unwrap_or, Some, None, Ok, Contains}
+use Rattle.std.specs.Prelude.{◌≡◌, ◌++◌, ℕ, Bool, true, false, cond, List, [], ◌∷◌, map, unwrap_or, Some, None, Ok, Contains, IsTrue}
 use Rattle.std.specs.List.{AllByRecursion, AllZip, flat_map, zip}
 use Rattle.std.specs.FinMap.Entries.{find}
 use Rattle.std.specs.Ordering.{eq_by_cmp}
@@ -16,9 +16,9 @@ use Rattle.gb_action.specs.declared.output.Form.{Form}
 use Rattle.gb_action.specs.declared.output.OutputFiles.{OutputFiles}
 use Rattle.gb_core.specs.Lists.{byte_order}
 use Rattle.gb_folder.specs.Calls.{Call}
-use Rattle.gb_folder.specs.Files.{Place, Bytes, Files, Tearing, file_at}
+use Rattle.gb_folder.specs.Files.{Place, Bytes, Files, IsFolder, Tearing, are_placed, file_at}
 use Rattle.gb_history.specs.Decision.{IsAlike, changes_of, is_incremental}
-use Rattle.gb_history.specs.Record.{ArePrints, Prints, Record, prints_in}
+use Rattle.gb_history.specs.Record.{ArePrints, IsWellFormed, Prints, Record, prints_in}
 use Rattle.gb_history.specs.Text.{record_text}
 use Rattle.gb_history.specs.declared.decide.Present.{Present}
 use Rattle.gb_run.specs.AskingChanges.{GoesOn, request_of}
@@ -40,9 +40,11 @@ use Rattle.gb_records.proofs.Placed.{made_placed}
 use Rattle.gb_records.proofs.Since.{SameUnless, alike_trees}
 use Rattle.gb_tree.specs.Prints.{digests_of}
 use Rattle.gb_tree.proofs.Digests.{same_changes}
+use Rattle.gb_report.specs.declared.report.Options.{Options}
 use Rattle.gb_label.specs.ReadingAnswered.{AreInputsRead}
 use Rattle.gb_label.specs.Reading.{digests_in, prints_observed, records_with, observed_of}
 use Rattle.gb_task.specs.Keeping.{IsRecordOf}
+use Rattle.gb_task.specs.Ran.{GoesFrom}
 use Rattle.gb_task.specs.Truth.{AreMadeOf, FullRunsAreTrue, IsTextOfTrue, IsTrueBeside, AreSeparate, RunsByChangesStayTrue, UpToDateIsMade, contents_read}
 use Rattle.gb_task.proofs.Made.{made_folder}
 use Rattle.gb_task.proofs.Since.{all_sorted}
@@ -337,15 +339,20 @@ module _ (kinds : Kinds) (task : Task) (last : Record) (trees : Trees) (observed
 
 -- ---- the laws
 
-pub runs_by_changes_stay_true : {F S : Type 0} (failures : F → ℕ) (may_leave : F → Tearing) (allowed : F → Call → F → Type 0) (meanings : Meanings S) → RunsByChangesStayTrue failures may_leave allowed meanings
-runs_by_changes_stay_true failures may_leave allowed meanings first read rows kinds options task last trees changes observed run agrees lie one held have on by so =
-    text_of_record failures may_leave allowed first read kinds task trees run (record_text task.path run) have.inputs have.named
-    (by kinds agrees so.entry.inputs so.entry.files
-    (made_folder kinds task.outputs task.values so.entry.inputs task.actions so.entry.files made)
-    (made_placed kinds task.outputs task.values so.entry.inputs task.actions so.entry.files made)
-    (subst (λ (lists : List Changes). GoesOn kinds task so.entry.inputs trees lists observed so.entry.files) (sym lists)
-    (goes_on kinds task last trees observed lie on.formed so actions values outputs names held.inputs alike one)))
-    refl
+-- By a true record, the changes of an incremental run lead to the trees that were read from those of which
+-- what was read at the outputs was made.
+pub goes_from_true : {F : Type 0} (failures : F → ℕ) (may_leave : F → Tearing) (allowed : F → Call → F → Type 0) (kinds : Kinds) (options : Options) (task : Task) (last : Record) (trees : Trees)
+    (changes : List Changes) (observed : List OutputFiles) (first read : F) → AreSeparate task → has_one_writer kinds task.actions ≡ true → IsWellFormed last
+    → GoesFrom failures may_leave allowed options task last trees changes observed first read → IsTrueBeside kinds last (contents_read trees observed)
+    → (before : Trees) × (existing : Files) × IsFolder existing × IsTrue (are_placed existing) × GoesOn kinds task before trees changes observed existing
+goes_from_true failures may_leave allowed kinds options task last trees changes observed first read lie one held on so = (
+  so.entry.inputs,
+  so.entry.files,
+  made_folder kinds task.outputs task.values so.entry.inputs task.actions so.entry.files made,
+  made_placed kinds task.outputs task.values so.entry.inputs task.actions so.entry.files made,
+  subst (λ (lists : List Changes). GoesOn kinds task so.entry.inputs trees lists observed so.entry.files) (sym lists)
+      (goes_on kinds task last trees observed lie on.formed so actions values outputs names held.inputs alike one),
+)
   where
     present : Present
     present = on.decided.present
@@ -373,6 +380,12 @@ runs_by_changes_stay_true failures may_leave allowed meanings first read rows ki
 
     made : made_of kinds task.actions task.values so.entry.inputs task.outputs ≡ Ok so.entry.files
     made = made_then kinds task last trees observed lie on.formed so actions values outputs
+
+pub runs_by_changes_stay_true : {F S : Type 0} (failures : F → ℕ) (may_leave : F → Tearing) (allowed : F → Call → F → Type 0) (meanings : Meanings S) → RunsByChangesStayTrue failures may_leave allowed meanings
+runs_by_changes_stay_true failures may_leave allowed meanings first read rows kinds options task last trees changes observed run agrees lie one held have on by so =
+    let from = goes_from_true failures may_leave allowed kinds options task last trees changes observed first read lie one held on so in
+    text_of_record failures may_leave allowed first read kinds task trees run (record_text task.path run) have.inputs have.named
+    (by kinds agrees from.0 from.1 from.2 from.3 from.4) refl
 
 pub up_to_date_is_made : {F : Type 0} (failures : F → ℕ) (may_leave : F → Tearing) (allowed : F → Call → F → Type 0) → UpToDateIsMade failures may_leave allowed
 up_to_date_is_made failures may_leave allowed kinds options task last old new lie on so =
