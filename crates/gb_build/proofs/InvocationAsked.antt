@@ -1,33 +1,41 @@
 -- The calls that an invocation makes, from those of its parts.
-use Rattle.std.specs.Prelude.{ℕ, ◌≡◌, Result, Ok, Err}
+use Rattle.std.specs.Prelude.{ℕ, ◌≡◌, List, Result, Ok, Err, OnOk}
 use Rattle.std.proofs.Common.{subst, sym}
-use Rattle.gb_action.specs.Meanings.{Meanings}
+use Rattle.gb_declare.specs.Registered.{registry_said}
 use Rattle.gb_folder.specs.Calls.{Requests, Call, no_change}
 use Rattle.gb_folder.specs.Files.{Tearing}
 use Rattle.gb_folder.proofs.Asked.{requests_then}
+use Rattle.gb_build.specs.Asking.{AreBuildable}
+use Rattle.gb_build.specs.Found.{IsDeclared}
 use Rattle.gb_build.specs.RequestAsked.{BuildRequests}
-use Rattle.gb_build.proofs.Asking.{requests_before}
 use Rattle.gb_meaning.specs.declared.events.Invocation.{Invocation}
-use Rattle.gb_plan.specs.Graph.{IsRegistry, Registry}
-use Rattle.gb_plan.specs.Ready.{Rows}
+use Rattle.gb_plan.specs.Graph.{IsRegistry}
+use Rattle.gb_registry.specs.Source.{Source}
+use Rattle.gb_registry.specs.Tables.{Tables}
 use Rattle.gb_report.specs.declared.fault.Fault.{Fault}
 use Rattle.gb_report.specs.declared.report.Report.{Report}
 use Rattle.gb_build.specs.InvocationAsked.{InvocationRequests}
 
-module _ {F S : Type 0} (failures : F → ℕ) (may_leave : F → Tearing) (allowed : F → Call → F → Type 0) (meanings : Meanings S) (rows : Rows S) (invocation : Invocation) where
+module _ {F M N Z S A : Type 0} (failures : F → ℕ) (may_leave : F → Tearing) (allowed : F → Call → F → Type 0) (tables : Tables M N Z S A) (invocation : Invocation) where
   -- a refused one
   pub refusal_requests : (result : Result Report Fault) (fault : Fault) (old new : F) → result ≡ Err fault → Requests failures may_leave allowed no_change old new
-      → InvocationRequests failures may_leave allowed meanings rows invocation result old new
-  refusal_requests result fault old new is requests = subst (λ (r : Result Report Fault). InvocationRequests failures may_leave allowed meanings rows invocation r old new) (sym is) requests
+      → InvocationRequests failures may_leave allowed tables invocation result old new
+  refusal_requests result fault old new is requests = subst (λ (r : Result Report Fault). InvocationRequests failures may_leave allowed tables invocation r old new) (sym is) requests
 
-  -- a build of what is registered
-  pub registered_requests : (registry : Registry) → IsRegistry registry → (result : Result Report Fault) (old new : F)
-      → BuildRequests failures may_leave allowed meanings rows registry invocation result old new → InvocationRequests failures may_leave allowed meanings rows invocation result old new
-  registered_requests registry is (Err fault) old new requests = requests
-  registered_requests registry is (Ok report) old new requests = (record { registry = registry; is_registry = is; outlined = requests.0 }, requests.1)
-
-  -- the calls that read before it belong to those that it makes
-  pub scripts_before : (result : Result Report Fault) (first old new : F) → Requests failures may_leave allowed no_change first old
-      → InvocationRequests failures may_leave allowed meanings rows invocation result old new → InvocationRequests failures may_leave allowed meanings rows invocation result first new
-  scripts_before (Err fault) first old new before requests = requests_then before requests
-  scripts_before (Ok report) first old new before requests = (requests.0, requests_before meanings rows invocation.options requests.0.outlined.plan report.tasks first old new before requests.1)
+  -- a build of what the scripts register, once they have been read
+  pub declared_requests : (result : Result Report Fault) (source : Source) (given : List (List ℕ × List ℕ)) (old begun new : F) → given ≡ invocation.properties
+      → Requests failures may_leave allowed no_change old begun → IsDeclared failures may_leave allowed tables given old begun source
+      → OnOk result (IsRegistry (registry_said tables source) × AreBuildable tables.shapes tables.kinds (registry_said tables source))
+      → BuildRequests failures may_leave allowed tables.shapes tables.kinds (registry_said tables source) invocation result begun new
+      → InvocationRequests failures may_leave allowed tables invocation result old new
+  declared_requests (Err fault) source given old begun new are first declared sound requests = requests_then first requests
+  declared_requests (Ok report) source given old begun new are first declared sound requests = record {
+    source = source;
+    begun = begun;
+    first = first;
+    declared = subst (λ (values : List (List ℕ × List ℕ)). IsDeclared failures may_leave allowed tables values old begun source) are declared;
+    is_registry = sound.0;
+    buildable = sound.1;
+    by = requests.0;
+    plan = requests.1;
+  }

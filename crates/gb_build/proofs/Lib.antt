@@ -34,3 +34,4 @@ pub mod Running
 pub mod Blaming
 pub mod EventAsked
 pub mod OnePlan
+pub mod Parsed

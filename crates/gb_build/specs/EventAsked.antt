@@ -1,6 +1,5 @@
 -- The calls that events make, over any folder.
 use Rattle.std.specs.Prelude.{ℕ, ◌≡◌, ◌⊎◌, List, [], ◌∷◌, Result, Ok, Err}
-use Rattle.gb_action.specs.Meanings.{Meanings}
 use Rattle.gb_folder.specs.Calls.{Requests, Call, Removes, Writes, no_change, takes_at}
 use Rattle.gb_folder.specs.Files.{Bytes, Place, Tearing, is_own}
 use Rattle.gb_folder.specs.Limits.{max_file}
@@ -9,7 +8,7 @@ use Rattle.gb_meaning.specs.declared.events.Answer.{Answer}
 use Rattle.gb_meaning.specs.declared.events.Answer.TheVariants as answers
 use Rattle.gb_meaning.specs.declared.events.Event.{Event}
 use Rattle.gb_meaning.specs.declared.events.Event.TheVariants as events
-use Rattle.gb_plan.specs.Ready.{Rows}
+use Rattle.gb_registry.specs.Tables.{Tables}
 use Rattle.gb_build.specs.InvocationAsked.{InvocationRequests}
 
 -- no call, or one call and no other
@@ -21,26 +20,24 @@ RequestsOnce allowed call old new =
 
 -- An edit makes at most one call, at its own place; a loss removes only in `.gb`; and an invocation makes the
 -- calls that its answer permits.
-abbrev pub EventRequests : {F S : Type 0} → (F → ℕ) → (F → Tearing) → (F → Call → F → Type 0) → Meanings S
-    → Rows S
-    → Event → Answer → F → F → Type 0
-EventRequests failures may_leave allowed meanings rows (events.Put place bytes) answer old new =
+abbrev pub EventRequests : {F M N Z S A : Type 0} → (F → ℕ) → (F → Tearing) → (F → Call → F → Type 0)
+    → Tables M N Z S A → Event → Answer → F → F → Type 0
+EventRequests failures may_leave allowed tables (events.Put place bytes) answer old new =
     RequestsOnce allowed (Writes place bytes max_file) old new
-EventRequests failures may_leave allowed meanings rows (events.Remove place) answer old new =
+EventRequests failures may_leave allowed tables (events.Remove place) answer old new =
     RequestsOnce allowed (Removes place) old new
-EventRequests failures may_leave allowed meanings rows events.Lost answer old new =
+EventRequests failures may_leave allowed tables events.Lost answer old new =
     Requests failures may_leave allowed (takes_at is_own) old new
-EventRequests failures may_leave allowed meanings rows (events.Invoke invocation) (answers.Built report)
+EventRequests failures may_leave allowed tables (events.Invoke invocation) (answers.Built report)
     old new =
-    InvocationRequests failures may_leave allowed meanings rows invocation (Ok report) old new
-EventRequests failures may_leave allowed meanings rows (events.Invoke invocation) answer old new =
+    InvocationRequests failures may_leave allowed tables invocation (Ok report) old new
+EventRequests failures may_leave allowed tables (events.Invoke invocation) answer old new =
     Requests failures may_leave allowed no_change old new
 
 -- one event after another
-abbrev pub EventsRequest : {F S : Type 0} → (F → ℕ) → (F → Tearing) → (F → Call → F → Type 0) → Meanings S
-    → Rows S
-    → List Event → List Answer → F → F → Type 0
-EventsRequest failures may_leave allowed meanings rows (event ∷ rest) (answer ∷ others) old new =
-    (mid : _) × EventRequests failures may_leave allowed meanings rows event answer old mid
-    × EventsRequest failures may_leave allowed meanings rows rest others mid new
-EventsRequest failures may_leave allowed meanings rows all reported old new = new ≡ old
+abbrev pub EventsRequest : {F M N Z S A : Type 0} → (F → ℕ) → (F → Tearing) → (F → Call → F → Type 0)
+    → Tables M N Z S A → List Event → List Answer → F → F → Type 0
+EventsRequest failures may_leave allowed tables (event ∷ rest) (answer ∷ others) old new =
+    (mid : _) × EventRequests failures may_leave allowed tables event answer old mid
+    × EventsRequest failures may_leave allowed tables rest others mid new
+EventsRequest failures may_leave allowed tables all reported old new = new ≡ old

@@ -1,6 +1,7 @@
 pub mod Texts
 pub mod Executions
 pub mod Scripts
+pub mod Found
 pub mod Laws
 pub mod Refusing
 pub mod Asking

@@ -6,6 +6,7 @@ ghost use Rattle.gb_core.specs.Place.{is_place};
 ghost use Rattle.gb_folder.specs.Calls.{Requests, no_change};
 ghost use Rattle.gb_script.specs.Script.{Says};
 ghost use Rattle.gb_store.specs.Faults.{Blames, BlamesOnly, IsOfMachine};
+ghost use Rattle.gb_build.specs.Found.{WasParsed, WereParsed};
 ghost use Rattle.gb_build.specs.Scripts.{ScriptsSay, is_script_place, script_place, script_places};
 ghost use Rattle.gb_build.specs.Texts.{Reports, TextSays};
 
@@ -33,6 +34,9 @@ pub fn read_scripts<F: Folder>(
         (λ scripts. ScriptsSay (F.contents folder.old).files (script_places projects.now) (Ok scripts.items))
         (λ fault. IsOfMachine (F.failures folder.old) (F.failures folder.new) fault
         ⊎ ScriptsSay (F.contents folder.old).files (script_places projects.now) (Err fault)) }
+    // Over any folder: calls returned these texts.
+    ensures parsed { IfOk result (λ scripts. WereParsed F.failures F.may_leave F.allowed folder.old
+        folder.new (script_places projects.now) scripts.items) }
 {
     let mut scripts = Vec::new(alloc);
     for project in projects {
@@ -55,6 +59,8 @@ fn read_script_of<F: Folder>(
     ensures said { IsTrue F.faithful
         → Reports (TextSays Says (F.contents folder.old).files (script_place project.now.1))
         (F.failures folder.old) (F.failures folder.new) result }
+    ensures parsed { IfOk result (WasParsed F.failures F.may_leave F.allowed Says folder.old folder.new
+        (script_place project.now.1)) }
 {
     let place = script_place(alloc, project.1.as_ref())?;
     script_at(alloc, folder, place)

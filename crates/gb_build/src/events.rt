@@ -45,8 +45,8 @@ pub fn run_events<A: Actions, T: Transforms, F: Folder, L: TaskListener>(
     // or a removal only at or under an output of a task of its plan or at the record of one, and
     // the text of such a record is that of a run of the task. A refused build and a dry run request
     // none.
-    ensures requests { IfOk result (λ answers. EventsRequest F.failures F.may_leave F.allowed A.meanings
-        tables.now.actions events.now answers.items folder.old folder.new) }
+    ensures requests { IfOk result (λ answers. EventsRequest F.failures F.may_leave F.allowed
+        (tables_of T.meanings A.meanings tables.now) events.now answers.items folder.old folder.new) }
     // One answer for each event.
     ensures each { IfOk result (λ answers. length answers.items ≡ length events.now) }
     // Faults are attributed to the device no more often than it failed.
@@ -98,9 +98,8 @@ fn take<A: Actions, T: Transforms, F: Folder, L: TaskListener>(
 ) -> Answer
     ensures count { F.failures folder.old ≤ F.failures folder.new }
     ensures tearing { SameTearing (F.may_leave folder.old) (F.may_leave folder.new) }
-    ensures requests { EventRequests F.failures F.may_leave F.allowed A.meanings tables.now.actions
-        event.now result
-        folder.old folder.new }
+    ensures requests { EventRequests F.failures F.may_leave F.allowed
+        (tables_of T.meanings A.meanings tables.now) event.now result folder.old folder.new }
     ensures device { HasFailed (times_blamed result) (F.failures folder.old) (F.failures folder.new) }
     ensures heard { HaveHeardAll (result ∷ []) (map L.ear listeners.old.items)
         (map L.ear listeners.new.items) }

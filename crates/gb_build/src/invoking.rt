@@ -1,6 +1,6 @@
 //! One invocation over the scripts of a folder.
 ghost use Rattle.std.specs.Prelude.{◌≡◌, ◌≤◌, ◌&&◌, ◌∷◌, [], ℕ, List, Ok, map, not, true, IfErr};
-ghost use Rattle.std.specs.Prelude.{IfOk, IsTrue, OnErr};
+ghost use Rattle.std.specs.Prelude.{IfOk, IsTrue, OnErr, OnOk};
 ghost use Rattle.gb_declare.specs.Registered.{registry_said};
 ghost use Rattle.gb_folder.specs.Files.{SameTearing, is_own};
 ghost use Rattle.gb_meaning.specs.declared.events.Event.TheVariants as events;
@@ -10,13 +10,16 @@ ghost use Rattle.gb_meaning.specs.Headline.{EventKeeps, HaveHeard, InvocationHol
 ghost use Rattle.gb_meaning.specs.Headline.{HasFailed, answer_of, times_blamed};
 ghost use Rattle.gb_meaning.specs.Kinds.{Kinds};
 ghost use Rattle.gb_meaning.specs.Outline.{IsOutlined};
+ghost use Rattle.gb_plan.specs.Graph.{IsRegistry};
 ghost use Rattle.gb_printer.specs.Printing.{Prints, parts_text};
 ghost use Rattle.gb_records.specs.Assumed.{IsAssumed};
 ghost use Rattle.gb_registry.specs.Tables.{tables_of};
 ghost use Rattle.gb_task.specs.Executing.{setting_with};
 ghost use Rattle.gb_build.specs.Leading.{Leads};
 ghost use Rattle.gb_build.specs.Refusing.{IsNotBegun};
+ghost use Rattle.gb_build.specs.Asking.{AreBuildable};
 ghost use Rattle.gb_build.specs.InvocationAsked.{InvocationRequests};
+ghost use Rattle.gb_build.specs.RequestAsked.{BuildRequests};
 ghost use Rattle.gb_build.specs.Registering.{registers_in, setting_of};
 
 use crate::requested::build_requested;
@@ -63,12 +66,12 @@ pub fn invoke<A: Actions, T: Transforms, F: Folder, L: TaskListener, P: Printer>
     ensures device { HasFailed (times_blamed (answer_of result))
         (F.failures folder.old) (F.failures folder.new) }
     ensures tearing { SameTearing (F.may_leave folder.old) (F.may_leave folder.new) }
-    // Over any folder: it requests a write or a removal only at or under an output of a task of its
-    // plan or at the record of one, and the text of such a record is that of a run of the task. A
-    // refused build and a dry run request none.
-    ensures requests { InvocationRequests F.failures F.may_leave F.allowed A.meanings tables.now.actions
-        invocation.now
-        result folder.old folder.new }
+    // Over any folder: the plan is that of the scripts that calls returned. It requests a write or a
+    // removal only at or under an output of a task of this plan or at the record of one, and the
+    // text of such a record is that of a run of the task. A refused build and a dry run request
+    // none.
+    ensures requests { InvocationRequests F.failures F.may_leave F.allowed
+        (tables_of T.meanings A.meanings tables.now) invocation.now result folder.old folder.new }
     // Over any folder: it is a build of the plan of what was requested of some registry. Each task
     // of this plan starts, and has an outcome, as the outline permits. A refusal that is attributed
     // to the device names a place that is read before the first task.
@@ -144,8 +147,13 @@ fn build_registered<A: Actions, T: Transforms, F: Folder, L: TaskListener, P: Pr
     ensures device { HasFailed (times_blamed (answer_of result))
         (F.failures folder.old) (F.failures folder.new) }
     ensures tearing { SameTearing (F.may_leave folder.old) (F.may_leave folder.new) }
-    ensures requests { InvocationRequests F.failures F.may_leave F.allowed A.meanings
-        configured.now.tables.now.actions invocation.now result folder.old folder.new }
+    ensures requests { let tables = tables_of T.meanings A.meanings configured.now.tables.now in
+        BuildRequests F.failures F.may_leave F.allowed A.meanings configured.now.tables.now.actions
+        (registry_said tables configured.now.registry) invocation.now result folder.old folder.new }
+    ensures buildable { let tables = tables_of T.meanings A.meanings configured.now.tables.now in
+        OnOk result (IsRegistry (registry_said tables configured.now.registry)
+        × AreBuildable A.meanings configured.now.tables.now.actions
+        (registry_said tables configured.now.registry)) }
     ensures outlined { IfOk result (IsOutlined invocation.now) }
     ensures places { IfErr result (λ fault. (place : List ℕ) → fault ≡ Fault.Device place
         → IsTrue (is_own place && not invocation.now.options.dry_run)) }

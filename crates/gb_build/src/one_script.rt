@@ -1,9 +1,10 @@
 //! Reads the texts of settings and scripts from their files.
-ghost use Rattle.std.specs.Prelude.{◌≡◌, ◌⊎◌, Some, Ok, Err, IsTrue, MatchResult, length};
+ghost use Rattle.std.specs.Prelude.{◌≡◌, ◌⊎◌, Some, Ok, Err, IfOk, IsTrue, MatchResult, length};
 ghost use Rattle.gb_folder.specs.Calls.{Requests, no_change};
 ghost use Rattle.gb_script.specs.Script.{Says, SaysAsSettings};
 ghost use Rattle.gb_store.specs.Changes.{is_at};
 ghost use Rattle.gb_store.specs.Faults.{Blames, BlamesOnly};
+ghost use Rattle.gb_build.specs.Found.{WasParsed};
 ghost use Rattle.gb_build.specs.Texts.{FileSays, Reports, TextSays, in_file, unread_at};
 
 use gb_core::place::Place;
@@ -28,6 +29,9 @@ pub fn settings_at<F: Folder>(
     ensures said { IsTrue F.faithful
         → Reports (TextSays SaysAsSettings (F.contents folder.old).files place)
         (F.failures folder.old) (F.failures folder.new) result }
+    // Over any folder: a call returned this text.
+    ensures parsed { IfOk result (WasParsed F.failures F.may_leave F.allowed SaysAsSettings folder.old
+        folder.new place) }
 {
     match folder.read(alloc, &place, MAX_SCRIPT as u64) {
         Ok(bytes) => settings_in(alloc, bytes.as_slice(), place),
@@ -47,6 +51,9 @@ pub fn script_at<F: Folder>(alloc: Global, folder: &mut F, place: Place) -> Resu
     ensures said { IsTrue F.faithful
         → Reports (TextSays Says (F.contents folder.old).files place)
         (F.failures folder.old) (F.failures folder.new) result }
+    // Over any folder: a call returned this text.
+    ensures parsed { IfOk result (WasParsed F.failures F.may_leave F.allowed Says folder.old folder.new
+        place) }
 {
     match folder.read(alloc, &place, MAX_SCRIPT as u64) {
         Ok(bytes) => script_in(alloc, bytes.as_slice(), place),

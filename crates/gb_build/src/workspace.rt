@@ -5,6 +5,7 @@ ghost use Rattle.gb_registry.specs.Tables.{tables_of};
 ghost use Rattle.gb_script.specs.Script.{SaysAsSettings};
 ghost use Rattle.gb_store.specs.Changes.{is_at};
 ghost use Rattle.gb_store.specs.Faults.{Blames, BlamesOnly, IsOfMachine};
+ghost use Rattle.gb_build.specs.Found.{IsDeclared, WasParsed};
 ghost use Rattle.gb_build.specs.Scripts.{FolderSays, is_script_place, settings_place};
 ghost use Rattle.gb_build.specs.Texts.{Reports, TextSays};
 
@@ -50,6 +51,10 @@ pub fn read_registry<'a, A: Actions, T: Transforms, F: Folder>(
         (λ fault. IsOfMachine (F.failures folder.old) (F.failures folder.new) fault
         ⊎ FolderSays (tables_of T.meanings A.meanings tables.now)
         (F.contents folder.old).files given.items (Err fault)) }
+    // Over any folder: calls returned the texts of what is declared.
+    ensures declared { IfOk result (λ configured. IsDeclared F.failures F.may_leave F.allowed
+        (tables_of T.meanings A.meanings tables.now) given.items folder.old folder.new
+        configured.registry) }
 {
     let settings = read_settings_of(alloc, folder)?;
     let projects = ProjectSet::of(alloc, &settings)?;
@@ -66,6 +71,8 @@ pub fn read_settings_of<F: Folder>(alloc: Global, folder: &mut F) -> Result<Sett
     ensures said { IsTrue F.faithful
         → Reports (TextSays SaysAsSettings (F.contents folder.old).files settings_place)
         (F.failures folder.old) (F.failures folder.new) result }
+    ensures parsed { IfOk result (WasParsed F.failures F.may_leave F.allowed SaysAsSettings folder.old
+        folder.new settings_place) }
 {
     let place = settings_place(alloc)?;
     settings_at(alloc, folder, place)

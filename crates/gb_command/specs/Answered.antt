@@ -1,7 +1,6 @@
 -- The answer of the program.
 use Rattle.std.specs.Prelude.{ℕ, ◌≡◌, ◌⊎◌, ◌∷◌, [], List, Result, Ok, Err}
 use Rattle.std.specs.Result.{result_map_both}
-use Rattle.gb_action.specs.Meanings.{Meanings}
 use Rattle.gb_folder.specs.Calls.{Requests, Call, no_change}
 use Rattle.gb_folder.specs.Files.{Tearing}
 use Rattle.gb_build.specs.InvocationAsked.{InvocationRequests}
@@ -12,7 +11,6 @@ use Rattle.gb_meaning.specs.Every.{PromiseHolds}
 use Rattle.gb_meaning.specs.Kinds.{Kinds}
 use Rattle.gb_meaning.specs.declared.events.Event.TheVariants as events
 use Rattle.gb_meaning.specs.declared.events.Invocation.{Invocation}
-use Rattle.gb_plan.specs.Ready.{Rows}
 use Rattle.gb_registry.specs.Tables.{Tables}
 use Rattle.gb_report.specs.declared.fault.Fault.{Fault}
 use Rattle.gb_report.specs.declared.report.Report.{Report}
@@ -46,15 +44,13 @@ IsRefused given old answer new =
 
 -- Over any folder: a report is that of an invocation that the arguments request, which makes the calls that
 -- its answer permits. Where there is no report, no change is requested.
-abbrev pub RequestsFor : {F S : Type 0} → (F → ℕ) → (F → Tearing) → (F → Call → F → Type 0) → Meanings S
-    → Rows S
-    → Given
-    → Result Report Fault → F → F → Type 0
-RequestsFor failures may_leave allowed meanings rows given (Err fault) old new =
+abbrev pub RequestsFor : {F M N Z S A : Type 0} → (F → ℕ) → (F → Tearing) → (F → Call → F → Type 0)
+    → Tables M N Z S A → Given → Result Report Fault → F → F → Type 0
+RequestsFor failures may_leave allowed tables given (Err fault) old new =
     Requests failures may_leave allowed no_change old new
-RequestsFor failures may_leave allowed meanings rows given (Ok report) old new =
+RequestsFor failures may_leave allowed tables given (Ok report) old new =
     (invocation : Invocation) × AskFor given invocation
-    × InvocationRequests failures may_leave allowed meanings rows invocation (Ok report) old new
+    × InvocationRequests failures may_leave allowed tables invocation (Ok report) old new
 
 module _ {M F Z S A : Type 0} (tables : Tables M F Z S A) (may_leave : Tearing) where
   -- It is one invocation by its definition, with what the scripts of the folder register, and so a plain

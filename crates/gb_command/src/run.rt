@@ -50,7 +50,7 @@ pub fn run<A: Actions, T: Transforms, F: Folder, W: Printer>(
         (record { contents = F.contents folder.old; failures = F.failures folder.old })
         answer
         (record { contents = F.contents folder.new; failures = F.failures folder.new }))
-        × RequestsFor F.failures F.may_leave F.allowed A.meanings tables.now.actions
+        × RequestsFor F.failures F.may_leave F.allowed (tables_of T.meanings A.meanings tables.now)
         (given_of (λ words. map string_bytes words.items) words) answer folder.old folder.new
         × Prints W.contents W.whole (answer_text answer) writer.old writer.new
         × IfSome result (λ status.
@@ -84,7 +84,8 @@ fn answered<A: Actions, T: Transforms, F: Folder, W: Printer>(
         (record { contents = F.contents folder.old; failures = F.failures folder.old })
         result
         (record { contents = F.contents folder.new; failures = F.failures folder.new }) }
-    ensures requests { RequestsFor F.failures F.may_leave F.allowed A.meanings tables.now.actions
+    ensures requests { RequestsFor F.failures F.may_leave F.allowed
+        (tables_of T.meanings A.meanings tables.now)
         (given_of (λ words. map string_bytes words.items) words) result folder.old folder.new }
 {
     match asked_by(alloc, words) {

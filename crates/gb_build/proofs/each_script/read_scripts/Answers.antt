@@ -4,11 +4,12 @@ use Rattle.gb_folder.proofs.Changes.{SameTearing-chain}
 use Rattle.gb_folder.specs.Files.{Contents}
 use Rattle.gb_script.specs.Script.{Says}
 use Rattle.gb_store.proofs.Machine.{machine_before}
-use Rattle.gb_build.proofs.RowLemmas.{first_fault, long_more, passes_at, text_more}
+use Rattle.gb_build.proofs.RowLemmas.{first_fault, long_more, parsed_more, passes_at, text_more}
 use Rattle.gb_build.proofs.SaidLemmas.{handed}
 use Rattle.gb_build.specs.Scripts.{script_place}
 use Rattle.gb_build.specs.Texts.{TextSays}
-use Rattle.gb_folder.proofs.Asked.{requests_then}
+use Rattle.gb_folder.proofs.Asked.{requests_nothing, requests_then}
+use Rattle.gb_build.proofs.Parsed.{all_parsed_longer, parsed_longer}
 use Rattle.gb_build.proofs.each_script.read_scripts.Goals as goal
 
 pub read_script_of-requires : goal.read_script_of-requires
@@ -24,6 +25,12 @@ loop-project-preserved g c =
       requests = requests_then c.loop-project.invariant.requests c.read_script_of.ensures.requests;
       same = λ faithful. c.read_script_of.ensures.same faithful ∙ c.loop-project.invariant.same faithful;
       one_each = long_more c.loop-project.scripts.items _ c.in_ok-read_script_of.field-0 c.loop-project.project-index c.in_ok-push.ensures.items c.loop-project.invariant.one_each;
+      parsed =
+          parsed_more c.args.projects.now c.loop-project.project-index project c.loop-project.scripts.items _ c.in_ok-read_script_of.field-0
+          c.loop-project-test.true c.project-item.is
+          (all_parsed_longer (requests_nothing c.args.folder.now) c.read_script_of.ensures.requests _ c.loop-project.scripts.items c.loop-project.invariant.parsed)
+          (parsed_longer Says c.loop-project.invariant.requests (requests_nothing c.read_script_of.new.folder) (script_place project.1) c.in_ok-read_script_of.field-0 c.in_ok-read_script_of.ensures.parsed)
+          c.in_ok-push.ensures.items;
       texts = λ faithful.
           text_more (F.contents c.args.folder.now).files c.args.projects.now c.loop-project.project-index project c.loop-project.scripts.items _ c.in_ok-read_script_of.field-0
           c.loop-project-test.true c.project-item.is (c.loop-project.invariant.texts faithful)

@@ -48,9 +48,9 @@ loop-event-preserved g c =
           (subst (λ (events : List Event). AllZip AnswerIsOutlined events (c.loop-event.answers.items ++ c.take.result ∷ [])) taken_here
           (outlined_more (take index c.args.events.now) c.loop-event.answers.items c.event-item.result c.take.result so_far.outlined c.take.ensures.outlined));
       requests =
-          subst (λ (reported : List Answer). EventsRequest F.failures F.may_leave F.allowed g.A.Actions.meanings c.args.tables.now.actions (take (index + 1) c.args.events.now) reported c.args.folder.now c.take.new.folder) (sym items)
-          (subst (λ (events : List Event). EventsRequest F.failures F.may_leave F.allowed g.A.Actions.meanings c.args.tables.now.actions events (c.loop-event.answers.items ++ c.take.result ∷ []) c.args.folder.now c.take.new.folder) taken_here
-          (requests_more_events g.F.Folder.failures g.F.Folder.may_leave g.F.Folder.allowed g.A.Actions.meanings c.args.tables.now.actions (take index c.args.events.now) c.loop-event.answers.items c.event-item.result c.take.result c.args.folder.now c.loop-event.folder c.take.new.folder
+          subst (λ (reported : List Answer). EventsRequest F.failures F.may_leave F.allowed (tables_of g.T.Transforms.meanings g.A.Actions.meanings c.args.tables.now) (take (index + 1) c.args.events.now) reported c.args.folder.now c.take.new.folder) (sym items)
+          (subst (λ (events : List Event). EventsRequest F.failures F.may_leave F.allowed (tables_of g.T.Transforms.meanings g.A.Actions.meanings c.args.tables.now) events (c.loop-event.answers.items ++ c.take.result ∷ []) c.args.folder.now c.take.new.folder) taken_here
+          (requests_more_events g.F.Folder.failures g.F.Folder.may_leave g.F.Folder.allowed (tables_of g.T.Transforms.meanings g.A.Actions.meanings c.args.tables.now) (take index c.args.events.now) c.loop-event.answers.items c.event-item.result c.take.result c.args.folder.now c.loop-event.folder c.take.new.folder
           (taken_all index c.args.events.now c.loop-event.answers.items so_far.each c.loop-event-test.true) so_far.requests c.take.ensures.requests));
       elsewhere = λ faithful.
           subst (λ (reported : List Answer). AllKeepElsewhere registers (take (index + 1) c.args.events.now) reported start.contents next.contents) (sym items)
@@ -96,5 +96,5 @@ returns-clause-promise g c = λ faithful kinds assumed.
 pub returns-clause-requests : goal.returns-clause-requests
 returns-clause-requests g c =
     let F = g.F.Folder in
-    subst (λ (events : List Event). EventsRequest F.failures F.may_leave F.allowed g.A.Actions.meanings c.args.tables.now.actions events c.loop-event.answers.items c.args.folder.now c.loop-event.folder)
+    subst (λ (events : List Event). EventsRequest F.failures F.may_leave F.allowed (tables_of g.T.Transforms.meanings g.A.Actions.meanings c.args.tables.now) events c.loop-event.answers.items c.args.folder.now c.loop-event.folder)
     (take_all c.loop-event.event-index c.args.events.now c.loop-event-test.false) c.loop-event.invariant.requests

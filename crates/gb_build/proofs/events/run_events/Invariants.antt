@@ -27,7 +27,7 @@ invariant-loop-event g l =
       each : length l.answers.items ≡ l.event-index;
       count : F.failures l.fn.folder ≤ F.failures l.folder;
       tearing : SameTearing (F.may_leave l.fn.folder) (F.may_leave l.folder);
-      requests : EventsRequest F.failures F.may_leave F.allowed g.A.Actions.meanings l.tables.actions (take l.event-index l.events) l.answers.items l.fn.folder l.folder;
+      requests : EventsRequest F.failures F.may_leave F.allowed (tables_of g.T.Transforms.meanings g.A.Actions.meanings l.tables) (take l.event-index l.events) l.answers.items l.fn.folder l.folder;
       device : HasFailed (times_blamed_in_all l.answers.items) (F.failures l.fn.folder) (F.failures l.folder);
       heard : HaveHeardAll l.answers.items (map g.L.TaskListener.ear l.fn.listeners.items) (map g.L.TaskListener.ear l.listeners.items);
       outlined : AllZip AnswerIsOutlined (take l.event-index l.events) l.answers.items;

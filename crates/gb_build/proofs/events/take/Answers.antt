@@ -111,25 +111,24 @@ returns-in-Invoke-clause-outlined g c =
 pub returns-in-Put-clause-requests : goal.returns-in-Put-clause-requests
 returns-in-Put-clause-requests g c =
     let F = g.F.Folder in
-    subst (λ (event : Event). EventRequests F.failures F.may_leave F.allowed g.A.Actions.meanings c.args.tables.now.actions event c.edited.result c.args.folder.now c.put.new.folder) (sym c.in-Put.is)
+    subst (λ (event : Event). EventRequests F.failures F.may_leave F.allowed (tables_of g.T.Transforms.meanings g.A.Actions.meanings c.args.tables.now) event c.edited.result c.args.folder.now c.put.new.folder) (sym c.in-Put.is)
     c.put.ensures.requests
 
 pub returns-in-Remove-clause-requests : goal.returns-in-Remove-clause-requests
 returns-in-Remove-clause-requests g c =
     let F = g.F.Folder in
-    subst (λ (event : Event). EventRequests F.failures F.may_leave F.allowed g.A.Actions.meanings c.args.tables.now.actions event c.edited-in-Remove.result c.args.folder.now c.remove.new.folder) (sym c.in-Remove.is)
+    subst (λ (event : Event). EventRequests F.failures F.may_leave F.allowed (tables_of g.T.Transforms.meanings g.A.Actions.meanings c.args.tables.now) event c.edited-in-Remove.result c.args.folder.now c.remove.new.folder) (sym c.in-Remove.is)
     c.remove.ensures.requests
 
 pub returns-in-Lost-clause-requests : goal.returns-in-Lost-clause-requests
 returns-in-Lost-clause-requests g c =
     let F = g.F.Folder in
-    subst (λ (event : Event). EventRequests F.failures F.may_leave F.allowed g.A.Actions.meanings c.args.tables.now.actions event c.edited-in-Lost.result c.args.folder.now c.lose.new.folder) (sym c.in-Lost.is)
+    subst (λ (event : Event). EventRequests F.failures F.may_leave F.allowed (tables_of g.T.Transforms.meanings g.A.Actions.meanings c.args.tables.now) event c.edited-in-Lost.result c.args.folder.now c.lose.new.folder) (sym c.in-Lost.is)
     c.lose.ensures.requests
 
 pub returns-in-Invoke-clause-requests : goal.returns-in-Invoke-clause-requests
 returns-in-Invoke-clause-requests g c =
     let F = g.F.Folder in
-    let rows = c.args.tables.now.actions in
-    subst (λ (event : Event). EventRequests F.failures F.may_leave F.allowed g.A.Actions.meanings rows event c.built.result c.args.folder.now c.invoke.new.folder) (sym c.in-Invoke.is)
-    (subst (λ (answer : Answer). EventRequests F.failures F.may_leave F.allowed g.A.Actions.meanings rows (events.Invoke c.in-Invoke.invocation) answer c.args.folder.now c.invoke.new.folder) (sym c.built.ensures)
-    (invocation_requests g.F.Folder.failures g.F.Folder.may_leave g.F.Folder.allowed g.A.Actions.meanings rows c.in-Invoke.invocation c.invoke.result c.args.folder.now c.invoke.new.folder c.invoke.ensures.requests))
+    subst (λ (event : Event). EventRequests F.failures F.may_leave F.allowed (tables_of g.T.Transforms.meanings g.A.Actions.meanings c.args.tables.now) event c.built.result c.args.folder.now c.invoke.new.folder) (sym c.in-Invoke.is)
+    (subst (λ (answer : Answer). EventRequests F.failures F.may_leave F.allowed (tables_of g.T.Transforms.meanings g.A.Actions.meanings c.args.tables.now) (events.Invoke c.in-Invoke.invocation) answer c.args.folder.now c.invoke.new.folder) (sym c.built.ensures)
+    (invocation_requests g.F.Folder.failures g.F.Folder.may_leave g.F.Folder.allowed (tables_of g.T.Transforms.meanings g.A.Actions.meanings c.args.tables.now) c.in-Invoke.invocation c.invoke.result c.args.folder.now c.invoke.new.folder c.invoke.ensures.requests))

@@ -1,4 +1,5 @@
-use Rattle.std.proofs.Common.{◌≡◌, ◌&&◌, ◌∙◌, ℕ, List, Ok, IsTrue, IfErr, arith, inl, not, refl, subst, sym}
+use Rattle.std.proofs.Common.{◌≡◌, ◌&&◌, ◌∙◌, ℕ, List, Result, Ok, Err, IsTrue, IfErr, arith, inl, not, refl, subst, sym}
+use Rattle.std.specs.Prelude.{OnOk}
 use Rattle.gb_folder.specs.Files.{is_own}
 use Rattle.std.proofs.lemmas.Result.{err_from_is_err_and}
 use Rattle.gb_build.specs.Asking.{AreBuildable, NoneBlameDevice}
@@ -23,7 +24,8 @@ use Rattle.gb_build.proofs.BlamelessTasks.{declared_blame_none}
 use Rattle.gb_build.proofs.Buildable.{are_buildable}
 use Rattle.gb_build.proofs.Passing.{out_of_memory}
 use Rattle.gb_folder.proofs.Asked.{requests_nothing}
-use Rattle.gb_build.proofs.InvocationAsked.{refusal_requests, registered_requests}
+use Rattle.gb_build.proofs.Asking.{refused_requests}
+use Rattle.gb_build.specs.RequestAsked.{BuildRequests}
 use Rattle.gb_build.proofs.invoking.build_registered.Goals as goal
 
 pub returns-in_err-tasks-clause-leads : goal.returns-in_err-tasks-clause-leads
@@ -122,10 +124,26 @@ returns-clause-places g c =
 
 pub returns-clause-requests : goal.returns-clause-requests
 returns-clause-requests g c =
-    registered_requests g.F.Folder.failures g.F.Folder.may_leave g.F.Folder.allowed g.A.Actions.meanings c.args.configured.now.tables.now.actions c.args.invocation.now (registry_in g.T.Transforms.meanings g.A.Actions.meanings c.in_ok-tasks.tasks.workspace) c.in_ok-tasks.tasks.ordered
-    c.build_requested-answered.result c.args.folder.now c.build_requested-answered.new.folder c.build_requested-answered.ensures.requests
+    let F = g.F.Folder in
+    let answered = c.build_requested-answered in
+    subst (λ (registry : Registry). BuildRequests F.failures F.may_leave F.allowed g.A.Actions.meanings c.args.configured.now.tables.now.actions registry c.args.invocation.now answered.result c.args.folder.now answered.new.folder)
+    c.in_ok-tasks.ensures.registry answered.ensures.requests
 
 pub returns-in_err-tasks-clause-requests : goal.returns-in_err-tasks-clause-requests
 returns-in_err-tasks-clause-requests g c =
     let p = err_from_is_err_and c.from_residual.result c.from_residual.ensures.1 in
-    refusal_requests g.F.Folder.failures g.F.Folder.may_leave g.F.Folder.allowed g.A.Actions.meanings c.args.configured.now.tables.now.actions c.args.invocation.now c.from_residual.result p.0 c.args.folder.now c.args.folder.now p.1 (requests_nothing c.args.folder.now)
+    let tables = tables_of g.T.Transforms.meanings g.A.Actions.meanings c.args.configured.now.tables.now in
+    refused_requests g.A.Actions.meanings c.args.configured.now.tables.now.actions (registry_said tables c.args.configured.now.registry) c.args.invocation.now c.from_residual.result p.0 c.args.folder.now c.args.folder.now p.1
+    (requests_nothing c.args.folder.now)
+
+if_ok : {X E : Type 0} (r : Result X E) (P : Type 0) → P → OnOk r P
+if_ok (Ok x) P p = p
+if_ok (Err fault) P p = tt
+
+pub returns-clause-buildable : goal.returns-clause-buildable
+returns-clause-buildable g c =
+    let tables = tables_of g.T.Transforms.meanings g.A.Actions.meanings c.args.configured.now.tables.now in
+    let same : registry_in g.T.Transforms.meanings g.A.Actions.meanings c.in_ok-tasks.tasks.workspace ≡ registry_said tables c.args.configured.now.registry = c.in_ok-tasks.ensures.registry in
+    let sound = subst IsRegistry same c.in_ok-tasks.tasks.ordered in
+    if_ok c.build_requested-answered.result _
+    (sound, are_buildable tables c.args.configured.now.registry (scripts_in c.scripts-scripts.result.now) c.scripts-scripts.ensures.read sound)

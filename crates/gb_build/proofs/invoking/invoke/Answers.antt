@@ -1,4 +1,5 @@
 use Rattle.std.proofs.Common.{◌≡◌, ◌&&◌, ◌∷◌, ◌∙◌, [], ℕ, List, IfErr, IsTrue, OnErr, ap, arith, inl, inr, not, refl, subst, sym}
+use Rattle.std.specs.Prelude.{OnOk}
 use Rattle.std.proofs.lemmas.Result.{err_from_is_err_and}
 use Rattle.gb_folder.specs.Files.{Contents, is_own}
 use Rattle.gb_build.specs.Leading.{Leads}
@@ -25,7 +26,10 @@ use Rattle.gb_build.proofs.Passing.{always, out_of_memory, refused_leads, shows,
 use Rattle.gb_records.specs.Setting.{setting_by}
 use Rattle.gb_build.proofs.Readings.{not_read, own_is_read_first, read_first, registered}
 use Rattle.gb_folder.proofs.Asked.{requests_nothing}
-use Rattle.gb_build.proofs.InvocationAsked.{refusal_requests, scripts_before}
+use Rattle.gb_build.proofs.InvocationAsked.{declared_requests, refusal_requests}
+use Rattle.gb_build.specs.Asking.{AreBuildable}
+use Rattle.gb_build.specs.RequestAsked.{BuildRequests}
+use Rattle.gb_plan.specs.Graph.{IsRegistry}
 use Rattle.gb_build.proofs.invoking.invoke.Goals as goal
 
 pub returns-in_err-copied-clause-leads : goal.returns-in_err-copied-clause-leads
@@ -243,17 +247,25 @@ returns-clause-promise g c = λ faithful kinds assumed.
 pub returns-in_err-copied-clause-requests : goal.returns-in_err-copied-clause-requests
 returns-in_err-copied-clause-requests g c =
     let p = err_from_is_err_and c.from_residual.result c.from_residual.ensures.1 in
-    refusal_requests g.F.Folder.failures g.F.Folder.may_leave g.F.Folder.allowed g.A.Actions.meanings c.args.tables.now.actions c.args.invocation.now c.from_residual.result p.0 c.args.folder.now c.args.folder.now p.1 (requests_nothing c.args.folder.now)
+    refusal_requests g.F.Folder.failures g.F.Folder.may_leave g.F.Folder.allowed (tables_of g.T.Transforms.meanings g.A.Actions.meanings c.args.tables.now) c.args.invocation.now c.from_residual.result p.0 c.args.folder.now c.args.folder.now p.1 (requests_nothing c.args.folder.now)
 
 pub returns-in_err-configured-clause-requests : goal.returns-in_err-configured-clause-requests
 returns-in_err-configured-clause-requests g c =
     let p = err_from_is_err_and c.from_residual-in_err-configured.result c.from_residual-in_err-configured.ensures.1 in
-    refusal_requests g.F.Folder.failures g.F.Folder.may_leave g.F.Folder.allowed g.A.Actions.meanings c.args.tables.now.actions c.args.invocation.now c.from_residual-in_err-configured.result p.0 c.args.folder.now c.read_registry.new.folder p.1 c.read_registry.ensures.requests
+    refusal_requests g.F.Folder.failures g.F.Folder.may_leave g.F.Folder.allowed (tables_of g.T.Transforms.meanings g.A.Actions.meanings c.args.tables.now) c.args.invocation.now c.from_residual-in_err-configured.result p.0 c.args.folder.now c.read_registry.new.folder p.1 c.read_registry.ensures.requests
 
 pub returns-clause-requests : goal.returns-clause-requests
 returns-clause-requests g c =
-    scripts_before g.F.Folder.failures g.F.Folder.may_leave g.F.Folder.allowed g.A.Actions.meanings c.args.tables.now.actions c.args.invocation.now c.build_registered-answered.result c.args.folder.now c.read_registry.new.folder c.build_registered-answered.new.folder
-    c.read_registry.ensures.requests
-    (subst (λ (given : handed.Tables _ _ _ _ _ _ _). InvocationRequests g.F.Folder.failures g.F.Folder.may_leave g.F.Folder.allowed g.A.Actions.meanings given.actions c.args.invocation.now
-    c.build_registered-answered.result c.read_registry.new.folder c.build_registered-answered.new.folder)
-    c.in_ok-configured.ensures.tables c.build_registered-answered.ensures.requests)
+    let F = g.F.Folder in
+    let means = g.T.Transforms.meanings in
+    let meanings = g.A.Actions.meanings in
+    let source = c.in_ok-configured.configured.registry in
+    let answered = c.build_registered-answered in
+    let begun = c.read_registry.new.folder in
+    let new = answered.new.folder in
+    declared_requests F.failures F.may_leave F.allowed (tables_of means meanings c.args.tables.now) c.args.invocation.now answered.result source c.into_vec-given.result.items c.args.folder.now begun new
+    (c.into_vec-given.ensures ∙ c.in_ok-copied.ensures) c.read_registry.ensures.requests c.in_ok-configured.ensures.declared
+    (subst (λ (given : handed.Tables _ _ _ _ _ _ _). OnOk answered.result (IsRegistry (registry_said (tables_of means meanings given) source) × AreBuildable meanings given.actions (registry_said (tables_of means meanings given) source)))
+    c.in_ok-configured.ensures.tables answered.ensures.buildable)
+    (subst (λ (given : handed.Tables _ _ _ _ _ _ _). BuildRequests F.failures F.may_leave F.allowed meanings given.actions (registry_said (tables_of means meanings given) source) c.args.invocation.now answered.result begun new)
+    c.in_ok-configured.ensures.tables answered.ensures.requests)

@@ -1,4 +1,4 @@
-use Rattle.std.proofs.Common.{◌≡◌, List, Ok, Err, ap, subst, ◌∙◌, inl, inr}
+use Rattle.std.proofs.Common.{◌≡◌, List, Option, Ok, Err, ap, subst, ◌∙◌, inl, inr}
 use Rattle.std.proofs.lemmas.List.{length-map}
 use Rattle.std.proofs.lemmas.Result.{err_from_is_err_and}
 use Rattle.std.specs.Prelude.{IfOk, length}
@@ -14,7 +14,12 @@ use Rattle.gb_build.proofs.Blameless.{configure_blameless, none_blamed}
 use Rattle.gb_build.proofs.BlamelessScripts.{settings_blameless}
 use Rattle.gb_build.proofs.PlaceLemmas.{places_good}
 use Rattle.gb_build.proofs.SaidLemmas.{handed, put_together, scripts_here, scripts_refused}
-use Rattle.gb_build.specs.Scripts.{script_places}
+use Rattle.gb_folder.specs.Files.{Place}
+use Rattle.gb_folder.proofs.Asked.{requests_nothing}
+use Rattle.gb_script.specs.Script.{SaysAsSettings}
+use Rattle.gb_build.specs.Found.{WereParsed}
+use Rattle.gb_build.specs.Scripts.{script_places, settings_place}
+use Rattle.gb_build.proofs.Parsed.{all_parsed_longer, declared_here, parsed_longer}
 use Rattle.gb_build.proofs.workspace.read_registry.Goals as goal
 
 pub returns-in_err-projects-clause-blame : goal.returns-in_err-projects-clause-blame
@@ -83,5 +88,22 @@ returns-clause-said g c = λ faithful.
     put_together tables files given settings (c.in_ok-settings.ensures.said faithful) c.in_ok-projects.ensures.faults texts _ _ c.configure_projects.result (λ configured. configured.registry)
     (scripts_here (F.contents c.read_settings_of.new.folder) (F.contents c.args.folder.now) c.as_slice.result.now (projects_of settings) (Ok texts)
     (c.read_settings_of.ensures.same faithful) (c.as_slice.ensures ∙ ap with_folders projects) (c.in_ok-scripts.ensures.said faithful))
+    (subst (λ (paths : List Path). IfOk c.configure_projects.result (λ configured. configured.registry ≡ source_with paths texts given)) projects c.configure_projects.ensures.registry)
+    (subst (λ (paths : List Path). ReportsFirst (configure_faults tables (source_with paths texts given)) c.configure_projects.result) projects c.configure_projects.ensures.faults)
+
+pub returns-clause-declared : goal.returns-clause-declared
+returns-clause-declared g c =
+    let F = g.F.Folder in
+    let tables = tables_of g.T.Transforms.meanings g.A.Actions.meanings c.args.tables.now in
+    let old = c.args.folder.now in
+    let new = c.read_scripts.new.folder in
+    let texts = c.in_ok-scripts.scripts.items in
+    let given = c.args.given.items in
+    let projects = c.in_ok-projects.ensures.projects in
+    declared_here F.failures F.may_leave F.allowed tables given old new c.in_ok-settings.settings texts c.configure_projects.result (λ configured. configured.registry)
+    (parsed_longer SaysAsSettings (requests_nothing old) c.read_scripts.ensures.requests settings_place c.in_ok-settings.settings c.in_ok-settings.ensures.parsed)
+    c.in_ok-projects.ensures.faults
+    (subst (λ (ps : List (Path × Option Place)). WereParsed F.failures F.may_leave F.allowed old new (script_places ps) texts) (c.as_slice.ensures ∙ ap with_folders projects)
+    (all_parsed_longer c.read_settings_of.ensures.requests (requests_nothing new) _ texts c.in_ok-scripts.ensures.parsed))
     (subst (λ (paths : List Path). IfOk c.configure_projects.result (λ configured. configured.registry ≡ source_with paths texts given)) projects c.configure_projects.ensures.registry)
     (subst (λ (paths : List Path). ReportsFirst (configure_faults tables (source_with paths texts given)) c.configure_projects.result) projects c.configure_projects.ensures.faults)

@@ -1,0 +1,13 @@
+pub mod Back
+pub mod Trees
+pub mod Outputs
+pub mod Current
+pub mod Changed
+pub mod Cleared
+pub mod Full
+pub mod ByChanges
+pub mod Going
+pub mod Step
+pub mod Chain
+pub mod Named
+pub mod Built

@@ -1,0 +1,4 @@
+//! Laws of builds over any folder: what they left, if contents answer as their calls were answered.
+#![tactic(auto)]
+
+pub mod laws;
