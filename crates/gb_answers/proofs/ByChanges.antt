@@ -57,8 +57,7 @@ module _ {S : Type 0} (leaves : Tearing) (kinds : Kinds) (meanings : Meanings S)
           → HasRun kinds task trees (rest_of task (outside cur).files) (outside new).files × (new.special ≡ cur.special)
       on (Ok done) writes stores =
           let well = changed_ends leaves kinds task before trees changes observed cur parts.0 does.0 does.2 folder placed goes_on fitting (writes.1 kinds agrees) parts.1 in
-          let same = stored_stage leaves task (IsOfRunByChanges meanings rows task trees changes observed) does.1 does.3 parts.0 new stores parts.2 in
-          (
+          let same = stored_stage leaves task (IsOfRunByChanges meanings rows task trees changes observed) does.1 does.3 parts.0 new stores parts.2 in (
             subst (λ (c : Contents). HasRun kinds task trees (rest_of task (outside cur).files) c.files) (sym same)
                 (ended_outside kinds task trees changes (rest_of task cur.files) (rest_of task (kept cur.files)) parts.0.files does.2 lie.not_own
                 (sorted-where (λ q. not (is_output_of task q)) cur.files folder.in_order) (swapped is_kept (λ q. not (is_output_of task q)) cur.files) well),

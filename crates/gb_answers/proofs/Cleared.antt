@@ -183,8 +183,7 @@ listed_all leaves (output ∷ outputs) calls places old new lists answers =
         → (places ≡ places_at (output ∷ outputs) old.files) × (new ≡ old)
     on (Ok done) listing rest goes =
         let first = one listing.0 listing.1 listing.2 in
-        let more = goes rest in
-        (
+        let more = goes rest in (
           lists.6 ∙ ap₂ (λ (here there : List Place). here ++ there) first.0 (more.0 ∙ ap (λ (c : Contents). places_at outputs c.files) first.1),
           more.1 ∙ first.1,
         )
@@ -201,8 +200,7 @@ emptied leaves task calls old new sound empties answers = on empties.3 empties.5
     on : (mid : Ended Fault) → Each Listing task.outputs empties.0 empties.2 mid → OrEnds mid (Removals empties.2 empties.1 (Ok tt)) empties.1 (Ok tt) → (new.files ≡ rest_of task old.files) × (new.special ≡ old.special)
     on (Ok done) lists removes =
         let listed = listed_all leaves task.outputs empties.0 empties.2 old parts.0 lists parts.1 in
-        let left = removed_all leaves empties.2 empties.1 [] parts.0 new removes parts.2 (subst (λ (c : Contents). IsFolder c.files) (sym listed.1) sound) in
-        (
+        let left = removed_all leaves empties.2 empties.1 [] parts.0 new removes parts.2 (subst (λ (c : Contents). IsFolder c.files) (sym listed.1) sound) in (
           left.0 ∙ ap (λ (c : Contents). fold without c.files empties.2) listed.1 ∙ ap (fold without old.files) listed.0
               ∙ emptied_files (λ (output : Output). output.place) task.outputs old.files sound,
           left.1 ∙ ap (λ (c : Contents). c.special) listed.1,

@@ -157,8 +157,7 @@ module _ {S : Type 0} (leaves : Tearing) (kinds : Kinds) (meanings : Meanings S)
       on (Ok done) writes stores =
           let changes = added_of task.files trees in
           let well = written_in_full leaves kinds task trees changes does.0 does.2 cur parts.0 folder writes.0 (writes.1 kinds agrees) parts.1 in
-          let same = stored_stage leaves task (IsOfFullRun meanings rows task trees) does.1 does.3 parts.0 new stores parts.2 in
-          (
+          let same = stored_stage leaves task (IsOfFullRun meanings rows task trees) does.1 does.3 parts.0 new stores parts.2 in (
             subst (λ (c : Contents). HasRun kinds task trees (outside cur).files c.files) (sym same)
                 (ended_outside kinds task trees changes cur.files (kept cur.files) parts.0.files does.2 lie.not_own folder.in_order refl well.0),
             ap (λ (c : Contents). c.special) same ∙ well.1,

@@ -161,8 +161,7 @@ module _ {S : Type 0} (leaves : Tearing) (meanings : Meanings S) (rows : Rows S)
           → OrStops mid (Stores task (IsOfRunByChanges meanings rows task trees changes observed) does.1 does.3 (Ok tt)) does.1 does.3 (Ok tt) → Kept old new
       on (Ok done) writes stores =
           let only = changes_of (is_output_of task) leaves old parts.0 does.0 writes.0 parts.1 in
-          let same = stored_stage leaves task (IsOfRunByChanges meanings rows task trees changes observed) does.1 does.3 parts.0 new stores parts.2 in
-          (
+          let same = stored_stage leaves task (IsOfRunByChanges meanings rows task trees changes observed) does.1 does.3 parts.0 new stores parts.2 in (
             ap (λ (c : Contents). rest_of task c.files) same ∙ kept_differs task old.files parts.0.files only.elsewhere,
             ap (λ (c : Contents). c.special) same ∙ only.special,
           )
@@ -178,8 +177,7 @@ module _ {S : Type 0} (leaves : Tearing) (meanings : Meanings S) (rows : Rows S)
           → OrStops mid (Then (WritesChanges meanings rows task trees changes observed) (Stores task (IsOfRunByChanges meanings rows task trees changes observed)) does.1 does.3 (Ok tt)) does.1 does.3 (Ok tt) → Kept old new
       on (Ok done) first second =
           let same = deleted leaves task.path true does.0 old parts.0 first.1 parts.1 in
-          let rest = written_kept does.1 does.3 parts.0 new second parts.2 in
-          (
+          let rest = written_kept does.1 does.3 parts.0 new second parts.2 in (
             rest.0 ∙ ap (λ (c : Contents). rest_of task c.files) same,
             rest.1 ∙ ap (λ (c : Contents). c.special) same,
           )
@@ -275,8 +273,7 @@ module _ {F S : Type 0} (failures : F → ℕ) (may_leave : F → Tearing) (allo
         (trees_here old was.1 back.0 was.0 back.1 was.2) was.3.2 back.2 in
         let files : (outside after).files ≡ (outside back.0).files =
         ran.2 ∙ ap (with_outputs task (outside back.0).files) (nothing_made kinds task task.actions (trees_of task (outside back.0).files) ran.0 acts ran.1)
-        ∙ none_out task.outputs (outside back.0).files outs in
-        (
+        ∙ none_out task.outputs (outside back.0).files outs in (
           back.0,
           back_unchanged failures may_leave allowed leaves Shows are old was.1 back.0 was.2.requests back.1,
           record {
@@ -332,8 +329,7 @@ module _ {F S : Type 0} (failures : F → ℕ) (may_leave : F → Tearing) (allo
       cleared_well : (lines : List Text) (old new : F) (after : Contents) → Shows new after → WasCleared failures may_leave allowed task (is_some last) lines (Ok tt) old new → Went old after
       cleared_well lines old new after shows was =
           let back = back_calls failures may_leave allowed leaves Shows are was.0 new was.3.0 after was.3.1 shows in
-          let left = cleared leaves task (is_some last) was.3.0 lines back.0 after (are.sound was.0 back.0 back.1).folder lie was.3.2 back.2 in
-          (
+          let left = cleared leaves task (is_some last) was.3.0 lines back.0 after (are.sound was.0 back.0 back.1).folder lie was.3.2 back.2 in (
             back.0,
             back_unchanged failures may_leave allowed leaves Shows are old was.0 back.0 was.1 back.1,
             record {
@@ -380,8 +376,7 @@ module _ {F S : Type 0} (failures : F → ℕ) (may_leave : F → Tearing) (allo
       full_well lines old new after shows was =
           let back = back_calls failures may_leave allowed leaves Shows are was.1 new was.3.0 after was.3.1 shows in
           let folder = (are.sound was.1 back.0 back.1).folder in
-          let ran = ran_in_full leaves kinds meanings rows agrees task was.0 (is_some last) was.3.0 lines back.0 after folder lie (trees_here old was.1 back.0 was.0 back.1 was.2) was.3.2 back.2 in
-          (
+          let ran = ran_in_full leaves kinds meanings rows agrees task was.0 (is_some last) was.3.0 lines back.0 after folder lie (trees_here old was.1 back.0 was.0 back.1 was.2) was.3.2 back.2 in (
             back.0,
             back_unchanged failures may_leave allowed leaves Shows are old was.1 back.0 was.2.requests back.1,
             record {

@@ -1,12 +1,12 @@
--- Of any folder: a build in which no task failed left what a build from scratch makes, if contents answer as its
--- calls were answered.
+-- Of any folder: a build in which no task failed left what a build from scratch makes, if contents answer as
+-- its calls were answered.
 use Rattle.std.specs.Prelude.{ℕ, ◌≡◌, ◌++◌, false, List, [], Ok}
 use Rattle.sha2.specs.Sha256.{sha256}
 use Rattle.gb_build.specs.InvocationAsked.{InvocationRequests}
 use Rattle.gb_build.specs.Registering.{setting_of}
 use Rattle.gb_folder.specs.Calls.{Call}
 use Rattle.gb_folder.specs.Files.{Contents, Tearing}
-use Rattle.gb_meaning.specs.Events.{has_failure}
+use Rattle.gb_meaning.specs.Events.{Setting, has_failure}
 use Rattle.gb_meaning.specs.Every.{IsFromScratch}
 use Rattle.gb_meaning.specs.Headline.{Agrees, HoldsMemory, contents_outside}
 use Rattle.gb_meaning.specs.Kinds.{Kinds}
@@ -18,9 +18,9 @@ use Rattle.gb_report.specs.declared.report.Report.{Report}
 use Rattle.std.specs.List.{flat_map}
 use Rattle.gb_answers.specs.Answering.{AnswersSoundly, KeepsCalls}
 
--- These contents answer the calls of the invocation as they were answered, and they leave those at the end. The
--- records that the first contents hold are true, and no two contents of these share a digest.
-pub record IsAnsweredBy {F : Type 0} (may_leave : F → Tearing) (log : F → List Call) (setting : _)
+-- These contents answer the calls of the invocation as they were answered, and the calls leave those at the
+-- end. The records that the first contents hold are true, and no two contents of these share a digest.
+pub record IsAnsweredBy {F : Type 0} (may_leave : F → Tearing) (log : F → List Call) (setting : Setting)
     (remembered : Memory) (old new : F) (start end : Contents) : Type 0 where
   pub begins : log old ≡ []
   pub answers : AnswersSoundly (may_leave old) start (log new) end
@@ -29,8 +29,8 @@ pub record IsAnsweredBy {F : Type 0} (may_leave : F → Tearing) (log : F → Li
       (flat_map (λ entry. contents_of entry.1) remembered ++ contents_outside start ++ contents_outside end)
 
 -- A build in which no task failed left what its unskipped tasks make from scratch on the first contents.
-abbrev pub AnsweredSuccessIsFromScratch : {F M N Z S A : Type 0} → (F → ℕ) → (F → Tearing) → (F → Call → F → Type 0)
-    → Tables M N Z S A → Type 0
+abbrev pub AnsweredSuccessIsFromScratch : {F M N Z S A : Type 0} → (F → ℕ) → (F → Tearing)
+    → (F → Call → F → Type 0) → Tables M N Z S A → Type 0
 AnsweredSuccessIsFromScratch {F = F} failures may_leave allowed tables =
     (log : F → List Call) → KeepsCalls allowed log
     → (kinds : Kinds) → Agrees tables.shapes tables.kinds kinds

@@ -1,4 +1,22 @@
-//! Laws of builds over any folder: what they left, if contents answer as their calls were answered.
+//! What a build left in a folder, known from the answers to its calls.
+//!
+//! No contract says what a disk holds, so the theorem about known contents says nothing of it. But
+//! the contracts over any folder say which calls a build made, and with which bytes, given their
+//! answers. This crate has what follows: if some contents answer as the calls of an invocation were
+//! answered, and no task failed, then the calls left what a build from scratch makes of these
+//! contents (`answered_success_is_from_scratch`). It need not be known which contents: there are
+//! some if nobody else writes during the build.
+//!
+//! It is a law over the clause `requests` of `invoke`, so it holds of every type of folder, and no
+//! code is changed for it. The proof goes back from the last state of the folder: a call that led
+//! to a state that shows contents came from one that shows the contents before the call
+//! (`proofs/Back.antt`). So what was read and listed on the way is what these contents have
+//! (`Trees`, `Outputs`). For each outcome it is shown what the execution did between two contents
+//! (`Step`, from `Current`, `Cleared`, `Full`, `ByChanges`). The executions of a plan are then put
+//! together as those of a folder with known contents are (`Chain`, `Built`).
+//!
+//! Set aside: the same for outcomes and printed lines. The clause says why a task is up to date and
+//! what an executed one did, and not yet that no task was executed that was up to date.
 #![tactic(auto)]
 
 pub mod laws;

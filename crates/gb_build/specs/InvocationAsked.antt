@@ -14,8 +14,8 @@ use Rattle.gb_build.specs.Asking.{AreBuildable}
 use Rattle.gb_build.specs.Found.{IsDeclared}
 use Rattle.gb_build.specs.RequestAsked.{PlanRequests}
 
--- First calls return what the scripts declare, and no change is requested. From there on it is a build of what
--- is requested of the tasks that they register, and makes the calls of its plan.
+-- First calls return what the scripts declare, and no change is requested. From there on it is a build of
+-- what is requested of the tasks that they register, and makes the calls of its plan.
 pub record BuildsDeclared {F M N Z S A : Type 0} (failures : F → ℕ) (may_leave : F → Tearing)
     (allowed : F → Call → F → Type 0) (tables : Tables M N Z S A) (invocation : Invocation)
     (report : Report) (old new : F) : Type 0 where
