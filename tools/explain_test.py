@@ -117,7 +117,7 @@ def cures_of_tasks():
     check("40 near a kind of gb_site", ran, ["did you mean checkLinks", cured])
     site = Folder(build='register t : copyFiles {\n  doFirst checkLinks\n}\nregister u : index("A") { }\n')
     texts = (
-        ("no heading", "about.md:1: no heading", "the first line after the front matter"),
+        ("no heading", "about.md:1: no heading", "right after the"),
         ("no date", "d/a b.md:1: no date", "the page has no front matter"),
         ("a key", "layout.html:10: a.md has no lang", "the page lacks a key of"),
         ("a link", "a.html:9: no file at feed.xml", "no file of `src` is there"),

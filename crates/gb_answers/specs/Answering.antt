@@ -18,7 +18,7 @@ AnswersSoundly leaves old (call ∷ calls) new =
     IsSound old × (mid : Contents) × Answers leaves old call mid × AnswersSoundly leaves mid calls new
 
 -- Each state of a folder keeps the calls that led to it, with their answers. A call for which memory ran out
--- did nothing, and may be left out.
+-- may be left out: by `Answers` it may have done nothing.
 pub record KeepsCalls {F : Type 0} (allowed : F → Call → F → Type 0) (log : F → List Call) : Type 0 where
   pub kept : (old : F) (call : Call) (new : F) → allowed old call new
       → (log new ≡ log old ++ call ∷ [])

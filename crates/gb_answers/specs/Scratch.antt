@@ -1,5 +1,5 @@
--- Of any folder: a build in which no task failed left what a build from scratch makes, if contents answer as
--- its calls were answered.
+-- Of any folder that keeps its calls: in contents that answer them, a build in which no task failed leaves
+-- what a build from scratch makes.
 use Rattle.std.specs.Prelude.{ℕ, ◌≡◌, ◌++◌, false, List, [], Ok}
 use Rattle.sha2.specs.Sha256.{sha256}
 use Rattle.gb_build.specs.InvocationAsked.{InvocationRequests}
@@ -28,7 +28,8 @@ pub record IsAnsweredBy {F : Type 0} (may_leave : F → Tearing) (log : F → Li
   pub separate : AreCollisionFree sha256
       (flat_map (λ entry. contents_of entry.1) remembered ++ contents_outside start ++ contents_outside end)
 
--- A build in which no task failed left what its unskipped tasks make from scratch on the first contents.
+-- In these contents a build in which no task failed leaves what its unskipped tasks make from scratch on the
+-- first ones.
 abbrev pub AnsweredSuccessIsFromScratch : {F M N Z S A : Type 0} → (F → ℕ) → (F → Tearing)
     → (F → Call → F → Type 0) → Tables M N Z S A → Type 0
 AnsweredSuccessIsFromScratch {F = F} failures may_leave allowed tables =
