@@ -1,16 +1,16 @@
 -- From contents that a state of a folder shows back to those that an earlier state shows.
 use Rattle.std.specs.Prelude.{ℕ, ◌≡◌, ◌≤◌, ◌⊎◌, ◌++◌, false, List, [], ◌∷◌, Some, Ok, Err, length}
 use Rattle.std.proofs.Common.{refl, sym, subst, ap, ◌∙◌, inl, inr}
-use Rattle.gb_folder.specs.Answers.{IsOnWay, WereListed, WereRead}
+use Rattle.gb_folder.specs.Answers.{WereListed, WereRead}
 use Rattle.gb_folder.specs.Calls.{Call, Lists, Reads, ReadsPart, Writes, Removes, IsPermitted, Leads, Requests, fault_of, no_change, none, then}
-use Rattle.gb_folder.specs.Device.{Leads as CallsLead}
 use Rattle.gb_folder.specs.Files.{Bytes, Contents, Place, Tearing, file_at, is_special_under, places_under}
 use Rattle.gb_folder.specs.Limits.{max_file}
 use Rattle.gb_folder.specs.Semantics.{Answers, AnswersAll}
 use Rattle.gb_folder.specs.declared.folder.FolderFault.{FolderFault}
 use Rattle.gb_folder.specs.declared.folder.FolderFault.TheVariants as folders
 use Rattle.gb_task.specs.Ran.{AreAnswered}
-use Rattle.gb_answers.specs.Answering.{AnswersSoundly, IsSound, KeepsCalls}
+use Rattle.gb_logged.specs.Logged.{KeepsCalls}
+use Rattle.gb_answers.specs.Answering.{AnswersSoundly, IsSound}
 
 -- `Shows` relates the states of a folder to contents under which all of its calls are answered: a call that led
 -- to a state that shows contents came from one that shows the contents before the call.

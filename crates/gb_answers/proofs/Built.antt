@@ -70,7 +70,8 @@ use Rattle.gb_answers.proofs.Back.{AreAnswersOf, Shown, back_unchanged, kept_ans
 use Rattle.gb_answers.proofs.Chain.{IsTrueWithin, MayStep, Steps, all_done, chain}
 use Rattle.gb_answers.proofs.Going.{AllWentWell, IsOfTrue, world_of}
 use Rattle.gb_answers.proofs.Named.{named}
-use Rattle.gb_answers.specs.Answering.{AnswersSoundly, KeepsCalls}
+use Rattle.gb_logged.specs.Logged.{KeepsCalls}
+use Rattle.gb_answers.specs.Answering.{AnswersSoundly}
 use Rattle.gb_answers.specs.Scratch.{IsAnsweredBy, AnsweredSuccessIsFromScratch}
 
 -- ---- What is remembered

@@ -11,3 +11,4 @@ pub mod Step
 pub mod Chain
 pub mod Named
 pub mod Built
+pub mod Logged

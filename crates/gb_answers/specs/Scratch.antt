@@ -16,7 +16,8 @@ use Rattle.gb_meaning.specs.declared.events.Invocation.{Invocation}
 use Rattle.gb_registry.specs.Tables.{Tables}
 use Rattle.gb_report.specs.declared.report.Report.{Report}
 use Rattle.std.specs.List.{flat_map}
-use Rattle.gb_answers.specs.Answering.{AnswersSoundly, KeepsCalls}
+use Rattle.gb_logged.specs.Logged.{KeepsCalls}
+use Rattle.gb_answers.specs.Answering.{AnswersSoundly}
 
 -- These contents answer the calls of the invocation as they were answered, and the calls leave those at the
 -- end. The records that the first contents hold are true, and no two contents of these share a digest.
@@ -40,3 +41,16 @@ AnsweredSuccessIsFromScratch {F = F} failures may_leave allowed tables =
     → InvocationRequests failures may_leave allowed tables invocation (Ok report) old new
     → has_failure report ≡ false
     → IsFromScratch (setting_of tables kinds (may_leave old)) start invocation report end
+
+-- The same of one invocation on a folder that kept these calls of it, and none before: in any contents that
+-- answer them and hold true records, they leave what is made from scratch, if no two contents share a digest.
+abbrev pub LeavesFromScratch : {M N Z S A : Type 0} → Tables M N Z S A → Tearing → Invocation → Report
+    → List Call → Type 0
+LeavesFromScratch tables leaves invocation report calls =
+    (kinds : Kinds) → Agrees tables.shapes tables.kinds kinds
+    → (start end : Contents) (remembered : Memory) → AnswersSoundly leaves start calls end
+    → HoldsMemory (setting_of tables kinds leaves) start remembered
+    → AreCollisionFree sha256
+    (flat_map (λ entry. contents_of entry.1) remembered ++ contents_outside start ++ contents_outside end)
+    → has_failure report ≡ false
+    → IsFromScratch (setting_of tables kinds leaves) start invocation report end

@@ -16,8 +16,12 @@
 //! executions of a plan are then put together as those of a folder with known contents are
 //! (`Chain`, `Built`).
 //!
+//! `invoke_logged` is a build over a folder that keeps its calls (`gb_logged`): of it the law holds
+//! whatever the folder beneath is, and its caller can read the calls.
+//!
 //! Set aside: the same for outcomes and printed lines. The clause says why a task is up to date and
 //! what an executed one did, and not yet that no task was executed that was up to date.
 #![tactic(auto)]
 
 pub mod laws;
+pub mod logged_build;
