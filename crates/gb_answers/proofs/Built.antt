@@ -191,7 +191,8 @@ module _ {F M N Z S A : Type 0} (failures : F → ℕ) (may_leave : F → Tearin
     → Steps failures may_leave allowed Shows tables.shapes tables.kinds kinds options plan) where
   module _ (log : F → List Call) (keeps : KeepsCalls allowed log) (kinds : Kinds) (agrees : Agrees tables.shapes tables.kinds kinds)
       (invocation : Invocation) (report : Report) (old new : F) (start end : Contents) (remembered : Memory)
-      (is : IsAnsweredBy may_leave log (setting_of tables kinds (may_leave old)) remembered old new start end)
+      (begins : log old ≡ [])
+      (is : IsAnsweredBy (may_leave old) (setting_of tables kinds (may_leave old)) remembered (log new) start end)
       (builds : BuildsDeclared failures may_leave allowed tables invocation report old new) (none_failed : has_failure report ≡ false) where
     abbrev Shows : F → Contents → Type 0
     Shows = Shown allowed log keeps (may_leave old) start
@@ -215,7 +216,7 @@ module _ {F M N Z S A : Type 0} (failures : F → ℕ) (may_leave : F → Tearin
     shows_start : (contents : Contents) → Shows builds.plan.begun contents → contents ≡ start
     shows_start contents shows =
         let first = unchanged old builds.begun contents builds.first (unchanged builds.begun builds.plan.begun contents builds.plan.first shows) in
-        let none : AnswersSoundly (may_leave old) start [] contents = subst (λ (calls : List Call). AnswersSoundly (may_leave old) start calls contents) is.begins first in
+        let none : AnswersSoundly (may_leave old) start [] contents = subst (λ (calls : List Call). AnswersSoundly (may_leave old) start calls contents) begins first in
         none.1
 
     of_registry : request.registry ≡ registry
@@ -341,5 +342,5 @@ module _ {F M N Z S A : Type 0} (failures : F → ℕ) (may_leave : F → Tearin
     ]
 
   pub built : AnsweredSuccessIsFromScratch failures may_leave allowed tables
-  built log keeps kinds agrees invocation report old new start end remembered is builds none_failed =
-      from_scratch_left log keeps kinds agrees invocation report old new start end remembered is builds none_failed
+  built log keeps kinds agrees invocation report old new start end remembered begins is builds none_failed =
+      from_scratch_left log keeps kinds agrees invocation report old new start end remembered begins is builds none_failed

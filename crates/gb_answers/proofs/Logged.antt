@@ -17,7 +17,6 @@ pub leaves_from_scratch : {F M N Z S A : Type 0} (failures : F → ℕ) (may_lea
     → InvocationRequests failures may_leave allowed tables invocation answer old new
     → IfOk answer (λ report. LeavesFromScratch tables (may_leave old) invocation report (log new))
 leaves_from_scratch failures may_leave allowed tables log keeps law invocation (Ok report) old new begins requests =
-    λ kinds agrees start end remembered answers holds separate none_failed.
-    law log keeps kinds agrees invocation report old new start end remembered
-    (record { begins = begins; answers = answers; holds = holds; separate = separate }) requests none_failed
+    λ kinds agrees start end remembered is none_failed.
+    law log keeps kinds agrees invocation report old new start end remembered begins is requests none_failed
 leaves_from_scratch failures may_leave allowed tables log keeps law invocation (Err fault) old new begins requests = tt

@@ -19,12 +19,11 @@ use Rattle.std.specs.List.{flat_map}
 use Rattle.gb_logged.specs.Logged.{KeepsCalls}
 use Rattle.gb_answers.specs.Answering.{AnswersSoundly}
 
--- These contents answer the calls of the invocation as they were answered, and the calls leave those at the
--- end. The records that the first contents hold are true, and no two contents of these share a digest.
-pub record IsAnsweredBy {F : Type 0} (may_leave : F → Tearing) (log : F → List Call) (setting : Setting)
-    (remembered : Memory) (old new : F) (start end : Contents) : Type 0 where
-  pub begins : log old ≡ []
-  pub answers : AnswersSoundly (may_leave old) start (log new) end
+-- These contents answer the calls as they were answered, and the calls leave those at the end. The records
+-- that the first contents hold are true, and no two contents of these share a digest.
+pub record IsAnsweredBy (leaves : Tearing) (setting : Setting) (remembered : Memory) (calls : List Call)
+    (start end : Contents) : Type 0 where
+  pub answers : AnswersSoundly leaves start calls end
   pub holds : HoldsMemory setting start remembered
   pub separate : AreCollisionFree sha256
       (flat_map (λ entry. contents_of entry.1) remembered ++ contents_outside start ++ contents_outside end)
@@ -37,7 +36,8 @@ AnsweredSuccessIsFromScratch {F = F} failures may_leave allowed tables =
     (log : F → List Call) → KeepsCalls allowed log
     → (kinds : Kinds) → Agrees tables.shapes tables.kinds kinds
     → (invocation : Invocation) (report : Report) (old new : F) (start end : Contents) (remembered : Memory)
-    → IsAnsweredBy may_leave log (setting_of tables kinds (may_leave old)) remembered old new start end
+    → log old ≡ []
+    → IsAnsweredBy (may_leave old) (setting_of tables kinds (may_leave old)) remembered (log new) start end
     → InvocationRequests failures may_leave allowed tables invocation (Ok report) old new
     → has_failure report ≡ false
     → IsFromScratch (setting_of tables kinds (may_leave old)) start invocation report end
@@ -48,9 +48,7 @@ abbrev pub LeavesFromScratch : {M N Z S A : Type 0} → Tables M N Z S A → Tea
     → List Call → Type 0
 LeavesFromScratch tables leaves invocation report calls =
     (kinds : Kinds) → Agrees tables.shapes tables.kinds kinds
-    → (start end : Contents) (remembered : Memory) → AnswersSoundly leaves start calls end
-    → HoldsMemory (setting_of tables kinds leaves) start remembered
-    → AreCollisionFree sha256
-    (flat_map (λ entry. contents_of entry.1) remembered ++ contents_outside start ++ contents_outside end)
+    → (start end : Contents) (remembered : Memory)
+    → IsAnsweredBy leaves (setting_of tables kinds leaves) remembered calls start end
     → has_failure report ≡ false
     → IsFromScratch (setting_of tables kinds leaves) start invocation report end
