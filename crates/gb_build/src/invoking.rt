@@ -54,6 +54,8 @@ pub fn invoke<A: Actions, T: Transforms, F: Folder, L: TaskListener, P: Printer>
     printer: &mut P,
 ) -> Result<Report, Fault>
     ensures dry_run { IfOk result (λ report. report.dry_run ≡ invocation.now.options.dry_run) }
+    // Each listener was notified of the start and the end of each started task once, in the order
+    // of the report; a notification that it refused is counted. In a dry run there are none.
     ensures heard { IfOk result (λ report.
         HaveHeard report (map L.ear listeners.old.items) (map L.ear listeners.new.items)) }
     ensures unnotified { OnErr result (listeners.new ≡ listeners.old) }
@@ -73,17 +75,20 @@ pub fn invoke<A: Actions, T: Transforms, F: Folder, L: TaskListener, P: Printer>
     ensures requests { InvocationRequests F.failures F.may_leave F.allowed
         (tables_of T.meanings A.meanings tables.now) invocation.now result folder.old folder.new }
     // Over any folder: it is a build of the plan of what was requested of some registry. Each task
-    // of this plan starts, and has an outcome, as the outline permits. A refusal that is attributed
-    // to the device names a place that is read before the first task.
+    // of this plan starts, and has an outcome, as the outline permits.
     ensures outlined { IfOk result (IsOutlined invocation.now) }
+    // Over any folder: a refusal that is attributed to the device (10) names a place that is read
+    // before the first task: a script, or the record of a task.
     ensures places { IfErr result (λ fault. (place : List ℕ) → fault ≡ Fault.Device place
         → IsTrue (is_read_first invocation.now.options place)) }
     ensures refused { IsTrue F.faithful → OnErr result (F.contents folder.new ≡ F.contents folder.old) }
-    // The next two clauses need no assumption about the kinds or the device.
+    // The next two clauses need no assumption about the kinds or the device. A build is refused only
+    // for a fault of the scripts, the words or the plan, or because memory or the device failed.
     ensures not_built { IsTrue F.faithful → IfErr result (λ fault.
         IsNotBuilt (registers_in (tables_of T.meanings A.meanings tables.now))
         (record { contents = F.contents folder.old; failures = F.failures folder.old })
         invocation.now fault (F.failures folder.new)) }
+    // A dry run changes nothing.
     ensures dry { IsTrue F.faithful → invocation.now.options.dry_run ≡ true
         → F.contents folder.new ≡ F.contents folder.old }
     // A build changes nothing but `.gb` and the build folders of the projects, and a refusal

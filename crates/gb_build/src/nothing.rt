@@ -27,6 +27,8 @@ pub fn run_from_nothing<A: Actions, T: Transforms, L: TaskListener>(
     events: &[Event],
     listeners: &mut Vec<L>,
 ) -> Result<(MemoryFolder, Vec<Answer>), AllocError>
+    // There are kinds that agree with the table, the empty folder holds the empty memory, and the
+    // promise of `run_events` holds of this run.
     ensures { IfOk result (λ made. (kinds : Kinds)
         × Agrees A.meanings tables.now.actions kinds
         × HoldsMemory (setting_of (tables_of T.meanings A.meanings tables.now) kinds leaves_nothing)

@@ -49,40 +49,40 @@ pub enum Fault {
     BadPlace(Text),
     /// The system gave no more memory; 3.
     OutOfMemory,
-    /// The device failed at the place.
+    /// The device failed at the place; 10.
     Device(Place),
     /// No file exists at the place; 11.
     Missing(Place),
-    /// A file is at an ancestor folder of the place, or under it.
+    /// A file is at an ancestor folder of the place, or under it; 12.
     Blocked(Place),
     /// The file at the place has more than 8 MiB; 13.
     TooLarge(Place),
     /// The root that was listed: under it is a name that no place can have, or an entry that is
-    /// neither a file nor a folder.
+    /// neither a file nor a folder; 14.
     BadFileName(Place),
-    /// The script, and the line.
+    /// The script, and the line; 20.
     Syntax(Place, u64),
     /// The script, of more than 1 MiB; 21.
     TooLong(Place),
-    /// The script, and the line of a bracket inside 64 others or of a step after 64 others.
+    /// The script, and the line of a bracket inside 64 others or of a step after 64 others; 22.
     TooDeep(Place, u64),
     /// The script, whose bytes are not UTF-8; 23.
     NotUtf8(Place),
-    /// Properties and outputs that read one another, starting at the least name.
+    /// Properties and outputs that read one another, starting at the least name; 30.
     Circular(Texts),
     /// No function of that use has the name; 31.
     UnknownTransform(Name),
-    /// The function of this name does not accept its arguments.
+    /// The function of this name does not accept its arguments; 32.
     BadArguments(Text),
-    /// An input, an output or `enabled` of the task.
+    /// An input, an output or `enabled` of the task; 33.
     NoValue(TaskPath, Name),
-    /// Of a function, an input, an output, `enabled` or `list`.
+    /// Of a function, an input, an output, `enabled` or `list`; 34.
     WrongValue(Text),
-    /// A property that accepts no other value any more.
+    /// A property that accepts no other value any more; 35.
     Final(Name),
     /// No kind of actions has the name; 40.
     UnknownAction(Name),
-    /// The action itself failed, with this text.
+    /// The action itself failed, with this text; 42.
     ActionFailed(Text),
     /// The task, and the kind that does not accept its arguments; 43.
     BadArgument(TaskPath, Name),
@@ -104,32 +104,32 @@ pub enum Fault {
     BadProjectPlace(ProjectPath),
     /// More of these than are allowed; 58.
     TooMany(Limited),
-    /// The task, and a text that names none of its outputs.
+    /// The task, and a text that names none of its outputs; 59.
     UnknownOutput(TaskPath, Text),
-    /// Each task has to run after the next one, and the last after the first.
+    /// Each task has to run after the next one, and the last after the first; 60.
     Cycle(TaskList),
-    /// Outputs of two tasks overlap at the place, which is an output of the first.
+    /// Outputs of two tasks overlap at the place, which is an output of the first; 61.
     OverlappingOutputs(TaskPath, TaskPath, Place),
-    /// At the place, the first task reads what the second produces, without being ordered after it.
+    /// The first task reads, at the place, what the second makes, and is not ordered after it; 62.
     UndeclaredDependency(TaskPath, TaskPath, Place),
-    /// At the place, the task reads what it produces itself.
+    /// At the place, the task reads what it produces itself; 63.
     OwnOutputAsInput(TaskPath, Place),
     /// Neither a name nor the root script says what runs; 64.
     NoTasks,
     /// A text that is not a pattern of paths; 70.
     BadPattern(Text),
     /// Two files of the property are at one path, or one is at an ancestor folder of the other: the
-    /// greater path.
+    /// greater path; 71.
     DuplicateInput(Name, RelPath),
     /// The property or output, with more than 65,536 files; 72.
     TooManyFiles(Name),
     /// The record of a task was not written; 90. The next build executes the task again.
     HistoryNotWritten,
-    /// A place among the records of builds.
+    /// A place among the records of builds; 94.
     OwnState(Place),
     /// The number, counted from 1, of a line that is not a valid line of a replay; 95.
     BadLine(u64),
-    /// The arguments of a command are not known.
+    /// The arguments of a command are not known; 96.
     Usage,
 }
 
