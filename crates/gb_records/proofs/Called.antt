@@ -15,6 +15,7 @@ use Rattle.gb_meaning.specs.Events.{max_record}
 use Rattle.gb_plan.specs.Task.{Path}
 use Rattle.gb_records.specs.Called.{Deletion, Storing, WasHindered, deletion_ending, has_no_place, storing_ending}
 use Rattle.gb_records.specs.Holding.{is_too_long}
+use Rattle.gb_records.specs.Said.{IsText}
 use Rattle.gb_records.specs.declared.fault.Unwritten.{Unwritten}
 use Rattle.gb_records.specs.declared.fault.Unwritten.TheVariants as unwritten
 
@@ -65,11 +66,11 @@ module _ {F : Type 0} (device : Device F) (path : Path) where
       ([], refl, inl (hindered_by (has_no_place path || is_too_long (Some (record_text path run))) unwritten.NotWritten (λ e. either_right (has_no_place path) _ long)))
 
   pub storing_called : (run : Record) (place : Place) (bytes : Bytes) (old new : F) (answer : Answer) (result : Ended Unwritten) → place ≡ record_place path → bytes ≡ record_text path run
-      → IsCalled device old (Writes place bytes max_record answer) new → result ≡ storing_ending answer → StoringLed run old result new
-  storing_called run place bytes old new answer result at text called ends = (
+      → IsCalled device old (Writes place bytes max_record answer) new → result ≡ storing_ending answer → IsText path run (record_text path run) → StoringLed run old result new
+  storing_called run place bytes old new answer result at text called ends said = (
     Writes (record_place path) (record_text path run) max_record answer ∷ [],
     leads_once device old new (Writes (record_place path) (record_text path run) max_record answer)
         (subst (λ (b : Bytes). IsCalled device old (Writes (record_place path) b max_record answer) new) text
         (subst (λ (p : Place). IsCalled device old (Writes p bytes max_record answer) new) at called)),
-    inr (answer, refl, ends),
+    inr (answer, refl, ends, said),
   )

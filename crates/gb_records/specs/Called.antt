@@ -11,6 +11,7 @@ use Rattle.gb_meaning.specs.Events.{max_record}
 use Rattle.gb_plan.specs.Task.{Path}
 use Rattle.gb_records.specs.Faults.{removed_by, unwritten_for}
 use Rattle.gb_records.specs.Holding.{is_too_long}
+use Rattle.gb_records.specs.Said.{IsText}
 use Rattle.gb_records.specs.declared.fault.Unwritten.{Unwritten}
 use Rattle.gb_records.specs.declared.fault.Unwritten.TheVariants as unwritten
 
@@ -42,9 +43,9 @@ abbrev pub storing_ending : Answer → Ended Unwritten
 storing_ending (Ok done) = Ok tt
 storing_ending (Err fault) = Err (unwritten_for fault)
 
--- The record of a task was stored by one call, with its very text.
+-- The record of a task was stored by one call, with its very text, which is that of no other record.
 abbrev pub Storing : Path → Record → List Call → Ended Unwritten → Type 0
 Storing path run calls result =
     WasHindered (has_no_place path || is_too_long (Some (record_text path run))) calls result
     ⊎ ((answer : Answer) × (calls ≡ Writes (record_place path) (record_text path run) max_record answer ∷ [])
-    × (result ≡ storing_ending answer))
+    × (result ≡ storing_ending answer) × IsText path run (record_text path run))

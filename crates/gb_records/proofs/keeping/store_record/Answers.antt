@@ -19,7 +19,14 @@ use Rattle.gb_folder.specs.Each.{Ended}
 use Rattle.gb_records.specs.Holding.{HoldsWith}
 use Rattle.gb_records.proofs.Calls.{LeftAt, put, exists_in, text_said}
 use Rattle.gb_records.proofs.Asked.{put_as}
+use Rattle.std.specs.Str.{IsUtf8}
+use Rattle.gb_folder.specs.Files.{Bytes}
+use Rattle.gb_history.specs.Record.{IsWellFormed, Record}
+use Rattle.gb_plan.specs.Task.{Path}
 use Rattle.gb_records.proofs.keeping.store_record.Goals as goal
+
+text_of : (path : Path) (run : Record) (bytes : Bytes) → bytes ≡ record_text path run → IsUtf8 path → IsWellFormed run → length bytes ≤ max_record → IsText path run (record_text path run)
+text_of path run bytes is utf8 held short = text_said path run utf8 held (subst (λ (b : Bytes). length b ≤ max_record) is short)
 
 pub returns-in-Ok-clause-exists : goal.returns-in-Ok-clause-exists
 returns-in-Ok-clause-exists g c = λ faithful observed memory entry existed of.
@@ -82,6 +89,7 @@ returns-in-Ok-clause-calls g c =
     }) in
     storing_called F.device path c.args.run.now place bytes old new c.write.result (Ok tt)
     c.in_ok-place.ensures.place (c.as_slice.ensures.value ∙ c.in_ok-text.ensures.text) called (ap storing_ending (sym c.in-Ok.is))
+    (text_of path c.args.run.now c.in_ok-text.text.items c.in_ok-text.ensures.text c.in_ok-text.ensures.utf8 c.in_ok-text.ensures.held (omega arith))
 
 pub returns-clause-calls : goal.returns-clause-calls
 returns-clause-calls g c =
@@ -105,6 +113,7 @@ returns-clause-calls g c =
     }) in
     storing_called F.device path c.args.run.now place bytes old new c.write.result (Err c.unwritten_by.result)
     c.in_ok-place.ensures.place (c.as_slice.ensures.value ∙ c.in_ok-text.ensures.text) called (ap Err c.unwritten_by.ensures ∙ ap storing_ending (sym c.in-Err.is))
+    (text_of path c.args.run.now c.in_ok-text.text.items c.in_ok-text.ensures.text c.in_ok-text.ensures.utf8 c.in_ok-text.ensures.held (omega arith))
 
 pub returns-in_err-text-clause-calls : goal.returns-in_err-text-clause-calls
 returns-in_err-text-clause-calls g c =
