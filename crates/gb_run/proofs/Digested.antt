@@ -46,7 +46,7 @@ abbrev pub from_root : Place → Files → Files
 from_root root files = map (λ (file : Place × Bytes). (path_from root file.0, file.1)) files
 
 -- each file in order is found
-each_found : (files : Files) → is_sorted byte_order files ≡ true → AllByRecursion (λ (file : Place × Bytes). file_at files file.0 ≡ Some file.1) files
+pub each_found : (files : Files) → is_sorted byte_order files ≡ true → AllByRecursion (λ (file : Place × Bytes). file_at files file.0 ≡ Some file.1) files
 each_found [] sorted = tt
 each_found (first ∷ files) sorted =
     let parts = and_parts (below_all byte_order first.0 files) (is_sorted byte_order files) sorted in
