@@ -41,10 +41,10 @@ use std::alloc::{AllocError, Global};
 
 /// Reads the scripts of a folder with the values that the invocation gives, and builds what is
 /// requested of the tasks that they register. All listeners are notified of each task that starts,
-/// and its part is printed as soon as its execution has ended. The build is refused before the
-/// first task, with nothing changed or printed and no listener notified, for the first fault of the
-/// scripts, of the arguments or of the plan, where memory runs out, or where scripts or records
-/// cannot be read.
+/// and its head line and its lines are printed as soon as its execution has ended. The build is
+/// refused before the first task, with nothing changed or printed and no listener notified, for the
+/// first fault of the scripts, of the requested names or of the plan, where memory runs out, or
+/// where scripts or records cannot be read.
 pub fn invoke<A: Actions, T: Transforms, F: Folder, L: TaskListener, P: Printer>(
     alloc: Global,
     folder: &mut F,
@@ -74,16 +74,19 @@ pub fn invoke<A: Actions, T: Transforms, F: Folder, L: TaskListener, P: Printer>
     // none.
     ensures requests { InvocationRequests F.failures F.may_leave F.allowed
         (tables_of T.meanings A.meanings tables.now) invocation.now result folder.old folder.new }
-    // Over any folder: it is a build of the plan of what was requested of some registry. Each task
-    // of this plan starts, and has an outcome, as the outline permits.
+    // Over any folder: for some registry, the report is that of the plan of the request. Which of its
+    // tasks start, and which outcomes each may have, is as `Outlines` says.
     ensures outlined { IfOk result (IsOutlined invocation.now) }
-    // Over any folder: a refusal that is attributed to the device (10) names a place that is read
-    // before the first task: a script, or the record of a task.
+    // Over any folder: a refusal that is attributed to the device (10) names a place that may be
+    // read before the first task: `settings.gb`, one whose last segment is `build.gb`, or, except
+    // in a dry run, one in `.gb`.
     ensures places { IfErr result (λ fault. (place : List ℕ) → fault ≡ Fault.Device place
         → IsTrue (is_read_first invocation.now.options place)) }
     ensures refused { IsTrue F.faithful → OnErr result (F.contents folder.new ≡ F.contents folder.old) }
-    // The next two clauses need no assumption about the kinds or the device. A build is refused only
-    // for a fault of the scripts, the words or the plan, or because memory or the device failed.
+    // Where contents are known, `refused`, `not_built`, `dry` and `keeps` need no assumption about
+    // the kinds or the device. A build is refused only for the first fault of the scripts, the
+    // requested names or the plan, because memory ran out, or because the device failed while
+    // scripts or records were read.
     ensures not_built { IsTrue F.faithful → IfErr result (λ fault.
         IsNotBuilt (registers_in (tables_of T.meanings A.meanings tables.now))
         (record { contents = F.contents folder.old; failures = F.failures folder.old })
@@ -97,15 +100,15 @@ pub fn invoke<A: Actions, T: Transforms, F: Folder, L: TaskListener, P: Printer>
         → EventKeeps (registers_in (tables_of T.meanings A.meanings tables.now))
         (events.Invoke invocation.now)
         (answer_of result) (F.contents folder.old) (F.contents folder.new) }
-    // It may follow any sequence of events: it is a step of the folder's history, with the tasks
-    // that its scripts register.
+    // Where contents are known and kinds agree, the invocation continues a run of events, whatever
+    // is remembered.
     ensures leads { IsTrue F.faithful → (kinds : Kinds)
         → IsAssumed A.meanings tables.now.actions kinds (F.may_leave folder.old)
         → Leads (setting_of (tables_of T.meanings A.meanings tables.now) kinds (F.may_leave folder.old))
         (record { contents = F.contents folder.old; failures = F.failures folder.old })
         (events.Invoke invocation.now) (answer_of result)
         (record { contents = F.contents folder.new; failures = F.failures folder.new }) }
-    // This is one invocation by its definition.
+    // From any true records that the folder holds, this is a run of one event by the definitions.
     ensures holds { IsTrue F.faithful → (kinds : Kinds)
         → IsAssumed A.meanings tables.now.actions kinds (F.may_leave folder.old)
         → InvocationHolds

@@ -33,12 +33,12 @@ use gb_printer::printer::Printer;
 use gb_report::report::{Options, Report, TaskReport, TaskReports};
 use std::alloc::{AllocError, Global};
 
-/// Builds a plan. `records` has what was read of its tasks' records, in their order. All listeners
-/// are notified of each task that starts, before its execution and after it, and the part of the
-/// task is printed as soon as its execution has ended. The build fails only for want of memory
-/// before the first execution, with nothing changed, no listener notified and nothing printed; what
-/// goes wrong later is reported as a task's failure. In a dry run nothing starts, each task is
-/// reported as skipped, and nothing is printed.
+/// Executes the tasks of a plan. `records` has what was read of their records, in their order. All
+/// listeners are notified of each task that starts, before its execution and after it, and its head
+/// line and its lines are printed as soon as its execution has ended. The build fails only for want
+/// of memory before the first execution, with nothing changed, no listener notified and nothing
+/// printed; what goes wrong later is reported as a task's failure. In a dry run nothing starts, each
+/// task is reported as skipped, and nothing is printed.
 pub fn execute<A: Actions, F: Folder, L: TaskListener, P: Printer>(
     alloc: Global,
     folder: &mut F,
@@ -77,8 +77,9 @@ pub fn execute<A: Actions, F: Folder, L: TaskListener, P: Printer>(
     ensures dry { options.dry_run ≡ true → folder.new ≡ folder.old }
     ensures changes { IsTrue F.faithful
         → ChangesOnly (is_of_executions plan.now) (F.contents folder.old) (F.contents folder.new) }
-    // If `AreWorth` holds of the records, this is a build of the plan, and the records of what is
-    // remembered exist after it.
+    // Where contents are known and kinds agree: if `AreWorth` holds of the records, this is a build
+    // of the plan by the definitions. If also `guard` holds of the contents so far (no two share a
+    // digest, or nothing was remembered), the records of what is remembered exist after it.
     ensures build { IsTrue F.faithful → IfOk result (λ report. (kinds : Kinds) (registry_of : Registering)
         (remembered : Memory) (clear : Bool) (observed : List Bytes)
         → IsAssumed A.meanings table.now kinds (F.may_leave folder.old)

@@ -13,8 +13,8 @@
 //! Whoever builds from scripts calls `gb_build`. `specs/Words.antt` re-exports the definitions that
 //! the contract of [`execute`] names, so that the clauses of a caller can use them.
 //!
-//! Premises of `execute`: the plan can be built (`CanBuild`), and there is a record or none for
-//! each task. `build`: where contents are known, kinds agree (`IsAssumed`) and the records are
+//! Premises of `execute`: each task of the plan can be executed (`CanBuild`), and there is a record
+//! or none for each. `build`: where contents are known, kinds agree (`IsAssumed`) and the records are
 //! those that are remembered (`AreWorth`), it is a build of the plan by the definitions, as long as
 //! no two contents that it met share a digest (`HasBuilt`). `outline`: over any folder, which tasks
 //! start, and which outcomes each may have. It does not say which of these a started task with

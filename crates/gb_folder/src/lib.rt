@@ -3,7 +3,7 @@
 //! [`Folder`](folder::Folder) is five calls over places. Code over a folder is proved once, for
 //! every type of folder. Its contracts say over any folder which calls were made, with which bytes,
 //! and what they returned; that holds on a disk too. If the type of the folder is `faithful`, its
-//! contents are known, and each result is exact. A refused call changes nothing. Only a device
+//! contents are known, and each result is exact: a refused call changes nothing, and only a device
 //! fault in a write or a removal may leave something else, at the place of the call.
 //! `proofs/Changes.antt` has lemmas for callers.
 //!

@@ -15,7 +15,7 @@
 //! are found by binary searches in one sorted row ([`overlaps`]), once for equal places ([`last`]).
 //! Of the outputs of one task at most two are compared ([`near`]).
 //!
-//! Set aside: to compare each place with each other, and paths in place of numbers.
+//! Rejected: to compare each place with each other, and paths in place of numbers.
 //!
 //! The plan is `IsPlanOf`, a fault `IsRefusalOf` (`docs/REFERENCE.md#refusals` has their order).
 //! [`tasks::Tasks`] is the trait of registered tasks that `plan` asks.

@@ -10,10 +10,10 @@ use gb_plan::plan::Plan;
 use gb_report::fault::Fault;
 use std::alloc::Global;
 
-/// The plan of a request, or the one reason why there is none: the fault of the arguments, of the
-/// first task at fault, of a circle (60), of outputs that overlap (61), of an output that its own
-/// task reads (63), or of an output that a task reads although it does not come after its task
-/// (62), each the least of its kind.
+/// The plan of a request, or why there is none: memory ran out, or the first of these. A fault of
+/// the requested and excluded names; the fault of a task, in the order in which tasks are queued; a
+/// circle (60); the least overlap of outputs (61), the least output that its own task reads (63),
+/// or the least output of another task that the reader does not come after (62).
 pub fn plan<T: Tasks>(
     alloc: Global,
     tasks: &mut T,

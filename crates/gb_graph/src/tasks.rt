@@ -18,7 +18,7 @@ pub trait Tasks {
     /// The registry.
     ghost registry: { Self → Registry };
 
-    /// Each declared task is declared in order.
+    /// Each path is registered once, and each declaration is as `IsDeclared` of `gb_plan` requires.
     ghost sound: { (tasks : Self) → IsRegistry (registry tasks) };
 
     /// The arguments that apply where none is given.

@@ -114,8 +114,7 @@ pub fn early_case_of<F: Folder>(
     ensures requests { Requests F.failures F.may_leave F.allowed no_change folder.old folder.new }
     ensures blame { Blames result (F.failures folder.old) (F.failures folder.new) }
     ensures blamed { BlamesOnly (λ place. is_input_of task.now place || is_output_of task.now place) result }
-    // Over any folder: which of them it may be, and that nothing is read if it is skipped or has no
-    // actions.
+    // Over any folder: which of them it may be, and what calls returned for it.
     ensures may_be { IfOk result (MayBe task.now) }
     ensures answered { (first : _) → Requests F.failures F.may_leave F.allowed no_change first folder.old
         → AreSeen F.failures F.may_leave F.allowed first folder.old seen.now

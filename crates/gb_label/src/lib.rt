@@ -19,9 +19,9 @@
 //! Where contents are known, the decision is exact, and an error is the first of what hinders
 //! reading the inputs or listing the outputs (`IsHindered`), or a fault of the machine. Over any
 //! folder the decision goes by what calls returned (`WasPrepared`): a task is without source, or up
-//! to date by its record, on just this. A skipped task and one without actions read nothing. Only a
-//! task with outputs that is not stale, and of which no rerun is asked, is decided to be up to date
-//! (`may_decide`).
+//! to date by its record, on just this. Preparing a skipped task, or one without actions, does not
+//! fail; by the code, and in no clause, it reads nothing. Only a task with outputs that is not
+//! stale, and of which no rerun is asked, is decided to be up to date (`may_decide`).
 #![tactic(auto)]
 
 mod completing;

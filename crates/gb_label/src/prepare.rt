@@ -31,7 +31,8 @@ pub enum Prepared {
     Skips,
     /// It runs nothing.
     HasNoActions,
-    /// All file properties that skip the task when empty are empty: its outputs are to be removed.
+    /// It has file properties that skip it when empty, and all of these are empty: its outputs are
+    /// to be removed.
     HasNoSource,
     /// None of these: it is up to date, or runs incrementally or in full. With the basis of that
     /// decision, and what was read for it.
@@ -47,12 +48,12 @@ pub struct Observed {
     pub outputs: Vec<Reading>,
 }
 
-/// How many bytes of a task's inputs are kept for its run, and as many of its outputs.
+/// At most so many bytes of a task's inputs are kept if it may be up to date, and of its outputs.
 const KEPT: u64 = 67_108_864;
 
-/// The outcome of a task by its record, its inputs and its outputs as they are. Inputs that were
-/// seen are not read: with an empty `Seen` all of them are. If an execution follows, bytes that were
-/// read are kept for it. Nothing is changed, even if it fails. The error is the first fault in
+/// The outcome of a task by its record, its inputs and its outputs as they are. Inputs whose digests
+/// are in `seen` are not read. If an execution follows, bytes that were read are kept for it, within
+/// a limit. Nothing is changed, even if it fails. The error is the first fault in
 /// reading its inputs or listing its outputs, or that memory ran out or the device failed.
 pub fn prepare<F: Folder>(
     alloc: Global,
@@ -67,15 +68,15 @@ pub fn prepare<F: Folder>(
     ensures requests { Requests F.failures F.may_leave F.allowed no_change folder.old folder.new }
     ensures blame { Blames result (F.failures folder.old) (F.failures folder.new) }
     ensures blamed { BlamesOnly (λ place. is_input_of task.now place || is_output_of task.now place) result }
-    // Over any folder: which it may be, when it may be up to date, and that nothing is read if it
-    // is skipped or has no actions.
+    // Over any folder: which outcomes there may be, when the task may be up to date, what a decision
+    // follows from, and that a task that is skipped or has no actions is prepared without a fault.
     ensures may_be { IfOk result (MayPrepare task.now) }
     ensures may_decide { IfOk result (MayDecideAs options task.now) }
     ensures goes_by { IfOk result (FollowsFromAs options task.now (option_copied old.entry)) }
     ensures reads { OnErr result ((task.now.runs ≡ true) × (is_empty task.now.actions ≡ false)) }
     ensures same { IsTrue F.faithful → F.contents folder.new ≡ F.contents folder.old }
-    // What a run is based on was read; and it is so in a folder whose contents are known, and so
-    // are the outputs of what is up to date.
+    // What is returned for a full run is readings of the task's inputs, for an incremental run also
+    // of its outputs: with their names, and of files at their places.
     ensures read { IfOk result (IsRead task.now) }
     // Over any folder it is what calls answered, since the state from which the files are seen;
     // and what is up to date was found so on exactly this.
@@ -86,6 +87,8 @@ pub fn prepare<F: Folder>(
     ensures prepared { IsTrue F.faithful → AreSeenIn (F.contents folder.old).files seen.now
         → IfOk result
         (IsPrepared options task.now (F.contents folder.old) (option_copied old.entry)) }
+    // Where contents are known and the seen digests are right: the files that a run is based on, or
+    // the outputs of a task that is up to date, are in the folder as they were read.
     ensures observed { IsTrue F.faithful → AreSeenIn (F.contents folder.old).files seen.now
         → IfOk result (IsObserved task.now (F.contents folder.old).files) }
     ensures err { IsTrue F.faithful → AreSeenIn (F.contents folder.old).files seen.now

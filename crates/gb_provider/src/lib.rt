@@ -5,18 +5,18 @@
 //! node of a table ([`providers::Providers`]) that names its operands by their numbers, and a value
 //! is computed when it is read.
 //!
-//! The promise: a read returns what the definition gives. That goes by rounds: after round n each
-//! expression has the value that its operands had after round n - 1. An expression that never gets
-//! a value depends on itself, and 30 is reported with the names on the circle: of the lists that
-//! begin at each of its names in turn, the least. The only premise of a call is that a node is one
-//! of the table (`has`).
+//! The promise: a read returns what the definition gives. That goes by rounds: in round n each
+//! expression is evaluated with the values that its operands had after round n - 1, and has a value
+//! if these suffice. An expression that never gets one runs into a circle of expressions that wait
+//! for one another, and 30 is reported with the names on it: of the lists that begin at each of its
+//! names in turn, the least. The only premise of a call is that a node is one of the table (`has`).
 //!
 //! [`search`] evaluates with a work list in place of a recursion, so no chain of expressions is too
 //! long, and the same search finds the tasks that produce a value. A value that was read is
 //! remembered until a property or an output that was itself read changes, or an output is first
 //! named. A result that is handed on is shared and not copied.
 //!
-//! Set aside: a graph of cells that inform their readers of a change. It costs memory for each
+//! Rejected: a graph of cells that inform their readers of a change. It costs memory for each
 //! reader, and a build changes its properties before it reads them. Which functions run how often
 //! is in no clause.
 //!

@@ -30,7 +30,7 @@ use std::alloc::{AllocError, Global};
 use std::marker::Model;
 
 /// A table of providers, based on a table of stored functions. Values that were read are cached
-/// until a property or an output changes that was read as well.
+/// until a property or an output that was read as well changes, or an output is first named.
 #[derive(Drop)]
 pub struct Providers<'a, T: Transforms> {
     alloc: Global,
@@ -447,8 +447,9 @@ impl<'a, T: Transforms> Providers<'a, T> {
     }
 
     /// The tasks that produce the value of an expression, each once, ordered by the bytes of their
-    /// paths: the tasks of its operands, and for an output its own task. Values are read only if
-    /// they choose; their faults are those of `get`.
+    /// paths: the tasks of its operands, and for an output its own task. A value is read only where
+    /// it decides which tasks these are: the source of a `flatMap`, and the left side of an
+    /// `orElse`. Its faults are those of `get`.
     pub fn producers(&mut self, node: Node) -> Result<TaskPaths, ProviderFault>
         requires { node.number < length self.old.nodes }
         ensures producers { AreProducers T.meanings self.old.nodes node.number result }

@@ -28,8 +28,9 @@ use gb_report::fault::Fault;
 use gb_tree::prints::Prints;
 use std::alloc::Global;
 
-/// Executes the actions of a task, each with a full request, over a folder without its files.
-/// Computes what they make before anything is changed, and then writes it, action by action. Once
+/// Executes the actions of a task, each with a full request. It empties nothing: its outputs are
+/// emptied before the call. Computes what they make before anything is changed, and then writes it,
+/// action by action. Once
 /// the files of an action are written, its lines are appended to `lines`. Returns the digests of
 /// what the actions made, even if the folder has changed since.
 pub fn run_in_full<A: Actions, F: Folder>(
@@ -49,6 +50,8 @@ pub fn run_in_full<A: Actions, F: Folder>(
     ensures made { IfOk result (λ made. (kinds : Kinds) → Agrees A.meanings table.now kinds → (held : Files)
         × (made_of kinds task.now.actions task.now.values files task.now.outputs ≡ Ok held)
         × (made.items ≡ prints_at task.now.outputs held)) }
+    // Over any folder: a list of calls, all at the outputs of the task, led from the old state to
+    // the new one. If kinds agree, they are those of a full run with these lines and this ending.
     ensures calls { (calls : List Call) × Leads F.device folder.old calls folder.new
         × AreAtOutputs task.now calls × ((kinds : Kinds) → Agrees A.meanings table.now kinds
         → RunsInFull (course_of kinds task.now files changes []) calls lines.new (ending result)) }
@@ -74,7 +77,7 @@ pub fn run_in_full<A: Actions, F: Folder>(
     ended(done, made)
 }
 
-/// How a run ends: as its work was done, or with the work's own fault.
+/// What a run returns: the fault of doing its work, or else the work's own result.
 pub fn ended(
     done: Result<(), Fault>,
     made: Result<Vec<Prints>, Fault>,

@@ -90,8 +90,8 @@ pub fn execute_task<A: Actions, F: Folder>(
         → IsTrue (is_input_of task.now place || is_output_of task.now place) }
     ensures started { IsTrue (is_started result.outcome) }
     // Over any folder: a task that is skipped or has no actions is reported as such. A task that
-    // has actions and runs gets one of the outcomes that are possible for it, and prints nothing
-    // where its outcome leaves no choice.
+    // runs and has actions is up to date only with outputs, not stale and with no rerun asked, and
+    // without source only if a property skips it. Only `Executed` and `Failed` have lines.
     ensures alone { IsAnsweredAlone task.now.runs (is_empty task.now.actions) has_executed_need
         result.outcome }
     ensures answer { IsAnswer options task.now result }
@@ -99,8 +99,9 @@ pub fn execute_task<A: Actions, F: Folder>(
         → ChangesOnly (is_of_execution task.now) (F.contents folder.old) (F.contents folder.new) }
     ensures seen_in { IsTrue F.faithful → AreSeenIn (F.contents folder.old).files seen.old
         → AreSeenIn (F.contents folder.new).files seen.new }
-    // If the record that was read is a true record of the task (`IsKnown`), this is its execution
-    // as defined.
+    // Where contents are known and kinds agree: if what was read is the record of what is
+    // remembered, or none where nothing is, and that is true and collision-free with what the task
+    // has now (`IsKnown`), this is its execution by the definitions.
     ensures execution { IsTrue F.faithful → AreSeenIn (F.contents folder.old).files seen.old
         → (kinds : Kinds) (registry_of : Registering) (plan : Plan) (moment : Moment)
         → IsAssumed A.meanings table.now kinds (F.may_leave folder.old)

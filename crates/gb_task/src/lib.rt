@@ -3,8 +3,9 @@
 //! How it works: all that the task needs is read before the first change (`gb_label`). Then it
 //! deletes the record of the task, runs its actions, and stores a new record. The new record has
 //! the inputs that the actions worked on, and the outputs as the actions made them, whatever is in
-//! the folder by then. So a build that is stopped between the two finds no record, and executes the
-//! task in full. A full execution empties the outputs first. An incremental execution starts from
+//! the folder by then. So if a build is stopped after the record was deleted and before the new one
+//! is stored, the next build finds no record, and if the task has to run, executes it in full. A full
+//! execution empties the outputs first. An incremental execution starts from
 //! the files at the outputs, and keeps those that are right, also where it fails.
 //!
 //! A file that an earlier task made is an output there and an input here. So the digests of the

@@ -35,10 +35,10 @@ pub enum Naming {
 /// The files at or under the roots that the patterns let in, by their paths. Equal roots count
 /// once, and the tool's own folder `.gb` never does. Nothing is written.
 ///
-/// Only that part of a root is listed which an include may match. For each include, that is what
-/// is at or under the folder before its first `*` or `?` (for `src/**`: what is in `src`), and for
-/// an include that has neither, what is at its own place. Each such folder is listed once, and not
-/// again where it lies in another one. A root for which no include is given is listed whole.
+/// With includes, a root is listed only at their starts: the folder before the first `*` or `?` of
+/// an include (for `src/**`: `src`), or its own place if it has neither. Each start is listed once,
+/// and not again where it lies in another one. The whole root is listed without an include, if an
+/// include matches the last segment of the root, or if a start would be no place.
 ///
 /// Refused, in this order: something there that no place can name (14), more than 65,536 files
 /// (72), two files at one path or one at a folder of another (71), the first file above 8 MiB (13).
@@ -125,8 +125,9 @@ pub fn reading_of<F: Folder>(
     ensures named { IfOk result (λ reading. reading.0 ≡ name.now) }
     ensures under { IfOk result
         (λ reading. AllByRecursion (λ observed. IsTrue (is_under_any roots.now observed.place)) reading.1) }
-    // Over any folder: the files are those that calls returned, and so are the digests and the
-    // bytes.
+    // Over any folder: the entries are those of listings that calls returned. If the seen digests
+    // are of bytes read since a state `first`, with no change requested from there on, then so is
+    // each digest here, and no other bytes are kept.
     ensures listed { IfOk result (λ reading. AreEntriesListed F.failures F.may_leave F.allowed naming
         roots.now
         include.now exclude.now folder.old folder.new (entries_observed reading.1)) }
@@ -134,6 +135,7 @@ pub fn reading_of<F: Folder>(
         → AreSeen F.failures F.may_leave F.allowed first folder.old seen.now
         → IfOk result
         (λ reading. WereObserved F.failures F.may_leave F.allowed first folder.new reading.1) }
+    // Where contents are known and the seen digests are those of the files there:
     ensures digests { IsTrue F.faithful → AreSeenIn (F.contents folder.old).files seen.now
         → IfOk result (λ reading. digests_observed reading.1
         ≡ digests_of (tree_of naming roots.now include.now exclude.now (F.contents folder.old).files)) }
@@ -180,8 +182,9 @@ fn read_once<F: Folder>(
     ensures named { IfOk result (λ reading. reading.0 ≡ name.now) }
     ensures under { IfOk result
         (λ reading. AllByRecursion (λ observed. IsTrue (is_under_any roots.now observed.place)) reading.1) }
-    // Over any folder: the files are those that calls returned, and so are the digests and the
-    // bytes.
+    // Over any folder: the entries are those of listings that calls returned. If the seen digests
+    // are of bytes read since a state `first`, with no change requested from there on, then so is
+    // each digest here, and no other bytes are kept.
     ensures listed { IfOk result (λ reading. AreEntriesListed F.failures F.may_leave F.allowed naming
         roots.now
         include.now exclude.now folder.old folder.new (entries_observed reading.1)) }
@@ -189,6 +192,7 @@ fn read_once<F: Folder>(
         → AreSeen F.failures F.may_leave F.allowed first folder.old seen.now
         → IfOk result
         (λ reading. WereObserved F.failures F.may_leave F.allowed first folder.new reading.1) }
+    // Where contents are known and the seen digests are those of the files there:
     ensures digests { IsTrue F.faithful → AreSeenIn (F.contents folder.old).files seen.now
         → IfOk result (λ reading. digests_observed reading.1
         ≡ digests_of (tree_of naming roots.now include.now exclude.now (F.contents folder.old).files)) }
