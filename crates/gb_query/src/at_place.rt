@@ -105,7 +105,19 @@ fn push_fault(found: &mut Vec<Found>, path: &TaskPath, fault: Fault) -> Result<(
     ensures { OnOk result (found.new.items
         ≡ found.old.items ++ Found.Unreadable path.now fault ∷ []) }
 {
-    found.push(Found::Unreadable(path.copy()?, fault))?;
+    match path.copy() {
+        Ok(copied) => push_one(found, Found::Unreadable(copied, fault)),
+        Err(error) => {
+            drop(fault);
+            Err(error)
+        }
+    }
+}
+
+fn push_one(found: &mut Vec<Found>, one: Found) -> Result<(), AllocError>
+    ensures { OnOk result (found.new.items ≡ found.old.items ++ one ∷ []) }
+{
+    found.push(one)?;
     Ok(())
 }
 

@@ -95,12 +95,20 @@ fn push_fault(text: &mut String, fault: Fault) -> Result<(), AllocError>
     ensures made { OnOk result
         (string_bytes text.new ≡ string_bytes text.old ++ made_text (Some (Err fault))) }
 {
-    if is_out_of_memory(&fault) {
-        return Err(AllocError);
-    }
-    let pushed = write_fault(text, &fault);
+    let pushed = write_unless_memory(text, &fault);
     drop(fault);
     pushed
+}
+
+fn write_unless_memory(text: &mut String, fault: &Fault) -> Result<(), AllocError>
+    ensures fault { OnOk result (fault.now ≢ Fault.OutOfMemory) }
+    ensures made { OnOk result
+        (string_bytes text.new ≡ string_bytes text.old ++ made_text (Some (Err fault.now))) }
+{
+    if is_out_of_memory(fault) {
+        return Err(AllocError);
+    }
+    write_fault(text, fault)
 }
 
 fn is_out_of_memory(fault: &Fault) -> bool

@@ -90,12 +90,25 @@ fn task_at_fault(
     ensures object { IfOk result (λ value. view value
         ≡ declared_object path.now is_default (Some (Err fault))) }
 {
-    if is_out_of_memory(&fault) {
-        return Err(AllocError);
-    }
-    let value = unreadable_object(alloc, path, is_default, &fault);
+    let value = unless_memory(alloc, path, is_default, &fault);
     drop(fault);
     value
+}
+
+fn unless_memory(
+    alloc: Global,
+    path: &str,
+    is_default: bool,
+    fault: &Fault,
+) -> Result<Value, AllocError>
+    ensures fault { OnOk result (fault.now ≢ Fault.OutOfMemory) }
+    ensures object { IfOk result (λ value. view value
+        ≡ declared_object path.now is_default (Some (Err fault.now))) }
+{
+    if is_out_of_memory(fault) {
+        return Err(AllocError);
+    }
+    unreadable_object(alloc, path, is_default, fault)
 }
 
 fn is_out_of_memory(fault: &Fault) -> bool
