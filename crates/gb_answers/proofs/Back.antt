@@ -91,6 +91,10 @@ last_of leaves (first ∷ calls) call start end answers =
     let rest = last_of leaves calls call answers.1 end answers.3 in
     (rest.0, (answers.0, answers.1, answers.2, rest.1), rest.2, rest.3)
 
+pub start_sound : (leaves : Tearing) (calls : List Call) (start end : Contents) → AnswersSoundly leaves start calls end → IsSound start
+start_sound leaves [] start end answers = answers.0
+start_sound leaves (call ∷ calls) start end answers = answers.0
+
 end_sound : (leaves : Tearing) (calls : List Call) (start end : Contents) → AnswersSoundly leaves start calls end → IsSound end
 end_sound leaves [] start end answers = subst IsSound (sym answers.1) answers.0
 end_sound leaves (call ∷ calls) start end answers = end_sound leaves calls answers.1 end answers.3

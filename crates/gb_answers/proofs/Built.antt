@@ -33,7 +33,7 @@ use Rattle.gb_meaning.specs.Kinds.{Kinds}
 use Rattle.gb_meaning.specs.Memory.{Entry, Memory, recalled}
 use Rattle.gb_meaning.specs.Outline.{AreOutlines}
 use Rattle.gb_meaning.specs.Scratch.{add_task, cleared}
-use Rattle.gb_meaning.specs.TrueRecord.{HoldsTrue, Stores, contents_of, outside, record_of}
+use Rattle.gb_meaning.specs.TrueRecord.{AreCollisionFree, HoldsTrue, Stores, contents_of, outside, record_of}
 use Rattle.gb_meaning.specs.declared.events.Invocation.{Invocation}
 use Rattle.gb_meaning.proofs.Common.{none_some, some_same}
 use Rattle.gb_meaning.proofs.Lemmas.Clear.{Among, in_left, in_right, places_of}
@@ -66,13 +66,14 @@ use Rattle.gb_script.specs.Script.{Says, SaysAsSettings}
 use Rattle.gb_script.specs.declared.fault.ScriptFault.{ScriptFault}
 use Rattle.gb_script.specs.declared.script.Statement.{Statement}
 use Rattle.gb_task.specs.Buildable.{IsBuildable}
-use Rattle.gb_answers.proofs.Back.{AreAnswersOf, Shown, back_unchanged, kept_answers}
+use Rattle.gb_answers.proofs.Back.{AreAnswersOf, Shown, back_unchanged, kept_answers, start_sound}
 use Rattle.gb_answers.proofs.Chain.{IsTrueWithin, MayStep, Steps, all_done, chain}
 use Rattle.gb_answers.proofs.Going.{AllWentWell, IsOfTrue, world_of}
+use Rattle.gb_answers.proofs.OfPlan.{each_may, each_named, shaped}
 use Rattle.gb_answers.proofs.Named.{named}
 use Rattle.gb_logged.specs.Logged.{KeepsCalls}
 use Rattle.gb_answers.specs.Answering.{AnswersSoundly}
-use Rattle.gb_answers.specs.Scratch.{IsAnsweredBy, AnsweredSuccessIsFromScratch}
+use Rattle.gb_answers.specs.Scratch.{AnsweredSuccessIsFromScratch}
 
 -- ---- What is remembered
 
@@ -157,21 +158,6 @@ module _ {F : Type 0} (failures : F → ℕ) (may_leave : F → Tearing) (allowe
     true_records (path ∷ paths) (last ∷ records) named answered =
         (true_record path last named.0 answered.0, true_records paths records named.1 answered.1)
 
--- ---- Plans
-
-overlap_head : (xs ys : List Place) → some_overlap (xs ++ ys) ≡ false → some_overlap xs ≡ false
-overlap_head [] ys e = refl
-overlap_head (x ∷ xs) ys e =
-    neither (list_any (overlaps x) xs) (some_overlap xs)
-    (none_left (list_any (overlaps x) xs) (list_any (overlaps x) ys) (sym (any_append (overlaps x) xs ys) ∙ none_left (list_any (overlaps x) (xs ++ ys)) (some_overlap (xs ++ ys)) e))
-    (overlap_head xs ys (none_right (list_any (overlaps x) (xs ++ ys)) (some_overlap (xs ++ ys)) e))
-
-may_step : {S : Type 0} (meanings : Meanings S) (rows : Rows S) (rest : List Planned) → AllByRecursion (λ (planned : Planned). IsBuildable meanings rows planned.task) rest
-    → AllByRecursion (λ (planned : Planned). IsShaped planned.task) rest → some_overlap (places_of rest) ≡ false → AllByRecursion (MayStep meanings rows) rest
-may_step meanings rows [] buildable shaped apart = tt
-may_step meanings rows (planned ∷ rest) buildable shaped apart =
-    ((buildable.0, shaped.0, overlap_head (output_places planned.task) (places_of rest) apart), may_step meanings rows rest buildable.1 shaped.1 (overlap_tail (output_places planned.task) (places_of rest) apart))
-
 -- a dry run requests no change, task by task
 module _ {F S : Type 0} (failures : F → ℕ) (may_leave : F → Tearing) (allowed : F → Call → F → Type 0) (leaves : Tearing) (Shows : F → Contents → Type 0)
     (are : AreAnswersOf allowed leaves Shows) (meanings : Meanings S) (rows : Rows S) (options : Options) where
@@ -190,10 +176,10 @@ module _ {F M N Z S A : Type 0} (failures : F → ℕ) (may_leave : F → Tearin
     → (kinds : Kinds) → Agrees tables.shapes tables.kinds kinds → (options : Options) (plan : Plan)
     → Steps failures may_leave allowed Shows tables.shapes tables.kinds kinds options plan) where
   module _ (log : F → List Call) (keeps : KeepsCalls allowed log) (kinds : Kinds) (agrees : Agrees tables.shapes tables.kinds kinds)
-      (invocation : Invocation) (report : Report) (old new : F) (start end : Contents) (remembered : Memory)
-      (begins : log old ≡ [])
-      (is : IsAnsweredBy (may_leave old) (setting_of tables kinds (may_leave old)) remembered (log new) start end)
-      (builds : BuildsDeclared failures may_leave allowed tables invocation report old new) (none_failed : has_failure report ≡ false) where
+      (invocation : Invocation) (report : Report) (old new : F) (start end : Contents) (begins : log old ≡ []) (answers : AnswersSoundly (may_leave old) start (log new) end)
+      (builds : BuildsDeclared failures may_leave allowed tables invocation report old new) (none_failed : has_failure report ≡ false)
+      (all : List Bytes) (separate : AreCollisionFree sha256 all) (start_among : Among (contents_outside start) all) (end_among : Among (contents_outside end) all)
+      (trusted : Shown allowed log keeps (may_leave old) start builds.plan.begun start → invocation.options.dry_run ≡ false → AllByRecursion (IsTrueWithin kinds all) builds.plan.records) where
     abbrev Shows : F → Contents → Type 0
     Shows = Shown allowed log keeps (may_leave old) start
 
@@ -219,44 +205,6 @@ module _ {F M N Z S A : Type 0} (failures : F → ℕ) (may_leave : F → Tearin
         let none : AnswersSoundly (may_leave old) start [] contents = subst (λ (calls : List Call). AnswersSoundly (may_leave old) start calls contents) begins first in
         none.1
 
-    of_registry : request.registry ≡ registry
-    of_registry = request_registry registry invocation.requested invocation.excluded request builds.by.asked
-
-    is_registry : IsRegistry request.registry
-    is_registry = subst IsRegistry (sym of_registry) builds.is_registry
-
-    shaped : AllByRecursion (λ (planned : Planned). IsShaped planned.task) plan
-    shaped = planned_shaped request plan is_registry builds.by.planned.schedule
-
-    each_buildable : AllByRecursion (λ (planned : Planned). IsBuildable tables.shapes tables.kinds planned.task) plan
-    each_buildable = planned_all (IsBuildable tables.shapes tables.kinds) request plan
-        (subst (AreBuildable tables.shapes tables.kinds) (sym of_registry) builds.buildable) builds.by.planned.schedule
-
-    each_may : AllByRecursion (MayStep tables.shapes tables.kinds) plan
-    each_may = may_step tables.shapes tables.kinds plan each_buildable shaped builds.by.planned.sound.outputs_separate
-
-    each_named : AllByRecursion (λ (path : Path). IsTrue (is_task_path path)) (order plan)
-    each_named = ordered plan builds.by.planned.schedule.declared
-      where
-        entries : (paths : List Path) → AllByRecursion (λ (path : Path). IsTrue (is_task_path path)) paths
-            → AllByRecursion (λ (entry : Path × Result Task Fault). IfOk entry.1 (λ (task : Task). IsTrue (is_task_path entry.0))) (map (λ (path : Path). (path, declaration_of tables builds.source path)) paths)
-        entries [] all = tt
-        entries (path ∷ paths) all = (of_ok (declaration_of tables builds.source path) all.0, entries paths all.1)
-          where
-            of_ok : (declared : Result Task Fault) → IsTrue (is_task_path path) → IfOk declared (λ (task : Task). IsTrue (is_task_path path))
-            of_ok (Ok task) good = good
-            of_ok (Err fault) good = tt
-
-        at_path : (path : Path) (task : Task) → declaration_at request.registry path ≡ Some (Ok task) → IsTrue (is_task_path path)
-        at_path path task declared =
-            at_declared (λ (p : Path) (t : Task). IsTrue (is_task_path p)) registry.tasks (entries (paths_of builds.source.said) (named failures may_leave allowed old builds.begun tables invocation.properties builds.source builds.declared))
-            path task (subst (λ (r : Registry). declaration_at r path ≡ Some (Ok task)) of_registry declared)
-
-        ordered : (rest : List Planned) → AllByRecursion (λ (planned : Planned). declaration_at request.registry planned.task.path ≡ Some (Ok planned.task)) rest
-            → AllByRecursion (λ (path : Path). IsTrue (is_task_path path)) (order rest)
-        ordered [] declared = tt
-        ordered (planned ∷ rest) declared = (at_path planned.task.path planned.task declared.0, ordered rest declared.1)
-
     -- ---- What the folder showed when the scripts were read
 
     shows_begun : Shows builds.plan.begun start → Shows builds.begun start
@@ -279,7 +227,7 @@ module _ {F M N Z S A : Type 0} (failures : F → ℕ) (may_leave : F → Tearin
       dry_shows =
           dry_unchanged failures may_leave allowed (may_leave old) Shows are tables.shapes tables.kinds invocation.options plan builds.plan.records builds.plan.begun builds.plan.begun new end
           (subst (λ (r : List TaskReport). ExecutionsRequest failures may_leave allowed tables.shapes tables.kinds invocation.options plan builds.plan.records r builds.plan.begun builds.plan.begun new) reports builds.plan.executions)
-          is.answers
+          answers
 
       same : end ≡ start
       same = shows_start end dry_shows
@@ -303,7 +251,7 @@ module _ {F M N Z S A : Type 0} (failures : F → ℕ) (may_leave : F → Tearin
       chained : (before : Contents) × Shows builds.plan.begun before × AllWentWell kinds plan builds.plan.records before end
       chained = chain failures may_leave allowed Shows tables.shapes tables.kinds kinds invocation.options plan
           (step (may_leave old) Shows are kinds agrees invocation.options plan)
-          [] plan builds.plan.records report.tasks builds.plan.begun builds.plan.begun new end each_may outlines well builds.plan.executions is.answers
+          [] plan builds.plan.records report.tasks builds.plan.begun builds.plan.begun new end (each_may failures may_leave allowed tables invocation report old new builds) outlines well builds.plan.executions answers
 
       began : chained.0 ≡ start
       began = shows_start chained.0 chained.1
@@ -311,19 +259,8 @@ module _ {F M N Z S A : Type 0} (failures : F → ℕ) (may_leave : F → Tearin
       wet_shows : Shows builds.plan.begun start
       wet_shows = subst (λ (c : Contents). Shows builds.plan.begun c) began chained.1
 
-      abbrev known : List Bytes
-      known = flat_map (λ (entry : Path × Entry). contents_of entry.1) remembered
-
-      abbrev all : List Bytes
-      all = known ++ contents_outside start ++ contents_outside end
-
       done : AreDone kinds plan (world_of start) (world_of end)
-      done = all_done kinds all is.separate plan builds.plan.records start end builds.by.planned.sound.outputs_separate
-          (true_records failures may_leave allowed (may_leave old) Shows are builds.begun builds.plan.begun start wet_shows kinds remembered is.holds all
-          (λ c h. in_left c (known ++ contents_outside start) (contents_outside end) (in_left c known (contents_outside start) h))
-          (order plan) builds.plan.records each_named (builds.plan.answered wet))
-          (λ c h. in_left c (known ++ contents_outside start) (contents_outside end) (in_right c known (contents_outside start) h))
-          (λ c h. in_right c (known ++ contents_outside start) (contents_outside end) h)
+      done = all_done kinds all separate plan builds.plan.records start end builds.by.planned.sound.outputs_separate (trusted wet_shows wet) start_among end_among
           (subst (λ (c : Contents). AllWentWell kinds plan builds.plan.records c end) began chained.2)
 
       wet_from_scratch : IsFromScratch (setting_of tables kinds (may_leave old)) start invocation report end
@@ -331,11 +268,11 @@ module _ {F M N Z S A : Type 0} (failures : F → ℕ) (may_leave : F → Tearin
         plan = plan;
         planned = has_plan wet_shows;
         started = λ _. each_started report.tasks well;
-        files = done_from_scratch kinds invocation.options request plan (world_of start) (world_of end) builds.by.planned shaped
-            (folder_where (λ place. not (is_own place)) start.files is.holds.is_folder) tt wet done;
+        files = done_from_scratch kinds invocation.options request plan (world_of start) (world_of end) builds.by.planned (shaped failures may_leave allowed tables invocation report old new builds)
+            (folder_where (λ place. not (is_own place)) start.files (start_sound (may_leave old) (log new) start end answers).folder) tt wet done;
       }
 
-    from_scratch_left : IsFromScratch (setting_of tables kinds (may_leave old)) start invocation report end
+    pub from_scratch_left : IsFromScratch (setting_of tables kinds (may_leave old)) start invocation report end
     from_scratch_left = elim builds.by.outlines [
       | inl dry ↦ dry_from_scratch dry.0 dry.1
       | inr run ↦ wet_from_scratch run.0 run.1
@@ -343,4 +280,11 @@ module _ {F M N Z S A : Type 0} (failures : F → ℕ) (may_leave : F → Tearin
 
   pub built : AnsweredSuccessIsFromScratch failures may_leave allowed tables
   built log keeps kinds agrees invocation report old new start end remembered begins is builds none_failed =
-      from_scratch_left log keeps kinds agrees invocation report old new start end remembered begins is builds none_failed
+      from_scratch_left log keeps kinds agrees invocation report old new start end begins is.answers builds none_failed (flat_map (λ (entry : Path × Entry). contents_of entry.1) remembered ++ contents_outside start ++ contents_outside end) is.separate
+      (λ c h. in_left c (flat_map (λ (entry : Path × Entry). contents_of entry.1) remembered ++ contents_outside start) (contents_outside end) (in_right c (flat_map (λ (entry : Path × Entry). contents_of entry.1) remembered) (contents_outside start) h))
+      (λ c h. in_right c (flat_map (λ (entry : Path × Entry). contents_of entry.1) remembered ++ contents_outside start) (contents_outside end) h)
+      (λ shows wet.
+      true_records failures may_leave allowed (may_leave old) (Shown allowed log keeps (may_leave old) start) (kept_answers allowed log keeps (may_leave old) start)
+      builds.begun builds.plan.begun start shows kinds remembered is.holds (flat_map (λ (entry : Path × Entry). contents_of entry.1) remembered ++ contents_outside start ++ contents_outside end)
+      (λ c h. in_left c (flat_map (λ (entry : Path × Entry). contents_of entry.1) remembered ++ contents_outside start) (contents_outside end) (in_left c (flat_map (λ (entry : Path × Entry). contents_of entry.1) remembered) (contents_outside start) h))
+      (order builds.by.plan) builds.plan.records (each_named failures may_leave allowed tables invocation report old new builds) (builds.plan.answered wet))

@@ -10,5 +10,9 @@ pub mod Going
 pub mod Step
 pub mod Chain
 pub mod Named
+pub mod OfPlan
 pub mod Built
 pub mod Logged
+pub mod Kept
+pub mod Made
+pub mod Truthful

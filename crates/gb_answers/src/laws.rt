@@ -1,6 +1,7 @@
 //! Laws, each the contract of a function that does nothing.
 ghost use Rattle.gb_registry.specs.Tables.{tables_of};
 ghost use Rattle.gb_answers.specs.Scratch.{AnsweredSuccessIsFromScratch};
+ghost use Rattle.gb_answers.specs.Stored.{RecordsStayTrue};
 
 use gb_action::actions::Actions;
 use gb_folder::folder::Folder;
@@ -12,5 +13,15 @@ use gb_registry::tables::Tables;
 /// contents. The premises: the records that they hold are true, and no two contents share a digest.
 pub fn answered_success_is_from_scratch<A: Actions, T: Transforms, F: Folder>(tables: &Tables<A, T>)
     ensures { AnsweredSuccessIsFromScratch F.failures F.may_leave F.allowed
+        (tables_of T.meanings A.meanings tables.now) }
+{}
+
+/// Of any folder that keeps its calls, whoever else writes there between builds: if each record that
+/// a build read is one that an earlier build was to store, and no two contents that calls returned
+/// or were to write share a digest, then each record that these builds were to store is true: its
+/// outputs are what its actions make of its inputs. And where a build told a task up to date, the
+/// files that calls had returned of its outputs are what its actions make of those of its inputs.
+pub fn records_stay_true<A: Actions, T: Transforms, F: Folder>(tables: &Tables<A, T>)
+    ensures { RecordsStayTrue F.failures F.may_leave F.allowed
         (tables_of T.meanings A.meanings tables.now) }
 {}

@@ -1,26 +1,34 @@
-//! What the calls of a build leave in contents that answer them as they were answered.
+//! What follows from the calls of builds and their answers, whatever the folder is.
 //!
 //! No contract says what a disk holds, so the theorem about known contents says nothing of it. But
 //! the contracts over any folder say which calls a build made, and with which bytes, given their
-//! answers. This crate has what follows for a folder that keeps its calls (`KeepsCalls`): if
-//! contents that hold true records answer all calls that it keeps, no two contents share a digest,
-//! and no task failed, then in these contents, outside `.gb`, the calls leave what a build from
-//! scratch makes of them (`answered_success_is_from_scratch`). The folder need not have these
-//! contents.
+//! answers. This crate has what follows for a folder that keeps its calls (`KeepsCalls`), in two
+//! laws over the clause `requests` of `invoke`. No body is changed for them.
 //!
-//! It is a law over the clause `requests` of `invoke`, so no body is changed for it. The proof goes
-//! back from the last state of the folder: a call that led to a state that shows contents came from
-//! one that shows the contents before the call (`proofs/Back.antt`). So what was read and listed on
-//! the way is what these contents have (`Trees`, `Outputs`). For each outcome it is shown what the
-//! execution did between two contents (`Step`, from `Current`, `Cleared`, `Full`, `ByChanges`). The
-//! executions of a plan are then put together as those of a folder with known contents are
-//! (`Chain`, `Built`).
+//! - `answered_success_is_from_scratch`: if contents that hold true records answer all calls that
+//!   the folder keeps of a build, no two contents share a digest, and no task failed, then in these
+//!   contents, outside `.gb`, the calls leave what a build from scratch makes of them. The folder
+//!   need not have these contents.
+//! - `records_stay_true`: of builds one after another, with others writing in between. If each
+//!   record that one of them read is one that an earlier one was to store, and no two contents that
+//!   calls returned or were to write share a digest, all of these records are true, what was told
+//!   up to date was right, and the first law holds of each build without its premise on records.
 //!
-//! `invoke_logged` is a build over a folder that keeps its calls (`gb_logged`): of it the law holds
+//! The proof of the first goes back from the last state of the folder: a call that led to a state
+//! that shows contents came from one that shows the contents before the call (`proofs/Back.antt`).
+//! So what was read and listed on the way is what these contents have (`Trees`, `Outputs`). For
+//! each outcome it is shown what the execution did between two contents (`Step`, from `Current`,
+//! `Cleared`, `Full`, `ByChanges`). The executions of a plan are then put together as those of a
+//! folder with known contents are (`Chain`, `Built`). The second goes along the calls that were
+//! kept (`Kept`): what a run makes was written by its calls or read at its outputs (`Made`), so the
+//! contents of a record are among those of the calls, and that of the next build is true by the one
+//! before (`Truthful`).
+//!
+//! `invoke_logged` is a build over a folder that keeps its calls (`gb_logged`): of it the laws hold
 //! whatever the folder beneath is, and its caller can read the calls.
 //!
-//! Set aside: the same for outcomes and printed lines. The clause says why a task is up to date and
-//! what an executed one did, and not yet that no task was executed that was up to date.
+//! Not proved: the same for outcomes and printed lines. The clause says why a task is up to date
+//! and what an executed one did, but not that no task was executed that was up to date.
 #![tactic(auto)]
 
 pub mod laws;

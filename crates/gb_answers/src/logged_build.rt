@@ -2,7 +2,9 @@
 ghost use Rattle.std.specs.Prelude.{IfOk};
 ghost use Rattle.gb_logged.specs.Logged.{log};
 ghost use Rattle.gb_registry.specs.Tables.{tables_of};
+ghost use Rattle.gb_meaning.specs.Kinds.{Kinds};
 ghost use Rattle.gb_answers.specs.Scratch.{LeavesFromScratch};
+ghost use Rattle.gb_answers.specs.Stored.{WasKept};
 
 use crate::laws::answered_success_is_from_scratch;
 use gb_action::actions::Actions;
@@ -37,64 +39,22 @@ pub fn invoke_logged<A: Actions, T: Transforms, F: Folder + Drop, L: TaskListene
     listeners: &mut Vec<L>,
     printer: &mut P,
 ) -> LoggedBuild<F>
-    // Whatever the folder is: in contents that answer these calls, a build in which no task failed
-    // leaves what a build from scratch makes.
+    // Whatever the folder is: take contents that answer these calls in the same way and hold true
+    // records. If kinds agree, no two contents share a digest and no task failed, the calls leave
+    // in them, outside `.gb`, what a build of the unskipped tasks from scratch makes.
     ensures from_scratch { IfOk result.answer (λ report.
         LeavesFromScratch (tables_of T.meanings A.meanings tables.now) (F.may_leave inner) invocation.now
         report (log result.folder)) }
+    // It is a build that the law `records_stay_true` is about. By that law such builds, one after
+    // another, are truthful if each record that one of them read is one that an earlier one was to
+    // store, and no two contents share a digest.
+    ensures kept { (kinds : Kinds) → WasKept ⟦<LoggedFolder<F> as Folder>⟧.failures
+        ⟦<LoggedFolder<F> as Folder>⟧.may_leave ⟦<LoggedFolder<F> as Folder>⟧.allowed log
+        (tables_of T.meanings A.meanings tables.now) kinds invocation.now result.answer result.folder }
 {
     let mut folder = LoggedFolder::new(alloc, inner);
     let answer = invoke(alloc, &mut folder, tables, invocation, listeners, printer);
     answered_success_is_from_scratch::<A, T, LoggedFolder<F>>(tables);
     logged_folders_keep_calls::<F>();
     LoggedBuild { answer, folder }
-}
-
-#[cfg(test)]
-mod tests {
-    use super::*;
-    use gb_action::table::ActionTable;
-    use gb_core::place::Place;
-    use gb_exec::listener::Recorder;
-    use gb_folder::memory::MemoryFolder;
-    use gb_kinds::builtin::{Builtin, StoredAction};
-    use gb_kinds::function_table::FunctionTable;
-    use gb_printer::printer::Silent;
-    use gb_words::words::read;
-    use std::test::Fail;
-
-    fn built<A: Actions, T: Transforms>(
-        alloc: Global,
-        tables: &Tables<A, T>,
-    ) -> Result<LoggedBuild<MemoryFolder>, Fail> {
-        let mut folder = MemoryFolder::new(alloc);
-        folder.write(&Place::read(alloc, "build.gb")?, b"register all { }", 99)?;
-        let mut words = Vec::new(alloc);
-        words.push(String::from_str(alloc, "all")?)?;
-        let asked = read(alloc, words)?;
-        let mut listeners: Vec<Recorder> = Vec::new(alloc);
-        Ok(invoke_logged(alloc, folder, tables, &asked, &mut listeners, &mut Silent))
-    }
-
-    #[test]
-    fn a_build_keeps_its_calls(rt: HostRuntime) -> Result<(), Fail> {
-        let alloc = rt.alloc();
-        let actions: ActionTable<StoredAction> = ActionTable::new(alloc);
-        let transforms = FunctionTable::new(alloc);
-        let tables = Tables::<Builtin, Builtin> {
-            actions,
-            transforms,
-        };
-        let build = built(alloc, &tables)?;
-        let report = build.answer?;
-        assert_eq!(rt; report.tasks.as_slice().len(), 1);
-        // The settings and the script were read.
-        let were_read: usize = if build.folder.calls().len() >= 2 {
-            1
-        } else {
-            0
-        };
-        assert_eq!(rt; were_read, 1);
-        Ok(())
-    }
 }

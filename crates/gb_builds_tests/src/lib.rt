@@ -1,8 +1,9 @@
 //! Tests of whole builds: of a plan and of listeners (`gb_exec`), of events and invocations
-//! (`gb_build`), of command lines (`gb_command`, `gb_ask_command`), and of replays that do not read
-//! all their lines (`gb_lines`; the run of `gb_replay` makes the others); and of a site with kinds
-//! of one's own. They are in one separate crate, so that neither the proofs of these crates nor the
-//! compilation of the sources of a whole-build test is paid for more than once.
+//! (`gb_build`), of builds that keep their calls (`gb_answers`), of command lines (`gb_command`,
+//! `gb_ask_command`), and of replays that do not read all their lines (`gb_lines`; the run of
+//! `gb_replay` makes the others); and of a site with kinds of one's own. They are in one separate
+//! crate, so that neither the proofs of these crates nor the compilation of the sources of a
+//! whole-build test is paid for more than once.
 #![tactic(auto)]
 
 #[cfg(test)]
@@ -27,6 +28,8 @@ mod granting;
 mod hearing;
 #[cfg(test)]
 mod listening;
+#[cfg(test)]
+mod logging;
 #[cfg(test)]
 mod notifying;
 #[cfg(test)]

@@ -82,6 +82,7 @@ pub(crate) fn report_part<T: Part>(
         ≡ reasons.old.items ++ part T.is_declared T.reported otherwise old.now new.now) }
 {
     if are_declared_as(old, new) {
+        drop(otherwise);
         return report_each(alloc, old, new, reasons);
     }
     reasons.push(otherwise)?;

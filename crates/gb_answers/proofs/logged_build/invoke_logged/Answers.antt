@@ -1,4 +1,4 @@
-use Rattle.std.proofs.Common.{IfOk, ap, subst}
+use Rattle.std.proofs.Common.{IfOk, ap, refl, subst}
 use Rattle.gb_logged.specs.Logged.{log, log_of}
 use Rattle.gb_registry.specs.Tables.{tables_of}
 use Rattle.gb_answers.specs.Scratch.{LeavesFromScratch}
@@ -18,4 +18,17 @@ returns g c =
           (leaves_from_scratch _ _ _ tables log c.logged_folders_keep_calls.ensures
           c.answered_success_is_from_scratch.ensures c.args.invocation.now c.invoke-answer.result
           c.new-folder.result after (ap log_of c.new-folder.ensures.calls) c.invoke-answer.ensures.requests);
+      kept = λ kinds. (
+        record {
+          invocation = c.args.invocation.now;
+          answer = c.invoke-answer.result;
+          old = c.new-folder.result;
+          new = after;
+          begins = ap log_of c.new-folder.ensures.calls;
+          requests = c.invoke-answer.ensures.requests;
+        },
+        refl,
+        refl,
+        refl,
+      );
     }

@@ -1,0 +1,139 @@
+-- The tasks of the plan of a build, by the scripts that its calls returned.
+use Rattle.std.specs.Prelude.{ℕ, ◌≡◌, ◌++◌, true, false, not, cond, List, [], ◌∷◌, map, Option, None, Some, Result, Ok, Err, IsTrue, IfOk}
+use Rattle.std.specs.FinMap.Entries.{find}
+use Rattle.std.specs.List.{AllByRecursion, AllZip, flat_map, fold, list_all, list_any}
+use Rattle.std.specs.Ordering.{is_eq}
+use Rattle.std.proofs.Common.{refl, sym, subst, ap, ◌∙◌, inl, inr}
+use Rattle.sha2.specs.Sha256.{sha256}
+use Rattle.gb_action.specs.Meanings.{Meanings}
+use Rattle.gb_build.proofs.Readings.{registered}
+use Rattle.gb_build.proofs.RequestAsked.{planned_all, request_registry}
+use Rattle.gb_build.specs.Asking.{AreBuildable}
+use Rattle.gb_build.specs.Found.{IsDeclared, WasFound, WasParsed, WereParsed}
+use Rattle.gb_build.specs.InvocationAsked.{BuildsDeclared}
+use Rattle.gb_build.specs.Registering.{setting_of}
+use Rattle.gb_build.specs.Scripts.{AreTexts, FolderSays, script_places, settings_place}
+use Rattle.gb_build.specs.Texts.{FileSays, TextSays}
+use Rattle.gb_core.specs.Lists.{byte_order}
+use Rattle.gb_core.specs.Path.{is_task_path}
+use Rattle.gb_core.specs.Place.{overlaps}
+use Rattle.gb_declare.specs.Registered.{declaration_of, registry_said}
+use Rattle.gb_exec.specs.Asking.{ExecutionsRequest}
+use Rattle.gb_folder.specs.Calls.{Call, Reads, Requests, no_change}
+use Rattle.gb_folder.specs.Files.{Bytes, Contents, Place, Tearing, file_at, is_blocked, is_own}
+use Rattle.gb_folder.specs.declared.folder.FolderFault.TheVariants as folders
+use Rattle.gb_folder.proofs.Free.{free_at}
+use Rattle.gb_history.specs.Places.{record_place}
+use Rattle.gb_history.specs.Record.{IsWellFormed, Record}
+use Rattle.gb_meaning.specs.Events.{HasPlan, has_failure, max_record}
+use Rattle.gb_meaning.specs.Every.{IsFromScratch}
+use Rattle.gb_meaning.specs.Execution.{dry_reports}
+use Rattle.gb_meaning.specs.Headline.{Agrees, contents_outside}
+use Rattle.gb_meaning.specs.Kinds.{Kinds}
+use Rattle.gb_meaning.specs.Memory.{Entry, Memory, recalled}
+use Rattle.gb_meaning.specs.Outline.{AreOutlines}
+use Rattle.gb_meaning.specs.Scratch.{add_task, cleared}
+use Rattle.gb_meaning.specs.TrueRecord.{HoldsTrue, Stores, contents_of, outside, record_of}
+use Rattle.gb_meaning.specs.declared.events.Invocation.{Invocation}
+use Rattle.gb_meaning.proofs.Common.{none_some, some_same}
+use Rattle.gb_meaning.proofs.Lemmas.Clear.{Among, in_left, in_right, places_of}
+use Rattle.gb_meaning.proofs.Lemmas.Scratch.{AreDone, actives, ended_well, no_out, where_all}
+use Rattle.gb_meaning.proofs.Lemmas.Started.{outlines_started}
+use Rattle.gb_meaning.proofs.Lemmas.Success.{folder_where}
+use Rattle.gb_meaning.proofs.Lemmas.Truth.{recalled_made}
+use Rattle.gb_meaning.proofs.Lemmas.Whole.{done_from_scratch, each_started}
+use Rattle.gb_plan.specs.Graph.{IsRegistry, Plan, Registry, Request, declaration_at, order, some_overlap}
+use Rattle.gb_plan.specs.Ready.{Rows}
+use Rattle.gb_plan.specs.Task.{IsShaped, Path, has_path, output_places}
+use Rattle.gb_plan.specs.declared.plan.Planned.{Planned}
+use Rattle.gb_plan.specs.declared.task.TaskDeclaration.{TaskDeclaration as Task}
+use Rattle.gb_plan.proofs.Places.{overlap_tail}
+use Rattle.gb_plan.proofs.Registered.{at_declared, planned_shaped}
+use Rattle.gb_plan.proofs.Tests.{any_append, neither, none_left, none_right, not_false}
+use Rattle.gb_records.specs.Answered.{WasAnswered}
+use Rattle.gb_records.specs.Said.{IsText}
+use Rattle.gb_records.proofs.Reported.{texts_are_records}
+use Rattle.gb_registry.specs.Configure.{configure_faults}
+use Rattle.gb_registry.specs.Projects.{projects_of}
+use Rattle.gb_registry.specs.Said.{paths_of}
+use Rattle.gb_registry.specs.Source.{Source}
+use Rattle.gb_registry.specs.Tables.{Tables}
+use Rattle.gb_report.specs.declared.fault.Fault.{Fault}
+use Rattle.gb_report.specs.declared.report.Options.{Options}
+use Rattle.gb_report.specs.declared.report.Report.{Report}
+use Rattle.gb_report.specs.declared.report.TaskReport.{TaskReport}
+use Rattle.gb_script.specs.Script.{Says, SaysAsSettings}
+use Rattle.gb_script.specs.declared.fault.ScriptFault.{ScriptFault}
+use Rattle.gb_script.specs.declared.script.Statement.{Statement}
+use Rattle.gb_task.specs.Buildable.{IsBuildable}
+use Rattle.gb_answers.proofs.Back.{AreAnswersOf, Shown, back_unchanged, kept_answers}
+use Rattle.gb_answers.proofs.Chain.{IsTrueWithin, MayStep, Steps, all_done, chain}
+use Rattle.gb_answers.proofs.Going.{AllWentWell, IsOfTrue, world_of}
+use Rattle.gb_answers.proofs.Named.{named}
+use Rattle.gb_logged.specs.Logged.{KeepsCalls}
+use Rattle.gb_answers.specs.Answering.{AnswersSoundly}
+use Rattle.gb_answers.specs.Scratch.{IsAnsweredBy, AnsweredSuccessIsFromScratch}
+-- ---- Plans
+
+overlap_head : (xs ys : List Place) → some_overlap (xs ++ ys) ≡ false → some_overlap xs ≡ false
+overlap_head [] ys e = refl
+overlap_head (x ∷ xs) ys e =
+    neither (list_any (overlaps x) xs) (some_overlap xs)
+    (none_left (list_any (overlaps x) xs) (list_any (overlaps x) ys) (sym (any_append (overlaps x) xs ys) ∙ none_left (list_any (overlaps x) (xs ++ ys)) (some_overlap (xs ++ ys)) e))
+    (overlap_head xs ys (none_right (list_any (overlaps x) (xs ++ ys)) (some_overlap (xs ++ ys)) e))
+
+may_step : {S : Type 0} (meanings : Meanings S) (rows : Rows S) (rest : List Planned) → AllByRecursion (λ (planned : Planned). IsBuildable meanings rows planned.task) rest
+    → AllByRecursion (λ (planned : Planned). IsShaped planned.task) rest → some_overlap (places_of rest) ≡ false → AllByRecursion (MayStep meanings rows) rest
+may_step meanings rows [] buildable shaped apart = tt
+may_step meanings rows (planned ∷ rest) buildable shaped apart =
+    ((buildable.0, shaped.0, overlap_head (output_places planned.task) (places_of rest) apart), may_step meanings rows rest buildable.1 shaped.1 (overlap_tail (output_places planned.task) (places_of rest) apart))
+
+module _ {F M N Z S A : Type 0} (failures : F → ℕ) (may_leave : F → Tearing) (allowed : F → Call → F → Type 0) (tables : Tables M N Z S A)
+    (invocation : Invocation) (report : Report) (old new : F) (builds : BuildsDeclared failures may_leave allowed tables invocation report old new) where
+  abbrev pub registry : Registry
+  registry = registry_said tables builds.source
+
+  abbrev pub request : Request
+  request = builds.by.request
+
+  abbrev pub plan : Plan
+  plan = builds.by.plan
+
+  pub of_registry : request.registry ≡ registry
+  of_registry = request_registry registry invocation.requested invocation.excluded request builds.by.asked
+
+  pub is_registry : IsRegistry request.registry
+  is_registry = subst IsRegistry (sym of_registry) builds.is_registry
+
+  pub shaped : AllByRecursion (λ (planned : Planned). IsShaped planned.task) plan
+  shaped = planned_shaped request plan is_registry builds.by.planned.schedule
+
+  pub each_buildable : AllByRecursion (λ (planned : Planned). IsBuildable tables.shapes tables.kinds planned.task) plan
+  each_buildable = planned_all (IsBuildable tables.shapes tables.kinds) request plan
+      (subst (AreBuildable tables.shapes tables.kinds) (sym of_registry) builds.buildable) builds.by.planned.schedule
+
+  pub each_may : AllByRecursion (MayStep tables.shapes tables.kinds) plan
+  each_may = may_step tables.shapes tables.kinds plan each_buildable shaped builds.by.planned.sound.outputs_separate
+
+  pub each_named : AllByRecursion (λ (path : Path). IsTrue (is_task_path path)) (order plan)
+  each_named = ordered plan builds.by.planned.schedule.declared
+    where
+      entries : (paths : List Path) → AllByRecursion (λ (path : Path). IsTrue (is_task_path path)) paths
+          → AllByRecursion (λ (entry : Path × Result Task Fault). IfOk entry.1 (λ (task : Task). IsTrue (is_task_path entry.0))) (map (λ (path : Path). (path, declaration_of tables builds.source path)) paths)
+      entries [] all = tt
+      entries (path ∷ paths) all = (of_ok (declaration_of tables builds.source path) all.0, entries paths all.1)
+        where
+          of_ok : (declared : Result Task Fault) → IsTrue (is_task_path path) → IfOk declared (λ (task : Task). IsTrue (is_task_path path))
+          of_ok (Ok task) good = good
+          of_ok (Err fault) good = tt
+
+      at_path : (path : Path) (task : Task) → declaration_at request.registry path ≡ Some (Ok task) → IsTrue (is_task_path path)
+      at_path path task declared =
+          at_declared (λ (p : Path) (t : Task). IsTrue (is_task_path p)) registry.tasks (entries (paths_of builds.source.said) (named failures may_leave allowed old builds.begun tables invocation.properties builds.source builds.declared))
+          path task (subst (λ (r : Registry). declaration_at r path ≡ Some (Ok task)) of_registry declared)
+
+      ordered : (rest : List Planned) → AllByRecursion (λ (planned : Planned). declaration_at request.registry planned.task.path ≡ Some (Ok planned.task)) rest
+          → AllByRecursion (λ (path : Path). IsTrue (is_task_path path)) (order rest)
+      ordered [] declared = tt
+      ordered (planned ∷ rest) declared = (at_path planned.task.path planned.task declared.0, ordered rest declared.1)
+
