@@ -1,14 +1,12 @@
 -- A build in which no task failed left what is made from scratch, over any folder whose calls contents answer.
-use Rattle.std.specs.Prelude.{ℕ, ◌≡◌, ◌++◌, true, false, not, cond, List, [], ◌∷◌, map, Option, None, Some, Result, Ok, Err, IsTrue, IfOk}
+use Rattle.std.specs.Prelude.{ℕ, ◌≡◌, ◌++◌, true, false, not, cond, List, [], ◌∷◌, Option, None, Some, Result, Ok, Err, IsTrue}
 use Rattle.std.specs.FinMap.Entries.{find}
-use Rattle.std.specs.List.{AllByRecursion, AllZip, flat_map, fold, list_all, list_any}
+use Rattle.std.specs.List.{AllByRecursion, AllZip, flat_map, fold, list_all}
 use Rattle.std.specs.Ordering.{is_eq}
 use Rattle.std.proofs.Common.{refl, sym, subst, ap, ◌∙◌, inl, inr}
 use Rattle.sha2.specs.Sha256.{sha256}
 use Rattle.gb_action.specs.Meanings.{Meanings}
 use Rattle.gb_build.proofs.Readings.{registered}
-use Rattle.gb_build.proofs.RequestAsked.{planned_all, request_registry}
-use Rattle.gb_build.specs.Asking.{AreBuildable}
 use Rattle.gb_build.specs.Found.{IsDeclared, WasFound, WasParsed, WereParsed}
 use Rattle.gb_build.specs.InvocationAsked.{BuildsDeclared}
 use Rattle.gb_build.specs.Registering.{setting_of}
@@ -16,8 +14,7 @@ use Rattle.gb_build.specs.Scripts.{AreTexts, FolderSays, script_places, settings
 use Rattle.gb_build.specs.Texts.{FileSays, TextSays}
 use Rattle.gb_core.specs.Lists.{byte_order}
 use Rattle.gb_core.specs.Path.{is_task_path}
-use Rattle.gb_core.specs.Place.{overlaps}
-use Rattle.gb_declare.specs.Registered.{declaration_of, registry_said}
+use Rattle.gb_declare.specs.Registered.{registry_said}
 use Rattle.gb_exec.specs.Asking.{ExecutionsRequest}
 use Rattle.gb_folder.specs.Calls.{Call, Reads, Requests, no_change}
 use Rattle.gb_folder.specs.Files.{Bytes, Contents, Place, Tearing, file_at, is_blocked, is_own}
@@ -36,38 +33,32 @@ use Rattle.gb_meaning.specs.Scratch.{add_task, cleared}
 use Rattle.gb_meaning.specs.TrueRecord.{AreCollisionFree, HoldsTrue, Stores, contents_of, outside, record_of}
 use Rattle.gb_meaning.specs.declared.events.Invocation.{Invocation}
 use Rattle.gb_meaning.proofs.Common.{none_some, some_same}
-use Rattle.gb_meaning.proofs.Lemmas.Clear.{Among, in_left, in_right, places_of}
+use Rattle.gb_meaning.proofs.Lemmas.Clear.{Among, in_left, in_right}
 use Rattle.gb_meaning.proofs.Lemmas.Scratch.{AreDone, actives, ended_well, no_out, where_all}
 use Rattle.gb_meaning.proofs.Lemmas.Started.{outlines_started}
 use Rattle.gb_meaning.proofs.Lemmas.Success.{folder_where}
 use Rattle.gb_meaning.proofs.Lemmas.Truth.{recalled_made}
 use Rattle.gb_meaning.proofs.Lemmas.Whole.{done_from_scratch, each_started}
-use Rattle.gb_plan.specs.Graph.{IsRegistry, Plan, Registry, Request, declaration_at, order, some_overlap}
+use Rattle.gb_plan.specs.Graph.{Plan, Registry, Request, order}
 use Rattle.gb_plan.specs.Ready.{Rows}
-use Rattle.gb_plan.specs.Task.{IsShaped, Path, has_path, output_places}
+use Rattle.gb_plan.specs.Task.{Path, has_path}
 use Rattle.gb_plan.specs.declared.plan.Planned.{Planned}
-use Rattle.gb_plan.specs.declared.task.TaskDeclaration.{TaskDeclaration as Task}
-use Rattle.gb_plan.proofs.Places.{overlap_tail}
-use Rattle.gb_plan.proofs.Registered.{at_declared, planned_shaped}
-use Rattle.gb_plan.proofs.Tests.{any_append, neither, none_left, none_right, not_false}
+use Rattle.gb_plan.proofs.Tests.{not_false}
 use Rattle.gb_records.specs.Answered.{WasAnswered}
 use Rattle.gb_records.specs.Said.{IsText}
 use Rattle.gb_records.proofs.Reported.{texts_are_records}
 use Rattle.gb_registry.specs.Configure.{configure_faults}
 use Rattle.gb_registry.specs.Projects.{projects_of}
-use Rattle.gb_registry.specs.Said.{paths_of}
 use Rattle.gb_registry.specs.Source.{Source}
 use Rattle.gb_registry.specs.Tables.{Tables}
-use Rattle.gb_report.specs.declared.fault.Fault.{Fault}
 use Rattle.gb_report.specs.declared.report.Options.{Options}
 use Rattle.gb_report.specs.declared.report.Report.{Report}
 use Rattle.gb_report.specs.declared.report.TaskReport.{TaskReport}
 use Rattle.gb_script.specs.Script.{Says, SaysAsSettings}
 use Rattle.gb_script.specs.declared.fault.ScriptFault.{ScriptFault}
 use Rattle.gb_script.specs.declared.script.Statement.{Statement}
-use Rattle.gb_task.specs.Buildable.{IsBuildable}
 use Rattle.gb_answers.proofs.Back.{AreAnswersOf, Shown, back_unchanged, kept_answers, start_sound}
-use Rattle.gb_answers.proofs.Chain.{IsTrueWithin, MayStep, Steps, all_done, chain}
+use Rattle.gb_answers.proofs.Chain.{IsTrueWithin, Steps, all_done, chain}
 use Rattle.gb_answers.proofs.Going.{AllWentWell, IsOfTrue, world_of}
 use Rattle.gb_answers.proofs.OfPlan.{each_may, each_named, shaped}
 use Rattle.gb_answers.proofs.Named.{named}

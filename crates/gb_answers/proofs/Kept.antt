@@ -1,11 +1,10 @@
 -- Calls that a folder keeps: those that lead on are kept after those before, and what they returned is among
 -- what all of them returned.
-use Rattle.std.specs.Prelude.{ℕ, ◌≡◌, ◌⊎◌, ◌++◌, List, [], ◌∷◌, map, Option, None, Some, Ok, Err, Contains}
-use Rattle.std.specs.List.{AllByRecursion, AllZip, flat_map}
+use Rattle.std.specs.Prelude.{ℕ, ◌≡◌, ◌++◌, List, [], ◌∷◌, map, None, Some, Ok, Contains}
+use Rattle.std.specs.List.{AllByRecursion, AllZip}
 use Rattle.std.proofs.Common.{refl, sym, ap, subst, ◌∙◌, inl, inr, append_assoc}
 use Rattle.std.proofs.lemmas.List.{append-nil}
-use Rattle.std.proofs.lemmas.List.Elements.{Contains-append_left, Contains-append_right, Contains-push}
-use Rattle.std.proofs.lemmas.Grind.{flat_map-append}
+use Rattle.std.proofs.lemmas.List.Elements.{Contains-append_left, Contains-push}
 use Rattle.gb_action.specs.Files.{Trees}
 use Rattle.gb_action.specs.declared.output.OutputFiles.{OutputFiles}
 use Rattle.gb_folder.specs.Answers.{IsOnWay, WereRead}
@@ -21,7 +20,7 @@ use Rattle.gb_plan.specs.declared.task.Output.{Output}
 use Rattle.gb_plan.specs.declared.task.TaskDeclaration.{TaskDeclaration as Task}
 use Rattle.gb_task.specs.Ran.{AreAnswered}
 use Rattle.gb_task.specs.Truth.{contents_read}
-use Rattle.gb_tree.specs.Answered.{IsFileRead, IsTreeRead}
+use Rattle.gb_tree.specs.Answered.{IsTreeRead}
 use Rattle.gb_tree.specs.Tree.{Entries}
 use Rattle.gb_tree.proofs.Holding.{all_append}
 use Rattle.gb_answers.specs.Stored.{content_of}

@@ -3,7 +3,7 @@
 use Rattle.std.specs.Prelude.{ℕ, ◌≡◌, ◌⊎◌, ◌++◌, Bool, true, false, not, List, [], ◌∷◌, map, Option, None, Some, Result, Ok, Err, Contains, IsTrue, is_some}
 use Rattle.std.specs.List.{AllByRecursion, AllZip, flat_map}
 use Rattle.std.proofs.Common.{refl, sym, ap, subst, ◌∙◌, inl, inr, true≢false}
-use Rattle.std.proofs.lemmas.List.Elements.{All-contains, All-from_recursion, Contains-append_left, Contains-append_right, Contains-push, Contains-append_cases}
+use Rattle.std.proofs.lemmas.List.Elements.{All-contains, All-from_recursion, Contains-append_left, Contains-append_right, Contains-push}
 use Rattle.sha2.specs.Sha256.{sha256}
 use Rattle.gb_action.specs.Changes.{Changes}
 use Rattle.gb_action.specs.Files.{Trees}
@@ -15,10 +15,9 @@ use Rattle.gb_core.specs.Path.{is_task_path}
 use Rattle.gb_exec.specs.Asking.{ExecutionsRequest}
 use Rattle.gb_folder.specs.Calls.{Call, Lists, Reads, ReadsPart, Writes, Removes, IsPermitted, Permit, Requests, changes_at, fault_of, no_change}
 use Rattle.gb_folder.specs.Each.{Each, Ended, OrStops}
-use Rattle.gb_folder.specs.Files.{Bytes, Contents, Files, IsFolder, Place, Tearing, are_placed, is_empty, is_own}
+use Rattle.gb_folder.specs.Files.{Bytes, Contents, Files, IsFolder, Place, Tearing, are_placed, is_empty}
 use Rattle.gb_folder.specs.Limits.{max_file}
 use Rattle.gb_folder.specs.Semantics.{Answer}
-use Rattle.gb_folder.specs.declared.folder.FolderFault.{FolderFault}
 use Rattle.gb_history.specs.Places.{record_place}
 use Rattle.gb_history.specs.Record.{IsWellFormed, Record}
 use Rattle.gb_history.specs.Text.{record_text}
@@ -41,7 +40,7 @@ use Rattle.gb_plan.specs.declared.task.Output.{Output}
 use Rattle.gb_plan.specs.declared.task.TaskDeclaration.{TaskDeclaration as Task}
 use Rattle.gb_records.specs.Answered.{WasAnswered}
 use Rattle.gb_records.specs.Called.{Deletion, Storing}
-use Rattle.gb_records.specs.Said.{IsSaidOf, IsText}
+use Rattle.gb_records.specs.Said.{IsText}
 use Rattle.gb_records.specs.declared.fault.Unwritten.{Unwritten}
 use Rattle.gb_records.proofs.Reported.{texts_are_records}
 use Rattle.gb_registry.specs.Tables.{Tables}
@@ -51,19 +50,17 @@ use Rattle.gb_report.specs.declared.report.Outcome.{Outcome}
 use Rattle.gb_report.specs.declared.report.Outcome.TheVariants as outcomes
 use Rattle.gb_report.specs.declared.report.Report.{Report}
 use Rattle.gb_report.specs.declared.report.TaskReport.{TaskReport}
-use Rattle.gb_run.specs.AskingChanges.{GoesOn, IsFitting}
-use Rattle.gb_run.specs.Course.{course_of}
+use Rattle.gb_run.specs.AskingChanges.{GoesOn}
 use Rattle.gb_run.specs.Doing.{Ending, OrEnds}
 use Rattle.gb_run.specs.Emptying.{Emptying, Listing}
-use Rattle.gb_run.specs.Work.{AreAtOutputs, RunsInFull}
-use Rattle.gb_run.specs.WorkByChanges.{increment_of}
+use Rattle.gb_run.specs.Work.{AreAtOutputs}
 use Rattle.gb_run.proofs.Fitting.{all_fitting}
 use Rattle.gb_store.specs.Removals.{Removal, Removals}
 use Rattle.gb_task.specs.Buildable.{IsBuildable}
 use Rattle.gb_task.specs.ByOutcome.{ExecutionRequests, since_after}
 use Rattle.gb_task.specs.Current.{IsCurrentOn, IsReportedCurrent}
 use Rattle.gb_task.specs.Keeping.{IsRecordOf}
-use Rattle.gb_task.specs.Ran.{AreAnswered, GoesFrom, HaveRead, RanByChanges, RanInFull, WasCleared, WasRun}
+use Rattle.gb_task.specs.Ran.{AreAnswered, GoesFrom, HaveRead, WasCleared, WasRun}
 use Rattle.gb_task.specs.Reading.{added_of}
 use Rattle.gb_task.specs.Stages.{Clears, DeletesRecord, FullRun, IsOfFullRun, IsOfRunByChanges, RunByChanges, Silently, Stage, Stores, StoresUnless, Then, WritesAll, WritesChanges}
 use Rattle.gb_task.specs.Truth.{AreSeparate, IsTrueBeside, contents_read}
