@@ -28,6 +28,7 @@ use Rattle.gb_report.specs.declared.report.Report.{Report}
 use Rattle.gb_task.specs.Buildable.{IsBuildable}
 use Rattle.gb_answers.proofs.Chain.{MayStep}
 use Rattle.gb_answers.proofs.Named.{named}
+
 -- ---- Plans
 
 overlap_head : (xs ys : List Place) → some_overlap (xs ++ ys) ≡ false → some_overlap xs ≡ false
@@ -91,4 +92,3 @@ module _ {F M N Z S A : Type 0} (failures : F → ℕ) (may_leave : F → Tearin
           → AllByRecursion (λ (path : Path). IsTrue (is_task_path path)) (order rest)
       ordered [] declared = tt
       ordered (planned ∷ rest) declared = (at_path planned.task.path planned.task declared.0, ordered rest declared.1)
-

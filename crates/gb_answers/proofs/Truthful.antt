@@ -486,8 +486,11 @@ module _ {F S : Type 0} (failures : F → ℕ) (may_leave : F → Tearing) (allo
       let mid = within_before failures may_leave allowed log keeps final requests.0 new later.0 within in
       let here = execution planned.task last may.0.0 may.0.2 named.0 trusted.0 report.outcome report.lines since old requests.0 requests.1 mid in (
         grows_then failures may_leave allowed log keeps Stored old requests.0 new here later.0,
-        (λ is acts. had_right planned.task last may.0.0 may.0.2 named.0 trusted.0 since requests.0 mid
-            (subst (λ (o : Outcome). ExecutionRequests failures may_leave allowed meanings rows options planned.task last o report.lines since old requests.0) is requests.1).1 acts, later.1),
+        (
+          λ is acts. had_right planned.task last may.0.0 may.0.2 named.0 trusted.0 since requests.0 mid
+              (subst (λ (o : Outcome). ExecutionRequests failures may_leave allowed meanings rows options planned.task last o report.lines since old requests.0) is requests.1).1 acts,
+          later.1,
+        ),
       )
 
   -- in a dry run

@@ -1,16 +1,18 @@
 //! The prediction for the tasks of a plan.
-ghost use Rattle.std.specs.Prelude.{◌≡◌, ◌≤◌, [], false, IfOk, IsTrue, length, map, option_copied};
+ghost use Rattle.std.specs.Prelude.{◌≡◌, ◌≤◌, ◌++◌, ◌∷◌, ◌&&◌, [], ℕ, List, Some, false, IfOk, IsTrue};
+ghost use Rattle.std.specs.Prelude.{OnOk, bytes_eq, if◌then◌else◌, is_some, length, map, option_copied};
 ghost use Rattle.std.specs.List.{AllByRecursion, list_any, zip};
 ghost use Rattle.gb_folder.specs.Calls.{Requests, no_change};
 ghost use Rattle.gb_folder.specs.Files.{is_own};
 ghost use Rattle.gb_predict.specs.Prediction.{ArePredictedOf, IsPredictedOf, IsReasoned};
 ghost use Rattle.gb_predict.specs.Least.{AreNotStarting};
-ghost use Rattle.gb_predict.specs.Marks.{AreMarked, keeper, mark};
+ghost use Rattle.gb_predict.specs.Marks.{AreMarked, culprit, keeper, mark};
 ghost use Rattle.gb_label.specs.Deciding.{HasNamesInOrder};
 ghost use Rattle.gb_meaning.specs.Headline.{Agrees};
 ghost use Rattle.gb_meaning.specs.Kinds.{Kinds};
 ghost use Rattle.gb_plan.specs.Graph.{order};
 ghost use Rattle.gb_graph.specs.Places.{AreSamePlaces, IsRising, places_from, with_places};
+ghost use Rattle.gb_graph.specs.Ranked.{number_at};
 ghost use Rattle.gb_plan.specs.Ready.{IsReady};
 ghost use Rattle.gb_plan.specs.Task.{output_places};
 
@@ -72,10 +74,44 @@ pub fn predict<A: Actions, F: Folder>(
             options,
             last,
         )?;
-        note_not_starting(&mut not_starting, &planned.task.path, at, &one)?;
-        reported.push(one)?;
+        keep(
+            &mut not_starting,
+            &mut reported,
+            &planned.task.path,
+            at,
+            one,
+        )?;
     }
     Ok(reported)
+}
+
+/// Adds a prediction, and notes its task by its number if it does not start.
+fn keep<'a>(
+    not_starting: &mut Numbers<'a>,
+    reported: &mut Vec<Prediction>,
+    path: &'a TaskPath,
+    number: usize,
+    one: Prediction,
+) -> Result<(), AllocError>
+    ensures noted { OnOk result ((other : List ℕ) → number_at not_starting.new other
+        ≡ (if is_some (culprit one) && bytes_eq path.now other then Some number
+        else number_at not_starting.old other)) }
+    ensures items { OnOk result (reported.new.items ≡ reported.old.items ++ one ∷ []) }
+{
+    match note_not_starting(not_starting, path, number, &one) {
+        Ok(()) => push(reported, one),
+        Err(error) => {
+            drop(one);
+            Err(error)
+        }
+    }
+}
+
+fn push(reported: &mut Vec<Prediction>, one: Prediction) -> Result<(), AllocError>
+    ensures { OnOk result (reported.new.items ≡ reported.old.items ++ one ∷ []) }
+{
+    reported.push(one)?;
+    Ok(())
 }
 
 /// The prediction for a task, given those for the tasks before it.

@@ -56,13 +56,13 @@ loop-at-preserved g c =
     let begun = F.failures c.args.folder.now in
     let mid = F.failures c.loop-at.folder in
     let new = F.failures c.prediction.new.folder in
-    let more = c.in_ok-push.ensures.items in
+    let more = c.in_ok-keep.ensures.items in
     let here =
     subst (λ (ones : List Prediction). one.after ≡ mark (zip plan ones) planned.task one.coming) c.as_slice-in-loop-at.ensures.value
     c.in_ok-one.ensures.marked ∙ ap (λ pairs. mark pairs planned.task one.coming) (sym (zip_prefix plan reported at inv.count)) in
     let lacks = subst (λ (ones : List Prediction). one.kept_by ≡ keeper planned.task ones) c.as_slice-in-loop-at.ensures.value c.in_ok-one.ensures.needs in
-    let noted : (other : List ℕ) → number_at c.note_not_starting.new.not_starting other ≡ cond (is_some (culprit one) && bytes_eq one.path other) (Some (length reported)) (number_at c.loop-at.not_starting other) = λ other.
-    c.in_ok-note_not_starting.ensures other
+    let noted : (other : List ℕ) → number_at c.keep.new.not_starting other ≡ cond (is_some (culprit one) && bytes_eq one.path other) (Some (length reported)) (number_at c.loop-at.not_starting other) = λ other.
+    c.in_ok-keep.ensures.noted other
     ∙ ap (λ (path : List ℕ). cond (is_some (culprit one) && bytes_eq path other) (Some at) (number_at c.loop-at.not_starting other)) (sym c.in_ok-one.ensures.path)
     ∙ ap (λ n. cond (is_some (culprit one) && bytes_eq one.path other) (Some n) (number_at c.loop-at.not_starting other)) (sym inv.count) in
     record {
@@ -76,7 +76,7 @@ loop-at-preserved g c =
       marked =
           subst (λ (l : List Prediction). AreMarkedAfter [] (zip (take (at + 1) plan) l)) (sym more)
           (marked_more plan reported at planned one c.loop-at-test.true inv.count c.index-plan-at.is inv.marked here lacks);
-      not_starting = subst (λ (l : List Prediction). AreNotStarting l c.note_not_starting.new.not_starting) (sym more) (lost_more reported one c.loop-at.not_starting c.note_not_starting.new.not_starting inv.not_starting noted);
+      not_starting = subst (λ (l : List Prediction). AreNotStarting l c.keep.new.not_starting) (sym more) (lost_more reported one c.loop-at.not_starting c.keep.new.not_starting inv.not_starting noted);
       prediction = λ faithful kinds agrees.
           let Is : ℕ → Planned × Option Record → Prediction → Type 0 = λ until pair f. IsPredictedOf kinds c.args.options pair.0.task old pair.1 begun until f.coming in
           subst (AllZip (Is new) (take (at + 1) (zip plan records))) (sym more)
