@@ -1,5 +1,5 @@
--- All records that builds were to store are true, and all that they told up to date was right, over any folder
--- that keeps its calls.
+-- All records that builds were to store are true, and all that they reported as up to date was right, over any
+-- folder that keeps its calls.
 use Rattle.std.specs.Prelude.{ℕ, ◌≡◌, ◌⊎◌, ◌++◌, Bool, true, false, not, List, [], ◌∷◌, map, Option, None, Some, Result, Ok, Err, Contains, IsTrue, is_some}
 use Rattle.std.specs.List.{AllByRecursion, AllZip, flat_map}
 use Rattle.std.proofs.Common.{refl, sym, ap, subst, ◌∙◌, inl, inr, true≢false}
@@ -434,7 +434,7 @@ module _ {F S : Type 0} (failures : F → ℕ) (may_leave : F → Tearing) (allo
     execution (outcomes.Failed fault) lines since old new (inr (inl was)) within = cleared (Err fault) lines old new was
     execution (outcomes.Failed fault) lines since old new (inr (inr was)) within = ran (Err fault) lines old new was within
 
-    -- what is told up to date had the right files
+    -- what is reported as up to date had the right files
     had_right : (since new : F) → Within new → IsReportedCurrent failures may_leave allowed options task last since new outcomes.UpToDate → is_empty task.actions ≡ false
         → HadRight failures may_leave allowed log kinds final task
     had_right since new within current acts = record {

@@ -130,8 +130,8 @@ module _ {F M N Z S A : Type 0} (failures : F → ℕ) (may_leave : F → Tearin
       → AreCollisionFree sha256 (all ++ contents_outside start ++ contents_outside end)
       → IsFromScratch (setting_of tables kinds (may_leave build.old)) start build.invocation report end
 
-  -- The records that the build was to store are true, what it told up to date was right, and what it left is
-  -- from scratch.
+  -- The records that the build was to store are true, what it reported as up to date was right, and what it
+  -- left is from scratch.
   pub record IsTruthful (all : List Bytes) (build : KeptBuild) : Type 0 where
     pub stored : AllByRecursion (StoresTruth kinds all) (log build.new)
     pub current : AreCurrentRight build.invocation build.answer build.old build.new build.requests

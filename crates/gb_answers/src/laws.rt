@@ -8,7 +8,7 @@ use gb_folder::folder::Folder;
 use gb_provider::transforms::Transforms;
 use gb_registry::tables::Tables;
 
-/// Of any folder that keeps its calls: if contents answer as the calls of an invocation were
+/// For any folder that keeps its calls: if contents answer as the calls of an invocation were
 /// answered, and no task failed, the calls left what the unskipped tasks make from scratch on these
 /// contents. The premises: the records that they hold are true, and no two contents share a digest.
 pub fn answered_success_is_from_scratch<A: Actions, T: Transforms, F: Folder>(tables: &Tables<A, T>)
@@ -16,11 +16,12 @@ pub fn answered_success_is_from_scratch<A: Actions, T: Transforms, F: Folder>(ta
         (tables_of T.meanings A.meanings tables.now) }
 {}
 
-/// Of any folder that keeps its calls, whoever else writes there between builds: if each record that
+/// For any folder that keeps its calls, whoever else writes there at any time: if each record that
 /// a build read is one that an earlier build was to store, and no two contents that calls returned
 /// or were to write share a digest, then each record that these builds were to store is true: its
-/// outputs are what its actions make of its inputs. And where a build told a task up to date, the
-/// files that calls had returned of its outputs are what its actions make of those of its inputs.
+/// outputs are what its actions make of its inputs. Where a build reported a task with actions as up
+/// to date, the files that calls had returned of its outputs are what its actions make of those of
+/// its inputs. And the law above holds of each of these builds without its premise on records.
 pub fn records_stay_true<A: Actions, T: Transforms, F: Folder>(tables: &Tables<A, T>)
     ensures { RecordsStayTrue F.failures F.may_leave F.allowed
         (tables_of T.meanings A.meanings tables.now) }
