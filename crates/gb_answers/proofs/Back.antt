@@ -2,14 +2,14 @@
 use Rattle.std.specs.Prelude.{ℕ, ◌≡◌, ◌≤◌, ◌⊎◌, ◌++◌, false, List, [], ◌∷◌, Some, Ok, Err, length}
 use Rattle.std.proofs.Common.{refl, sym, subst, ap, ◌∙◌, inl, inr}
 use Rattle.gb_folder.specs.Answers.{WereListed, WereRead}
-use Rattle.gb_folder.specs.Calls.{Call, Lists, Reads, ReadsPart, Writes, Removes, IsPermitted, Leads, Requests, fault_of, no_change, none, then}
+use Rattle.gb_folder.specs.Calls.{Call, Lists, Reads, ReadsPart, Writes, Removes, IsPermitted, IsReachedBy, Requests, fault_of, no_change, none, then}
 use Rattle.gb_folder.specs.Files.{Bytes, Contents, Place, Tearing, file_at, is_special_under, places_under}
 use Rattle.gb_folder.specs.Limits.{max_file}
 use Rattle.gb_folder.specs.Semantics.{Answers, AnswersAll}
 use Rattle.gb_folder.specs.declared.folder.FolderFault.{FolderFault}
 use Rattle.gb_folder.specs.declared.folder.FolderFault.TheVariants as folders
 use Rattle.gb_task.specs.Ran.{AreAnswered}
-use Rattle.gb_logged.specs.Logged.{KeepsCalls}
+use Rattle.gb_logged.specs.Logged.{LogsCalls}
 use Rattle.gb_answers.specs.Answering.{AnswersSoundly, IsSound}
 
 -- `Shows` relates the states of a folder to contents under which all of its calls are answered: a call that led
@@ -32,7 +32,7 @@ reading_keeps leaves before after (Removes place answer) permitted answers = abs
 module _ {F : Type 0} (failures : F → ℕ) (may_leave : F → Tearing) (allowed : F → Call → F → Type 0) (leaves : Tearing) (Shows : F → Contents → Type 0)
     (are : AreAnswersOf allowed leaves Shows) where
   -- calls that request no change came from a state that shows the same
-  unchanged : (old : F) {new : F} (contents : Contents) → Leads allowed no_change old new → Shows new contents → Shows old contents
+  unchanged : (old : F) {new : F} (contents : Contents) → IsReachedBy allowed no_change old new → Shows new contents → Shows old contents
   unchanged old contents none shows = shows
   unchanged old contents (then {mid = mid} call new led permitted is) shows =
       let from = are.back mid call new contents is shows in
@@ -99,7 +99,7 @@ end_sound : (leaves : Tearing) (calls : List Call) (start end : Contents) → An
 end_sound leaves [] start end answers = subst IsSound (sym answers.1) answers.0
 end_sound leaves (call ∷ calls) start end answers = end_sound leaves calls answers.1 end answers.3
 
-module _ {F : Type 0} (allowed : F → Call → F → Type 0) (log : F → List Call) (keeps : KeepsCalls allowed log) (leaves : Tearing) (start : Contents) where
+module _ {F : Type 0} (allowed : F → Call → F → Type 0) (log : F → List Call) (keeps : LogsCalls allowed log) (leaves : Tearing) (start : Contents) where
   -- what a state shows, by the calls that led to it
   abbrev pub Shown : F → Contents → Type 0
   Shown state contents = AnswersSoundly leaves start (log state) contents

@@ -62,7 +62,7 @@ use Rattle.gb_answers.proofs.Chain.{IsTrueWithin, Steps, all_done, chain}
 use Rattle.gb_answers.proofs.Going.{AllWentWell, IsOfTrue, world_of}
 use Rattle.gb_answers.proofs.OfPlan.{each_may, each_named, shaped}
 use Rattle.gb_answers.proofs.Named.{named}
-use Rattle.gb_logged.specs.Logged.{KeepsCalls}
+use Rattle.gb_logged.specs.Logged.{LogsCalls}
 use Rattle.gb_answers.specs.Answering.{AnswersSoundly}
 use Rattle.gb_answers.specs.Scratch.{AnsweredSuccessIsFromScratch}
 
@@ -166,7 +166,7 @@ module _ {F M N Z S A : Type 0} (failures : F → ℕ) (may_leave : F → Tearin
     (step : (leaves : Tearing) (Shows : F → Contents → Type 0) → AreAnswersOf allowed leaves Shows
     → (kinds : Kinds) → Agrees tables.shapes tables.kinds kinds → (options : Options) (plan : Plan)
     → Steps failures may_leave allowed Shows tables.shapes tables.kinds kinds options plan) where
-  module _ (log : F → List Call) (keeps : KeepsCalls allowed log) (kinds : Kinds) (agrees : Agrees tables.shapes tables.kinds kinds)
+  module _ (log : F → List Call) (keeps : LogsCalls allowed log) (kinds : Kinds) (agrees : Agrees tables.shapes tables.kinds kinds)
       (invocation : Invocation) (report : Report) (old new : F) (start end : Contents) (begins : log old ≡ []) (answers : AnswersSoundly (may_leave old) start (log new) end)
       (builds : BuildsDeclared failures may_leave allowed tables invocation report old new) (none_failed : has_failure report ≡ false)
       (all : List Bytes) (separate : AreCollisionFree sha256 all) (start_among : Among (contents_outside start) all) (end_among : Among (contents_outside end) all)

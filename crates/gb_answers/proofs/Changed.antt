@@ -21,7 +21,7 @@ use Rattle.gb_meaning.proofs.Lemmas.Ending.{ended_is_made, none_blocked}
 use Rattle.gb_meaning.proofs.Lemmas.Making.{made_of_is_right}
 use Rattle.gb_records.proofs.Placed.{made_placed}
 use Rattle.gb_run.specs.AskingChanges.{GoesOn, IsFitting, observed_of}
-use Rattle.gb_run.specs.Course.{EndsWell, course_of, whole_run}
+use Rattle.gb_run.specs.RunInput.{EndsWell, run_input, whole_run}
 use Rattle.gb_run.specs.Doing.{Ending}
 use Rattle.gb_run.specs.Failing.{ByChanges}
 use Rattle.gb_run.specs.Work.{DoesParts, or_fault}
@@ -36,12 +36,12 @@ use Rattle.gb_answers.proofs.Current.{outputs_same}
 
 -- it is what the actions make, in the emptied output places, with room there
 pub made_by_ends : (kinds : Kinds) (task : Task) (changes : List Changes) (files new : Files) (lines : List Text)
-    → EndsWell (course_of kinds task (trees_of task files) changes (rest_of task files)) lines new
+    → EndsWell (run_input kinds task (trees_of task files) changes (rest_of task files)) lines new
     → (made : Files) × (made_of kinds task.actions task.values (trees_of task files) task.outputs ≡ Ok made) × (new ≡ with_outputs task files made) × (is_empty (blocked_in (rest_of task files) made) ≡ true)
 made_by_ends kinds task changes files new lines well =
-    let course = course_of kinds task (trees_of task files) changes (rest_of task files) in
+    let input = run_input kinds task (trees_of task files) changes (rest_of task files) in
     let law = ended_is_made kinds task.outputs task.values (trees_of task files) (rest_of task files) [] task.actions refl well.no_fault in
-    ((whole_run course).held, law.0, well.files, none_blocked (λ (f : Place × Bytes). f.0) (λ (f : Place × Bytes). is_blocked (rest_of task files) f.0) (whole_run course).held law.1)
+    ((whole_run input).held, law.0, well.files, none_blocked (λ (f : Place × Bytes). f.0) (λ (f : Place × Bytes). is_blocked (rest_of task files) f.0) (whole_run input).held law.1)
 
 -- ---- incremental runs
 
@@ -49,16 +49,16 @@ made_by_ends kinds task changes files new lines well =
 pub changed_ends : (leaves : Tearing) (kinds : Kinds) (task : Task) (before trees : Trees) (changes : List Changes) (observed : List OutputFiles) (cur new : Contents) (calls : List Call) (lines : List Text)
     → IsFolder cur.files → IsTrue (are_placed cur.files) → GoesOn kinds task before trees changes observed cur.files → AllByRecursion (IsFitting kinds task) task.actions
     → RunsByChanges (increment_of kinds task trees changes observed) calls lines (Ok tt) → AnswersAll leaves cur calls new
-    → EndsWell (course_of kinds task trees changes (rest_of task cur.files)) lines new.files
+    → EndsWell (run_input kinds task trees changes (rest_of task cur.files)) lines new.files
 changed_ends leaves kinds task before trees changes observed cur new calls lines folder placed goes_on fitting (inl memory) answers = absurd (let e = memory.2 in (cc))
 changed_ends leaves kinds task before trees changes observed cur new calls lines folder placed goes_on fitting (inr ran) answers = by ran.2 ran.3 ran.4
   where
-    well : (own : Option Fault) → Ok tt ≡ or_fault (Ok tt) own → Ends (course_of kinds task trees changes (rest_of task cur.files)) (ByChanges cur.files) leaves 0 0 (Ok tt) own lines new.files
-        → EndsWell (course_of kinds task trees changes (rest_of task cur.files)) lines new.files
+    well : (own : Option Fault) → Ok tt ≡ or_fault (Ok tt) own → Ends (run_input kinds task trees changes (rest_of task cur.files)) (ByChanges cur.files) leaves 0 0 (Ok tt) own lines new.files
+        → EndsWell (run_input kinds task trees changes (rest_of task cur.files)) lines new.files
     well None result ended = ended
     well (Some fault) result ended = absurd (let e = result in (cc))
 
-    by : (done : Ending) → DoesParts ran.0.parts calls lines done → Ok tt ≡ or_fault done ran.0.fault → EndsWell (course_of kinds task trees changes (rest_of task cur.files)) lines new.files
+    by : (done : Ending) → DoesParts ran.0.parts calls lines done → Ok tt ≡ or_fault done ran.0.fault → EndsWell (run_input kinds task trees changes (rest_of task cur.files)) lines new.files
     by (Err fault) does result = absurd (let e = result in (cc))
     by (Ok tt) does result =
         well ran.0.fault result

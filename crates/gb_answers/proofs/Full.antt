@@ -28,7 +28,7 @@ use Rattle.gb_meaning.proofs.Lemmas.Ending.{ended_is_made, none_blocked}
 use Rattle.gb_meaning.proofs.Lemmas.Files.{at-put_over, at-where, or_else, same_files, sorted-put_over, sorted-where}
 use Rattle.gb_meaning.proofs.Lemmas.Making.{IsRight, made_of_is_right}
 use Rattle.gb_meaning.proofs.Lemmas.Truth.{fewer_block}
-use Rattle.gb_run.specs.Course.{EndsWell, course_of, whole_run}
+use Rattle.gb_run.specs.RunInput.{EndsWell, run_input, whole_run}
 use Rattle.gb_run.specs.Doing.{Ending}
 use Rattle.gb_run.specs.Failing.{InFull}
 use Rattle.gb_run.specs.Work.{AreAtOutputs, DoesParts, RunsInFull, Work, or_fault, or_stop, part_of, with_part, work_of}
@@ -45,40 +45,40 @@ use Rattle.gb_answers.proofs.Cleared.{cleared, cleared_folder, stored_stage}
 
 -- the work does not depend on the rest of the folder
 same_work : (kinds : Kinds) (task : Task) (trees : Trees) (changes : List Changes) (rest held : Files) (actions : List Action)
-    → work_of (course_of kinds task trees changes []) held actions ≡ work_of (course_of kinds task trees changes rest) held actions
+    → work_of (run_input kinds task trees changes []) held actions ≡ work_of (run_input kinds task trees changes rest) held actions
 same_work kinds task trees changes rest held [] = refl
 same_work kinds task trees changes rest held (action ∷ actions) = on (put_result task.outputs held (kinds.makes (kind_of action) action.args task.values trees)) (λ more. same_work kinds task trees changes rest more actions)
   where
-    on : (r : Result Files (List Fault)) → ((more : Files) → work_of (course_of kinds task trees changes []) more actions ≡ work_of (course_of kinds task trees changes rest) more actions)
-        → or_stop r (λ more. with_part (part_of (course_of kinds task trees changes []) action) (work_of (course_of kinds task trees changes []) more actions))
-        ≡ or_stop r (λ more. with_part (part_of (course_of kinds task trees changes rest) action) (work_of (course_of kinds task trees changes rest) more actions))
-    on (Ok more) same = ap (with_part (part_of (course_of kinds task trees changes []) action)) (same more)
+    on : (r : Result Files (List Fault)) → ((more : Files) → work_of (run_input kinds task trees changes []) more actions ≡ work_of (run_input kinds task trees changes rest) more actions)
+        → or_stop r (λ more. with_part (part_of (run_input kinds task trees changes []) action) (work_of (run_input kinds task trees changes []) more actions))
+        ≡ or_stop r (λ more. with_part (part_of (run_input kinds task trees changes rest) action) (work_of (run_input kinds task trees changes rest) more actions))
+    on (Ok more) same = ap (with_part (part_of (run_input kinds task trees changes []) action)) (same more)
     on (Err hindrances) same = refl
 
 -- calls of a run in full that went well leave contents in which the run ended well
 pub ended_in_full : (leaves : Tearing) (kinds : Kinds) (task : Task) (trees : Trees) (changes : List Changes) (calls : List Call) (lines : List Text) (old new : Contents) → IsFolder old.files
-    → RunsInFull (course_of kinds task trees changes []) calls lines (Ok tt) → AnswersAll leaves old calls new
-    → EndsWell (course_of kinds task trees changes old.files) lines new.files
+    → RunsInFull (run_input kinds task trees changes []) calls lines (Ok tt) → AnswersAll leaves old calls new
+    → EndsWell (run_input kinds task trees changes old.files) lines new.files
 ended_in_full leaves kinds task trees changes calls lines old new folder (inl memory) answers = absurd (let e = memory.2 in (cc))
 ended_in_full leaves kinds task trees changes calls lines old new folder (inr ran) answers = by ran.0 ran.1 ran.2
   where
-    well : (own : Option Fault) → Ok tt ≡ or_fault (Ok tt) own → Ends (course_of kinds task trees changes old.files) InFull leaves 0 0 (Ok tt) own lines new.files
-        → EndsWell (course_of kinds task trees changes old.files) lines new.files
+    well : (own : Option Fault) → Ok tt ≡ or_fault (Ok tt) own → Ends (run_input kinds task trees changes old.files) InFull leaves 0 0 (Ok tt) own lines new.files
+        → EndsWell (run_input kinds task trees changes old.files) lines new.files
     well None result ended = ended
     well (Some fault) result ended = absurd (let e = result in (cc))
 
-    by : (done : Ending) → DoesParts (work_of (course_of kinds task trees changes []) [] task.actions).parts calls lines done
-        → Ok tt ≡ or_fault done (work_of (course_of kinds task trees changes []) [] task.actions).fault → EndsWell (course_of kinds task trees changes old.files) lines new.files
+    by : (done : Ending) → DoesParts (work_of (run_input kinds task trees changes []) [] task.actions).parts calls lines done
+        → Ok tt ≡ or_fault done (work_of (run_input kinds task trees changes []) [] task.actions).fault → EndsWell (run_input kinds task trees changes old.files) lines new.files
     by (Err fault) does result = absurd (let e = result in (cc))
     by (Ok tt) does result =
         let is = same_work kinds task trees changes old.files [] task.actions in
-        well (work_of (course_of kinds task trees changes old.files) [] task.actions).fault (result ∙ ap (λ (w : Work). or_fault (Ok tt) w.fault) is)
-        (done_work_ends leaves (course_of kinds task trees changes old.files) 0 0 old new calls lines (Ok tt) folder.in_order refl (omega arith) (λ place e. absurd (let d = e in (cc)))
+        well (work_of (run_input kinds task trees changes old.files) [] task.actions).fault (result ∙ ap (λ (w : Work). or_fault (Ok tt) w.fault) is)
+        (done_work_ends leaves (run_input kinds task trees changes old.files) 0 0 old new calls lines (Ok tt) folder.in_order refl (omega arith) (λ place e. absurd (let d = e in (cc)))
         (subst (λ (w : Work). DoesParts w.parts calls lines (Ok tt)) is does) answers)
 
 pub written_in_full : (leaves : Tearing) (kinds : Kinds) (task : Task) (trees : Trees) (changes : List Changes) (calls : List Call) (lines : List Text) (old new : Contents) → IsFolder old.files
-    → AreAtOutputs task calls → RunsInFull (course_of kinds task trees changes []) calls lines (Ok tt) → AnswersAll leaves old calls new
-    → EndsWell (course_of kinds task trees changes old.files) lines new.files × (new.special ≡ old.special)
+    → AreAtOutputs task calls → RunsInFull (run_input kinds task trees changes []) calls lines (Ok tt) → AnswersAll leaves old calls new
+    → EndsWell (run_input kinds task trees changes old.files) lines new.files × (new.special ≡ old.special)
 written_in_full leaves kinds task trees changes calls lines old new folder at runs answers = (
   ended_in_full leaves kinds task trees changes calls lines old new folder runs answers,
   (changes_of (is_output_of task) leaves old new calls at answers).special,
@@ -124,7 +124,7 @@ HasRun kinds task trees rest new =
 
 pub ended_outside : (kinds : Kinds) (task : Task) (trees : Trees) (changes : List Changes) (held rest new : Files) (lines : List Text)
     → list_any (λ (o : Output). is_own o.place) task.outputs ≡ false → is_sorted byte_order held ≡ true → kept held ≡ rest
-    → EndsWell (course_of kinds task trees changes held) lines new → HasRun kinds task trees rest (kept new)
+    → EndsWell (run_input kinds task trees changes held) lines new → HasRun kinds task trees rest (kept new)
 ended_outside kinds task trees changes held rest new lines out sorted same well =
     subst (λ (fs : Files). HasRun kinds task trees fs (kept new)) same (
       made,
@@ -134,7 +134,7 @@ ended_outside kinds task trees changes held rest new lines out sorted same well 
     )
   where
     made : Files
-    made = (whole_run (course_of kinds task trees changes held)).held
+    made = (whole_run (run_input kinds task trees changes held)).held
 
     law : (made_of kinds task.actions task.values trees task.outputs ≡ Ok made) × (list_any (λ (f : Place × Bytes). is_blocked held f.0) made ≡ false)
     law = let all = ended_is_made kinds task.outputs task.values trees held [] task.actions refl well.no_fault in (all.0, all.1)

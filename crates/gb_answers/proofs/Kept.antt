@@ -8,12 +8,12 @@ use Rattle.std.proofs.lemmas.List.Elements.{Contains-append_left, Contains-push}
 use Rattle.gb_action.specs.Files.{Trees}
 use Rattle.gb_action.specs.declared.output.OutputFiles.{OutputFiles}
 use Rattle.gb_folder.specs.Answers.{IsOnWay, WereRead}
-use Rattle.gb_folder.specs.Calls.{Call, Reads, IsPermitted, Leads, Permit, Requests, fault_of, none, then}
+use Rattle.gb_folder.specs.Calls.{Call, Reads, IsPermitted, IsReachedBy, Permit, Requests, fault_of, none, then}
 use Rattle.gb_folder.specs.Files.{Bytes, Files, Place, Tearing}
 use Rattle.gb_folder.specs.Limits.{max_file}
 use Rattle.gb_folder.specs.declared.folder.FolderFault.TheVariants as folders
 use Rattle.gb_label.specs.ReadingAnswered.{AreInputsRead, AreOutputsRead, IsInputRead, IsOutputRead}
-use Rattle.gb_logged.specs.Logged.{KeepsCalls}
+use Rattle.gb_logged.specs.Logged.{LogsCalls}
 use Rattle.gb_meaning.specs.TrueRecord.{contents_in}
 use Rattle.gb_plan.specs.declared.task.FileProperty.{FileProperty}
 use Rattle.gb_plan.specs.declared.task.Output.{Output}
@@ -29,7 +29,7 @@ use Rattle.gb_answers.specs.Stored.{content_of}
 none_lost : {A : Type 0} (call : Call) → fault_of call ≡ None → fault_of call ≡ Some folders.OutOfMemory → A
 none_lost call well lost = absurd (let e = sym well ∙ lost in (cc))
 
-module _ {F : Type 0} (failures : F → ℕ) (may_leave : F → Tearing) (allowed : F → Call → F → Type 0) (log : F → List Call) (keeps : KeepsCalls allowed log) where
+module _ {F : Type 0} (failures : F → ℕ) (may_leave : F → Tearing) (allowed : F → Call → F → Type 0) (log : F → List Call) (keeps : LogsCalls allowed log) where
   -- the calls that were kept from one state to another, of which this holds
   pub record Grows (P : Call → Type 0) (old new : F) : Type 0 where
     pub more : List Call
@@ -52,7 +52,7 @@ module _ {F : Type 0} (failures : F → ℕ) (may_leave : F → Tearing) (allowe
     | inr lost ↦ stays P old new lost.0
   ]
 
-  leads_grow : (permit : Permit) (old : F) {new : F} → Leads allowed permit old new → Grows (IsPermitted permit) old new
+  leads_grow : (permit : Permit) (old : F) {new : F} → IsReachedBy allowed permit old new → Grows (IsPermitted permit) old new
   leads_grow permit old none = stays (IsPermitted permit) old old refl
   leads_grow permit old (then {mid = mid} call new led permitted is) =
       grows_then (IsPermitted permit) old mid new (leads_grow permit old led) (one_grows (IsPermitted permit) mid call new is permitted)

@@ -4,7 +4,7 @@ use Rattle.gb_answers.specs.Scratch.{AnsweredSuccessIsFromScratch, LeavesFromScr
 use Rattle.gb_build.specs.InvocationAsked.{InvocationRequests}
 use Rattle.gb_folder.specs.Calls.{Call}
 use Rattle.gb_folder.specs.Files.{Tearing}
-use Rattle.gb_logged.specs.Logged.{KeepsCalls}
+use Rattle.gb_logged.specs.Logged.{LogsCalls}
 use Rattle.gb_meaning.specs.declared.events.Invocation.{Invocation}
 use Rattle.gb_registry.specs.Tables.{Tables}
 use Rattle.gb_report.specs.declared.fault.Fault.{Fault}
@@ -12,7 +12,7 @@ use Rattle.gb_report.specs.declared.report.Report.{Report}
 
 pub leaves_from_scratch : {F M N Z S A : Type 0} (failures : F → ℕ) (may_leave : F → Tearing)
     (allowed : F → Call → F → Type 0) (tables : Tables M N Z S A) (log : F → List Call)
-    → KeepsCalls allowed log → AnsweredSuccessIsFromScratch failures may_leave allowed tables
+    → LogsCalls allowed log → AnsweredSuccessIsFromScratch failures may_leave allowed tables
     → (invocation : Invocation) (answer : Result Report Fault) (old new : F) → log old ≡ []
     → InvocationRequests failures may_leave allowed tables invocation answer old new
     → IfOk answer (λ report. LeavesFromScratch tables (may_leave old) invocation report (log new))

@@ -31,7 +31,7 @@ use Rattle.gb_report.specs.declared.fault.Fault.{Fault}
 use Rattle.gb_run.specs.Asking.{made_by}
 use Rattle.gb_run.specs.AskingChanges.{GoesOn, IsFitting, writers}
 use Rattle.gb_run.specs.ChangeLaws.{IsReplied}
-use Rattle.gb_run.specs.Course.{Course, course_of}
+use Rattle.gb_run.specs.RunInput.{RunInput, run_input}
 use Rattle.gb_run.specs.Doing.{Does, Ending, OrEnds, call_of, ending_of}
 use Rattle.gb_run.specs.Named.{existing, held_after, named, put as put_files, steps_of}
 use Rattle.gb_run.specs.Steps.{Step, in_turn, put_steps}
@@ -128,8 +128,8 @@ either (Some x) held bytes is = inl is
 either None held bytes is = inr is
 
 module _ (kinds : Kinds) (task : Task) (trees : Trees) (changes : List Changes) where
-  abbrev course : Course
-  course = course_of kinds task trees changes []
+  abbrev input : RunInput
+  input = run_input kinds task trees changes []
 
   -- the first of these actions was done, and then the others
   module _ (action : Action) (actions : List Action) (held new : Files) (by : GoesBy kinds task task.values trees action actions held new) where
@@ -140,12 +140,12 @@ module _ (kinds : Kinds) (task : Task) (trees : Trees) (changes : List Changes) 
     more = put_over held (placed task.outputs by.written)
 
     abbrev part : Part
-    part = part_of course action
+    part = part_of input action
 
     abbrev next : Files → Work
-    next files = with_part (part_of course action) (work_of course files actions)
+    next files = with_part (part_of input action) (work_of input files actions)
 
-    work_is : work_of course held (action ∷ actions) ≡ with_part (part_of course action) (work_of course more actions)
+    work_is : work_of input held (action ∷ actions) ≡ with_part (part_of input action) (work_of input more actions)
     work_is =
         ap (λ (r : Result (List Written) Text). or_stop (put_result task.outputs held r) next) by.makes
         ∙ ap (λ b. or_stop (cond b (Ok more) (Err (step_faults task.outputs held (placed task.outputs by.written)))) next) by.free
@@ -156,13 +156,13 @@ module _ (kinds : Kinds) (task : Task) (trees : Trees) (changes : List Changes) 
     in_first : (calls : List Call) → Does part.steps calls (Ok tt) → (q : Place) (bytes : Bytes) → file_at own q ≡ Some bytes → WroteFile calls q bytes
     in_first calls does = by_place (WroteFile calls) own (all_put calls own (all_wrote (put_files own) calls (subst (λ (ss : List Step). Does ss calls (Ok tt)) steps_are does)))
 
-    first_then : (calls : List Call) (lines : List Text) → DoesParts (part ∷ (work_of course more actions).parts) calls lines (Ok tt)
-        → ((later : List Call) (rest : List Text) → DoesParts (work_of course more actions).parts later rest (Ok tt)
+    first_then : (calls : List Call) (lines : List Text) → DoesParts (part ∷ (work_of input more actions).parts) calls lines (Ok tt)
+        → ((later : List Call) (rest : List Text) → DoesParts (work_of input more actions).parts later rest (Ok tt)
         → (q : Place) (bytes : Bytes) → file_at new q ≡ Some bytes → (file_at more q ≡ Some bytes) ⊎ WroteFile later q bytes)
         → (q : Place) (bytes : Bytes) → file_at new q ≡ Some bytes → (file_at held q ≡ Some bytes) ⊎ WroteFile calls q bytes
     first_then calls lines done again q bytes at = on done.2 done.4 done.5
       where
-        on : (mid : Ending) → Does part.steps done.0 mid → OrPrints mid part.lines (λ rest. DoesParts (work_of course more actions).parts done.1 rest (Ok tt)) done.1 lines (Ok tt)
+        on : (mid : Ending) → Does part.steps done.0 mid → OrPrints mid part.lines (λ rest. DoesParts (work_of input more actions).parts done.1 rest (Ok tt)) done.1 lines (Ok tt)
             → (file_at held q ≡ Some bytes) ⊎ WroteFile calls q bytes
         on (Err fault) first prints = absurd (let e = prints.2 in (cc))
         on (Ok well) first (inl memory) = absurd (let e = memory.2 in (cc))
@@ -176,7 +176,7 @@ module _ (kinds : Kinds) (task : Task) (trees : Trees) (changes : List Changes) 
 
   -- what is held at the end was held before, or written
   held_or_written : (actions : List Action) (held new : Files) (calls : List Call) (lines : List Text)
-      → fold (act kinds task.outputs task.values trees) (Ok held) actions ≡ Ok new → DoesParts (work_of course held actions).parts calls lines (Ok tt)
+      → fold (act kinds task.outputs task.values trees) (Ok held) actions ≡ Ok new → DoesParts (work_of input held actions).parts calls lines (Ok tt)
       → (q : Place) (bytes : Bytes) → file_at new q ≡ Some bytes → (file_at held q ≡ Some bytes) ⊎ WroteFile calls q bytes
   held_or_written [] held new calls lines goes does = λ q bytes at. inl (ap (λ (r : Files). file_at r q) (ok_same (fold (act kinds task.outputs task.values trees) (Ok held) []) held new refl goes) ∙ at)
   held_or_written (action ∷ actions) held new calls lines goes does =
@@ -191,13 +191,13 @@ each_file P files sorted by = each (λ (file : Place × Bytes). file_at files fi
 
 -- each file that a full run makes was written by its calls
 pub made_in_full : (kinds : Kinds) (task : Task) (trees : Trees) (changes : List Changes) (made : Files) (calls : List Call) (lines : List Text)
-    → made_of kinds task.actions task.values trees task.outputs ≡ Ok made → RunsInFull (course_of kinds task trees changes []) calls lines (Ok tt)
+    → made_of kinds task.actions task.values trees task.outputs ≡ Ok made → RunsInFull (run_input kinds task trees changes []) calls lines (Ok tt)
     → AllByRecursion (λ (file : Place × Bytes). WroteFile calls file.0 file.1) made
 made_in_full kinds task trees changes made calls lines is (inl memory) = absurd (let e = memory.2 in (cc))
 made_in_full kinds task trees changes made calls lines is (inr ran) = by ran.0 ran.1 ran.2
   where
-    by : (done : Ending) → DoesParts (work_of (course_of kinds task trees changes []) [] task.actions).parts calls lines done
-        → Ok tt ≡ or_fault done (work_of (course_of kinds task trees changes []) [] task.actions).fault → AllByRecursion (λ (file : Place × Bytes). WroteFile calls file.0 file.1) made
+    by : (done : Ending) → DoesParts (work_of (run_input kinds task trees changes []) [] task.actions).parts calls lines done
+        → Ok tt ≡ or_fault done (work_of (run_input kinds task trees changes []) [] task.actions).fault → AllByRecursion (λ (file : Place × Bytes). WroteFile calls file.0 file.1) made
     by (Err fault) does result = absurd (let e = result in (cc))
     by (Ok well) does result =
         each_file (WroteFile calls) made (made_of_is_right kinds task.outputs task.values trees task.actions made is).in_order

@@ -21,7 +21,7 @@ use Rattle.gb_folder.specs.Semantics.{Answer}
 use Rattle.gb_history.specs.Places.{record_place}
 use Rattle.gb_history.specs.Record.{IsWellFormed, Record}
 use Rattle.gb_history.specs.Text.{record_text}
-use Rattle.gb_logged.specs.Logged.{KeepsCalls}
+use Rattle.gb_logged.specs.Logged.{LogsCalls}
 use Rattle.gb_meaning.specs.Events.{has_failure, max_record}
 use Rattle.gb_meaning.specs.Every.{IsFromScratch}
 use Rattle.gb_meaning.specs.Execution.{dry_reports}
@@ -68,7 +68,7 @@ use Rattle.gb_task.proofs.Own.{kept_at}
 use Rattle.gb_task.proofs.Truth.{goes_from_true, up_to_date_is_made}
 use Rattle.gb_tree.proofs.Holding.{all_append}
 use Rattle.gb_answers.specs.Answering.{AnswersSoundly}
-use Rattle.gb_answers.specs.Stored.{AreCurrentRight, EachReadsOnly, HadRight, IsCurrentRight, IsTrueText, IsTruthful, KeptBuild, ReadsOnly, RecordsStayTrue, StoresTruth, content_of}
+use Rattle.gb_answers.specs.Stored.{AreCurrentRight, EachReadsOnly, HadRight, IsCurrentRight, IsTrueText, IsTruthful, BuildWithLog, ReadsOnly, RecordsStayTrue, StoresTruth, content_of}
 use Rattle.gb_answers.proofs.Built.{from_scratch_left}
 use Rattle.gb_answers.proofs.Chain.{IsTrueWithin, MayStep}
 use Rattle.gb_answers.proofs.Going.{IsOfTrue}
@@ -116,7 +116,7 @@ one_of P (first ∷ calls) call all (inr later) = one_of P calls call all.1 late
 -- ---- Executions
 
 -- the calls of executions are kept after those before
-module _ {F S : Type 0} (failures : F → ℕ) (may_leave : F → Tearing) (allowed : F → Call → F → Type 0) (log : F → List Call) (keeps : KeepsCalls allowed log)
+module _ {F S : Type 0} (failures : F → ℕ) (may_leave : F → Tearing) (allowed : F → Call → F → Type 0) (log : F → List Call) (keeps : LogsCalls allowed log)
     (meanings : Meanings S) (rows : Rows S) (options : Options) (final : List Call) where
   abbrev Before : F → F → Type 0
   Before old new = IsWithin failures may_leave allowed log keeps final new → IsWithin failures may_leave allowed log keeps final old
@@ -161,7 +161,7 @@ module _ {F S : Type 0} (failures : F → ℕ) (may_leave : F → Tearing) (allo
 abbrev IsTrusted : Kinds → List Bytes → Option Record → Type 0
 IsTrusted kinds all last = (run : Record) → last ≡ Some run → (true_one : IsOfTrue kinds run) × AllByRecursion (Contains all) (contents_of true_one.entry)
 
-module _ {F S : Type 0} (failures : F → ℕ) (may_leave : F → Tearing) (allowed : F → Call → F → Type 0) (log : F → List Call) (keeps : KeepsCalls allowed log)
+module _ {F S : Type 0} (failures : F → ℕ) (may_leave : F → Tearing) (allowed : F → Call → F → Type 0) (log : F → List Call) (keeps : LogsCalls allowed log)
     (meanings : Meanings S) (rows : Rows S) (kinds : Kinds) (agrees : Agrees meanings rows kinds) (own_output : (kind : ℕ) → WritesItsOutput meanings kind) (options : Options)
     (final : List Call) (all : List Bytes) (among : (call : Call) → Contains final call → AllByRecursion (Contains all) (content_of call)) (separate : AreCollisionFree sha256 all) where
   abbrev Stored : Call → Type 0
@@ -508,7 +508,7 @@ module _ {F S : Type 0} (failures : F → ℕ) (may_leave : F → Tearing) (allo
 -- ---- Builds
 
 -- a record that was read of a task was stored by an earlier build, so it is true
-trusted_record : {F : Type 0} (failures : F → ℕ) (may_leave : F → Tearing) (allowed : F → Call → F → Type 0) (log : F → List Call) (keeps : KeepsCalls allowed log) (kinds : Kinds)
+trusted_record : {F : Type 0} (failures : F → ℕ) (may_leave : F → Tearing) (allowed : F → Call → F → Type 0) (log : F → List Call) (keeps : LogsCalls allowed log) (kinds : Kinds)
     (all : List Bytes) (earlier final : List Call) → AllByRecursion (StoresTruth kinds all) earlier → ReadsOnly earlier final → (old new : F) → IsWithin failures may_leave allowed log keeps final new
     → (path : Path) (last : Option Record) → IsTrue (is_task_path path) → WasAnswered failures may_leave allowed old new path last → IsTrusted kinds all last
 trusted_record failures may_leave allowed log keeps kinds all earlier final stored only old new within path None named answered run is = absurd (let e = is in (cc))
@@ -536,7 +536,7 @@ trusted_record failures may_leave allowed log keeps kinds all earlier final stor
     whole : said ≡ run
     whole = let e = is in (cc)
 
-trusted_records : {F : Type 0} (failures : F → ℕ) (may_leave : F → Tearing) (allowed : F → Call → F → Type 0) (log : F → List Call) (keeps : KeepsCalls allowed log) (kinds : Kinds)
+trusted_records : {F : Type 0} (failures : F → ℕ) (may_leave : F → Tearing) (allowed : F → Call → F → Type 0) (log : F → List Call) (keeps : LogsCalls allowed log) (kinds : Kinds)
     (all : List Bytes) (earlier final : List Call) → AllByRecursion (StoresTruth kinds all) earlier → ReadsOnly earlier final → (old new : F) → IsWithin failures may_leave allowed log keeps final new
     → (paths : List Path) (records : List (Option Record)) → AllByRecursion (λ (path : Path). IsTrue (is_task_path path)) paths
     → AllZip (WasAnswered failures may_leave allowed old new) paths records → AllByRecursion (IsTrusted kinds all) records
@@ -549,10 +549,10 @@ trusted_records failures may_leave allowed log keeps kinds all earlier final sto
 )
 
 module _ {F M N Z S A : Type 0} (failures : F → ℕ) (may_leave : F → Tearing) (allowed : F → Call → F → Type 0) (tables : Tables M N Z S A)
-    (own_output : (kind : ℕ) → WritesItsOutput tables.shapes kind) (log : F → List Call) (keeps : KeepsCalls allowed log) (kinds : Kinds) (agrees : Agrees tables.shapes tables.kinds kinds)
+    (own_output : (kind : ℕ) → WritesItsOutput tables.shapes kind) (log : F → List Call) (keeps : LogsCalls allowed log) (kinds : Kinds) (agrees : Agrees tables.shapes tables.kinds kinds)
     (all : List Bytes) (separate : AreCollisionFree sha256 all) where
   abbrev Build : Type 0
-  Build = KeptBuild failures may_leave allowed log tables kinds
+  Build = BuildWithLog failures may_leave allowed log tables kinds
 
   -- from nothing, all that was kept
   whole : (old new : F) → log old ≡ [] → Grows failures may_leave allowed log keeps (StoresTruth kinds all) old new → AllByRecursion (StoresTruth kinds all) (log new)
@@ -649,7 +649,7 @@ module _ {F M N Z S A : Type 0} (failures : F → ℕ) (may_leave : F → Tearin
 pub records_stay_true : {F M N Z S A : Type 0} (failures : F → ℕ) (may_leave : F → Tearing) (allowed : F → Call → F → Type 0) (tables : Tables M N Z S A)
     → ((kind : ℕ) → WritesItsOutput tables.shapes kind) → RecordsStayTrue failures may_leave allowed tables
 records_stay_true failures may_leave allowed tables own_output log keeps kinds agrees builds separate only =
-    let kept = map (λ (build : KeptBuild failures may_leave allowed log tables kinds). log build.new) builds in
+    let kept = map (λ (build : BuildWithLog failures may_leave allowed log tables kinds). log build.new) builds in
     let all = flat_map (λ (calls : List Call). flat_map content_of calls) kept in
     all_truthful failures may_leave allowed tables own_output log keeps kinds agrees all separate [] builds tt only
     (each (λ (calls : List Call). AllByRecursion (Contains all) (flat_map content_of calls)) (λ (calls : List Call). AllByRecursion (λ (call : Call). AllByRecursion (Contains all) (content_of call)) calls)

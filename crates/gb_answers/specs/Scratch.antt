@@ -16,7 +16,7 @@ use Rattle.gb_meaning.specs.declared.events.Invocation.{Invocation}
 use Rattle.gb_registry.specs.Tables.{Tables}
 use Rattle.gb_report.specs.declared.report.Report.{Report}
 use Rattle.std.specs.List.{flat_map}
-use Rattle.gb_logged.specs.Logged.{KeepsCalls}
+use Rattle.gb_logged.specs.Logged.{LogsCalls}
 use Rattle.gb_answers.specs.Answering.{AnswersSoundly}
 
 -- These contents answer the calls as they were answered, and the calls leave those at the end. The records
@@ -33,7 +33,7 @@ pub record IsAnsweredBy (leaves : Tearing) (setting : Setting) (remembered : Mem
 abbrev pub AnsweredSuccessIsFromScratch : {F M N Z S A : Type 0} → (F → ℕ) → (F → Tearing)
     → (F → Call → F → Type 0) → Tables M N Z S A → Type 0
 AnsweredSuccessIsFromScratch {F = F} failures may_leave allowed tables =
-    (log : F → List Call) → KeepsCalls allowed log
+    (log : F → List Call) → LogsCalls allowed log
     → (kinds : Kinds) → Agrees tables.shapes tables.kinds kinds
     → (invocation : Invocation) (report : Report) (old new : F) (start end : Contents) (remembered : Memory)
     → log old ≡ []

@@ -13,7 +13,7 @@ use Rattle.gb_folder.specs.Semantics.{Answer}
 use Rattle.gb_history.specs.Places.{record_place}
 use Rattle.gb_history.specs.Record.{Record}
 use Rattle.gb_label.specs.ReadingAnswered.{AreInputsRead, AreOutputsRead}
-use Rattle.gb_logged.specs.Logged.{KeepsCalls}
+use Rattle.gb_logged.specs.Logged.{LogsCalls}
 use Rattle.gb_meaning.specs.Events.{has_failure, max_record}
 use Rattle.gb_meaning.specs.Every.{IsFromScratch}
 use Rattle.gb_meaning.specs.Headline.{Agrees, contents_outside}
@@ -59,7 +59,8 @@ pub record IsTrueText (kinds : Kinds) (all : List Bytes) (place : Place) (bytes 
 
 -- what a call was to write among the tool's own files, whatever it answered, is a true record
 abbrev pub StoresTruth : Kinds → List Bytes → Call → Type 0
-StoresTruth kinds all (Writes place bytes limit answer) = is_own place ≡ true → IsTrueText kinds all place bytes
+StoresTruth kinds all (Writes place bytes limit answer) =
+    is_own place ≡ true → IsTrueText kinds all place bytes
 StoresTruth kinds all other = ⊤
 
 -- A record that one of these calls returned is one that an earlier call was to write.
@@ -101,7 +102,7 @@ module _ {F : Type 0} (failures : F → ℕ) (may_leave : F → Tearing) (allowe
 module _ {F M N Z S A : Type 0} (failures : F → ℕ) (may_leave : F → Tearing)
     (allowed : F → Call → F → Type 0) (log : F → List Call) (tables : Tables M N Z S A) (kinds : Kinds) where
   -- A build on a folder that keeps its calls, and has kept none before it.
-  pub record KeptBuild : Type 0 where
+  pub record BuildWithLog : Type 0 where
     pub invocation : Invocation
     pub answer : Result Report Fault
     pub old : F
@@ -110,9 +111,9 @@ module _ {F M N Z S A : Type 0} (failures : F → ℕ) (may_leave : F → Tearin
     pub requests : InvocationRequests failures may_leave allowed tables invocation answer old new
 
   -- there was such a build, with this answer, and this is the folder after it
-  abbrev pub WasKept : Invocation → Result Report Fault → F → Type 0
-  WasKept invocation answer new =
-      (build : KeptBuild) × (build.invocation ≡ invocation) × (build.answer ≡ answer) × (build.new ≡ new)
+  abbrev pub WasLogged : Invocation → Result Report Fault → F → Type 0
+  WasLogged invocation answer new =
+      (build : BuildWithLog) × (build.invocation ≡ invocation) × (build.answer ≡ answer) × (build.new ≡ new)
 
   -- this holds for each task of the plan
   abbrev pub AreCurrentRight : (invocation : Invocation) (answer : Result Report Fault) (old new : F)
@@ -123,7 +124,7 @@ module _ {F M N Z S A : Type 0} (failures : F → ℕ) (may_leave : F → Tearin
 
   -- In contents that answer its calls, a build in which no task failed left what is made from scratch on the
   -- first ones, if no two contents of these and of those share a digest.
-  abbrev pub LeftFromScratch : List Bytes → KeptBuild → Type 0
+  abbrev pub LeftFromScratch : List Bytes → BuildWithLog → Type 0
   LeftFromScratch all build =
       (report : Report) → build.answer ≡ Ok report → has_failure report ≡ false → (start end : Contents)
       → AnswersSoundly (may_leave build.old) start (log build.new) end
@@ -132,7 +133,7 @@ module _ {F M N Z S A : Type 0} (failures : F → ℕ) (may_leave : F → Tearin
 
   -- The records that the build was to store are true, what it reported as up to date was right, and what it
   -- left is from scratch.
-  pub record IsTruthful (all : List Bytes) (build : KeptBuild) : Type 0 where
+  pub record IsTruthful (all : List Bytes) (build : BuildWithLog) : Type 0 where
     pub stored : AllByRecursion (StoresTruth kinds all) (log build.new)
     pub current : AreCurrentRight build.invocation build.answer build.old build.new build.requests
     pub left : LeftFromScratch all build
@@ -143,9 +144,9 @@ module _ {F M N Z S A : Type 0} (failures : F → ℕ) (may_leave : F → Tearin
 abbrev pub RecordsStayTrue : {F M N Z S A : Type 0} → (F → ℕ) → (F → Tearing) → (F → Call → F → Type 0)
     → Tables M N Z S A → Type 0
 RecordsStayTrue {F = F} failures may_leave allowed tables =
-    (log : F → List Call) → KeepsCalls allowed log
+    (log : F → List Call) → LogsCalls allowed log
     → (kinds : Kinds) → Agrees tables.shapes tables.kinds kinds
-    → (builds : List (KeptBuild failures may_leave allowed log tables kinds))
+    → (builds : List (BuildWithLog failures may_leave allowed log tables kinds))
     → let kept = map (λ build. log build.new) builds in
     let all = flat_map (λ calls. flat_map content_of calls) kept in
     AreCollisionFree sha256 all → EachReadsOnly [] kept

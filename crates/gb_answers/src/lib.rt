@@ -2,7 +2,7 @@
 //!
 //! No contract says what a disk holds, so the theorem about known contents says nothing of it. But
 //! the contracts over any folder say which calls a build made, and with which bytes, given their
-//! answers. This crate has what follows for a folder that keeps its calls (`KeepsCalls`), in two
+//! answers. This crate has what follows for a folder that keeps its calls (`LogsCalls`), in two
 //! laws over the clause `requests` of `invoke`. No body is changed for them.
 //!
 //! - `answered_success_is_from_scratch`: if contents that hold true records answer all calls that

@@ -4,7 +4,7 @@ ghost use Rattle.gb_logged.specs.Logged.{log};
 ghost use Rattle.gb_registry.specs.Tables.{tables_of};
 ghost use Rattle.gb_meaning.specs.Kinds.{Kinds};
 ghost use Rattle.gb_answers.specs.Scratch.{LeavesFromScratch};
-ghost use Rattle.gb_answers.specs.Stored.{WasKept};
+ghost use Rattle.gb_answers.specs.Stored.{WasLogged};
 
 use crate::laws::answered_success_is_from_scratch;
 use gb_action::actions::Actions;
@@ -48,7 +48,7 @@ pub fn invoke_logged<A: Actions, T: Transforms, F: Folder + Drop, L: TaskListene
     // It is a build that the law `records_stay_true` is about. By that law such builds, one after
     // another, are truthful if each record that one of them read is one that an earlier one was to
     // store, and no two contents share a digest.
-    ensures kept { (kinds : Kinds) → WasKept ⟦<LoggedFolder<F> as Folder>⟧.failures
+    ensures logged { (kinds : Kinds) → WasLogged ⟦<LoggedFolder<F> as Folder>⟧.failures
         ⟦<LoggedFolder<F> as Folder>⟧.may_leave ⟦<LoggedFolder<F> as Folder>⟧.allowed log
         (tables_of T.meanings A.meanings tables.now) kinds invocation.now result.answer result.folder }
 {

@@ -17,7 +17,7 @@ use Rattle.gb_plan.specs.declared.task.TaskDeclaration.{TaskDeclaration as Task}
 use Rattle.gb_report.specs.declared.fault.Fault.{Fault}
 use Rattle.gb_report.specs.declared.fault.Fault.TheVariants as faults
 use Rattle.gb_report.specs.declared.report.Options.{Options}
-use Rattle.gb_build.specs.Leading.{Leads}
+use Rattle.gb_build.specs.Leading.{IsTransition}
 use Rattle.gb_build.proofs.Editing.{cut_before}
 use Rattle.gb_records.specs.Setting.{setting_by}
 
@@ -97,8 +97,8 @@ module _ (first second : Tearing) (same : SameTearing first second) where
     step_alike assumed observed old (events.Invoke invocation) answers.Edited new step = absurd step
     step_alike assumed observed old (events.Invoke invocation) (answers.Refused fault) new step = absurd step
 
-    pub leads_alike : (old : Shown) (event : Event) (answer : Answer) (new : Shown) → Leads (setting_by kinds registers second) old event answer new
-        → Leads (setting_by kinds registers first) old event answer new
+    pub leads_alike : (old : Shown) (event : Event) (answer : Answer) (new : Shown) → IsTransition (setting_by kinds registers second) old event answer new
+        → IsTransition (setting_by kinds registers first) old event answer new
     leads_alike old event answer new leads remembered clear observed worth =
         let led = leads remembered clear observed worth in
         record {

@@ -111,7 +111,7 @@ abbrev pub IsFine : {X : Type 0} → Result X Fault → Type 0
 IsFine (Ok x) = ⊤
 IsFine (Err fault) = is_of_device fault ≡ false
 
--- trouble, if it is any, is a circle or a fault that is not the device's
+-- trouble, if it is any, is a cycle or a fault that is not the device's
 abbrev pub IsCalm : {X : Type 0} → Result X Trouble → Type 0
 IsCalm (Ok x) = ⊤
 IsCalm (Err (Plain fault)) = is_of_device fault ≡ false
@@ -260,13 +260,13 @@ module _ {M F Z S A : Type 0} (tables : Tables M F Z S A) (source : Source) wher
   realised_if_calm path None = first_or_blameless (faults.TaskNotFound path) (lookup_faults source.names root_path path) refl (lookup_blameless source.names root_path path)
   realised_if_calm path (Some at) = realised_at_calm at (declared tables source.names source.said at) (declared_fine at)
 
-  -- what the task at a path declares, if not in a circle, is not at fault by the device
+  -- what the task at a path declares, if not in a cycle, is not at fault by the device
   pub realised_calm : (path : Path) → IsCalm (realised tables source path)
   realised_calm path = realised_if_calm path (task_at source.said path)
 
   -- ---- What is registered
 
-  -- a circle is reported as a circle
+  -- a cycle is reported as a cycle
   settled_blameless : (task : Result TaskDeclaration Trouble) → IsCalm task → IfErr (settled tables source task) (λ fault. is_of_device fault ≡ false)
   settled_blameless (Ok task) calm = tt
   settled_blameless (Err (Plain fault)) calm = calm

@@ -34,7 +34,7 @@ use Rattle.gb_report.specs.declared.report.Report.{Report}
 use Rattle.gb_store.specs.Changes.{ChangesOnly}
 use Rattle.gb_task.specs.Executing.{Registering, setting_with}
 use Rattle.gb_exec.specs.Building.{is_of_executions}
-use Rattle.gb_exec.specs.Built.{AreWorth, HasBuilt}
+use Rattle.gb_exec.specs.Built.{AreTrueBefore, HasBuilt}
 use Rattle.gb_exec.proofs.ByNumber.{both_true}
 use Rattle.gb_build.proofs.Changed.{HaveOwnPlaces, records_differ}
 use Rattle.gb_build.specs.Leading.{LeadsTo, HoldsObserved}
@@ -135,7 +135,7 @@ module _ (kinds : Kinds) (registry_of : Registering) (may_leave : Tearing) (regi
   -- what a build of the plan is, by what was read before it in a folder of these contents
   abbrev pub GivesBuild : Tearing → ℕ → List (Option Record) → Contents → Type 0
   GivesBuild second failures records contents =
-      (remembered : Memory) (clear : Bool) (observed : List Bytes) → (IsTrue clear → AreWorth kinds plan records observed contents remembered)
+      (remembered : Memory) (clear : Bool) (observed : List Bytes) → (IsTrue clear → AreTrueBefore kinds plan records observed contents remembered)
       → HasBuilt (setting_with kinds registry_of second) clear observed invocation.options plan
       (record { contents = contents; remembered = remembered; failures = failures }) report.tasks end
 

@@ -17,7 +17,7 @@ use Rattle.gb_meaning.proofs.Lemmas.Clear.{in_left}
 use Rattle.gb_meaning.proofs.Lemmas.Weaker.{builds_weaker}
 use Rattle.gb_report.specs.declared.fault.Fault.{Fault}
 use Rattle.gb_report.specs.declared.report.Report.{Report}
-use Rattle.gb_build.specs.Leading.{AreAmong, Leads, LeadsTo, HoldsObserved}
+use Rattle.gb_build.specs.Leading.{AreAmong, IsTransition, LeadsTo, HoldsObserved}
 use Rattle.gb_build.proofs.Fewer.{among_of, are_among}
 
 -- contents that were read, and more of them
@@ -61,7 +61,7 @@ step_weaker setting assumed less grants observed old (events.Invoke invocation) 
 
 -- what continues a run from true records is one invocation
 pub led_holds : (setting : Setting) (old end : Shown) (invocation : Invocation) (result : Result Report Fault) → old.failures ≤ end.failures
-    → Leads setting old (events.Invoke invocation) (answer_of result) end → InvocationHolds setting old invocation result end
+    → IsTransition setting old (events.Invoke invocation) (answer_of result) end → InvocationHolds setting old invocation result end
 led_holds setting old end invocation result count leads remembered exists =
     let start : State = state_of old remembered in
     let all : List Bytes = memory_contents (world_in start) in

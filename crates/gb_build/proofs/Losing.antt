@@ -28,7 +28,7 @@ use Rattle.gb_records.proofs.Reported.{holds_for_memory, texts_are_records}
 use Rattle.gb_report.specs.declared.fault.Fault.{Fault}
 use Rattle.gb_store.specs.Changes.{IsCutShort, without_all}
 use Rattle.gb_plan.specs.Task.{Path, has_path}
-use Rattle.gb_build.specs.Leading.{Leads}
+use Rattle.gb_build.specs.Leading.{IsTransition}
 use Rattle.gb_build.proofs.Fewer.{are_among}
 use Rattle.gb_build.proofs.Leading.{observed_more}
 use Rattle.gb_records.specs.Setting.{setting_by}
@@ -170,7 +170,7 @@ module _ (kinds : Kinds) (registers : Registering) (may_leave : Tearing) (observ
   lost_leads : (answer : Answer) → LossStep may_leave old answer end
       → ((remembered : Memory) → RemembersAfter setting (state_of old remembered) answer (state_of end (where_key byte_order still remembered)))
       → ((path : Path) → IsTrue (is_task_path path) → IsSameOrNone path (file_at end.contents.files (record_place path)) (file_at old.contents.files (record_place path)))
-      → Leads setting old events.Lost answer end
+      → IsTransition setting old events.Lost answer end
   lost_leads answer step after left remembered clear observed worth = record {
     remembered = kept;
     step = (step, after remembered);
@@ -218,7 +218,7 @@ module _ (kinds : Kinds) (registers : Registering) (may_leave : Tearing) (observ
       ∙ ap (λ b. cond (not b) (file_at old.contents.files (record_place path)) None) (texts_are_records.own path)
 
   -- all that was remembered is gone
-  none_leads : LossStep may_leave old answers.Edited end → Leads setting old events.Lost answers.Edited end
+  none_leads : LossStep may_leave old answers.Edited end → IsTransition setting old events.Lost answers.Edited end
   none_leads step remembered clear observed worth = record {
     remembered = [];
     step = (step, refl);
@@ -233,7 +233,7 @@ module _ (kinds : Kinds) (registers : Registering) (may_leave : Tearing) (observ
     );
   }
 
-  pub loss_leads : (answer : Answer) → LossStep may_leave old answer end → Leads setting old events.Lost answer end
+  pub loss_leads : (answer : Answer) → LossStep may_leave old answer end → IsTransition setting old events.Lost answer end
   loss_leads answers.Edited step = none_leads step
   loss_leads (answers.Refused fault) (inl unlisted) =
       lost_leads (answers.Refused fault) (inl unlisted) keeps_existing

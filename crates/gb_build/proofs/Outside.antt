@@ -17,7 +17,7 @@ use Rattle.gb_meaning.specs.TrueRecord.{memory_contents}
 use Rattle.gb_records.proofs.Reported.{holds_elsewhere, holds_for_memory}
 use Rattle.gb_store.specs.Changes.{ChangesOnly}
 use Rattle.gb_store.proofs.Machine.{changes_left, changes_none, changes_with, changes_without}
-use Rattle.gb_build.specs.Leading.{Leads}
+use Rattle.gb_build.specs.Leading.{IsTransition}
 use Rattle.gb_build.proofs.Leading.{observed_more}
 use Rattle.gb_records.specs.Setting.{setting_by}
 
@@ -64,7 +64,7 @@ module _ (kinds : Kinds) (registers : Registering) (may_leave : Tearing) (old en
   -- an event that changes nothing of the tool's own, and after which the same is remembered
   outside_leads : (event : Event) (answer : Answer) → ChangesOnly is_outside old.contents end.contents
       → ((remembered : Memory) (clear : Bool) (observed : List Bytes) → Step setting (StillClear setting (IsTrue clear) (state_of old remembered)) observed (state_of old remembered) event answer (state_of end remembered))
-      → Leads setting old event answer end
+      → IsTransition setting old event answer end
   outside_leads event answer changes step remembered clear observed worth = record {
     remembered = remembered;
     step = step remembered clear observed;
@@ -77,10 +77,10 @@ module _ (kinds : Kinds) (registers : Registering) (may_leave : Tearing) (old en
         );
   }
 
-  pub put_leads : (place : Place) (bytes : Bytes) (answer : Answer) → PutStep may_leave place bytes old answer end → Leads setting old (events.Put place bytes) answer end
+  pub put_leads : (place : Place) (bytes : Bytes) (answer : Answer) → PutStep may_leave place bytes old answer end → IsTransition setting old (events.Put place bytes) answer end
   put_leads place bytes answer step =
       outside_leads (events.Put place bytes) answer (put_outside registers may_leave place bytes old end answer step) (λ remembered clear observed. (step, refl))
 
-  pub remove_leads : (place : Place) (answer : Answer) → RemoveStep may_leave place old answer end → Leads setting old (events.Remove place) answer end
+  pub remove_leads : (place : Place) (answer : Answer) → RemoveStep may_leave place old answer end → IsTransition setting old (events.Remove place) answer end
   remove_leads place answer step =
       outside_leads (events.Remove place) answer (remove_outside registers may_leave place old end answer step) (λ remembered clear observed. (step, refl))

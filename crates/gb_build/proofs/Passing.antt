@@ -15,7 +15,7 @@ use Rattle.gb_meaning.specs.Memory.{Memory}
 use Rattle.gb_meaning.specs.TrueRecord.{outside}
 use Rattle.gb_meaning.specs.Execution.{Guard, WorldState as At}
 use Rattle.gb_meaning.proofs.Lemmas.Weaker.{builds_weaker}
-use Rattle.gb_build.specs.Leading.{Leads, LeadsTo}
+use Rattle.gb_build.specs.Leading.{IsTransition, LeadsTo}
 use Rattle.gb_build.proofs.Earlier.{builds_since}
 use Rattle.gb_build.proofs.Leading.{nothing_leads}
 use Rattle.gb_plan.specs.Graph.{Plan, Registry}
@@ -117,8 +117,8 @@ module _ (kinds : Kinds) (registry : Registry) (registers : Registering) (may_le
 
   -- an invocation after the scripts were read continues a run like one from before
   pub since_read : (result : Result Report Fault) (end : Shown) → later ≤ end.failures
-      → Leads one (shows contents later) (events.Invoke invocation) (answer_of result) end
-      → Leads two (shows contents before) (events.Invoke invocation) (answer_of result) end
+      → IsTransition one (shows contents later) (events.Invoke invocation) (answer_of result) end
+      → IsTransition two (shows contents before) (events.Invoke invocation) (answer_of result) end
   since_read result end count leads remembered clear observed worth =
       led_too remembered clear observed result end count (leads remembered clear observed worth)
 
@@ -127,13 +127,13 @@ module _ (kinds : Kinds) (registry : Registry) (registers : Registering) (may_le
 -- an invocation that is not built, and changed nothing
 pub refused_leads : (setting : Setting) (old end : Shown) (invocation : Invocation) (fault : Fault)
     → IsNotBuilt setting.registers old invocation fault end.failures
-    → end.contents ≡ old.contents → (result : Result Report Fault) → result ≡ Err fault → Leads setting old (events.Invoke invocation) (answer_of result) end
+    → end.contents ≡ old.contents → (result : Result Report Fault) → result ≡ Err fault → IsTransition setting old (events.Invoke invocation) (answer_of result) end
 refused_leads setting old end invocation fault why same result is =
-    subst (λ (r : Result Report Fault). Leads setting old (events.Invoke invocation) (answer_of r) end) (sym is)
+    subst (λ (r : Result Report Fault). IsTransition setting old (events.Invoke invocation) (answer_of r) end) (sym is)
     (λ remembered clear observed worth. nothing_leads setting old end (events.Invoke invocation) (answers.NotBuilt fault) same remembered clear observed worth
     (why, same, refl))
 
 -- memory ran out
 pub out_of_memory : (setting : Setting) (old end : Shown) (invocation : Invocation) (fault : Fault) → fault ≡ faults.OutOfMemory
-    → end.contents ≡ old.contents → (result : Result Report Fault) → result ≡ Err fault → Leads setting old (events.Invoke invocation) (answer_of result) end
+    → end.contents ≡ old.contents → (result : Result Report Fault) → result ≡ Err fault → IsTransition setting old (events.Invoke invocation) (answer_of result) end
 out_of_memory setting old end invocation fault out = refused_leads setting old end invocation fault (inr (inr (inl out)))

@@ -19,7 +19,7 @@ use Rattle.gb_report.specs.declared.fault.Fault.{Fault}
 use Rattle.gb_report.specs.declared.fault.Fault.TheVariants as faults
 use Rattle.gb_tree.specs.Property.{last_segment}
 use Rattle.gb_build.specs.Asking.{NoneBlameDevice}
-use Rattle.gb_build.specs.Leading.{Leads}
+use Rattle.gb_build.specs.Leading.{IsTransition}
 use Rattle.gb_build.specs.Refusing.{IsNotBegun, IsUnread}
 use Rattle.gb_build.proofs.Leading.{nothing_leads}
 use Rattle.gb_build.proofs.RequestAsked.{refusal_blames_none, request_registry, words_blame_none}
@@ -61,9 +61,9 @@ if_reported registry invocation result reported before after is why = subst (λ 
 -- an invocation that is not begun, and changed nothing
 pub refused_leads : (setting : Setting) (registry : Registry) (old end : Shown) (invocation : Invocation) (fault : Fault)
     → setting.registers (outside old.contents).files invocation.properties (Ok registry) → IsNotBegun registry invocation old.failures end.failures fault
-    → end.contents ≡ old.contents → (result : Result Report Fault) → result ≡ Err fault → Leads setting old (events.Invoke invocation) (answer_of result) end
+    → end.contents ≡ old.contents → (result : Result Report Fault) → result ≡ Err fault → IsTransition setting old (events.Invoke invocation) (answer_of result) end
 refused_leads setting registry old end invocation fault scripts why same result is =
-    subst (λ (r : Result Report Fault). Leads setting old (events.Invoke invocation) (answer_of r) end) (sym is)
+    subst (λ (r : Result Report Fault). IsTransition setting old (events.Invoke invocation) (answer_of r) end) (sym is)
     (λ remembered clear observed worth. nothing_leads setting old end (events.Invoke invocation) (answers.NotBuilt fault) same remembered clear observed worth
     (not_built setting.registers registry old invocation fault end.failures scripts why, same, refl))
 

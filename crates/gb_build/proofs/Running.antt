@@ -20,7 +20,7 @@ use Rattle.gb_report.specs.declared.report.Report.{Report}
 use Rattle.gb_meaning.specs.TrueRecord.{memory_contents}
 use Rattle.gb_exec.proofs.Clearly.{clear_or_not}
 use Rattle.gb_plan.proofs.Tests.{not_true}
-use Rattle.gb_build.specs.Leading.{Leads, HoldsObserved}
+use Rattle.gb_build.specs.Leading.{IsTransition, HoldsObserved}
 use Rattle.gb_build.proofs.Leading.{observed_more, step_weaker}
 use Rattle.gb_build.specs.Answers.{AnswerIsOutlined, Edit, edit_answer}
 
@@ -70,7 +70,7 @@ is_yes (inr is_not) x = absurd (is_not x)
 
 -- an event, and then a run
 pub runs_on : (setting : Setting) (old mid end : Shown) (event : Event) (answer : Answer) (rest : List Event) (others : List Answer) → old.failures ≤ mid.failures
-    → Leads setting old event answer mid → RunsFrom setting mid rest others end → RunsFrom setting old (event ∷ rest) (answer ∷ others) end
+    → IsTransition setting old event answer mid → RunsFrom setting mid rest others end → RunsFrom setting old (event ∷ rest) (answer ∷ others) end
 unfolding RunsFrom
 runs_on setting old mid end event answer rest others count leads runs remembered clear observed worth =
     let start : State = state_of old remembered in

@@ -32,8 +32,8 @@ pub record LeadsTo (setting : Setting) (clear : Bool) (observed : List Bytes) (o
 
 -- An event leads from what a folder shows to what it shows then, from whatever is remembered. The premise:
 -- true records of it exist in the folder, if all was collision-free before.
-abbrev pub Leads : Setting → Shown → Event → Answer → Shown → Type 0
-Leads setting old event answer new =
+abbrev pub IsTransition : Setting → Shown → Event → Answer → Shown → Type 0
+IsTransition setting old event answer new =
     (remembered : Memory) (clear : Bool) (observed : List Bytes)
     → (IsTrue clear → HoldsObserved setting observed (state_of old remembered))
     → LeadsTo setting clear observed (state_of old remembered) event answer new

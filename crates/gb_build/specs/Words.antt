@@ -7,7 +7,7 @@ pub use Rattle.gb_graph.specs.Answer.{IsPlanOf, IsRefusalOf}
 pub use Rattle.gb_history.specs.Places.{record_place}
 pub use Rattle.gb_build.specs.InvocationAsked.{InvocationRequests}
 pub use Rattle.gb_build.specs.Registering.{registers_in, setting_of}
-pub use Rattle.gb_build.specs.Leading.{Leads}
+pub use Rattle.gb_build.specs.Leading.{IsTransition}
 pub use Rattle.gb_exec.specs.Notifying.{Refuses}
 pub use Rattle.gb_meaning.specs.Edits.{Shown}
 pub use Rattle.gb_meaning.specs.Events.{IsBuild, IsNotBuilt, Setting, State, has_failure, is_read_first}

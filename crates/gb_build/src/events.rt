@@ -10,7 +10,7 @@ ghost use Rattle.gb_meaning.specs.Kinds.{Kinds};
 ghost use Rattle.gb_records.specs.Assumed.{IsAssumed};
 ghost use Rattle.gb_registry.specs.Tables.{tables_of};
 ghost use Rattle.gb_build.specs.Registering.{registers_in, setting_of};
-ghost use Rattle.gb_build.specs.Leading.{Leads};
+ghost use Rattle.gb_build.specs.Leading.{IsTransition};
 ghost use Rattle.gb_build.specs.EventAsked.{EventRequests, EventsRequest};
 ghost use Rattle.gb_build.specs.Answers.{AnswerIsOutlined, edit_answer};
 
@@ -109,7 +109,8 @@ fn take<A: Actions, T: Transforms, F: Folder, L: TaskListener>(
         (F.contents folder.old) (F.contents folder.new) }
     ensures leads { IsTrue F.faithful → (kinds : Kinds)
         → IsAssumed A.meanings tables.now.actions kinds (F.may_leave folder.old)
-        → Leads (setting_of (tables_of T.meanings A.meanings tables.now) kinds (F.may_leave folder.old))
+        → IsTransition
+        (setting_of (tables_of T.meanings A.meanings tables.now) kinds (F.may_leave folder.old))
         (record { contents = F.contents folder.old; failures = F.failures folder.old })
         event.now result
         (record { contents = F.contents folder.new; failures = F.failures folder.new }) }

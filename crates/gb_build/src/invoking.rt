@@ -15,7 +15,7 @@ ghost use Rattle.gb_printer.specs.Printing.{Prints, parts_text};
 ghost use Rattle.gb_records.specs.Assumed.{IsAssumed};
 ghost use Rattle.gb_registry.specs.Tables.{tables_of};
 ghost use Rattle.gb_task.specs.Executing.{setting_with};
-ghost use Rattle.gb_build.specs.Leading.{Leads};
+ghost use Rattle.gb_build.specs.Leading.{IsTransition};
 ghost use Rattle.gb_build.specs.Refusing.{IsNotBegun};
 ghost use Rattle.gb_build.specs.Asking.{AreBuildable};
 ghost use Rattle.gb_build.specs.InvocationAsked.{InvocationRequests};
@@ -104,7 +104,8 @@ pub fn invoke<A: Actions, T: Transforms, F: Folder, L: TaskListener, P: Printer>
     // is remembered.
     ensures leads { IsTrue F.faithful → (kinds : Kinds)
         → IsAssumed A.meanings tables.now.actions kinds (F.may_leave folder.old)
-        → Leads (setting_of (tables_of T.meanings A.meanings tables.now) kinds (F.may_leave folder.old))
+        → IsTransition
+        (setting_of (tables_of T.meanings A.meanings tables.now) kinds (F.may_leave folder.old))
         (record { contents = F.contents folder.old; failures = F.failures folder.old })
         (events.Invoke invocation.now) (answer_of result)
         (record { contents = F.contents folder.new; failures = F.failures folder.new }) }
@@ -176,7 +177,7 @@ fn build_registered<A: Actions, T: Transforms, F: Folder, L: TaskListener, P: Pr
     ensures leads { let tables = tables_of T.meanings A.meanings configured.now.tables.now in
         IsTrue F.faithful → (kinds : Kinds)
         → IsAssumed A.meanings configured.now.tables.now.actions kinds (F.may_leave folder.old)
-        → Leads (setting_with kinds (λ files given. Ok (registry_said tables configured.now.registry))
+        → IsTransition (setting_with kinds (λ files given. Ok (registry_said tables configured.now.registry))
         (F.may_leave folder.old))
         (record { contents = F.contents folder.old; failures = F.failures folder.old })
         (events.Invoke invocation.now) (answer_of result)

@@ -13,7 +13,7 @@ ghost use Rattle.gb_store.specs.Changes.{ChangesOnly};
 ghost use Rattle.gb_task.specs.Executing.{Registering, setting_with};
 ghost use Rattle.gb_build.specs.RequestAsked.{BuildRequests};
 ghost use Rattle.gb_build.specs.Asking.{AreBuildable, IsReportOf, NoneBlameDevice};
-ghost use Rattle.gb_build.specs.Leading.{Leads};
+ghost use Rattle.gb_build.specs.Leading.{IsTransition};
 ghost use Rattle.gb_build.specs.Refusing.{IsNotBegun};
 
 use crate::before::records_for;
@@ -81,7 +81,7 @@ pub fn build_requested<A: Actions, F: Folder, L: TaskListener, P: Printer, Ts: T
         → IsAssumed A.meanings table.now kinds (F.may_leave folder.old)
         → registry_of (outside (F.contents folder.old)).files invocation.now.properties
         ≡ Ok (Ts.registry tasks.old)
-        → Leads (setting_with kinds registry_of (F.may_leave folder.old))
+        → IsTransition (setting_with kinds registry_of (F.may_leave folder.old))
         (record { contents = F.contents folder.old; failures = F.failures folder.old })
         (events.Invoke invocation.now) (answer_of result)
         (record { contents = F.contents folder.new; failures = F.failures folder.new }) }

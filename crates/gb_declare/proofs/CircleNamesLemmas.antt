@@ -26,7 +26,7 @@ use Rattle.gb_registry.specs.Tables.{Tables}
 use Rattle.gb_declare.specs.CircleNames.{way_from, circle_from, circle_names, least_of, least_round, until_again}
 use Rattle.gb_declare.specs.Reported.{IsReportedBy, reported_circle}
 use Rattle.gb_declare.specs.Whole.{whole}
-use Rattle.gb_declare.proofs.OneCircleLemmas.{names_total, IsLeast, one_least, least_of_all, Lack, Leads, IsRing, ring_of, ring_turned, lacks_first, least_on_turned, circle_reported}
+use Rattle.gb_declare.proofs.OneCircleLemmas.{names_total, IsLeast, one_least, least_of_all, Lack, AwaitsThrough, IsRing, ring_of, ring_turned, lacks_first, least_on_turned, circle_reported}
 
 -- ---- Of more numbers below n than n, one repeats
 
@@ -132,7 +132,7 @@ module _ {A : Type 0} (rules : List (Rule A)) where
   awaits_within : (x y : ℕ) → next_awaited rules x ≡ Some y → x < length rules
   awaits_within x y e = let found = rule_there x y (slice_get rules x) e in slice_get_within rules x found.0 found.1
 
-  leads_within : (x : ℕ) (xs : List ℕ) (last : ℕ) → Leads rules x xs last → (k : ℕ) → k < length (x ∷ xs) → slice_index (x ∷ xs) k < length rules
+  leads_within : (x : ℕ) (xs : List ℕ) (last : ℕ) → AwaitsThrough rules x xs last → (k : ℕ) → k < length (x ∷ xs) → slice_index (x ∷ xs) k < length rules
   leads_within x [] last leads zero below = awaits_within x last leads
   leads_within x [] last leads (suc k) below = absurd (omega arith)
   leads_within x (y ∷ ys) last leads zero below = awaits_within x y leads.0
@@ -157,7 +157,7 @@ module _ {A : Type 0} (rules : List (Rule A)) where
       ∙ ap (λ b. cond (not b) (x ∷ take_while (λ other. not (eqb other x)) others) []) (eq-eqb x x refl)
 
   -- from an entry of the ring on
-  goes_on : (x y : ℕ) (ys : List ℕ) (more : ℕ) → Leads rules y ys x → Lack x ys → length ys ≤ more
+  goes_on : (x y : ℕ) (ys : List ℕ) (more : ℕ) → AwaitsThrough rules y ys x → Lack x ys → length ys ≤ more
       → take_while (λ other. not (eqb other x)) (way_from rules more (next_awaited rules y)) ≡ ys
   goes_on x y [] more leads lack within =
       ap (λ o. take_while (λ other. not (eqb other x)) (way_from rules more o)) leads ∙ stops x more

@@ -133,17 +133,17 @@ different_turned x xs different i j less below same =
 
 module _ {A : Type 0} (rules : List (Rule A)) where
   -- each awaits the one after it, and the last of them awaits this one
-  abbrev pub Leads : ℕ → List ℕ → ℕ → Type 0
-  Leads x [] last = next_awaited rules x ≡ Some last
-  Leads x (y ∷ ys) last = (next_awaited rules x ≡ Some y) × Leads y ys last
+  abbrev pub AwaitsThrough : ℕ → List ℕ → ℕ → Type 0
+  AwaitsThrough x [] last = next_awaited rules x ≡ Some last
+  AwaitsThrough x (y ∷ ys) last = (next_awaited rules x ≡ Some y) × AwaitsThrough y ys last
 
   abbrev pub IsRing : List ℕ → Type 0
   IsRing [] = ⊥
-  IsRing (x ∷ xs) = Leads x xs x × Different (x ∷ xs)
+  IsRing (x ∷ xs) = AwaitsThrough x xs x × Different (x ∷ xs)
 
   leads_of : (x : ℕ) (xs : List ℕ) (last : ℕ)
       → ((i : ℕ) → i + 1 < length (x ∷ xs) → next_awaited rules (slice_index (x ∷ xs) i) ≡ Some (slice_index (x ∷ xs) (i + 1)))
-      → next_awaited rules (slice_index (x ∷ xs) (length (x ∷ xs) - 1)) ≡ Some last → Leads x xs last
+      → next_awaited rules (slice_index (x ∷ xs) (length (x ∷ xs) - 1)) ≡ Some last → AwaitsThrough x xs last
   leads_of x [] last next closed = closed
   leads_of x (y ∷ ys) last next closed =
       let at : suc (length (y ∷ ys) - 1) ≡ length (x ∷ y ∷ ys) - 1 = omega arith in (
@@ -159,7 +159,7 @@ module _ {A : Type 0} (rules : List (Rule A)) where
   ring_of entry [] is = absurd (let some = is.some in omega (arith, some))
   ring_of entry (x ∷ xs) is = (leads_of x xs x is.next is.closed, is.different)
 
-  leads_on : (x : ℕ) (xs : List ℕ) (y z : ℕ) → Leads x xs y → next_awaited rules y ≡ Some z → Leads x (xs ++ y ∷ []) z
+  leads_on : (x : ℕ) (xs : List ℕ) (y z : ℕ) → AwaitsThrough x xs y → next_awaited rules y ≡ Some z → AwaitsThrough x (xs ++ y ∷ []) z
   leads_on x [] y z leads e = (leads, e)
   leads_on x (w ∷ ws) y z leads e = (leads.0, leads_on w ws y z leads.1 e)
 
@@ -173,14 +173,14 @@ module _ {A : Type 0} (rules : List (Rule A)) where
   second x (y ∷ ys) ring = ring.0.0
 
   -- entries that lead to the same one, which does not occur between
-  same_way : (x last : ℕ) (ys zs : List ℕ) → Leads x ys last → Leads x zs last → Lack last ys → Lack last zs → ys ≡ zs
+  same_way : (x last : ℕ) (ys zs : List ℕ) → AwaitsThrough x ys last → AwaitsThrough x zs last → Lack last ys → Lack last zs → ys ≡ zs
   same_way x last [] [] one other lack lacks = refl
   same_way x last [] (z ∷ zs) one other lack lacks = absurd (lacks 0 (omega arith) (some_same z last (sym other.0 ∙ one)))
   same_way x last (y ∷ ys) [] one other lack lacks = absurd (lack 0 (omega arith) (some_same y last (sym one.0 ∙ other)))
   same_way x last (y ∷ ys) (z ∷ zs) one other lack lacks =
       let same : z ≡ y = some_same z y (sym other.0 ∙ one.0) in
       ap (λ l. y ∷ l)
-      (same_way y last ys zs one.1 (subst (λ n. Leads n zs last) same other.1)
+      (same_way y last ys zs one.1 (subst (λ n. AwaitsThrough n zs last) same other.1)
       (λ i below. lack (suc i) (omega (arith, below)))
       (λ i below. lacks (suc i) (omega (arith, below))))
       ∙ ap (λ n. n ∷ zs) (sym same)

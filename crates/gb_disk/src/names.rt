@@ -12,7 +12,7 @@ use std::str;
 
 /// A list of this one place.
 #[tactic(auto, using(crate::proofs::Descends::alone_under))]
-pub(crate) fn alone(alloc: Global, place: &Place) -> Result<Vec<Place>, AllocError>
+pub(crate) fn only(alloc: Global, place: &Place) -> Result<Vec<Place>, AllocError>
     ensures { IfOk result (λ places. AllUnder place.now places.items) }
 {
     let mut places = Vec::new(alloc);

@@ -125,7 +125,7 @@ impl Trail {
         ensures path { self.new.path ≡ self.old.path }
         ensures under { IfOk result (λ places. AllUnder place.now places.items) }
     {
-        let places = alone(alloc, place)?;
+        let places = only(alloc, place)?;
         self.take_up(places.as_slice(), info)?;
         Ok(places)
     }

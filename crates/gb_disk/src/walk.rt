@@ -43,7 +43,7 @@ impl Found {
                 len: 0,
                 changed: None,
             },
-            folders: alone(alloc, root)?,
+            folders: only(alloc, root)?,
             left: MOST_ENTRIES,
         })
     }

@@ -7,7 +7,7 @@ use Rattle.std.proofs.Math.Bool.{or_comm}
 use Rattle.std.proofs.lemmas.Bool.{cases_eq, cases_order, false≢true}
 use Rattle.gb_exec.specs.declared.may_start.Ending.{Ending}
 use Rattle.gb_exec.specs.declared.may_start.Ending.TheVariants.{ToCome}
-use Rattle.gb_exec.specs.Starts.{Progress, IsWired, IsCalled, Serves, called as by_call, needed, Spreads, marked, further, Keeps, ending_in, has_failed, has_started, mark_at, row}
+use Rattle.gb_exec.specs.Starts.{Progress, IsWired, FinalizesStarted, Serves, called as by_call, needed, Spreads, marked, further, Keeps, ending_in, has_failed, has_started, mark_at, row}
 use Rattle.gb_plan.proofs.Tests.{left_of, right_of}
 
 -- one thing again and again is at each index
@@ -56,18 +56,18 @@ module _ (progress : Progress) (task : ℕ) (ending : Ending) (known : task < le
   other number separate = get_or-set_other progress.endings task number ending ToCome separate
 
   -- what was called is called
-  still_called : (number : ℕ) → IsCalled progress number → IsCalled after number
+  still_called : (number : ℕ) → FinalizesStarted progress number → FinalizesStarted after number
   still_called number is = elim (cases_eq is.0 task) [
     | inl e ↦ absurd (false≢true (sym (ap has_started (ap (ending_in progress.endings) e ∙ to_come)) ∙ is.1))
     | inr separate ↦ (is.0, ap has_started (other is.0 separate) ∙ is.1, is.2)
   ]
 
   -- and the finalizers of the task, where it was started
-  newly_called : (number : ℕ) → has_started ending ≡ true → Contains (row progress.finalizers task) number → IsCalled after number
+  newly_called : (number : ℕ) → has_started ending ≡ true → Contains (row progress.finalizers task) number → FinalizesStarted after number
   newly_called number started c = (task, ap has_started ended ∙ started, c)
 
   -- and no other
-  only_called : (number : ℕ) → IsCalled after number → IsCalled progress number ⊎ ((has_started ending ≡ true) × Contains (row progress.finalizers task) number)
+  only_called : (number : ℕ) → FinalizesStarted after number → FinalizesStarted progress number ⊎ ((has_started ending ≡ true) × Contains (row progress.finalizers task) number)
   only_called number is = elim (cases_eq is.0 task) [
     | inl e ↦ inr (sym (ap has_started (ap (ending_in (set progress.endings task ending)) e ∙ ended)) ∙ is.1, subst (λ k. Contains (row progress.finalizers k) number) e is.2)
     | inr separate ↦ inl (is.0, sym (ap has_started (other is.0 separate)) ∙ is.1, is.2)
@@ -90,14 +90,14 @@ module _ (progress : Progress) (task : ℕ) (ending : Ending) (known : task < le
 -- ---- What serves a finalizer
 
 -- more that is called, more that serves
-pub more_serve : (progress other : Progress) → other.needs ≡ progress.needs → ((task : ℕ) → IsCalled progress task → IsCalled other task)
+pub more_serve : (progress other : Progress) → other.needs ≡ progress.needs → ((task : ℕ) → FinalizesStarted progress task → FinalizesStarted other task)
     → (task : ℕ) → Serves progress task → Serves other task
 more_serve progress other same more task (by_call is) = by_call (more task is)
 more_serve progress other same more task (needed {later} s c) =
     needed (more_serve progress other same more later s) (subst (λ needs. Contains (row needs later) task) (sym same) c)
 
 -- what spreads from what is called serves
-module _ (progress : Progress) (marks : List Bool) (are : (task : ℕ) → (mark_at marks task ≡ true) ↔ IsCalled progress task) where
+module _ (progress : Progress) (marks : List Bool) (are : (task : ℕ) → (mark_at marks task ≡ true) ↔ FinalizesStarted progress task) where
   pub spread_serves : (task : ℕ) → Spreads progress.needs marks task → Serves progress task
   spread_serves task (marked h) = by_call ((are task).0 h)
   spread_serves task (further {later} s c) = needed (spread_serves later s) c
@@ -120,7 +120,7 @@ module _ (progress : Progress) (marks serving : List Bool) (is_spread some_faile
   failed_after = ap (λ b. b || has_failed ending) keeps.failed ∙ sym (failed_more progress task ending in_endings to_come)
 
   -- where none is newly called, the same serve
-  same_serve : ((number : ℕ) → IsCalled next number → IsCalled progress number) → is_spread ≡ true → (number : ℕ) → (mark_at serving number ≡ true) ↔ Serves next number
+  same_serve : ((number : ℕ) → FinalizesStarted next number → FinalizesStarted progress number) → is_spread ≡ true → (number : ℕ) → (mark_at serving number ≡ true) ↔ Serves next number
   same_serve only spread number = (
     λ h. more_serve progress next refl (still_called progress task ending in_endings to_come) number ((keeps.are_serving spread number).0 h),
     λ s. (keeps.are_serving spread number).1 (more_serve next progress refl only number s),
@@ -137,7 +137,7 @@ module _ (progress : Progress) (marks serving : List Bool) (is_spread some_faile
     failed = failed_after;
   }
     where
-      only : (number : ℕ) → IsCalled next number → IsCalled progress number
+      only : (number : ℕ) → FinalizesStarted next number → FinalizesStarted progress number
       only number is = elim (only_called progress task ending in_endings to_come number is) [
         | inl was ↦ was
         | inr new ↦ absurd (false≢true (sym not_started ∙ new.0))
@@ -168,7 +168,7 @@ module _ (progress : Progress) (marks serving : List Bool) (is_spread some_faile
     failed = failed_after;
   }
     where
-      none_new : none ≡ true → (number : ℕ) → IsCalled next number → IsCalled progress number
+      none_new : none ≡ true → (number : ℕ) → FinalizesStarted next number → FinalizesStarted progress number
       none_new is_none number is = elim (only_called progress task ending in_endings to_come number is) [
         | inl was ↦ was
         | inr c ↦ absurd (no_row is_none number c.1)

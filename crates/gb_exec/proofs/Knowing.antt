@@ -20,7 +20,7 @@ use Rattle.gb_records.specs.Said.{IsReadAt}
 use Rattle.gb_exec.proofs.ByNumber.{at_some, contained, contains_any}
 use Rattle.gb_plan.proofs.Tests.{itself}
 use Rattle.std.specs.Cmp.Lexicographic.{bytes_decides}
-use Rattle.gb_exec.specs.Built.{AreWorth}
+use Rattle.gb_exec.specs.Built.{AreTrueBefore}
 
 -- what was read of the task of a number
 pub read_at : (files : Files) (plan : List Planned) (records : List (Option Record)) (index : ℕ) (planned : Planned) → AllZip (IsReadAt files) (order plan) records
@@ -37,7 +37,7 @@ among_of some all h c e =
     contains_any (bytes_eq c) all c (h c (subst (Contains some) (sym same) (contained some found.0 found.1 found.2))) (itself c)
 
 pub knows : (law : WhatIsReadIsKnown) (kinds : Kinds) (plan : List Planned) (records : List (Option Record)) (observed observed_now : List Bytes) (start : Contents) (remembered : Memory) (world : World)
-    (index : ℕ) (planned : Planned) → slice_get plan index ≡ Some planned → AreWorth kinds plan records observed start remembered → IsTrue (is_task_path planned.task.path)
+    (index : ℕ) (planned : Planned) → slice_get plan index ≡ Some planned → AreTrueBefore kinds plan records observed start remembered → IsTrue (is_task_path planned.task.path)
     → recalled world.memory planned.task.path ≡ recalled remembered planned.task.path → IsFolder world.folder.files → IsTrue (are_placed world.folder.files)
     → list_any (λ output. is_own output.place) planned.task.outputs ≡ false → Among observed observed_now
     → IsTrue (is_empty remembered) ⊎ AreCollisionFree sha256 (observed_now ++ folder_contents world)

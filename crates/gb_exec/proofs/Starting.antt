@@ -16,7 +16,7 @@ use Rattle.gb_meaning.specs.Label.{Moment, some_outcome}
 use Rattle.gb_meaning.specs.Execution as meant
 use Rattle.gb_exec.specs.declared.may_start.Ending.{Ending}
 use Rattle.gb_exec.specs.declared.may_start.Ending.TheVariants.{ToCome}
-use Rattle.gb_exec.specs.Starts.{Progress, IsCalled, Serves, called, needed, ending_in, ending_of, ended_badly, has_started, has_failed, has_executed, has_executed_need, lacks_need, mark_at, row}
+use Rattle.gb_exec.specs.Starts.{Progress, FinalizesStarted, Serves, called, needed, ending_in, ending_of, ended_badly, has_started, has_failed, has_executed, has_executed_need, lacks_need, mark_at, row}
 use Rattle.gb_exec.specs.Plans.{AreOfPlan, AreEndings, IsNeeded, NeedsByNumber, StartsByNumber, path_at}
 use Rattle.gb_exec.proofs.Marks.{row_known}
 use Rattle.gb_exec.proofs.ByNumber.{same_truth, both_true, at_some, some_at, contained, contains_any, any_default, filtered_at, at_filtered, any_flat, path_is, in_order, of_order}
@@ -132,7 +132,7 @@ module _ (plan : List Planned) (progress : Progress) (moment : Moment) (some_pla
 
     -- ---- Finalizers
 
-    finalizes : meant.finalizes_started plan moment planned.task.path ≡ true → IsCalled progress number
+    finalizes : meant.finalizes_started plan moment planned.task.path ≡ true → FinalizesStarted progress number
     finalizes h =
         let found = by_number is_started has_started starting (map (λ z. z.task.path) (filter (λ z. has_path z.task.finalizers planned.task.path) plan)) h in
         let other = filtered_at (λ z. has_path z.task.finalizers planned.task.path) (λ z. bytes_eq (path_at plan found.0) z.task.path) plan
@@ -145,7 +145,7 @@ module _ (plan : List Planned) (progress : Progress) (moment : Moment) (some_pla
               ((are.finalizers.reported other.0 number other.1 other.2).1 (within, ap (has_path other.1.task.finalizers) (path_is plan number planned here) ∙ other.3)),
         )
 
-    finalized : IsCalled progress number → meant.finalizes_started plan moment planned.task.path ≡ true
+    finalized : FinalizesStarted progress number → meant.finalizes_started plan moment planned.task.path ≡ true
     finalized is =
         let other = at is.0 (ended_within is_started has_started starting refl is.0 is.1) in
         let reported = (are.finalizers.reported is.0 number other.0 other.1).0 is.2 in
@@ -169,7 +169,7 @@ module _ (plan : List Planned) (progress : Progress) (moment : Moment) (some_pla
         let reported = (are.needs.reported is.0 number other.0 other.1).0 is.1 in
         some_at (λ z. has_path z.task.needs planned.task.path) plan is.0 other.0 other.1 (ap (has_path other.0.task.needs) (sym (path_is plan number planned here)) ∙ reported.1)
 
-    wanted : meant.is_uncalled plan moment planned ≡ false → IsTrue (mark_at progress.wanted number) ⊎ IsCalled progress number
+    wanted : meant.is_uncalled plan moment planned ≡ false → IsTrue (mark_at progress.wanted number) ⊎ FinalizesStarted progress number
     wanted h = elim (one_of planned.is_selected (list_any (λ other. has_path other.task.needs planned.task.path) plan) (meant.finalizes_started plan moment planned.task.path) h) [
       | inl selected ↦ inl ((are.wanted number planned here).1 (inl selected))
       | inr (inl needed_by) ↦ inl ((are.wanted number planned here).1 (inr (is_needed needed_by)))
@@ -182,7 +182,7 @@ module _ (plan : List Planned) (progress : Progress) (moment : Moment) (some_pla
         one_of false false true e = inr (inr refl)
         one_of false false false e = not_true (sym e)
 
-    is_called : IsTrue (mark_at progress.wanted number) ⊎ IsCalled progress number → meant.is_uncalled plan moment planned ≡ false
+    is_called : IsTrue (mark_at progress.wanted number) ⊎ FinalizesStarted progress number → meant.is_uncalled plan moment planned ≡ false
     is_called either = elim either [
       | inl marked ↦ elim ((are.wanted number planned here).0 marked) [
         | inl selected ↦ by_first planned.is_selected (list_any (λ other. has_path other.task.needs planned.task.path) plan) (meant.finalizes_started plan moment planned.task.path) selected

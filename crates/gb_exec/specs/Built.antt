@@ -22,8 +22,8 @@ use Rattle.gb_report.specs.declared.report.TaskReport.{TaskReport}
 
 -- The records of what is remembered exist in the folder, and all of it is true; these are what was read of
 -- the plan's tasks; and all remembered contents are among those that were read.
-pub record AreWorth (kinds : Kinds) (plan : Plan) (records : List (Option Record)) (observed : List Bytes)
-    (folder : Contents) (remembered : Memory) : Type 0 where
+pub record AreTrueBefore (kinds : Kinds) (plan : Plan) (records : List (Option Record))
+    (observed : List Bytes) (folder : Contents) (remembered : Memory) : Type 0 where
   pub existing : HoldsRecords folder.files remembered
   pub made : AllByRecursion (λ entry. IsMade kinds entry.1) remembered
   pub read : AllZip (IsReadAt folder.files) (order plan) records

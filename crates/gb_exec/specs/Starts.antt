@@ -78,14 +78,14 @@ has_executed_need progress task =
     list_any (λ before. has_executed (ending_in progress.endings before)) (row progress.needs task)
 
 -- it finalizes a task that was started
-abbrev pub IsCalled : Progress → ℕ → Type 0
-IsCalled progress task =
+abbrev pub FinalizesStarted : Progress → ℕ → Type 0
+FinalizesStarted progress task =
     (started : ℕ) × IsTrue (has_started (ending_in progress.endings started))
     × Contains (row progress.finalizers started) task
 
 -- a finalizer of a started task, or reached by needs from one
 pub data Serves (progress : Progress) : ℕ → Type 0 where
-  called : {task : ℕ} → IsCalled progress task → Serves progress task
+  called : {task : ℕ} → FinalizesStarted progress task → Serves progress task
   needed : {later : ℕ} {task : ℕ} → Serves progress later → Contains (row progress.needs later) task
       → Serves progress task
 
@@ -95,7 +95,7 @@ is_stopping keep_going progress = list_any has_failed progress.endings && not ke
 
 pub record DoesStart (keep_going : Bool) (progress : Progress) (task : ℕ) : Type 0 where
   pub needs_ended_well : lacks_need progress task ≡ false
-  pub is_wanted : IsTrue (mark_at progress.wanted task) ⊎ IsCalled progress task
+  pub is_wanted : IsTrue (mark_at progress.wanted task) ⊎ FinalizesStarted progress task
   pub goes_on : (is_stopping keep_going progress ≡ false) ⊎ Serves progress task
 
 -- each number that is marked has its row marked
@@ -120,6 +120,6 @@ pub record Keeps (progress : Progress) (called serving : List Bool)
   pub each_ending : length progress.endings ≡ length progress.needs
   pub each_called : length called ≡ length progress.needs
   pub each_serving : length serving ≡ length progress.needs
-  pub are_called : (task : ℕ) → (mark_at called task ≡ true) ↔ IsCalled progress task
+  pub are_called : (task : ℕ) → (mark_at called task ≡ true) ↔ FinalizesStarted progress task
   pub are_serving : is_spread ≡ true → (task : ℕ) → (mark_at serving task ≡ true) ↔ Serves progress task
   pub failed : some_failed ≡ list_any has_failed progress.endings

@@ -1,7 +1,7 @@
 -- The definitions that the contract of `execute` uses.
 pub use Rattle.gb_exec.specs.Asking.{ExecutionsRequest}
 pub use Rattle.gb_exec.specs.Building.{CanBuild, is_of_executions}
-pub use Rattle.gb_exec.specs.Built.{AreWorth, HasBuilt}
+pub use Rattle.gb_exec.specs.Built.{AreTrueBefore, HasBuilt}
 pub use Rattle.gb_exec.specs.Failing.{times_blamed}
 pub use Rattle.gb_exec.specs.Reports.{IsOf}
 pub use Rattle.gb_folder.specs.Calls.{Requests}

@@ -13,7 +13,7 @@ ghost use Rattle.gb_store.specs.Changes.{ChangesOnly};
 ghost use Rattle.gb_task.specs.Executing.{Registering, setting_with};
 ghost use Rattle.gb_exec.specs.Asking.{ExecutionsRequest};
 ghost use Rattle.gb_exec.specs.Building.{CanBuild, is_of_executions};
-ghost use Rattle.gb_exec.specs.Built.{AreWorth, HasBuilt};
+ghost use Rattle.gb_exec.specs.Built.{AreTrueBefore, HasBuilt};
 ghost use Rattle.gb_exec.specs.Failing.{times_blamed};
 ghost use Rattle.gb_exec.specs.Reports.{IsOf};
 
@@ -77,13 +77,14 @@ pub fn execute<A: Actions, F: Folder, L: TaskListener, P: Printer>(
     ensures dry { options.dry_run ≡ true → folder.new ≡ folder.old }
     ensures changes { IsTrue F.faithful
         → ChangesOnly (is_of_executions plan.now) (F.contents folder.old) (F.contents folder.new) }
-    // Where contents are known and kinds agree: if `AreWorth` holds of the records, this is a build
+    // Where contents are known and kinds agree: if `AreTrueBefore` holds of the records, this is a build
     // of the plan by the definitions. If also `guard` holds of the contents so far (no two share a
     // digest, or nothing was remembered), the records of what is remembered exist after it.
     ensures build { IsTrue F.faithful → IfOk result (λ report. (kinds : Kinds) (registry_of : Registering)
         (remembered : Memory) (clear : Bool) (observed : List Bytes)
         → IsAssumed A.meanings table.now kinds (F.may_leave folder.old)
-        → (IsTrue clear → AreWorth kinds plan.now records.now observed (F.contents folder.old) remembered)
+        → (IsTrue clear
+        → AreTrueBefore kinds plan.now records.now observed (F.contents folder.old) remembered)
         → HasBuilt (setting_with kinds registry_of (F.may_leave folder.old)) clear observed options plan.now
         (record {
           contents = F.contents folder.old;

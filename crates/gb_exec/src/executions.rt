@@ -21,7 +21,7 @@ ghost use Rattle.gb_exec.specs.Plans.{AreOfPlan};
 ghost use Rattle.gb_exec.specs.declared.may_start.Ending.TheVariants.{ToCome};
 ghost use Rattle.gb_exec.specs.Asking.{ExecutionsRequest};
 ghost use Rattle.gb_exec.specs.Building.{CanBuild, is_of_executions};
-ghost use Rattle.gb_exec.specs.Built.{AreWorth, HasBuilt};
+ghost use Rattle.gb_exec.specs.Built.{AreTrueBefore, HasBuilt};
 ghost use Rattle.gb_exec.specs.Failing.{times_blamed};
 ghost use Rattle.gb_exec.specs.Reports.{IsOf};
 
@@ -89,7 +89,7 @@ pub(crate) fn execute_tasks<A: Actions, F: Folder, L: TaskListener, P: Printer>(
     ensures build { IsTrue F.faithful → (kinds : Kinds) (registry_of : Registering) (remembered : Memory)
         (clear : Bool) (observed : List Bytes)
         → IsAssumed A.meanings build.now.table.now kinds (F.may_leave folder.old)
-        → (IsTrue clear → AreWorth kinds build.now.tasks.now build.now.records.now observed
+        → (IsTrue clear → AreTrueBefore kinds build.now.tasks.now build.now.records.now observed
         (F.contents folder.old) remembered)
         → HasBuilt (setting_with kinds registry_of (F.may_leave folder.old)) clear observed build.now.options
         build.now.tasks.now

@@ -15,7 +15,7 @@
 //!
 //! Premises of `execute`: each task of the plan can be executed (`CanBuild`), and there is a record
 //! or none for each. `build`: where contents are known, kinds agree (`IsAssumed`) and the records are
-//! those that are remembered (`AreWorth`), it is a build of the plan by the definitions, as long as
+//! those that are remembered (`AreTrueBefore`), it is a build of the plan by the definitions, as long as
 //! no two contents that it met share a digest (`HasBuilt`). `outline`: over any folder, which tasks
 //! start, and which outcomes each may have. It does not say which of these a started task with
 //! actions has, with which fault it fails, nor what it prints if it ran or failed.

@@ -166,7 +166,7 @@ impl Model for Starts {
 
 impl Starts {
     ghost use Rattle.std.specs.Prelude.{replicate};
-    ghost use Rattle.gb_exec.specs.Starts.{IsCalled, Serves, ending_in, ending_of};
+    ghost use Rattle.gb_exec.specs.Starts.{FinalizesStarted, Serves, ending_in, ending_of};
     ghost use Rattle.gb_exec.specs.Starts.{has_executed_need, is_stopping, lacks_need};
     ghost use Rattle.gb_exec.specs.declared.may_start.Ending.TheVariants.{ToCome};
 
@@ -236,7 +236,7 @@ impl Starts {
     /// Whether the task is wanted, or finalizes one that was started.
     fn is_called(&self, task: usize) -> bool
         requires known { task < length self.now.needs }
-        ensures { IsTrue result ↔ (IsTrue (mark_at self.now.wanted task) ⊎ IsCalled self.now task) }
+        ensures { IsTrue result ↔ (IsTrue (mark_at self.now.wanted task) ⊎ FinalizesStarted self.now task) }
     {
         self.wanted[task] || self.called[task]
     }

@@ -1,6 +1,6 @@
 -- What sequences of calls request of a folder: lemmas for callers of folders.
 use Rattle.std.proofs.Common.{◌≡◌, ◌≤◌, ℕ, Bool, true, List, Option, Some, None, refl, sym, arith, subst}
-use Rattle.gb_folder.specs.Calls.{Call, Lists, Reads, ReadsPart, Writes, Removes, Permit, IsPermitted, Leads, none, then, Requests, no_change, put_at, taken_at, takes_at, changes_at}
+use Rattle.gb_folder.specs.Calls.{Call, Lists, Reads, ReadsPart, Writes, Removes, Permit, IsPermitted, IsReachedBy, none, then, Requests, no_change, put_at, taken_at, takes_at, changes_at}
 use Rattle.gb_folder.specs.Files.{Tearing, SameTearing}
 use Rattle.gb_folder.proofs.Changes.{SameTearing-same, SameTearing-chain}
 
@@ -47,11 +47,11 @@ permitted_more wider (Removes place answer) is = wider place None is
 
 module _ {F : Type 0} {allowed : F → Call → F → Type 0} where
   leads_more : {some more : Permit} {old new : F} → ((place : List ℕ) (next : Option (List ℕ)) → some place next → more place next)
-      → Leads allowed some old new → Leads allowed more old new
+      → IsReachedBy allowed some old new → IsReachedBy allowed more old new
   leads_more wider none = none
   leads_more wider (then call new led permitted is) = then call new (leads_more wider led) (permitted_more wider call permitted) is
 
-  leads_on : {permit : Permit} {old mid new : F} → Leads allowed permit old mid → Leads allowed permit mid new → Leads allowed permit old new
+  leads_on : {permit : Permit} {old mid new : F} → IsReachedBy allowed permit old mid → IsReachedBy allowed permit mid new → IsReachedBy allowed permit old new
   leads_on first none = first
   leads_on first (then call new led permitted is) = then call new (leads_on first led) permitted is
 
@@ -83,7 +83,7 @@ requests_taken {permit = permit} place may takes =
 
 -- the calls themselves
 pub led : {F : Type 0} {failures : F → ℕ} {may_leave : F → Tearing} {allowed : F → Call → F → Type 0} {permit : Permit} {old new : F}
-    → Requests failures may_leave allowed permit old new → Leads allowed permit old new
+    → Requests failures may_leave allowed permit old new → IsReachedBy allowed permit old new
 led requests = requests.calls none
 
 -- ---- changes where a test holds

@@ -40,10 +40,11 @@ IsPermitted permit (Writes place bytes limit answer) = permit place (Some bytes)
 IsPermitted permit (Removes place answer) = permit place None
 
 -- such calls, one after another, lead from the first state of the folder to the second
-pub data Leads {F : Type 0} (allowed : F → Call → F → Type 0) (permit : Permit) (old : F) : F → Type 0 where
-  none : Leads allowed permit old old
-  then : {mid : F} (call : Call) (new : F) → Leads allowed permit old mid → IsPermitted permit call
-      → allowed mid call new → Leads allowed permit old new
+pub data IsReachedBy {F : Type 0} (allowed : F → Call → F → Type 0) (permit : Permit) (old : F)
+    : F → Type 0 where
+  none : IsReachedBy allowed permit old old
+  then : {mid : F} (call : Call) (new : F) → IsReachedBy allowed permit old mid → IsPermitted permit call
+      → allowed mid call new → IsReachedBy allowed permit old new
 
 -- The requests to a folder between two of its states: if such calls led to the first state, such calls lead
 -- to the second. The device's count of failures never falls. What a stopped call may leave stays the same.
@@ -52,7 +53,7 @@ pub record Requests {F : Type 0} (failures : F → ℕ) (may_leave : F → Teari
     (permit : Permit) (old new : F) : Type 0 where
   pub count : failures old ≤ failures new
   pub tearing : SameTearing (may_leave old) (may_leave new)
-  pub calls : {first : F} → Leads allowed permit first old → Leads allowed permit first new
+  pub calls : {first : F} → IsReachedBy allowed permit first old → IsReachedBy allowed permit first new
 
 -- no change is requested
 unfoldable pub no_change : Permit

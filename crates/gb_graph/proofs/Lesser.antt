@@ -12,7 +12,7 @@ use Rattle.gb_core.specs.Lists.{byte_order}
 use Rattle.gb_plan.specs.declared.plan.Planned.{Planned}
 use Rattle.gb_plan.specs.Refusal.{Conflict, is_before}
 use Rattle.gb_graph.proofs.Edges.{take_grows}
-use Rattle.gb_graph.specs.Circle.{path_at}
+use Rattle.gb_graph.specs.Cycle.{path_at}
 use Rattle.gb_graph.specs.declared.least.Found.{Found}
 use Rattle.gb_graph.specs.declared.least.Met.{Met}
 use Rattle.gb_graph.specs.declared.conflicting.Search.{Search}

@@ -13,7 +13,7 @@ pub mod Newly
 pub mod Firsts
 pub mod Schedules
 pub mod Rounds
-pub mod Circled
+pub mod Cycled
 pub mod Cuts
 pub mod RefusalRows
 pub mod Sorted

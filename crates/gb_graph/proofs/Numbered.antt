@@ -15,7 +15,7 @@ use Rattle.gb_plan.proofs.Tests.{left_of, right_of, itself}
 use Rattle.gb_plan.proofs.Same.{In}
 use Rattle.gb_graph.specs.Order.{row}
 use Rattle.gb_graph.specs.Chains.{bit_in}
-use Rattle.gb_graph.specs.Circle.{path_at}
+use Rattle.gb_graph.specs.Cycle.{path_at}
 use Rattle.gb_graph.proofs.Keeping.{not_both}
 use Rattle.gb_graph.proofs.Numbers.{in_of, of_in, both}
 use Rattle.gb_graph.specs.declared.conflicting.Search.TheVariants.{Overlaps, OwnInputs, Undeclared}

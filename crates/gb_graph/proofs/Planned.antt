@@ -17,12 +17,12 @@ use Rattle.gb_graph.specs.Ranked.{GiveAfter}
 use Rattle.gb_graph.specs.Chains as chains
 use Rattle.gb_graph.specs.Chains.{bit_in}
 use Rattle.gb_graph.specs.Conflicts.{GiveChains}
-use Rattle.gb_graph.specs.Circle.{path_at}
+use Rattle.gb_graph.specs.Cycle.{path_at}
 use Rattle.gb_graph.proofs.Edges.{one_number, at_path}
 use Rattle.gb_graph.proofs.Firsts.{element}
 use Rattle.gb_graph.proofs.Queues.{split_or, has_push}
 use Rattle.gb_graph.proofs.Arranged.{after_is, after_so, after_known, path_once}
-use Rattle.gb_graph.proofs.Circled.{to_after, from_after}
+use Rattle.gb_graph.proofs.Cycled.{to_after, from_after}
 use Rattle.gb_graph.proofs.Numbers.{in_of}
 
 -- the elements before an index

@@ -1,4 +1,4 @@
--- Trails from number to number, and the circle that they lead into.
+-- Trails from number to number, and the cycle that they lead into.
 use Rattle.std.specs.Prelude.{ℕ, zero, suc, ◌≡◌, ◌⊎◌, ◌<◌, ◌+◌, Bool, true, false, List, [], ◌∷◌, ◌++◌, length, get_or, take, refl, Contains, ◌↔◌, Option, Some, None, unwrap_or, MatchOption}
 use Rattle.std.specs.Ordering.{is_lt}
 use Rattle.std.specs.declared.cmp.Ordering.{Ordering}
@@ -17,7 +17,7 @@ use Rattle.gb_plan.proofs.Tests.{not_true}
 use Rattle.gb_plan.proofs.Same.{In}
 use Rattle.gb_graph.specs.Settled.{exists_in}
 use Rattle.gb_graph.specs.Ranked.{AreDistinct}
-use Rattle.gb_graph.specs.Circle.{IsLeastNumber, IsNextNumber, IsRound, IsTrail, LeadsTo, is_there, goes, path_at}
+use Rattle.gb_graph.specs.Cycle.{IsLeastNumber, IsNextNumber, IsRound, IsTrail, LeadsTo, is_there, goes, path_at}
 use Rattle.gb_graph.proofs.Edges.{take_grows}
 use Rattle.gb_graph.proofs.Keeping.{mark_kept, mark_other, not_both}
 use Rattle.gb_graph.proofs.Numbers.{in_of, of_in, in_prefix, in_back, in_either, separate_parts, separate_both, not_nil, same_head, same_tail}
@@ -113,7 +113,7 @@ separate_right : (xs ys : List ℕ) → AreDistinct (xs ++ ys) → AreDistinct y
 separate_right [] ys separate = separate
 separate_right (x ∷ xs) ys separate = separate_right xs ys separate.1
 
--- ---- The circle
+-- ---- The cycle
 
 pub round_is : (tasks : List Planned) (after : List (List ℕ)) (marks : List Bool) (numbers : List ℕ) (start back first : ℕ) (trail prefix round end most rest last : List ℕ)
     → IsLeastNumber tasks numbers marks start → IsTrail tasks after marks start trail back → trail ≡ prefix ++ round → round ≡ back ∷ rest

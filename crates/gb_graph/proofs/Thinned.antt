@@ -9,7 +9,7 @@ use Rattle.gb_plan.specs.declared.plan.Planned.{Planned}
 use Rattle.gb_plan.specs.Refusal.{Conflict}
 use Rattle.gb_graph.specs.Order.{row}
 use Rattle.gb_graph.specs.Chains.{bit_in}
-use Rattle.gb_graph.specs.Circle.{path_at}
+use Rattle.gb_graph.specs.Cycle.{path_at}
 use Rattle.gb_graph.proofs.Numbers.{in_of, of_in}
 use Rattle.gb_graph.specs.declared.conflicting.Search.{Search}
 use Rattle.gb_graph.specs.declared.conflicting.Search.TheVariants.{Overlaps, OwnInputs, Undeclared}

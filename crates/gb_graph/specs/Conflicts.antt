@@ -10,7 +10,7 @@ use Rattle.gb_plan.specs.Graph.{Plan, IsAfter}
 use Rattle.gb_plan.specs.Refusal.{Conflict, is_before, IsLeastConflict, IsOverlap, IsOwnInput, IsUndeclared}
 use Rattle.gb_graph.specs.Order.{row, rows}
 use Rattle.gb_graph.specs.Chains.{bit_in}
-use Rattle.gb_graph.specs.Circle.{path_at}
+use Rattle.gb_graph.specs.Cycle.{path_at}
 use Rattle.gb_graph.specs.declared.least.Found.{Found}
 use Rattle.gb_graph.specs.declared.least.Met.{Met}
 use Rattle.gb_graph.specs.declared.conflicting.Search.{Search}

@@ -5,7 +5,7 @@ pub mod Ranked
 pub mod Queue
 pub mod Reach
 pub mod Words
-pub mod Circle
+pub mod Cycle
 pub mod Places
 pub mod Overlaps
 pub mod Near

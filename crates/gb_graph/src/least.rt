@@ -5,7 +5,7 @@ ghost use Rattle.std.specs.Ordering.{is_gt, is_lt};
 ghost use Rattle.gb_core.specs.Lists.{byte_order};
 ghost use Rattle.gb_plan.specs.Refusal.{is_before};
 ghost use Rattle.gb_graph.specs.Order.{rows};
-ghost use Rattle.gb_graph.specs.Circle.{path_at};
+ghost use Rattle.gb_graph.specs.Cycle.{path_at};
 ghost use Rattle.gb_graph.specs.Places.{IsRising};
 ghost use Rattle.gb_graph.specs.declared.places.TaskPlace.{TaskPlace};
 ghost use Rattle.gb_graph.specs.Conflicts.{IsLeast, IsLeastTask, IsMet, IsWithin};

@@ -9,7 +9,7 @@
 //! that they need and that finalizes them, by a queue in which each task is declared once. Below
 //! that tasks are numbers: the rank of a task's key, by word and path, among all keys ([`ranked`]).
 //! [`order`] takes again and again the least task whose predecessors are placed; what is left is on
-//! a circle ([`circle`]). [`chains`] computes for each task, as a row of bits, which tasks come
+//! a cycle ([`cycle`]). [`chains`] computes for each task, as a row of bits, which tasks come
 //! before it by a chain. With the chains the other rules are checked: of two tasks at one place one
 //! has to wait for the other, and [`refusal`] reports the first of all faults. Places that overlap
 //! are found by binary searches in one sorted row ([`overlaps`]), once for equal places ([`last`]).
@@ -25,8 +25,8 @@ mod arrange;
 pub mod by_path;
 mod chained;
 mod chains;
-mod circle;
 mod conflicting;
+mod cycle;
 mod last;
 mod least;
 mod near;

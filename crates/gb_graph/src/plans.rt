@@ -4,13 +4,13 @@ ghost use Rattle.std.specs.Prelude.{Contains, IfOk, IfErr, slice_index_or};
 ghost use Rattle.gb_report.specs.declared.fault.Fault.TheVariants.{OutOfMemory};
 ghost use Rattle.gb_plan.specs.declared.plan.Planned.{Planned};
 ghost use Rattle.gb_plan.specs.Graph.{Request, IsSchedule, order, stuck};
-ghost use Rattle.gb_plan.specs.Refusal.{IsCircle, IsRefused, request_of};
+ghost use Rattle.gb_plan.specs.Refusal.{IsCycle, IsRefused, request_of};
 ghost use Rattle.gb_graph.specs.Order.{rows};
 ghost use Rattle.gb_graph.specs.Settled.{exists_in};
 ghost use Rattle.gb_graph.specs.Ranked.{AreRanked, AreRanks};
 
 use crate::arrange::{Ranks, in_order, rank, ranks_of};
-use crate::circle::{paths_of, round_of};
+use crate::cycle::{paths_of, round_of};
 use crate::schedule::scheduled;
 use crate::tasks::Tasks;
 use gb_core::tasks::TaskList;
@@ -32,16 +32,16 @@ fn marks_of(alloc: Global, count: usize, numbers: &[usize]) -> Result<Vec<bool>,
     Ok(marks)
 }
 
-/// The circle of the tasks that never get ready. There is at least one such task.
-fn circle_of(alloc: Global, tasks: &[Planned], ranks: &Ranks) -> Result<TaskList, AllocError>
+/// The cycle of the tasks that never get ready. There is at least one such task.
+fn cycle_of(alloc: Global, tasks: &[Planned], ranks: &Ranks) -> Result<TaskList, AllocError>
     requires ranked { AreRanked tasks.now }
     requires ranks { AreRanks tasks.now
         (rows ranks.now.after.items) ranks.now.order.items ranks.now.others.items }
     requires some { (number : ℕ) × Contains ranks.now.others.items number }
-    ensures { IfOk result (λ circle. (d : Planned) →
+    ensures { IfOk result (λ cycle. (d : Planned) →
         let plan = map (λ k. slice_index_or tasks.now k d)
         (ranks.now.order.items ++ ranks.now.others.items) in
-        IsCircle plan (order (stuck plan [] plan)) circle) }
+        IsCycle plan (order (stuck plan [] plan)) cycle) }
 {
     let marks = marks_of(alloc, tasks.len(), ranks.others.as_slice())?;
     let round = round_of(
@@ -55,7 +55,7 @@ fn circle_of(alloc: Global, tasks: &[Planned], ranks: &Ranks) -> Result<TaskList
 }
 
 /// The scheduled tasks of a request, in the order in which they run.
-/// Refused with the first fault of the arguments or along the queue, or with the circle of the
+/// Refused with the first fault of the arguments or along the queue, or with the cycle of the
 /// tasks that never get ready (60).
 pub fn ordered<T: Tasks>(
     alloc: Global,
@@ -77,7 +77,7 @@ pub fn ordered<T: Tasks>(
     rank(&mut planned);
     let ranks = ranks_of(alloc, planned.as_slice())?;
     if !ranks.others.is_empty() {
-        return Err(Fault::Cycle(circle_of(alloc, planned.as_slice(), &ranks)?));
+        return Err(Fault::Cycle(cycle_of(alloc, planned.as_slice(), &ranks)?));
     }
     Ok(in_order(alloc, planned, &ranks)?)
 }

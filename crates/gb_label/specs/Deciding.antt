@@ -47,17 +47,17 @@ pub record IsPresentOf (options : Options) (task : Task) (inputs : List Prints) 
   pub stale : present.is_stale ≡ task.is_stale
 
 -- the cause to run in full holds of a task with this record; a record that counts is considered last
-abbrev pub IsCause : Options → Task → Option Record → FullReason → Type 0
-IsCause options task None causes.NoRecord = ⊤
-IsCause options task (Some run) causes.Rerun = options.rerun ≡ true
-IsCause options task (Some run) causes.Stale = (options.rerun ≡ false) × (task.is_stale ≡ true)
-IsCause options task (Some run) causes.Grown = (options.rerun ≡ false) × (task.is_stale ≡ false)
-IsCause options task old other = ⊥
+abbrev pub IsFullReason : Options → Task → Option Record → FullReason → Type 0
+IsFullReason options task None causes.NoRecord = ⊤
+IsFullReason options task (Some run) causes.Rerun = options.rerun ≡ true
+IsFullReason options task (Some run) causes.Stale = (options.rerun ≡ false) × (task.is_stale ≡ true)
+IsFullReason options task (Some run) causes.Grown = (options.rerun ≡ false) × (task.is_stale ≡ false)
+IsFullReason options task old other = ⊥
 
 -- The decision follows from its basis: a cause to run in full, or the record and what the task has now.
 abbrev pub FollowsFrom : Options → Task → Option Record → Decision → Basis → Type 0
 FollowsFrom options task old decision (bases.Forced cause) =
-    (decision ≡ Full) × IsCause options task old cause
+    (decision ≡ Full) × IsFullReason options task old cause
 FollowsFrom options task (Some run) decision (bases.Compared present) = DecidesFrom run present decision
 FollowsFrom options task None decision (bases.Compared present) = ⊥
 

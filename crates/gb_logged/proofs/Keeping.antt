@@ -4,7 +4,7 @@ use Rattle.std.proofs.lemmas.List.{map-append}
 use Rattle.gb_folder.specs.Calls.{Call, Writes, Removes}
 use Rattle.gb_folder.specs.Files.{Tearing}
 use Rattle.gb_folder.specs.Semantics.{Answer}
-use Rattle.gb_logged.specs.Logged.{call_of, log_of, log, allowed_over, KeepsCalls}
+use Rattle.gb_logged.specs.Logged.{call_of, log_of, log, allowed_over, LogsCalls}
 use Rattle.gb_logged.specs.declared.logged.LoggedCall.{LoggedCall}
 use Rattle.gb_logged.specs.declared.logged.LoggedCall.TheVariants as kept
 
@@ -36,7 +36,7 @@ kept_removal {old = old} {new = new} {copied = copied} {place = place} answer at
 
 -- a logged folder keeps its calls
 pub all_kept : {F : Type 0} (failures : F → ℕ) (may_leave : F → Tearing) (allowed : F → Call → F → Type 0)
-    → KeepsCalls (allowed_over failures may_leave allowed) log
+    → LogsCalls (allowed_over failures may_leave allowed) log
 all_kept failures may_leave allowed = record {
   kept = λ old call new is. elim is [ inl noted ↦ inl noted.0 | inr left ↦ inr (left.0, left.1) ];
 }

@@ -2,7 +2,7 @@
 //!
 //! [`LoggedFolder`](logged::LoggedFolder) passes every call to its inner folder and keeps it, the
 //! readings too, in order: for tests, and for laws about the calls of a build. `specs/Logged.antt`
-//! has what is kept as calls of `gb_folder`, and `KeepsCalls`: each state of a folder keeps the
+//! has what is kept as calls of `gb_folder`, and `LogsCalls`: each state of a folder keeps the
 //! calls that led to it. `logged_folders_keep_calls` is that law.
 //!
 //! A reading is made, and then kept with a copy of its answer; without memory for the copy its

@@ -3,12 +3,12 @@ pub mod Chains
 pub mod Same
 pub mod Refused
 pub mod Conflicts
-pub mod Circles
+pub mod Cycles
 pub mod Once
 pub mod Places
 pub mod Registered
 pub mod RowTasks
 mod PlanRows
 mod OrderRows
-mod CircleRows
+mod CycleRows
 pub mod Plans

@@ -15,11 +15,11 @@ use Rattle.gb_tree.specs.Property.{distinct}
 use Rattle.gb_plan.specs.declared.task.TaskDeclaration.{TaskDeclaration}
 use Rattle.gb_plan.specs.Task.{Path, has_path}
 use Rattle.gb_plan.specs.Graph.{Plan, Request, order, stuck, after_at, declaration_at, selected, IsSchedule}
-use Rattle.gb_plan.specs.Refusal.{Queued, newly_brought, begins, goes_on, open_of, IsTaskFault, IsLeastOf, IsLeastBefore, Leads, is_there, goes, IsCircle, Conflict, IsLeastConflict, IsScheduleFault, has_cycle, has_overlap, has_own_input, is_undeclared, IsCycleFault, IsRefused}
+use Rattle.gb_plan.specs.Refusal.{Queued, newly_brought, begins, goes_on, open_of, IsTaskFault, IsLeastOf, IsLeastBefore, IsWalk, is_there, goes, IsCycle, Conflict, IsLeastConflict, IsScheduleFault, has_cycle, has_overlap, has_own_input, is_undeclared, IsCycleFault, IsRefused}
 use Rattle.gb_plan.proofs.Tests.{not_true, not_false, at_member, all_of_members, in_filter, into_filter}
 use Rattle.gb_plan.proofs.Same.{schedules_are_one, same_stuck, same_after_at}
 use Rattle.gb_plan.proofs.Refused.{no_task_fault}
-use Rattle.gb_plan.proofs.Circles.{neither_less, circles_are_one}
+use Rattle.gb_plan.proofs.Cycles.{neither_less, cycles_are_one}
 
 -- ---- The queue
 
@@ -140,25 +140,25 @@ module _ (request : Request) (p q : Plan) (of_p : IsSchedule request p) (of_q : 
       let both = in_filter (has_path (left p)) (after_at p path) other h in
       into_filter (has_path (left q)) (after_at q path) other (same_after_at request p q of_p of_q path other both.0) (same_stuck request p q of_p of_q other both.1)
 
-  way_of : (a b : Path) (xs : List Path) → Leads (IsLeastBefore q (left q)) a xs b → Leads (IsLeastBefore p (left p)) a xs b
+  way_of : (a b : Path) (xs : List Path) → IsWalk (IsLeastBefore q (left q)) a xs b → IsWalk (IsLeastBefore p (left p)) a xs b
   way_of a b xs is_there = is_there
   way_of a b xs (goes {next = next} {passed = passed} s way) = goes (least_of_same _ _ (open_within a) (open_back a) next s) (way_of next b passed way)
 
-  circle_of : (circle : List Path) → IsCircle q (left q) circle → IsCircle p (left p) circle
-  circle_of circle is = record {
+  cycle_of : (cycle : List Path) → IsCycle q (left q) cycle → IsCycle p (left p) cycle
+  cycle_of cycle is = record {
     start = is.start;
     first = is.first;
     way = is.way;
     from_least = least_of_same (left q) (left p) (same_stuck request q p of_q of_p) (same_stuck request p q of_p of_q) is.start is.from_least;
     comes_to = way_of is.start is.first is.way is.comes_to;
-    goes_round = way_of is.first is.first circle is.goes_round;
+    goes_round = way_of is.first is.first cycle is.goes_round;
     once = is.once;
     least_first = is.least_first;
   }
 
   cycle_faults : (f g : Fault) → IsCycleFault p f → IsCycleFault q g → f ≡ g
   cycle_faults f g of_f of_g =
-      of_f.reported ∙ (ap faults.Cycle (circles_are_one p (left p) of_f.circle of_g.circle of_f.is_circle (circle_of of_g.circle of_g.is_circle)) ∙ sym of_g.reported)
+      of_f.reported ∙ (ap faults.Cycle (cycles_are_one p (left p) of_f.cycle of_g.cycle of_f.is_cycle (cycle_of of_g.cycle of_g.is_cycle)) ∙ sym of_g.reported)
 
   -- where all become ready in the second, the two are equal
   ready_faults : (f g : Fault) → stuck q [] q ≡ [] → IsScheduleFault p f → IsScheduleFault q g → f ≡ g

@@ -86,23 +86,23 @@ abbrev pub IsLeastBefore : Plan → List Path → Path → Path → Type 0
 IsLeastBefore plan unplaced path before = IsLeastOf (filter (has_path unplaced) (after_at plan path)) before
 
 -- by steps from one task to another, through these: the first, and all between the two
-pub data Leads (steps : Path → Path → Type 0) : Path → List Path → Path → Type 0 where
-  is_there : {path : Path} → Leads steps path [] path
+pub data IsWalk (steps : Path → Path → Type 0) : Path → List Path → Path → Type 0 where
+  is_there : {path : Path} → IsWalk steps path [] path
   goes : {from : Path} {next : Path} {passed : List Path} {to : Path} → steps from next
-      → Leads steps next passed to → Leads steps from (from ∷ passed) to
+      → IsWalk steps next passed to → IsWalk steps from (from ∷ passed) to
 
 -- The cycle that the walk from the least unplaced task reaches. Each step of the walk leads to the least
 -- unplaced task that the last one comes after. The cycle begins at its own least task and has each task once.
 -- So each comes after the next, and the last after the first.
-pub record IsCircle (plan : Plan) (unplaced : List Path) (circle : List Path) : Type 0 where
+pub record IsCycle (plan : Plan) (unplaced : List Path) (cycle : List Path) : Type 0 where
   pub start : Path
   pub first : Path
   pub way : List Path
   pub from_least : IsLeastOf unplaced start
-  pub comes_to : Leads (IsLeastBefore plan unplaced) start way first
-  pub goes_round : Leads (IsLeastBefore plan unplaced) first circle first
-  pub once : no_repeats circle ≡ true
-  pub least_first : IsLeastOf circle first
+  pub comes_to : IsWalk (IsLeastBefore plan unplaced) start way first
+  pub goes_round : IsWalk (IsLeastBefore plan unplaced) first cycle first
+  pub once : no_repeats cycle ≡ true
+  pub least_first : IsLeastOf cycle first
 
 -- ---- Unsound plans
 
@@ -168,9 +168,9 @@ pub record IsUndeclared (plan : Plan) (conflict : Conflict) : Type 0 where
 -- some tasks never become ready, and the fault names their cycle
 pub record IsCycleFault (plan : Plan) (fault : Fault) : Type 0 where
   pub some_stuck : is_empty (stuck plan [] plan) ≡ false
-  pub circle : List Path
-  pub is_circle : IsCircle plan (order (stuck plan [] plan)) circle
-  pub reported : fault ≡ faults.Cycle circle
+  pub cycle : List Path
+  pub is_cycle : IsCycle plan (order (stuck plan [] plan)) cycle
+  pub reported : fault ≡ faults.Cycle cycle
 
 -- all become ready, and outputs overlap
 pub record IsOverlapFault (plan : Plan) (fault : Fault) : Type 0 where

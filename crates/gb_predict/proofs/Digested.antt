@@ -29,7 +29,7 @@ use Rattle.gb_records.specs.Said.{IsReadAt}
 use Rattle.gb_report.specs.declared.report.Options.{Options}
 use Rattle.gb_run.proofs.Owned.{narrowed}
 use Rattle.gb_task.specs.Case.{DecidedOutside, DecisionIsCase, IsCaseFor, IsKnown}
-use Rattle.gb_task.specs.Known.{AreWorth, WhatIsReadIsKnown}
+use Rattle.gb_task.specs.Known.{AreTrueRecords, WhatIsReadIsKnown}
 use Rattle.gb_task.specs.Executions.{IsRunFor, RunsAreOfCase, is_by_changes}
 use Rattle.gb_task.proofs.Outside.{early_outside}
 use Rattle.gb_task.proofs.Own.{is_kept, kept_at}
@@ -110,7 +110,7 @@ module _ (decision_is_case : DecisionIsCase) (decided_outside : DecidedOutside) 
     (rules : Rules) where
   module _ (folder : Contents) (memory : Memory) (before after : ℕ) where
     all_predicted : (plan : List Planned) (records : List (Option Record)) (reported : List Prediction)
-        → AllByRecursion (λ (planned : Planned). AreWorth rules.kinds planned.task folder.files memory (world_of folder memory)) plan
+        → AllByRecursion (λ (planned : Planned). AreTrueRecords rules.kinds planned.task folder.files memory (world_of folder memory)) plan
         → AllZip (IsReadAt folder.files) (order plan) records
         → AllZip (λ (pair : Planned × Option Record) (one : Prediction). IsPredictedOf rules.kinds rules.options pair.0.task folder pair.1 before after one.coming) (zip plan records) reported
         → AllByRecursion (λ (one : Prediction). IsOfFolder one.coming) reported

@@ -23,7 +23,7 @@ use Rattle.gb_report.specs.declared.report.Outcome.{Outcome}
 use Rattle.gb_report.specs.declared.report.Outcome.TheVariants as outcomes
 use Rattle.gb_report.specs.declared.report.TaskReport.{TaskReport}
 use Rattle.gb_records.specs.Said.{IsReadAt}
-use Rattle.gb_task.specs.Known.{AreWorth}
+use Rattle.gb_task.specs.Known.{AreTrueRecords}
 use Rattle.gb_predict.specs.Prediction.{ArePredictedOf, is_of_machine}
 use Rattle.gb_predict.specs.Marks.{AreMarked}
 use Rattle.gb_predict.specs.declared.predicted_outcome.PredictedOutcome.{PredictedOutcome}
@@ -123,7 +123,8 @@ FolderPredictionsAreKept rules =
     (new : WorldState)
     → no_repeats (order rules.plan) ≡ true → IsSound rules.plan
     → AllByRecursion
-    (λ planned. AreWorth rules.kinds planned.task folder.files memory (world_of folder memory)) rules.plan
+    (λ planned. AreTrueRecords rules.kinds planned.task folder.files memory (world_of folder memory))
+    rules.plan
     → AllZip (IsReadAt folder.files) (order rules.plan) records
     → ArePredictedOf rules.kinds rules.options folder before after rules.plan records reported
     → AllByRecursion (λ one. IsOfFolder one.coming) reported

@@ -14,20 +14,21 @@ module _ {M F Z S : Type 0} (old : Held M F Z S) where
       (node.number ≡ length old.nodes) × (new ≡ record old { nodes = old.nodes ++ expression ∷ [] })
 
   -- a call is added if the function takes this many arguments; else 32
-  abbrev pub IsCalled : {X : Type 0} → (Called X → Expression M F Z) → (X → ℕ) → List ℕ → List (List ℕ)
+  abbrev pub IsCallAdded : {X : Type 0} → (Called X → Expression M F Z) → (X → ℕ) → List ℕ → List (List ℕ)
       → Held M F Z S → Result Node StepFault → X → Type 0
-  IsCalled step arity name arguments new (Ok node) function =
+  IsCallAdded step arity name arguments new (Ok node) function =
       (arity function ≡ length arguments)
       × IsAdded (step (record { name = name; function = function; arguments = arguments })) new node
-  IsCalled step arity name arguments new (Err steps.UnknownTransform) function = ⊥
-  IsCalled step arity name arguments new (Err steps.BadArguments) function = arity function ≢ length arguments
-  IsCalled step arity name arguments new (Err steps.OutOfMemory) function = Unit {0}
+  IsCallAdded step arity name arguments new (Err steps.UnknownTransform) function = ⊥
+  IsCallAdded step arity name arguments new (Err steps.BadArguments) function =
+      arity function ≢ length arguments
+  IsCallAdded step arity name arguments new (Err steps.OutOfMemory) function = Unit {0}
 
   -- a step with the function found under the name; 31 if none is found
   abbrev pub IsStep : {X : Type 0} → (Called X → Expression M F Z) → (X → ℕ) → Option X → List ℕ
       → List (List ℕ) → Held M F Z S → Result Node StepFault → Type 0
   IsStep step arity (Some function) name arguments new result =
-      IsCalled step arity name arguments new result function
+      IsCallAdded step arity name arguments new result function
   IsStep step arity None name arguments new (Ok node) = ⊥
   IsStep step arity None name arguments new (Err steps.UnknownTransform) = Unit {0}
   IsStep step arity None name arguments new (Err steps.BadArguments) = ⊥

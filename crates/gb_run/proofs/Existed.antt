@@ -18,7 +18,7 @@ use Rattle.gb_meaning.specs.Made.{put_over, rest_of}
 use Rattle.gb_meaning.proofs.Lemmas.Ending.{ended_is_made}
 use Rattle.gb_meaning.proofs.Lemmas.Files.{at-put_over, at-where, or_else, same_files, same_place, sorted-put_over, sorted-where}
 use Rattle.gb_meaning.proofs.Lemmas.Making.{made_of_is_right}
-use Rattle.gb_run.specs.Course.{whole_run, course_of}
+use Rattle.gb_run.specs.RunInput.{whole_run, run_input}
 use Rattle.gb_run.specs.Digests.{prints_at}
 use Rattle.gb_run.specs.Laws.{MadeExists}
 use Rattle.gb_run.proofs.Beside.{or_none}
@@ -82,8 +82,8 @@ prints_of_made task old held old_in_order in_order =
 
 pub made_exists : MadeExists
 made_exists kinds task trees changes old lines new held in_order well made =
-    let course = course_of kinds task trees changes (rest_of task old) in
+    let input = run_input kinds task trees changes (rest_of task old) in
     let ended = ended_is_made kinds task.outputs task.values trees (rest_of task old) [] task.actions refl well.no_fault in
-    let same : (whole_run course).held ≡ held = ok_same _ (whole_run course).held held ended.0 made in
+    let same : (whole_run input).held ≡ held = ok_same _ (whole_run input).held held ended.0 made in
     ap (prints_at task.outputs) (well.files ∙ ap (put_over (rest_of task old)) same)
     ∙ prints_of_made task old held in_order (made_of_is_right kinds task.outputs task.values trees task.actions held made).in_order

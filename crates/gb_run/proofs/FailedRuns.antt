@@ -22,9 +22,9 @@ use Rattle.gb_meaning.specs.Run.{Ended, ends, hindrances, or_end, step_by, unles
 use Rattle.gb_meaning.specs.Execution.{IsWritten, lines_of}
 use Rattle.gb_meaning.specs.Events.{IsTornInRun, Setting, ExistsInRun}
 use Rattle.gb_meaning.proofs.Lemmas.Ending.{ended_is_made}
-use Rattle.gb_run.specs.Course.{Course, files_at_hand, run_along, whole_run}
-use Rattle.gb_run.specs.Failing.{FailsByItself, InFull, Moment, Way, files_then}
-use Rattle.gb_run.specs.Laws.{EndedRunsAreMade, FailedRunsInventNothingInFull, FailedRunsPrintPrefixes, course_in}
+use Rattle.gb_run.specs.RunInput.{RunInput, files_at_hand, run_along, whole_run}
+use Rattle.gb_run.specs.Failing.{FailsByItself, InFull, RunState, RunMode, files_then}
+use Rattle.gb_run.specs.Laws.{EndedRunsAreMade, FailedRunsInventNothingInFull, FailedRunsPrintPrefixes, run_input_in}
 use Rattle.gb_run.specs.Named.{put}
 use Rattle.gb_run.specs.Stepping.{FailsByMachine}
 use Rattle.gb_run.specs.Steps.{Step, after_steps}
@@ -37,9 +37,9 @@ use Rattle.gb_tree.proofs.Holding.{all_append}
 
 pub ended_runs_are_made : EndedRunsAreMade
 ended_runs_are_made kinds task changes old lines new well =
-    let course = course_in kinds task changes old in
-    let made = ended_is_made kinds task.outputs task.values course.trees course.rest [] task.actions refl well.no_fault in
-    ((whole_run course).held, made.0, well.files)
+    let input = run_input_in kinds task changes old in
+    let made = ended_is_made kinds task.outputs task.values input.trees input.rest [] task.actions refl well.no_fault in
+    ((whole_run input).held, made.0, well.files)
 
 -- ---- fronts
 
@@ -54,74 +54,74 @@ take_past (x ∷ xs) ys n = let e : suc (length xs) + n ≡ suc (length xs + n) 
 take_next : {X : Type 0} (x : X) (xs : List X) (n : ℕ) → take (n + 1) (x ∷ xs) ≡ x ∷ take n xs
 take_next x xs n = let e : n + 1 ≡ suc n = omega arith in ap (λ k. take k (x ∷ xs)) e
 
-module _ (course : Course) (way : Way) (moment : Moment course way) where
-  ended_done : (whole_run course).done ≡ moment.done ++ (run course.kinds course.task.outputs course.task.values course.trees course.rest (run_along course moment.done).held moment.left).done
+module _ (input : RunInput) (mode : RunMode) (state : RunState input mode) where
+  ended_done : (whole_run input).done ≡ state.done ++ (run input.kinds input.task.outputs input.task.values input.trees input.rest (run_along input state.done).held state.left).done
   ended_done =
-      ap (λ (actions : List Action). (run_along course actions).done) moment.all
-      ∙ ap (λ (ended : Ended). ended.done) (on course.kinds course.task.outputs course.task.values course.trees course.rest moment.done moment.left [] moment.no_fault)
-      ∙ following-done moment.done (run course.kinds course.task.outputs course.task.values course.trees course.rest (run_along course moment.done).held moment.left)
+      ap (λ (actions : List Action). (run_along input actions).done) state.all
+      ∙ ap (λ (ended : Ended). ended.done) (on input.kinds input.task.outputs input.task.values input.trees input.rest state.done state.left [] state.no_fault)
+      ∙ following-done state.done (run input.kinds input.task.outputs input.task.values input.trees input.rest (run_along input state.done).held state.left)
 
   -- the actions that have ended are a prefix of those that can
-  pub prefix_of : moment.done ≡ take (length moment.done) (whole_run course).done
+  pub prefix_of : state.done ≡ take (length state.done) (whole_run input).done
   prefix_of =
-      sym (ap (take (length moment.done)) ended_done
-      ∙ take_prefix moment.done (run course.kinds course.task.outputs course.task.values course.trees course.rest (run_along course moment.done).held moment.left).done)
+      sym (ap (take (length state.done)) ended_done
+      ∙ take_prefix state.done (run input.kinds input.task.outputs input.task.values input.trees input.rest (run_along input state.done).held state.left).done)
 
   abbrev reached : List Action
-  reached = take (length (whole_run course).done + 1) course.task.actions
+  reached = take (length (whole_run input).done + 1) input.task.actions
 
   abbrev count : ℕ
-  count = length (run course.kinds course.task.outputs course.task.values course.trees course.rest (run_along course moment.done).held moment.left).done
+  count = length (run input.kinds input.task.outputs input.task.values input.trees input.rest (run_along input state.done).held state.left).done
 
-  reached_is : reached ≡ moment.done ++ take (count + 1) moment.left
+  reached_is : reached ≡ state.done ++ take (count + 1) state.left
   reached_is =
-      let sizes : length (whole_run course).done ≡ length moment.done + count =
-      ap length ended_done ∙ length-append moment.done (run course.kinds course.task.outputs course.task.values course.trees course.rest (run_along course moment.done).held moment.left).done in
-      let e : length (whole_run course).done + 1 ≡ length moment.done + (count + 1) = omega (arith, sizes) in
-      ap (λ n. take n course.task.actions) e ∙ ap (take (length moment.done + (count + 1))) moment.all ∙ take_past moment.done moment.left (count + 1)
+      let sizes : length (whole_run input).done ≡ length state.done + count =
+      ap length ended_done ∙ length-append state.done (run input.kinds input.task.outputs input.task.values input.trees input.rest (run_along input state.done).held state.left).done in
+      let e : length (whole_run input).done + 1 ≡ length state.done + (count + 1) = omega (arith, sizes) in
+      ap (λ n. take n input.task.actions) e ∙ ap (take (length state.done + (count + 1))) state.all ∙ take_past state.done state.left (count + 1)
 
   abbrev Of : List Action → Place × Bytes → Type 0
-  Of actions file = IsOf course.kinds course.task.outputs course.task.values course.trees actions file
+  Of actions file = IsOf input.kinds input.task.outputs input.task.values input.trees actions file
 
   of_right : (xs ys : List Action) (file : Place × Bytes) → Of ys file → Of (xs ++ ys) file
   of_right xs ys file h = record { action = h.action; written = h.written; among = Contains-append_right xs ys h.action h.among; makes = h.makes; put = h.put }
 
-module _ (course : Course) (moment : Moment course InFull) where
+module _ (input : RunInput) (state : RunState input InFull) where
   abbrev upto : List Action
-  upto = take (length (whole_run course).done + 1) course.task.actions
+  upto = take (length (whole_run input).done + 1) input.task.actions
 
   abbrev Among : List Action → Place × Bytes → Type 0
-  Among actions file = IsOf course.kinds course.task.outputs course.task.values course.trees actions file
+  Among actions file = IsOf input.kinds input.task.outputs input.task.values input.trees actions file
 
   -- a file of the action at hand
-  of_hand : (file : Place × Bytes) → Contains (files_at_hand course (run_along course moment.done).held moment.left) file → Among upto file
-  of_hand file h = go moment.left refl h
+  of_hand : (file : Place × Bytes) → Contains (files_at_hand input (run_along input state.done).held state.left) file → Among upto file
+  of_hand file h = go state.left refl h
     where
-      go : (left : List Action) → moment.left ≡ left → Contains (files_at_hand course (run_along course moment.done).held left) file → Among upto file
+      go : (left : List Action) → state.left ≡ left → Contains (files_at_hand input (run_along input state.done).held left) file → Among upto file
       go [] is g = none_in file g
       go (action ∷ more) is g =
-          subst (λ (actions : List Action). Among actions file) (sym (reached_is course InFull moment))
-          (of_right course InFull moment moment.done (take (count course InFull moment + 1) moment.left) file
-          (subst (λ (left : List Action). Among (take (count course InFull moment + 1) left) file) (sym is)
-          (subst (λ (actions : List Action). Among actions file) (sym (take_next action more (count course InFull moment)))
-          (of_more course.kinds course.task.outputs course.task.values course.trees (action ∷ []) (take (count course InFull moment) more) file
-          (of_free course.kinds course.task.outputs course.task.values course.trees (run_along course moment.done).held action file g)))))
+          subst (λ (actions : List Action). Among actions file) (sym (reached_is input InFull state))
+          (of_right input InFull state state.done (take (count input InFull state + 1) state.left) file
+          (subst (λ (left : List Action). Among (take (count input InFull state + 1) left) file) (sym is)
+          (subst (λ (actions : List Action). Among actions file) (sym (take_next action more (count input InFull state)))
+          (of_more input.kinds input.task.outputs input.task.values input.trees (action ∷ []) (take (count input InFull state) more) file
+          (of_free input.kinds input.task.outputs input.task.values input.trees (run_along input state.done).held action file g)))))
 
   -- its files, those that were put and those that are left
-  parts : IsParted (files_at_hand course (run_along course moment.done).held moment.left) moment.prefix moment.following
-  parts = parted (files_at_hand course (run_along course moment.done).held moment.left) moment.prefix moment.following moment.at_hand
+  parts : IsParted (files_at_hand input (run_along input state.done).held state.left) state.prefix state.following
+  parts = parted (files_at_hand input (run_along input state.done).held state.left) state.prefix state.following state.at_hand
 
-  then_is : files_then course InFull moment ≡ put_over (put_over course.rest (run_along course moment.done).held) parts.first
-  then_is = ap (after_steps (put_over course.rest (run_along course moment.done).held)) parts.prefix_is ∙ after_put (put_over course.rest (run_along course moment.done).held) parts.first
+  then_is : files_then input InFull state ≡ put_over (put_over input.rest (run_along input state.done).held) parts.first
+  then_is = ap (after_steps (put_over input.rest (run_along input state.done).held)) parts.prefix_is ∙ after_put (put_over input.rest (run_along input state.done).held) parts.first
 
   -- each file of the folder is written by an action that the run reached, or is of the rest
-  pub exists_by : (file : Place × Bytes) → Contains (files_then course InFull moment) file → Among upto file ⊎ Contains course.rest file
-  exists_by file h = elim (in_over (put_over course.rest (run_along course moment.done).held) parts.first file (subst (λ (fs : Files). Contains fs file) then_is h)) [
+  pub exists_by : (file : Place × Bytes) → Contains (files_then input InFull state) file → Among upto file ⊎ Contains input.rest file
+  exists_by file h = elim (in_over (put_over input.rest (run_along input state.done).held) parts.first file (subst (λ (fs : Files). Contains fs file) then_is h)) [
     | inl prefix ↦ inl (of_hand file (subst (λ (fs : List (Place × Bytes)). Contains fs file) (sym parts.all) (Contains-append_left parts.first parts.later file prefix)))
-    | inr before ↦ elim (in_over course.rest (run_along course moment.done).held file before) [
-      | inl held ↦ elim (of_held course.kinds course.task.outputs course.task.values course.trees course.rest moment.done [] moment.no_fault file held) [
-        | inl written ↦ inl (subst (λ (actions : List Action). Among actions file) (sym (reached_is course InFull moment))
-            (of_more course.kinds course.task.outputs course.task.values course.trees moment.done (take (count course InFull moment + 1) moment.left) file written))
+    | inr before ↦ elim (in_over input.rest (run_along input state.done).held file before) [
+      | inl held ↦ elim (of_held input.kinds input.task.outputs input.task.values input.trees input.rest state.done [] state.no_fault file held) [
+        | inl written ↦ inl (subst (λ (actions : List Action). Among actions file) (sym (reached_is input InFull state))
+            (of_more input.kinds input.task.outputs input.task.values input.trees state.done (take (count input InFull state + 1) state.left) file written))
         | inr none ↦ none_in file none
       ]
       | inr rest ↦ inr rest
@@ -129,10 +129,10 @@ module _ (course : Course) (moment : Moment course InFull) where
   ]
 
   -- the same for each that was to be put
-  pub was_next : (step : Step) (more : List Step) → moment.following ≡ step ∷ more → (bytes : Bytes) × (step.1 ≡ Some bytes) × Among upto (step.0, bytes)
+  pub was_next : (step : Step) (more : List Step) → state.following ≡ step ∷ more → (bytes : Bytes) × (step.1 ≡ Some bytes) × Among upto (step.0, bytes)
   was_next step more is = by parts.later parts.all (sym is ∙ parts.after_is)
     where
-      by : (later : List (Place × Bytes)) → files_at_hand course (run_along course moment.done).held moment.left ≡ parts.first ++ later → step ∷ more ≡ put later
+      by : (later : List (Place × Bytes)) → files_at_hand input (run_along input state.done).held state.left ≡ parts.first ++ later → step ∷ more ≡ put later
           → (bytes : Bytes) × (step.1 ≡ Some bytes) × Among upto (step.0, bytes)
       by [] all puts = absurd (let e = puts in (cc))
       by (file ∷ later) all puts =
@@ -190,47 +190,47 @@ module _ (kinds : Kinds) (task : Task) (trees : Trees) (rest : Files) where
 -- ---- what is printed
 
 pub failed_runs_print_prefixes : (setting : Setting) → FailedRunsPrintPrefixes setting
-failed_runs_print_prefixes setting way task changes old fault lines new failure =
-    let moment = failure.fails.moment in (
-      length moment.done,
-      failure.fails.printed ∙ ap (λ (actions : List Action). lines_of setting.kinds task (trees_of task old) changes actions) (prefix_of (course_in setting.kinds task changes old) way moment),
+failed_runs_print_prefixes setting mode task changes old fault lines new failure =
+    let state = failure.fails.state in (
+      length state.done,
+      failure.fails.printed ∙ ap (λ (actions : List Action). lines_of setting.kinds task (trees_of task old) changes actions) (prefix_of (run_input_in setting.kinds task changes old) mode state),
     )
 
 -- ---- what is there
 
 module _ (setting : Setting) (task : Task) (changes : List Changes) (old : Files) where
   -- where in the run each file at the outputs is, and each that was to be put
-  pub record AreOfTheRun (way : Way) (moment : Moment (course_in setting.kinds task changes old) way) (place : Place) : Type 0 where
-    pub existed : ExistsInRun setting.kinds task old place (file_at (files_then (course_in setting.kinds task changes old) way moment) place)
-    pub next : (step : Step) (later : List Step) → moment.following ≡ step ∷ later → step.0 ≡ place → ExistsInRun setting.kinds task old place step.1
+  pub record AreOfTheRun (mode : RunMode) (state : RunState (run_input_in setting.kinds task changes old) mode) (place : Place) : Type 0 where
+    pub existed : ExistsInRun setting.kinds task old place (file_at (files_then (run_input_in setting.kinds task changes old) mode state) place)
+    pub next : (step : Step) (later : List Step) → state.following ≡ step ∷ later → step.0 ≡ place → ExistsInRun setting.kinds task old place step.1
 
-  module _ (way : Way) (moment : Moment (course_in setting.kinds task changes old) way) where
-    -- what is at a place once the run has failed: what was there at the moment, except where the device
+  module _ (mode : RunMode) (state : RunState (run_input_in setting.kinds task changes old) mode) where
+    -- what is at a place once the run has failed: what was there at the state, except where the device
     -- failed
     pub left_then : (before after : ℕ) (fault : Fault) (new : Files)
-        → FailsByItself (course_in setting.kinds task changes old) way moment fault new
-        ⊎ FailsByMachine setting.may_leave before (files_then (course_in setting.kinds task changes old) way moment) moment.following fault after new
-        → (place : Place) → (file_at new place ≡ file_at (files_then (course_in setting.kinds task changes old) way moment) place) ⊎ (fault ≡ faults.Device place)
+        → FailsByItself (run_input_in setting.kinds task changes old) mode state fault new
+        ⊎ FailsByMachine setting.may_leave before (files_then (run_input_in setting.kinds task changes old) mode state) state.following fault after new
+        → (place : Place) → (file_at new place ≡ file_at (files_then (run_input_in setting.kinds task changes old) mode state) place) ⊎ (fault ≡ faults.Device place)
     left_then before after fault new (inl itself) place = inl (ap (λ (fs : Files). file_at fs place) itself.files)
     left_then before after fault new (inr (inl memory)) place = inl (ap (λ (fs : Files). file_at fs place) memory.1)
     left_then before after fault new (inr (inr stopped)) place =
         elim (bytes_eq place stopped.step.0) as (λ b. bytes_eq place stopped.step.0 ≡ b
-        → (file_at new place ≡ file_at (files_then (course_in setting.kinds task changes old) way moment) place) ⊎ (fault ≡ faults.Device place)) [
+        → (file_at new place ≡ file_at (files_then (run_input_in setting.kinds task changes old) mode state) place) ⊎ (fault ≡ faults.Device place)) [
           | true ↦ λ here. inr (stopped.device ∙ ap faults.Device (sym ((bytes_decides place stopped.step.0).0 here)))
           | false ↦ λ other. inl (ap (λ (fs : Files). file_at fs place) stopped.files
-              ∙ left_elsewhere (files_then (course_in setting.kinds task changes old) way moment) stopped.step.0 stopped.left place other)
+              ∙ left_elsewhere (files_then (run_input_in setting.kinds task changes old) mode state) stopped.step.0 stopped.left place other)
         ] refl
 
     pub torn : (before after : ℕ) (place : Place) (new : Files)
-        → FailsByItself (course_in setting.kinds task changes old) way moment (faults.Device place) new
-        ⊎ FailsByMachine setting.may_leave before (files_then (course_in setting.kinds task changes old) way moment) moment.following (faults.Device place) after new
-        → AreOfTheRun way moment place → IsTornInRun setting task old place (file_at new place)
+        → FailsByItself (run_input_in setting.kinds task changes old) mode state (faults.Device place) new
+        ⊎ FailsByMachine setting.may_leave before (files_then (run_input_in setting.kinds task changes old) mode state) state.following (faults.Device place) after new
+        → AreOfTheRun mode state place → IsTornInRun setting task old place (file_at new place)
     torn before after place new (inl itself) are =
         absurd (blames_none setting.kinds task (trees_of task old) (rest_of task old) task.actions [] place itself.faulty)
     torn before after place new (inr (inl memory)) are = absurd (let e = memory.0 in (cc))
     torn before after place new (inr (inr stopped)) are =
         let here : stopped.step.0 ≡ place = let e = stopped.device in (cc) in
-        let then = files_then (course_in setting.kinds task changes old) way moment in (
+        let then = files_then (run_input_in setting.kinds task changes old) mode state in (
           file_at then place,
           stopped.step.1,
           are.existed,
@@ -243,35 +243,35 @@ module _ (setting : Setting) (task : Task) (changes : List Changes) (old : Files
 
   -- ---- in full
 
-  module _ (source : has_no_source task old ≡ false) (moment : Moment (course_in setting.kinds task changes old) InFull) (place : Place) (output : is_output_of task place ≡ true) where
-    written_by : (bytes : Bytes) → Contains (files_then (course_in setting.kinds task changes old) InFull moment) (place, bytes) → IsWritten setting.kinds task old place bytes
-    written_by bytes h = elim (exists_by (course_in setting.kinds task changes old) moment (place, bytes) h) [
+  module _ (source : has_no_source task old ≡ false) (state : RunState (run_input_in setting.kinds task changes old) InFull) (place : Place) (output : is_output_of task place ≡ true) where
+    written_by : (bytes : Bytes) → Contains (files_then (run_input_in setting.kinds task changes old) InFull state) (place, bytes) → IsWritten setting.kinds task old place bytes
+    written_by bytes h = elim (exists_by (run_input_in setting.kinds task changes old) state (place, bytes) h) [
       | inl w ↦ (source, w.action, w.written, w.among, w.makes, w.put)
       | inr rest ↦ absurd (false≢true (sym (not-true _ (in_where (λ q. not (is_output_of task q)) old (place, bytes) rest)) ∙ output))
     ]
 
     -- each file that is there then is written
-    pub written_then : (bytes : Bytes) → file_at (files_then (course_in setting.kinds task changes old) InFull moment) place ≡ Some bytes → IsWritten setting.kinds task old place bytes
-    written_then bytes is = written_by bytes (found_in (files_then (course_in setting.kinds task changes old) InFull moment) place bytes is)
+    pub written_then : (bytes : Bytes) → file_at (files_then (run_input_in setting.kinds task changes old) InFull state) place ≡ Some bytes → IsWritten setting.kinds task old place bytes
+    written_then bytes is = written_by bytes (found_in (files_then (run_input_in setting.kinds task changes old) InFull state) place bytes is)
 
-    pub are_of_the_run : AreOfTheRun InFull moment place
-    are_of_the_run = record { existed = so (file_at (files_then (course_in setting.kinds task changes old) InFull moment) place) refl; next = next_so }
+    pub are_of_the_run : AreOfTheRun InFull state place
+    are_of_the_run = record { existed = so (file_at (files_then (run_input_in setting.kinds task changes old) InFull state) place) refl; next = next_so }
       where
-        so : (left : Option Bytes) → file_at (files_then (course_in setting.kinds task changes old) InFull moment) place ≡ left → ExistsInRun setting.kinds task old place left
+        so : (left : Option Bytes) → file_at (files_then (run_input_in setting.kinds task changes old) InFull state) place ≡ left → ExistsInRun setting.kinds task old place left
         so None is = tt
         so (Some bytes) is = inr (written_then bytes is)
 
-        next_so : (step : Step) (later : List Step) → moment.following ≡ step ∷ later → step.0 ≡ place → ExistsInRun setting.kinds task old place step.1
+        next_so : (step : Step) (later : List Step) → state.following ≡ step ∷ later → step.0 ≡ place → ExistsInRun setting.kinds task old place step.1
         next_so step later next here =
-            let w = was_next (course_in setting.kinds task changes old) moment step later next in
+            let w = was_next (run_input_in setting.kinds task changes old) state step later next in
             subst (λ (left : Option Bytes). ExistsInRun setting.kinds task old place left) (sym w.1)
             (inr (subst (λ (p : Place). IsWritten setting.kinds task old p w.0) here (source, w.2.action, w.2.written, w.2.among, w.2.makes, w.2.put)))
 
 pub failed_runs_invent_nothing_in_full : (setting : Setting) → FailedRunsInventNothingInFull setting
 failed_runs_invent_nothing_in_full setting task changes old fault lines new source failure place bytes output e =
-    by (left_then setting task changes old InFull failure.fails.moment failure.before failure.after fault new failure.fails.why place)
+    by (left_then setting task changes old InFull failure.fails.state failure.before failure.after fault new failure.fails.why place)
   where
-    by : (file_at new place ≡ file_at (files_then (course_in setting.kinds task changes old) InFull failure.fails.moment) place) ⊎ (fault ≡ faults.Device place)
+    by : (file_at new place ≡ file_at (files_then (run_input_in setting.kinds task changes old) InFull failure.fails.state) place) ⊎ (fault ≡ faults.Device place)
         → IsWritten setting.kinds task old place bytes ⊎ (fault ≡ faults.Device place)
-    by (inl same) = inl (written_then setting task changes old source failure.fails.moment place output bytes (sym same ∙ e))
+    by (inl same) = inl (written_then setting task changes old source failure.fails.state place output bytes (sym same ∙ e))
     by (inr device) = inr device

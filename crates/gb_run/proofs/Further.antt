@@ -15,7 +15,7 @@ use Rattle.gb_plan.proofs.Tests.{all_at, filter_append}
 use Rattle.gb_meaning.specs.Kinds.{Kinds, kind_of}
 use Rattle.gb_meaning.specs.Made.{rest_of}
 use Rattle.gb_run.specs.Asking.{made_by, printed_by}
-use Rattle.gb_run.specs.Course.{EndsWell, course_of}
+use Rattle.gb_run.specs.RunInput.{EndsWell, run_input}
 use Rattle.gb_run.specs.AskingChanges.{GoesOn, IsFitting, writers}
 use Rattle.gb_run.specs.Failing.{ByChanges, Fails}
 use Rattle.gb_run.specs.Execution.{Ends, IsItsExecution, Stops}
@@ -63,7 +63,7 @@ module _ (kinds : Kinds) (task : Task) (trees : Trees) (changes : List Changes) 
     one : (w : Action) × (writers kinds task.actions ≡ w ∷ [])
     one = writer_of kinds task.actions goes_on.one_writer
 
-    pub ends_so : (folder : Files) (lines : List Text) (left : List Action) → left ≡ [] → IsGoing kinds task trees changes old left folder lines → EndsWell (course_of kinds task trees changes (rest_of task old)) lines folder
+    pub ends_so : (folder : Files) (lines : List Text) (left : List Action) → left ≡ [] → IsGoing kinds task trees changes old left folder lines → EndsWell (run_input kinds task trees changes (rest_of task old)) lines folder
     ends_so folder lines left none going =
         ends_well kinds task trees changes old folder lines (subst (λ (xs : List Action). IsGoing kinds task trees changes old xs folder lines) none going)
         (some_writes kinds task.actions one.0 [] one.1)
@@ -99,14 +99,14 @@ module _ (kinds : Kinds) (task : Task) (trees : Trees) (changes : List Changes) 
       pub fails_further : (first second : Tearing) (count between after : ℕ) (fault : Fault) (new : Files) (lines_now : List Text) → SameTearing first second → count ≤ between → between ≤ after
           → (kinds.writes (kind_of action) ≡ false → ((fault ≡ faults.OutOfMemory) ⊎ ((text : Text) × (fault ≡ faults.ActionFailed text) × (made_by kinds task action trees ≡ Err text))) × (new ≡ folder))
           → (IsItsExecution kinds task action trees changes observed folder → Stops kinds task action trees folder second between fault after new)
-          → lines_now ≡ lines → Fails (course_of kinds task trees changes (rest_of task old)) (ByChanges old) first count fault lines_now after new
+          → lines_now ≡ lines → Fails (run_input kinds task trees changes (rest_of task old)) (ByChanges old) first count fault lines_now after new
       fails_further first second count between after fault new lines_now same le more unread unwritten prints = by (kinds.writes (kind_of action)) refl
         where
-          by : (b : Bool) → kinds.writes (kind_of action) ≡ b → Fails (course_of kinds task trees changes (rest_of task old)) (ByChanges old) first count fault lines_now after new
+          by : (b : Bool) → kinds.writes (kind_of action) ≡ b → Fails (run_input kinds task trees changes (rest_of task old)) (ByChanges old) first count fault lines_now after new
           by true writes =
               fails_writing kinds task trees changes old folder lines action left going writes (is_one writes) first second count between after fault new lines_now same le more
               (subst (λ (fs : Files). Stops kinds task action trees fs second between fault after new) (exists_old kinds task trees changes old folder lines action left going writes (is_one writes)) (unwritten (turn writes))) prints
           by false quiet =
               let did = unread quiet in
-              subst (λ (fs : Files). Fails (course_of kinds task trees changes (rest_of task old)) (ByChanges old) first count fault lines_now after fs) (sym did.1)
+              subst (λ (fs : Files). Fails (run_input kinds task trees changes (rest_of task old)) (ByChanges old) first count fault lines_now after fs) (sym did.1)
               (fails_reading kinds task trees changes old folder lines action left going first count after fault lines_now did.0 (le_chain count between after le more) prints)

@@ -18,7 +18,7 @@ use Rattle.gb_plan.specs.declared.task.Output.{Output}
 use Rattle.gb_meaning.specs.Kinds.{Kinds, kind_of}
 use Rattle.gb_meaning.specs.Made.{placed, put_over, step_faults}
 use Rattle.gb_meaning.specs.Run.{ends, hindrances, or_end, step_by, unless_hindered}
-use Rattle.gb_run.specs.Course.{free_files}
+use Rattle.gb_run.specs.RunInput.{free_files}
 
 -- ---- elements
 

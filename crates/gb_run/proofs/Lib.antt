@@ -7,7 +7,7 @@ pub mod Agreed
 pub mod AtOutputs
 pub mod Stepped
 pub mod AsSteps
-pub mod Moments
+pub mod RunStates
 pub mod Running
 pub mod Changed
 pub mod Done

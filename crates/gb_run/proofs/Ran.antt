@@ -17,8 +17,8 @@ use Rattle.gb_plan.specs.declared.task.Action.{Action}
 use Rattle.gb_plan.specs.declared.task.TaskDeclaration.{TaskDeclaration as Task}
 use Rattle.gb_meaning.specs.Kinds.{Kinds, kind_of}
 use Rattle.gb_meaning.specs.Made.{put_result}
-use Rattle.gb_run.specs.Course.{Course, EndsWell, course_of}
-use Rattle.gb_run.specs.Failing.{Fails, InFull, Way}
+use Rattle.gb_run.specs.RunInput.{RunInput, EndsWell, run_input}
+use Rattle.gb_run.specs.Failing.{Fails, InFull, RunMode}
 use Rattle.gb_run.specs.Steps.{Step}
 use Rattle.gb_folder.specs.Semantics.{AnswersAll}
 use Rattle.gb_folder.specs.Device.{Device, Leads}
@@ -98,37 +98,37 @@ device_alone (Err fault) made place other is = let e = is in (cc)
 
 -- the work does not depend on the rest of the folder
 same_work : (kinds : Kinds) (task : Task) (trees : Trees) (changes : List Changes) (rest held : Files) (actions : List Action)
-    → work_of (course_of kinds task trees changes []) held actions ≡ work_of (course_of kinds task trees changes rest) held actions
+    → work_of (run_input kinds task trees changes []) held actions ≡ work_of (run_input kinds task trees changes rest) held actions
 same_work kinds task trees changes rest held [] = refl
 same_work kinds task trees changes rest held (action ∷ actions) = on (put_result task.outputs held (kinds.makes (kind_of action) action.args task.values trees)) (λ more. same_work kinds task trees changes rest more actions)
   where
-    on : (r : Result Files (List Fault)) → ((more : Files) → work_of (course_of kinds task trees changes []) more actions ≡ work_of (course_of kinds task trees changes rest) more actions)
-        → or_stop r (λ more. with_part (part_of (course_of kinds task trees changes []) action) (work_of (course_of kinds task trees changes []) more actions))
-        ≡ or_stop r (λ more. with_part (part_of (course_of kinds task trees changes rest) action) (work_of (course_of kinds task trees changes rest) more actions))
-    on (Ok more) same = ap (with_part (part_of (course_of kinds task trees changes []) action)) (same more)
+    on : (r : Result Files (List Fault)) → ((more : Files) → work_of (run_input kinds task trees changes []) more actions ≡ work_of (run_input kinds task trees changes rest) more actions)
+        → or_stop r (λ more. with_part (part_of (run_input kinds task trees changes []) action) (work_of (run_input kinds task trees changes []) more actions))
+        ≡ or_stop r (λ more. with_part (part_of (run_input kinds task trees changes rest) action) (work_of (run_input kinds task trees changes rest) more actions))
+    on (Ok more) same = ap (with_part (part_of (run_input kinds task trees changes []) action)) (same more)
     on (Err hindrances) same = refl
 
 pub ran : (kinds : Kinds) (task : Task) (trees : Trees) (changes : List Changes) (may_leave : Tearing) (before after : ℕ) (old new : Contents) (calls : List Call) (parts slice : List HeldPart) (own : Option Fault)
-    (said printed now : List Text) (result : Ending) → slice ≡ parts → record { parts = map part_held parts; fault = own } ≡ work_of (course_of kinds task trees changes []) [] task.actions
+    (said printed now : List Text) (result : Ending) → slice ≡ parts → record { parts = map part_held parts; fault = own } ≡ work_of (run_input kinds task trees changes []) [] task.actions
     → is_sorted byte_order old.files ≡ true → before ≤ after → ((place : Place) → result ≡ Err (faults.Device place) → HasRisen before after)
     → DoesParts (map part_held slice) calls printed result → AnswersAll may_leave old calls new → said ≡ [] → now ≡ said ++ printed
-    → Ends (course_of kinds task trees changes old.files) InFull may_leave before after result own now new.files
+    → Ends (run_input kinds task trees changes old.files) InFull may_leave before after result own now new.files
 ran kinds task trees changes may_leave before after old new calls parts slice own said printed now result same work sorted rises risen does all silent prints =
-    subst (λ (ls : List Text). Ends (course_of kinds task trees changes old.files) InFull may_leave before after result own ls new.files) (sym (prints ∙ ap (λ (ls : List Text). ls ++ printed) silent))
-    (subst (λ (w : Work). Ends (course_of kinds task trees changes old.files) InFull may_leave before after result w.fault printed new.files) (sym is)
-    (done_work_ends may_leave (course_of kinds task trees changes old.files) before after old new calls printed result sorted refl rises risen
+    subst (λ (ls : List Text). Ends (run_input kinds task trees changes old.files) InFull may_leave before after result own ls new.files) (sym (prints ∙ ap (λ (ls : List Text). ls ++ printed) silent))
+    (subst (λ (w : Work). Ends (run_input kinds task trees changes old.files) InFull may_leave before after result w.fault printed new.files) (sym is)
+    (done_work_ends may_leave (run_input kinds task trees changes old.files) before after old new calls printed result sorted refl rises risen
     (subst (λ (w : Work). DoesParts w.parts calls printed result) is (subst (λ (ps : List HeldPart). DoesParts (map part_held ps) calls printed result) same does)) all))
   where
-    is : record { parts = map part_held parts; fault = own } ≡ work_of (course_of kinds task trees changes old.files) [] task.actions
+    is : record { parts = map part_held parts; fault = own } ≡ work_of (run_input kinds task trees changes old.files) [] task.actions
     is = work ∙ same_work kinds task trees changes old.files [] task.actions
 
-module _ {X : Type 0} (course : Course) (way : Way) (may_leave : Tearing) (before after : ℕ) (lines : List Text) (new : Files) where
-  pub ended_well : (result : Ending) (made : Result X Fault) → Ends course way may_leave before after result (result_err made) lines new → OnOk (or_made result made) (EndsWell course lines new)
+module _ {X : Type 0} (input : RunInput) (mode : RunMode) (may_leave : Tearing) (before after : ℕ) (lines : List Text) (new : Files) where
+  pub ended_well : (result : Ending) (made : Result X Fault) → Ends input mode may_leave before after result (result_err made) lines new → OnOk (or_made result made) (EndsWell input lines new)
   ended_well (Ok d) (Ok x) ends = ends
   ended_well (Ok d) (Err fault) ends = tt
   ended_well (Err fault) made ends = tt
 
-  pub ended_badly : (result : Ending) (made : Result X Fault) → Ends course way may_leave before after result (result_err made) lines new → IfErr (or_made result made) (λ fault. Fails course way may_leave before fault lines after new)
+  pub ended_badly : (result : Ending) (made : Result X Fault) → Ends input mode may_leave before after result (result_err made) lines new → IfErr (or_made result made) (λ fault. Fails input mode may_leave before fault lines after new)
   ended_badly (Ok d) (Ok x) ends = tt
   ended_badly (Ok d) (Err fault) ends = ends
   ended_badly (Err fault) made ends = ends
@@ -144,11 +144,11 @@ pub if_made : {X : Type 0} (P : X → Type 0) (done : Ending) (made : Result X F
 if_made P (Ok d) made is = is
 if_made P (Err fault) made is = tt
 
-pub runs_so : {X : Type 0} (course : Course) (calls : List Call) (parts slice : List HeldPart) (made : Result X Fault) (said printed now : List Text) (done : Ending) → slice ≡ parts
-    → record { parts = map part_held parts; fault = result_err made } ≡ work_of course [] course.task.actions → DoesParts (map part_held slice) calls printed done → said ≡ [] → now ≡ said ++ printed
-    → RunsInFull course calls now (ending (or_made done made))
-runs_so course calls parts slice made said printed now done same work does silent prints =
-    subst (λ (ls : List Text). RunsInFull course calls ls (ending (or_made done made))) (sym (prints ∙ ap (λ (ls : List Text). ls ++ printed) silent)) (inr (
+pub runs_so : {X : Type 0} (input : RunInput) (calls : List Call) (parts slice : List HeldPart) (made : Result X Fault) (said printed now : List Text) (done : Ending) → slice ≡ parts
+    → record { parts = map part_held parts; fault = result_err made } ≡ work_of input [] input.task.actions → DoesParts (map part_held slice) calls printed done → said ≡ [] → now ≡ said ++ printed
+    → RunsInFull input calls now (ending (or_made done made))
+runs_so input calls parts slice made said printed now done same work does silent prints =
+    subst (λ (ls : List Text). RunsInFull input calls ls (ending (or_made done made))) (sym (prints ∙ ap (λ (ls : List Text). ls ++ printed) silent)) (inr (
       done,
       subst (λ (w : Work). DoesParts w.parts calls printed done) work (subst (λ (ps : List HeldPart). DoesParts (map part_held ps) calls printed done) same does),
       ending_is done made ∙ ap (λ (w : Work). or_fault done w.fault) work,

@@ -18,7 +18,7 @@ use Rattle.gb_meaning.specs.Kinds.{Kinds, kind_of}
 use Rattle.gb_meaning.specs.Made.{rest_of}
 use Rattle.gb_run.specs.Asking.{made_by}
 use Rattle.gb_run.specs.AskingChanges.{GoesOn, IsFitting}
-use Rattle.gb_run.specs.Course.{Course, course_of}
+use Rattle.gb_run.specs.RunInput.{RunInput, run_input}
 use Rattle.gb_run.specs.Doing.{Does, Ending}
 use Rattle.gb_run.specs.Failing.{ByChanges, Fails}
 use Rattle.gb_run.specs.Stepping.{HasRoom}
@@ -45,14 +45,14 @@ module _ (kinds : Kinds) (task : Task) (trees : Trees) (changes : List Changes) 
   abbrev run : Increment
   run = increment_of kinds task trees changes observed
 
-  abbrev course : Course
-  course = course_of kinds task trees changes (rest_of task start)
+  abbrev input : RunInput
+  input = run_input kinds task trees changes (rest_of task start)
 
   abbrev FailsNow : Fault → List Text → Files → Type 0
-  FailsNow fault lines new = Fails course (ByChanges start) may_leave before fault lines after new
+  FailsNow fault lines new = Fails input (ByChanges start) may_leave before fault lines after new
 
   abbrev End : Ending → Option Fault → List Text → Files → Type 0
-  End result own lines new = Ends course (ByChanges start) may_leave before after result own lines new
+  End result own lines new = Ends input (ByChanges start) may_leave before after result own lines new
 
   abbrev Goes : List Action → Files → List Text → Type 0
   Goes left files lines = IsGoing kinds task trees changes start left files lines

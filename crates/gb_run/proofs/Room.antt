@@ -13,7 +13,7 @@ use Rattle.gb_plan.specs.declared.task.Output.{Output}
 use Rattle.gb_plan.proofs.Tests.{any_append, none_left, none_right}
 use Rattle.gb_meaning.specs.Made.{blocked_in, placed, put_over, step_faults}
 use Rattle.gb_meaning.specs.Run.{has_room, hindrances, step_by, unless_hindered}
-use Rattle.gb_run.specs.Course.{free_files}
+use Rattle.gb_run.specs.RunInput.{free_files}
 use Rattle.gb_run.specs.Placing.{count_faults}
 use Rattle.gb_run.proofs.Placed.{first_more, free_files_of, none_before}
 use Rattle.gb_run.proofs.Beside.{over_by_place}

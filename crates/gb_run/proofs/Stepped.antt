@@ -11,7 +11,7 @@ use Rattle.gb_store.specs.Changes.{IsHindered}
 use Rattle.gb_meaning.specs.Made.{placed, put_over, step_faults}
 use Rattle.gb_meaning.specs.Run.{has_room, step_by}
 use Rattle.gb_meaning.proofs.Lemmas.Files.{sorted-put_over}
-use Rattle.gb_run.specs.Course.{free_files}
+use Rattle.gb_run.specs.RunInput.{free_files}
 use Rattle.gb_run.specs.Named.{put}
 use Rattle.gb_run.specs.Placing.{blank, faults_beside}
 use Rattle.gb_run.specs.Step.{IsHeld, StopsIn}
@@ -20,7 +20,7 @@ use Rattle.gb_run.specs.Steps.{Step, after_steps, folder_after}
 use Rattle.gb_run.proofs.AsSteps.{IsParted, after_put, parted, room_of}
 use Rattle.gb_run.proofs.Beside.{beside_held, over_rest, taken_then}
 use Rattle.gb_run.proofs.Endings.{with_none}
-use Rattle.gb_run.proofs.Moments.{by_machine}
+use Rattle.gb_run.proofs.RunStates.{by_machine}
 use Rattle.gb_run.proofs.Room.{free_is, step_blocked, step_ends, step_hindered}
 use Rattle.gb_run.proofs.Writer.{heads}
 

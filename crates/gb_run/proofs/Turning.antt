@@ -23,7 +23,7 @@ use Rattle.gb_meaning.specs.Kinds.{Kinds, kind_of}
 use Rattle.gb_meaning.specs.Made.{file_faults, full_outputs, placed, put_over, rest_of, step_faults}
 use Rattle.gb_meaning.specs.Run.{step_by}
 use Rattle.gb_run.specs.Asking.{made_by}
-use Rattle.gb_run.specs.Course.{free_files}
+use Rattle.gb_run.specs.RunInput.{free_files}
 use Rattle.gb_run.specs.Placing.{faults_beside}
 use Rattle.gb_run.proofs.Beside.{beside_held, over_by_place}
 use Rattle.gb_run.proofs.Endings.{with_none}
@@ -37,7 +37,7 @@ use Rattle.gb_run.specs.Execution.{Ends, IsItsExecution, Stops}
 use Rattle.gb_run.proofs.Blocked.{step_free, step_shut_out}
 use Rattle.gb_run.proofs.Leading.{held_is_made, leads}
 use Rattle.gb_run.proofs.Looks.{sorted_steps}
-use Rattle.gb_run.proofs.Moments.{by_machine}
+use Rattle.gb_run.proofs.RunStates.{by_machine}
 use Rattle.gb_run.proofs.Placed.{none_after}
 use Rattle.gb_run.proofs.Small.{steps_at_outputs}
 

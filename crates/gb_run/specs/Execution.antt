@@ -13,7 +13,7 @@ use Rattle.gb_meaning.specs.Kinds.{Kinds}
 use Rattle.gb_meaning.specs.Made.{full_outputs, put_over, put_result, rest_of}
 use Rattle.gb_meaning.specs.Run.{step_by}
 use Rattle.gb_run.specs.Asking.{made_by}
-use Rattle.gb_run.specs.Course.{free_files}
+use Rattle.gb_run.specs.RunInput.{free_files}
 use Rattle.gb_run.specs.AskingChanges.{GoesOn, IsFitting, writers}
 use Rattle.gb_run.specs.Stepping.{StopsAt}
 use Rattle.gb_run.specs.Steps.{LeadTo, Step}

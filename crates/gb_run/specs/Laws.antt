@@ -17,20 +17,21 @@ use Rattle.gb_meaning.specs.Label.{has_one_writer, run_of}
 use Rattle.gb_meaning.specs.Execution.{IsWritten, lines_of}
 use Rattle.gb_meaning.specs.Events.{IsTornInRun, Setting, ExistsInRun}
 use Rattle.gb_run.specs.AskingChanges.{IsFitting}
-use Rattle.gb_run.specs.Course.{Course, EndsWell, course_of}
+use Rattle.gb_run.specs.RunInput.{RunInput, EndsWell, run_input}
 use Rattle.gb_run.specs.Digests.{prints_at}
 use Rattle.gb_run.specs.Emptying.{CannotEmpty}
-use Rattle.gb_run.specs.Failing.{ByChanges, Fails, InFull, Way}
+use Rattle.gb_run.specs.Failing.{ByChanges, Fails, InFull, RunMode}
 
--- the course of a task's run over these files, once those at its outputs are gone
-abbrev pub course_in : Kinds → Task → List Changes → Files → Course
-course_in kinds task changes files = course_of kinds task (trees_of task files) changes (rest_of task files)
+-- the input of a task's run over these files, once those at its outputs are gone
+abbrev pub run_input_in : Kinds → Task → List Changes → Files → RunInput
+run_input_in kinds task changes files =
+    run_input kinds task (trees_of task files) changes (rest_of task files)
 
 -- A run that ended well leaves what the actions make, in the emptied output places.
 abbrev pub EndedRunsAreMade : Type 0
 EndedRunsAreMade =
     (kinds : Kinds) (task : Task) (changes : List Changes) (old : Files) (lines : List Text) (new : Files)
-    → EndsWell (course_in kinds task changes old) lines new →
+    → EndsWell (run_input_in kinds task changes old) lines new →
     (files : Files) × (made_of kinds task.actions task.values (trees_of task old) task.outputs ≡ Ok files)
     × (new ≡ with_outputs task old files)
 
@@ -39,35 +40,35 @@ abbrev pub MadeExists : Type 0
 MadeExists =
     (kinds : Kinds) (task : Task) (trees : Trees) (changes : List Changes) (old : Files)
     (lines : List Text) (new held : Files) → IsTrue (is_sorted byte_order old)
-    → EndsWell (course_of kinds task trees changes (rest_of task old)) lines new
+    → EndsWell (run_input kinds task trees changes (rest_of task old)) lines new
     → made_of kinds task.actions task.values trees task.outputs ≡ Ok held →
     prints_at task.outputs new ≡ prints_at task.outputs held
 
 -- ---- A run that fails
 
--- A run of the task over these files may go this way: incremental from them if one action writes, and each
+-- A run of the task over these files may have this mode: incremental from them if one action writes, and each
 -- keeps to its own output.
-abbrev pub IsWayOf : Kinds → Task → Files → Way → Type 0
+abbrev pub IsWayOf : Kinds → Task → Files → RunMode → Type 0
 IsWayOf kinds task old InFull = ⊤
 IsWayOf kinds task old (ByChanges existed) =
     (existed ≡ old) × IsTrue (has_one_writer kinds task.actions)
     × AllByRecursion (IsFitting kinds task) task.actions
 
--- How a task's run of this way fails.
-pub record Failure (setting : Setting) (way : Way) (task : Task) (changes : List Changes) (old : Files)
+-- How a task's run in this mode fails.
+pub record Failure (setting : Setting) (mode : RunMode) (task : Task) (changes : List Changes) (old : Files)
     (fault : Fault) (lines : List Text) (new : Files) : Type 0 where
-  pub is_way : IsWayOf setting.kinds task old way
+  pub is_way : IsWayOf setting.kinds task old mode
   pub before : ℕ
   pub after : ℕ
-  pub fails : Fails (course_in setting.kinds task changes old) way setting.may_leave before fault lines after
-      new
+  pub fails : Fails (run_input_in setting.kinds task changes old) mode setting.may_leave before fault
+      lines after new
 
 -- It prints the lines of a prefix of the actions that end.
 abbrev pub FailedRunsPrintPrefixes : Setting → Type 0
 FailedRunsPrintPrefixes setting =
-    (way : Way) (task : Task) (changes : List Changes) (old : Files) (fault : Fault)
+    (mode : RunMode) (task : Task) (changes : List Changes) (old : Files) (fault : Fault)
     (lines : List Text) (new : Files)
-    → Failure setting way task changes old fault lines new →
+    → Failure setting mode task changes old fault lines new →
     (count : ℕ) × (lines ≡ lines_of setting.kinds task (trees_of task old) changes
     (take count (run_of setting.kinds task old).done))
 
@@ -105,10 +106,10 @@ FailedRunsKeepRightFiles setting =
 -- there.
 abbrev pub TornPlacesAreOfTheRun : Setting → Type 0
 TornPlacesAreOfTheRun setting =
-    (way : Way) (task : Task) (changes : List Changes) (old : Files) (place : Place)
+    (mode : RunMode) (task : Task) (changes : List Changes) (old : Files) (place : Place)
     (lines : List Text) (new : Files)
     → has_no_source task old ≡ false → is_output_of task place ≡ true
-    → Failure setting way task changes old (faults.Device place) lines new →
+    → Failure setting mode task changes old (faults.Device place) lines new →
     IsTornInRun setting task old place (file_at new place)
 
 -- ---- Emptied outputs

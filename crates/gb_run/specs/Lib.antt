@@ -1,7 +1,7 @@
 pub mod Texts
 pub mod Placing
 pub mod Asking
-pub mod Course
+pub mod RunInput
 pub mod Step
 pub mod Doing
 pub mod Work

@@ -10,7 +10,7 @@ use Rattle.gb_plan.specs.Task.{Text}
 use Rattle.gb_plan.specs.declared.task.Output.{Output}
 use Rattle.gb_meaning.specs.Made.{put_over}
 use Rattle.gb_meaning.specs.Run.{step_by}
-use Rattle.gb_run.specs.Course.{free_files}
+use Rattle.gb_run.specs.RunInput.{free_files}
 use Rattle.gb_run.specs.Named.{put}
 use Rattle.gb_run.specs.Placing.{blank}
 use Rattle.gb_run.specs.Stepping.{StopsAt}

@@ -13,7 +13,7 @@ use Rattle.gb_plan.specs.declared.task.Output.{Output}
 use Rattle.gb_plan.specs.declared.task.TaskDeclaration.{TaskDeclaration as Task}
 use Rattle.gb_meaning.specs.Made.{placed, put_over, put_result}
 use Rattle.gb_run.specs.Asking.{made_by, printed_by}
-use Rattle.gb_run.specs.Course.{Course}
+use Rattle.gb_run.specs.RunInput.{RunInput}
 use Rattle.gb_run.specs.Doing.{Does, Ending}
 use Rattle.gb_run.specs.Named.{put}
 use Rattle.gb_run.specs.Steps.{Step}
@@ -40,18 +40,18 @@ abbrev pub files_of : List Output → Result (List Written) Text → Files
 files_of outputs (Ok written) = put_over [] (placed outputs written)
 files_of outputs (Err text) = []
 
-abbrev pub part_of : Course → Action → Part
-part_of course action = record {
-  steps = put (files_of course.task.outputs (made_by course.kinds course.task action course.trees));
-  lines = printed_by course.kinds course.task action course.trees course.changes;
+abbrev pub part_of : RunInput → Action → Part
+part_of input action = record {
+  steps = put (files_of input.task.outputs (made_by input.kinds input.task action input.trees));
+  lines = printed_by input.kinds input.task action input.trees input.changes;
 }
 
 -- the result of these actions, given the files that the task holds by then
-abbrev pub work_of : Course → Files → List Action → Work
-work_of course held [] = record { parts = []; fault = None }
-work_of course held (action ∷ actions) =
-    or_stop (put_result course.task.outputs held (made_by course.kinds course.task action course.trees))
-    (λ more. with_part (part_of course action) (work_of course more actions))
+abbrev pub work_of : RunInput → Files → List Action → Work
+work_of input held [] = record { parts = []; fault = None }
+work_of input held (action ∷ actions) =
+    or_stop (put_result input.task.outputs held (made_by input.kinds input.task action input.trees))
+    (λ more. with_part (part_of input action) (work_of input more actions))
 
 -- ---- Done
 
@@ -92,8 +92,8 @@ ending (Err fault) = Err fault
 
 -- The actions ran in full by these calls. Either memory ran out before the first of them, or the work of the
 -- actions was done, and the run ends with the work's own fault if it has one.
-abbrev pub RunsInFull : Course → List Call → List Text → Ending → Type 0
-RunsInFull course calls lines result =
-    let work = work_of course [] course.task.actions in
+abbrev pub RunsInFull : RunInput → List Call → List Text → Ending → Type 0
+RunsInFull input calls lines result =
+    let work = work_of input [] input.task.actions in
     ((calls ≡ []) × (lines ≡ []) × (result ≡ Err faults.OutOfMemory))
     ⊎ ((done : Ending) × DoesParts work.parts calls lines done × (result ≡ or_fault done work.fault))

@@ -16,7 +16,7 @@ ghost use Rattle.gb_meaning.specs.Headline.{Agrees};
 ghost use Rattle.gb_meaning.specs.Kinds.{Kinds};
 ghost use Rattle.gb_meaning.specs.Made.{made_of, rest_of};
 ghost use Rattle.gb_run.specs.AskingChanges.{CanGoOn, GoesOn};
-ghost use Rattle.gb_run.specs.Course.{EndsWell, course_of};
+ghost use Rattle.gb_run.specs.RunInput.{EndsWell, run_input};
 ghost use Rattle.gb_run.specs.Digests.{prints_at};
 ghost use Rattle.gb_run.specs.Failing.{ByChanges, Fails};
 ghost use Rattle.gb_run.specs.Work.{AreAtOutputs, ending};
@@ -82,12 +82,12 @@ pub fn run_by_changes<A: Actions, F: Folder>(
         → ChangesOnly (is_output_of task.now) (F.contents folder.old) (F.contents folder.new) }
     ensures ok { IsTrue F.faithful → OnOk result ((kinds : Kinds) → Agrees A.meanings table.now kinds
         → (old : Trees) → GoesOn kinds task.now old files changes outputs (F.contents folder.old).files
-        → EndsWell (course_of kinds task.now files changes (rest_of task.now (F.contents folder.old).files))
+        → EndsWell (run_input kinds task.now files changes (rest_of task.now (F.contents folder.old).files))
         lines.new (F.contents folder.new).files) }
     ensures err { IsTrue F.faithful → IfErr result
         (λ fault. (kinds : Kinds) → Agrees A.meanings table.now kinds
         → (old : Trees) → GoesOn kinds task.now old files changes outputs (F.contents folder.old).files
-        → Fails (course_of kinds task.now files changes (rest_of task.now (F.contents folder.old).files))
+        → Fails (run_input kinds task.now files changes (rest_of task.now (F.contents folder.old).files))
         (ByChanges (F.contents folder.old).files) (F.may_leave folder.old) (F.failures folder.old) fault
         lines.new (F.failures folder.new) (F.contents folder.new).files) }
 {

@@ -10,7 +10,7 @@ ghost use Rattle.gb_plan.specs.Task.{is_output_of, given_files};
 ghost use Rattle.gb_meaning.specs.Headline.{Agrees};
 ghost use Rattle.gb_meaning.specs.Kinds.{Kinds};
 ghost use Rattle.gb_meaning.specs.Made.{made_of};
-ghost use Rattle.gb_run.specs.Course.{EndsWell, course_of};
+ghost use Rattle.gb_run.specs.RunInput.{EndsWell, run_input};
 ghost use Rattle.gb_run.specs.Digests.{prints_at};
 ghost use Rattle.gb_run.specs.Failing.{Fails, InFull};
 ghost use Rattle.gb_run.specs.Work.{AreAtOutputs, RunsInFull, ending, or_made};
@@ -54,7 +54,7 @@ pub fn run_in_full<A: Actions, F: Folder>(
     // the new one. If kinds agree, they are those of a full run with these lines and this ending.
     ensures calls { (calls : List Call) × Leads F.device folder.old calls folder.new
         × AreAtOutputs task.now calls × ((kinds : Kinds) → Agrees A.meanings table.now kinds
-        → RunsInFull (course_of kinds task.now files changes []) calls lines.new (ending result)) }
+        → RunsInFull (run_input kinds task.now files changes []) calls lines.new (ending result)) }
     ensures requests { Requests F.failures F.may_leave F.allowed (changes_at (is_output_of task.now))
         folder.old
         folder.new }
@@ -63,11 +63,11 @@ pub fn run_in_full<A: Actions, F: Folder>(
     ensures changes { IsTrue F.faithful
         → ChangesOnly (is_output_of task.now) (F.contents folder.old) (F.contents folder.new) }
     ensures ok { IsTrue F.faithful → OnOk result ((kinds : Kinds) → Agrees A.meanings table.now kinds
-        → EndsWell (course_of kinds task.now files changes (F.contents folder.old).files)
+        → EndsWell (run_input kinds task.now files changes (F.contents folder.old).files)
         lines.new (F.contents folder.new).files) }
     ensures err { IsTrue F.faithful → IfErr result
         (λ fault. (kinds : Kinds) → Agrees A.meanings table.now kinds
-        → Fails (course_of kinds task.now files changes (F.contents folder.old).files) InFull
+        → Fails (run_input kinds task.now files changes (F.contents folder.old).files) InFull
         (F.may_leave folder.old) (F.failures folder.old) fault
         lines.new (F.failures folder.new) (F.contents folder.new).files) }
 {

@@ -12,7 +12,7 @@ ghost use Rattle.gb_meaning.specs.Headline.{Agrees};
 ghost use Rattle.gb_meaning.specs.Kinds.{Kinds};
 ghost use Rattle.gb_meaning.specs.Made.{made_of, put_result};
 ghost use Rattle.gb_run.specs.Asking.{IsFullLike, made_by};
-ghost use Rattle.gb_run.specs.Course.{course_of};
+ghost use Rattle.gb_run.specs.RunInput.{run_input};
 ghost use Rattle.gb_run.specs.Digests.{prints_at};
 ghost use Rattle.gb_run.specs.Step.{IsKept};
 ghost use Rattle.gb_run.specs.Work.{part_of, work_of};
@@ -71,7 +71,7 @@ pub fn work_in_full<A: Actions>(
     requires ready { IsReady A.meanings table.now task.now }
     requires named { map (λ tree. tree.0) files ≡ given_files task.now.files }
     ensures work { IfOk result (λ work. (kinds : Kinds) → Agrees A.meanings table.now kinds
-        → work_held work ≡ work_of (course_of kinds task.now files changes []) [] task.now.actions) }
+        → work_held work ≡ work_of (run_input kinds task.now files changes []) [] task.now.actions) }
     ensures named { IfOk result (λ work. IfOk work.made (λ made.
         map (λ prints. prints.0) made.items ≡ map (λ output. output.name) task.now.outputs)) }
     ensures made { IfOk result (λ work. IfOk work.made (λ made. (kinds : Kinds)
@@ -140,7 +140,7 @@ fn part_of<A: Actions>(
         → (more : Files) × (put_result task.now.outputs held
         (made_by kinds task.now action.now working.old.request.files) ≡ Ok more)
         × IsKept more working.new.taken working.new.digests
-        × (part_held part ≡ part_of (course_of kinds task.now working.old.request.files
+        × (part_held part ≡ part_of (run_input kinds task.now working.old.request.files
         working.old.request.changes.lists []) action.now)) }
     ensures err { IfErr result (λ fault. (fault ≡ Fault.OutOfMemory)
         ⊎ ((kinds : Kinds) → Agrees A.meanings table.now kinds → (held : Files)

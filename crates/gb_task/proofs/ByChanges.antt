@@ -28,8 +28,8 @@ use Rattle.gb_records.specs.Holding.{HoldsRecords}
 use Rattle.gb_report.specs.declared.fault.Fault.{Fault}
 use Rattle.gb_report.specs.declared.fault.Fault.TheVariants as faults
 use Rattle.gb_report.specs.declared.report.Options.{Options}
-use Rattle.gb_run.specs.Course.{Course, EndsWell, course_of}
-use Rattle.gb_run.specs.Laws.{course_in}
+use Rattle.gb_run.specs.RunInput.{RunInput, EndsWell, run_input}
+use Rattle.gb_run.specs.Laws.{run_input_in}
 use Rattle.gb_store.specs.Changes.{ChangesOnly, is_at}
 use Rattle.gb_store.specs.Faults.{IsOfMachine}
 use Rattle.gb_label.specs.Reading.{digests_in, is_input_of}
@@ -40,7 +40,7 @@ use Rattle.gb_task.specs.Executing.{BeginsAt, HasExecuted, IsDueByChanges, Regis
 use Rattle.gb_task.proofs.Cleared.{records_stay}
 use Rattle.gb_task.proofs.Outside.{kept, trees_outside}
 use Rattle.gb_task.proofs.Since.{goes_on_since}
-use Rattle.gb_task.proofs.Steps.{entry_made_then, kept_record, on_course, run_by_changes_failed, run_ended, said_then, unread, unrecorded}
+use Rattle.gb_task.proofs.Steps.{entry_made_then, kept_record, on_input, run_by_changes_failed, run_ended, said_then, unread, unrecorded}
 use Rattle.gb_task.proofs.Turning.{IsRun}
 use Rattle.gb_task.proofs.Whole.{as_found, fails_before, le_chain, refl_le}
 
@@ -97,9 +97,9 @@ module _ (kinds : Kinds) (registry_of : Registering) (may_leave : Tearing) (opti
   module _ (second : Tearing) (lines : List Text) (between : ℕ) (taken ran : Contents) (trees : Trees) (tearing : SameTearing may_leave second) (le : before ≤ between)
       (gone : ChangesOnly (is_at (record_place task.path)) old taken) (forgotten : HoldsRecords taken.files (forget memory task.path)) (are_trees : trees ≡ trees_of task old.files)
       (ran_at : ChangesOnly (is_output_of task) taken ran) (changed : ChangesOnly (is_of_execution task) old ran) where
-    same_course : course_of kinds task trees reported (rest_of task taken.files) ≡ course_in kinds task reported taken.files
-    same_course =
-        on_course kinds registry_of may_leave options plan task was_read memory moment.outcomes before old out separate at.read at.records reported due_then taken gone
+    same_input : run_input kinds task trees reported (rest_of task taken.files) ≡ run_input_in kinds task reported taken.files
+    same_input =
+        on_input kinds registry_of may_leave options plan task was_read memory moment.outcomes before old out separate at.read at.records reported due_then taken gone
         (rest_of task taken.files) trees reported refl are_trees refl
 
     records_then : HoldsRecords ran.files (forget memory task.path)
@@ -107,17 +107,17 @@ module _ (kinds : Kinds) (registry_of : Registering) (may_leave : Tearing) (opti
 
     pub running_failed : (fault : Fault) (after : ℕ) → between ≤ after → ((place : Place) → fault ≡ faults.Device place → is_output_of task place ≡ true)
         → AllByRecursion (IsFitting kinds task) task.actions
-        → Fails (course_of kinds task trees reported (rest_of task taken.files)) (ByChanges taken.files) second between fault lines after ran.files → Executions (Err fault) lines after ran
+        → Fails (run_input kinds task trees reported (rest_of task taken.files)) (ByChanges taken.files) second between fault lines after ran.files → Executions (Err fault) lines after ran
     running_failed fault after more blamed fitting fails =
         found (Err fault) lines after ran
         (run_by_changes_failed kinds registry_of may_leave options plan task was_read memory moment.outcomes before old out separate at.read at.records reported due_then taken gone
         fault lines between after after ran ran le more (refl_le after) changed blamed records_then refl since_then.since.one_writer fitting
         (fails_before _ (ByChanges taken.files) may_leave second between after fault lines ran.files tearing more
-        (subst (λ (course : Course). Fails course (ByChanges taken.files) second between fault lines after ran.files) same_course fails)))
+        (subst (λ (input : RunInput). Fails input (ByChanges taken.files) second between fault lines after ran.files) same_input fails)))
 
-    module _ (sorted : is_sorted byte_order taken.files ≡ true) (well : EndsWell (course_of kinds task trees reported (rest_of task taken.files)) lines ran.files) where
-      well_so : EndsWell (course_in kinds task reported taken.files) lines ran.files
-      well_so = subst (λ (course : Course). EndsWell course lines ran.files) same_course well
+    module _ (sorted : is_sorted byte_order taken.files ≡ true) (well : EndsWell (run_input kinds task trees reported (rest_of task taken.files)) lines ran.files) where
+      well_so : EndsWell (run_input_in kinds task reported taken.files) lines ran.files
+      well_so = subst (λ (input : RunInput). EndsWell input lines ran.files) same_input well
 
       abbrev entry : Entry
       entry =

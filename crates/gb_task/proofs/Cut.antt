@@ -9,21 +9,21 @@ use Rattle.gb_plan.specs.Task.{Text}
 use Rattle.gb_plan.specs.declared.task.Action.{Action}
 use Rattle.gb_report.specs.declared.fault.Fault.TheVariants as faults
 use Rattle.gb_run.specs.AskingChanges.{writers}
-use Rattle.gb_run.specs.Course.{Course, EndsWell, whole_run}
-use Rattle.gb_run.specs.Failing.{ByChanges, Fails, Way, ended_files}
+use Rattle.gb_run.specs.RunInput.{RunInput, EndsWell, whole_run}
+use Rattle.gb_run.specs.Failing.{ByChanges, Fails, RunMode, ended_files}
 use Rattle.gb_run.proofs.Endings.{with_none}
 use Rattle.gb_run.proofs.Further.{some_writes}
-use Rattle.gb_run.proofs.Moments.{fails_between}
+use Rattle.gb_run.proofs.RunStates.{fails_between}
 
-pub cut_at_end : (course : Course) (way : Way) (may_leave : Tearing) (before after : ℕ) (lines : List Text) (new : Files) → EndsWell course lines new
-    → ended_files course way course.task.actions ≡ put_over course.rest (whole_run course).held → Fails course way may_leave before faults.OutOfMemory lines after new
-cut_at_end course way may_leave before after lines new well exists =
-    fails_between course way course.task.actions [] (sym (with_none course.task.actions)) well.no_fault may_leave before after faults.OutOfMemory lines new refl well.printed (well.files ∙ sym exists)
+pub cut_at_end : (input : RunInput) (mode : RunMode) (may_leave : Tearing) (before after : ℕ) (lines : List Text) (new : Files) → EndsWell input lines new
+    → ended_files input mode input.task.actions ≡ put_over input.rest (whole_run input).held → Fails input mode may_leave before faults.OutOfMemory lines after new
+cut_at_end input mode may_leave before after lines new well exists =
+    fails_between input mode input.task.actions [] (sym (with_none input.task.actions)) well.no_fault may_leave before after faults.OutOfMemory lines new refl well.printed (well.files ∙ sym exists)
 
 -- one action writes, and the files that it found have given way
-pub cut_by_changes : (kinds : Kinds) (course : Course) (old : Files) (may_leave : Tearing) (before after : ℕ) (lines : List Text) (new : Files) → kinds ≡ course.kinds
-    → (writer : Action) → writers kinds course.task.actions ≡ writer ∷ [] → EndsWell course lines new → Fails course (ByChanges old) may_leave before faults.OutOfMemory lines after new
-cut_by_changes kinds course old may_leave before after lines new same writer one well =
-    cut_at_end course (ByChanges old) may_leave before after lines new well
-    (ap (λ b. if b then put_over course.rest (whole_run course).held else old) (ap (λ (k : Kinds). list_any (λ (a : Action). k.writes (kind_of a)) course.task.actions) (sym same)
-    ∙ some_writes kinds course.task.actions writer [] one))
+pub cut_by_changes : (kinds : Kinds) (input : RunInput) (old : Files) (may_leave : Tearing) (before after : ℕ) (lines : List Text) (new : Files) → kinds ≡ input.kinds
+    → (writer : Action) → writers kinds input.task.actions ≡ writer ∷ [] → EndsWell input lines new → Fails input (ByChanges old) may_leave before faults.OutOfMemory lines after new
+cut_by_changes kinds input old may_leave before after lines new same writer one well =
+    cut_at_end input (ByChanges old) may_leave before after lines new well
+    (ap (λ b. if b then put_over input.rest (whole_run input).held else old) (ap (λ (k : Kinds). list_any (λ (a : Action). k.writes (kind_of a)) input.task.actions) (sym same)
+    ∙ some_writes kinds input.task.actions writer [] one))

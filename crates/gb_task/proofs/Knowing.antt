@@ -1,4 +1,4 @@
--- What is read of a task is known of it, where `AreWorth` holds of the records that existed.
+-- What is read of a task is known of it, where `AreTrueRecords` holds of the records that existed.
 use Rattle.std.specs.Prelude.{◌≡◌, ◌⊎◌, ◌++◌, true, false, List, [], ◌∷◌, cond, Option, Some, None}
 use Rattle.std.specs.List.{AllByRecursion, flat_map}
 use Rattle.std.specs.Ordering.{eq_by_cmp}
@@ -20,7 +20,7 @@ use Rattle.gb_records.specs.Digests.{IsClearTo}
 use Rattle.gb_records.specs.Said.{IsReadAs, IsText}
 use Rattle.gb_records.proofs.Reported.{texts_are_records}
 use Rattle.gb_task.specs.Case.{IsKnown}
-use Rattle.gb_task.specs.Known.{AreWorth, WhatIsReadIsKnown}
+use Rattle.gb_task.specs.Known.{AreTrueRecords, WhatIsReadIsKnown}
 
 abbrev reported_by : Memory → List Bytes
 reported_by memory = flat_map (λ (entry : Path × Entry). contents_of entry.1) memory
@@ -47,7 +47,7 @@ none_in_empty : (path : Path) (memory : Memory) (entry : Entry) → recalled mem
 none_in_empty path [] entry e empty = none_some e
 none_in_empty path (m ∷ memory) entry e empty = absurd (cc)
 
-module _ (kinds : Kinds) (task : Task) (files : Files) (memory : Memory) (world : World) (worth : AreWorth kinds task files memory world) where
+module _ (kinds : Kinds) (task : Task) (files : Files) (memory : Memory) (world : World) (worth : AreTrueRecords kinds task files memory world) where
   now : Entry
   now = entry_of task world.folder.files
 

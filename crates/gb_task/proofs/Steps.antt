@@ -37,10 +37,10 @@ use Rattle.gb_report.specs.declared.fault.Fault.{Fault}
 use Rattle.gb_report.specs.declared.fault.Fault.TheVariants as faults
 use Rattle.gb_report.specs.declared.report.Options.{Options}
 use Rattle.gb_report.specs.declared.report.Outcome.{Outcome}
-use Rattle.gb_run.specs.Course.{Course, EndsWell, course_of, lines_by}
+use Rattle.gb_run.specs.RunInput.{RunInput, EndsWell, run_input, lines_by}
 use Rattle.gb_run.specs.Emptying.{CannotEmpty}
-use Rattle.gb_run.specs.Failing.{ByChanges, Fails, FailsByItself, InFull, Way, files_then}
-use Rattle.gb_run.specs.Laws.{Failure, IsWayOf, course_in}
+use Rattle.gb_run.specs.Failing.{ByChanges, Fails, FailsByItself, InFull, RunMode, files_then}
+use Rattle.gb_run.specs.Laws.{Failure, IsWayOf, run_input_in}
 use Rattle.gb_run.specs.Stepping.{FailsByMachine}
 use Rattle.gb_run.proofs.CutEmptying.{cut_emptyings_invent_nothing, torn_places_are_of_the_emptying}
 use Rattle.gb_run.proofs.Endings.{all_done}
@@ -267,8 +267,8 @@ module _ (kinds : Kinds) (registry_of : Registering) (may_leave : Tearing) (opti
 
       -- ---- the run
 
-      abbrev pub course_then : Course
-      course_then = course_in kinds task reported taken.files
+      abbrev pub input_then : RunInput
+      input_then = run_input_in kinds task reported taken.files
 
       trees_read : trees_of task taken.files ≡ trees_of task (kept old.files)
       trees_read = sym (trees_outside task taken.files) ∙ ap (trees_of task) files_kept
@@ -282,20 +282,20 @@ module _ (kinds : Kinds) (registry_of : Registering) (may_leave : Tearing) (opti
       lines_read : (actions : List Action) → lines_of kinds task (trees_of task taken.files) reported actions ≡ lines_in kinds task reported (kept old.files) actions
       lines_read actions = ap (λ (trees : Trees). lines_of kinds task trees reported actions) trees_read
 
-      -- the course of the run that was begun
-      pub on_course : (cleared : Files) (trees : Trees) (changes : List Changes) → cleared ≡ rest_of task taken.files → trees ≡ trees_of task old.files
-          → changes ≡ reported → course_of kinds task trees changes cleared ≡ course_in kinds task reported taken.files
-      on_course cleared trees changes is_rest are_trees are_changes = λ i.
-          course_of kinds task
+      -- the input of the run that was begun
+      pub on_input : (cleared : Files) (trees : Trees) (changes : List Changes) → cleared ≡ rest_of task taken.files → trees ≡ trees_of task old.files
+          → changes ≡ reported → run_input kinds task trees changes cleared ≡ run_input_in kinds task reported taken.files
+      on_input cleared trees changes is_rest are_trees are_changes = λ i.
+          run_input kinds task
           ((are_trees ∙ sym (trees_outside task old.files) ∙ sym trees_read) i)
           (are_changes i)
           (is_rest i)
 
-      module _ (way : Way) (fault : Fault) (lines : List Text) (between mid after : ℕ) (ran new : Contents) (early : before ≤ between) (rises : between ≤ mid) (late : mid ≤ after)
+      module _ (mode : RunMode) (fault : Fault) (lines : List Text) (between mid after : ℕ) (ran new : Contents) (early : before ≤ between) (rises : between ≤ mid) (late : mid ≤ after)
           (changes : ChangesOnly (is_of_execution task) old new) (blamed : (place : Place) → fault ≡ faults.Device place → is_output_of task place ≡ true)
           (records : HoldsRecords new.files (forget memory task.path)) (same : kept new.files ≡ kept ran.files)
-          (is_way : IsWayOf kinds task taken.files way) (fails : Fails (course_in kinds task reported taken.files) way may_leave between fault lines mid ran.files) where
-        failure : Failure setting way task reported taken.files fault lines ran.files
+          (is_way : IsWayOf kinds task taken.files mode) (fails : Fails (run_input_in kinds task reported taken.files) mode may_leave between fault lines mid ran.files) where
+        failure : Failure setting mode task reported taken.files fault lines ran.files
         failure = record { is_way = is_way; before = between; after = mid; fails = fails }
 
         found_then : (place : Place) → is_output_of task place ≡ true → file_at (kept new.files) place ≡ file_at ran.files place
@@ -303,17 +303,17 @@ module _ (kinds : Kinds) (registry_of : Registering) (may_leave : Tearing) (opti
 
         prefix : (count : ℕ) × (lines ≡ lines_in kinds task reported (kept old.files) (take count (run_of kinds task (kept old.files)).done))
         prefix =
-            let printed = failed_runs_print_prefixes setting way task reported taken.files fault lines ran.files failure in (
+            let printed = failed_runs_print_prefixes setting mode task reported taken.files fault lines ran.files failure in (
               printed.0,
               printed.1 ∙ lines_read (take printed.0 (run_of kinds task taken.files).done) ∙ ap (λ (e : Ended). lines_in kinds task reported (kept old.files) (take printed.0 e.done)) run_read,
             )
 
-        ends_then : FailsByItself (course_in kinds task reported taken.files) way fails.moment fault ran.files
-            ⊎ FailsByMachine may_leave between (files_then (course_in kinds task reported taken.files) way fails.moment) fails.moment.following fault mid ran.files
+        ends_then : FailsByItself (run_input_in kinds task reported taken.files) mode fails.state fault ran.files
+            ⊎ FailsByMachine may_leave between (files_then (run_input_in kinds task reported taken.files) mode fails.state) fails.state.following fault mid ran.files
             → EndsFor setting (own_files old) options task reported moment_then fault lines (existing after new (forget memory task.path))
         ends_then (inl itself) =
             by_itself (ap (λ (e : Ended). e.fault) (sym run_read) ∙ itself.faulty)
-            (fails.printed ∙ ap (lines_by course_then) (sym itself.done) ∙ lines_read (run_of kinds task taken.files).done
+            (fails.printed ∙ ap (lines_by input_then) (sym itself.done) ∙ lines_read (run_of kinds task taken.files).done
             ∙ ap (λ (e : Ended). lines_in kinds task reported (kept old.files) e.done) run_read)
         ends_then (inr (inl memory_out)) =
             by_machine (ap cause_of memory_out.0)
@@ -331,8 +331,8 @@ module _ (kinds : Kinds) (registry_of : Registering) (may_leave : Tearing) (opti
                 subst (λ (o : Option Bytes). IsTornInRun setting task (kept old.files) place o) (sym (found_then place (blamed place device)))
                 (subst (λ (fs : Files). IsTornInRun setting task fs place (file_at ran.files place)) files_kept
                 (torn_outside setting task out taken.files place (blamed place device) (file_at ran.files place)
-                (torn_places_are_of_the_run setting way task reported taken.files place lines ran.files source_there (blamed place device)
-                (subst (λ (f : Fault). Failure setting way task reported taken.files f lines ran.files) device failure))))
+                (torn_places_are_of_the_run setting mode task reported taken.files place lines ran.files source_there (blamed place device)
+                (subst (λ (f : Fault). Failure setting mode task reported taken.files f lines ran.files) device failure))))
 
         gives_run_up : InventsNothing kinds task fault world (record { folder = outside new; memory = forget memory task.path }) → Keeps new → Executing (Err fault) lines after new
         gives_run_up invents keeps = gives_up fault lines after new changes invents keeps (ends_then fails.why) blamed records
@@ -342,7 +342,7 @@ module _ (kinds : Kinds) (registry_of : Registering) (may_leave : Tearing) (opti
       module _ (fault : Fault) (lines : List Text) (between mid after : ℕ) (ran new : Contents) (early : before ≤ between) (rises : between ≤ mid) (late : mid ≤ after)
           (changes : ChangesOnly (is_of_execution task) old new) (blamed : (place : Place) → fault ≡ faults.Device place → is_output_of task place ≡ true)
           (records : HoldsRecords new.files (forget memory task.path)) (same : kept new.files ≡ kept ran.files)
-          (fails : Fails (course_in kinds task reported taken.files) InFull may_leave between fault lines mid ran.files) where
+          (fails : Fails (run_input_in kinds task reported taken.files) InFull may_leave between fault lines mid ran.files) where
         invents_then : InventsNothing kinds task fault world (record { folder = outside new; memory = forget memory task.path })
         invents_then place bytes at e =
             by_law (failed_runs_invent_nothing_in_full setting task reported taken.files fault lines ran.files source_there
@@ -363,7 +363,7 @@ module _ (kinds : Kinds) (registry_of : Registering) (may_leave : Tearing) (opti
           (changes : ChangesOnly (is_of_execution task) old new) (blamed : (place : Place) → fault ≡ faults.Device place → is_output_of task place ≡ true)
           (records : HoldsRecords new.files (forget memory task.path)) (same : kept new.files ≡ kept ran.files)
           (one : IsTrue (has_one_writer kinds task.actions)) (fitting : AllByRecursion (IsFitting kinds task) task.actions)
-          (fails : Fails (course_in kinds task reported taken.files) (ByChanges taken.files) may_leave between fault lines mid ran.files) where
+          (fails : Fails (run_input_in kinds task reported taken.files) (ByChanges taken.files) may_leave between fault lines mid ran.files) where
         failure_so : Failure setting (ByChanges taken.files) task reported taken.files fault lines ran.files
         failure_so = record { is_way = (refl, one, fitting); before = between; after = mid; fails = fails }
 
@@ -407,10 +407,10 @@ module _ (kinds : Kinds) (registry_of : Registering) (may_leave : Tearing) (opti
       -- ---- a run that ended
 
       module _ (lines : List Text) (ran : Contents) (sorted : is_sorted byte_order taken.files ≡ true)
-          (well : EndsWell (course_in kinds task reported taken.files) lines ran.files) where
+          (well : EndsWell (run_input_in kinds task reported taken.files) lines ran.files) where
         -- it ended like a run that memory cut short after its last action
-        as_cut : (between mid : ℕ) → Fails (course_in kinds task reported taken.files) InFull may_leave between faults.OutOfMemory lines mid ran.files
-        as_cut between mid = cut_at_end (course_in kinds task reported taken.files) InFull may_leave between mid lines ran.files well refl
+        as_cut : (between mid : ℕ) → Fails (run_input_in kinds task reported taken.files) InFull may_leave between faults.OutOfMemory lines mid ran.files
+        as_cut between mid = cut_at_end (run_input_in kinds task reported taken.files) InFull may_leave between mid lines ran.files well refl
 
         abbrev files_made : Files
         files_made = (ended_runs_are_made kinds task reported taken.files lines ran.files well).0

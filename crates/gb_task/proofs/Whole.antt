@@ -23,11 +23,11 @@ use Rattle.gb_records.specs.Holding.{HoldsRecords}
 use Rattle.gb_report.specs.declared.fault.Fault.{Fault}
 use Rattle.gb_report.specs.declared.fault.Fault.TheVariants as faults
 use Rattle.gb_report.specs.declared.report.Options.{Options}
-use Rattle.gb_run.specs.Course.{Course, EndsWell, course_of}
-use Rattle.gb_run.specs.Failing.{Fails, FailsByItself, InFull, Way, files_then}
-use Rattle.gb_run.specs.Laws.{course_in}
+use Rattle.gb_run.specs.RunInput.{RunInput, EndsWell, run_input}
+use Rattle.gb_run.specs.Failing.{Fails, FailsByItself, InFull, RunMode, files_then}
+use Rattle.gb_run.specs.Laws.{run_input_in}
 use Rattle.gb_run.specs.Stepping.{FailsByMachine}
-use Rattle.gb_run.proofs.Moments.{machine_before}
+use Rattle.gb_run.proofs.RunStates.{machine_before}
 use Rattle.gb_store.specs.Changes.{ChangesOnly}
 use Rattle.gb_store.specs.Faults.{IsOfMachine}
 use Rattle.gb_label.specs.Reading.{digests_in, is_input_of}
@@ -37,7 +37,7 @@ use Rattle.gb_task.specs.Executing.{BeginsAt, HasExecuted, IsDue, Registering, i
 use Rattle.gb_task.proofs.Cleared.{empty_before, records_stay}
 use Rattle.gb_task.proofs.Outside.{changes_outside, kept}
 use Rattle.gb_task.proofs.Turning.{IsRun}
-use Rattle.gb_task.proofs.Steps.{entry_made_then, half_cleared, kept_record, on_course, run_ended, run_failed, said_then, unread, unrecorded}
+use Rattle.gb_task.proofs.Steps.{entry_made_then, half_cleared, kept_record, on_input, run_ended, run_failed, said_then, unread, unrecorded}
 
 pub refl_le : (n : ℕ) → n ≤ n
 refl_le n = omega arith
@@ -52,14 +52,14 @@ as_found task was_read old before moment at = λ i.
     record { world = record { folder = sym at.folder i; memory = moment.world.memory }; outcomes = moment.outcomes; failures = sym at.failures i }
 
 -- a run that failed under one relation of torn writes failed so under an equal one
-pub fails_before : (course : Course) (way : Way) (first second : Tearing) (before after : ℕ) (fault : Fault) (lines : List Text) (new : Files) → SameTearing first second → before ≤ after
-    → Fails course way second before fault lines after new → Fails course way first before fault lines after new
-fails_before course way first second before after fault lines new same le fails = record { moment = fails.moment; printed = fails.printed; why = by fails.why }
+pub fails_before : (input : RunInput) (mode : RunMode) (first second : Tearing) (before after : ℕ) (fault : Fault) (lines : List Text) (new : Files) → SameTearing first second → before ≤ after
+    → Fails input mode second before fault lines after new → Fails input mode first before fault lines after new
+fails_before input mode first second before after fault lines new same le fails = record { state = fails.state; printed = fails.printed; why = by fails.why }
   where
-    by : FailsByItself course way fails.moment fault new ⊎ FailsByMachine second before (files_then course way fails.moment) fails.moment.following fault after new
-        → FailsByItself course way fails.moment fault new ⊎ FailsByMachine first before (files_then course way fails.moment) fails.moment.following fault after new
+    by : FailsByItself input mode fails.state fault new ⊎ FailsByMachine second before (files_then input mode fails.state) fails.state.following fault after new
+        → FailsByItself input mode fails.state fault new ⊎ FailsByMachine first before (files_then input mode fails.state) fails.state.following fault after new
     by (inl itself) = inl itself
-    by (inr machine) = inr (machine_before first second before before after (files_then course way fails.moment) new fails.moment.following fault same (refl_le before) le machine)
+    by (inr machine) = inr (machine_before first second before before after (files_then input mode fails.state) new fails.state.following fault same (refl_le before) le machine)
 
 module _ (kinds : Kinds) (registry_of : Registering) (may_leave : Tearing) (options : Options) (plan : Plan) (task : Task) (was_read : Bool)
     (moment : Moment) (old : Contents) (before : ℕ)
@@ -116,30 +116,30 @@ module _ (kinds : Kinds) (registry_of : Registering) (may_leave : Tearing) (opti
   module _ (second : Tearing) (lines : List Text) (between : ℕ) (cleared ran : Contents) (trees : Trees) (reported : List Changes) (tearing : SameTearing may_leave second) (le : before ≤ between)
       (is_cleared : IsCleared task memory old cleared) (are_trees : trees ≡ trees_of task old.files) (are_reported : reported ≡ changes_from task [] old.files)
       (ran_at : ChangesOnly (is_output_of task) cleared ran) (changed : ChangesOnly (is_of_execution task) old ran) where
-    same_course : course_of kinds task trees reported cleared.files ≡ course_in kinds task (changes_from task [] (kept old.files)) is_cleared.taken.files
-    same_course =
-        on_course kinds registry_of may_leave options plan task was_read memory moment.outcomes before old out separate at.read at.records reported_then due_then is_cleared.taken is_cleared.out
+    same_input : run_input kinds task trees reported cleared.files ≡ run_input_in kinds task (changes_from task [] (kept old.files)) is_cleared.taken.files
+    same_input =
+        on_input kinds registry_of may_leave options plan task was_read memory moment.outcomes before old out separate at.read at.records reported_then due_then is_cleared.taken is_cleared.out
         cleared.files trees reported is_cleared.emptied are_trees (are_reported ∙ sym (changes_outside task old.files))
 
     records_then : HoldsRecords ran.files (forget memory task.path)
     records_then = records_stay task out cleared ran (forget memory task.path) ran_at is_cleared.records
 
     pub running_failed : (fault : Fault) (after : ℕ) → between ≤ after → ((place : Place) → fault ≡ faults.Device place → is_output_of task place ≡ true)
-        → Fails (course_of kinds task trees reported cleared.files) InFull second between fault lines after ran.files → Executions (Err fault) lines after ran
+        → Fails (run_input kinds task trees reported cleared.files) InFull second between fault lines after ran.files → Executions (Err fault) lines after ran
     running_failed fault after more blamed fails =
         found (Err fault) lines after ran
         (run_failed kinds registry_of may_leave options plan task was_read memory moment.outcomes before old out separate at.read at.records reported_then due_then is_cleared.taken is_cleared.out
         fault lines between after after ran ran le more (refl_le after) changed blamed records_then refl
         (fails_before _ InFull may_leave second between after fault lines ran.files tearing more
-        (subst (λ (course : Course). Fails course InFull second between fault lines after ran.files) same_course fails))
+        (subst (λ (input : RunInput). Fails input InFull second between fault lines after ran.files) same_input fails))
         (λ since. absurd (full_then.not_incremental since)))
 
-    module _ (well : EndsWell (course_of kinds task trees reported cleared.files) lines ran.files) where
+    module _ (well : EndsWell (run_input kinds task trees reported cleared.files) lines ran.files) where
       sorted : is_sorted byte_order is_cleared.taken.files ≡ true
       sorted = is_cleared.is_folder.in_order
 
-      well_so : EndsWell (course_in kinds task (changes_from task [] (kept old.files)) is_cleared.taken.files) lines ran.files
-      well_so = subst (λ (course : Course). EndsWell course lines ran.files) same_course well
+      well_so : EndsWell (run_input_in kinds task (changes_from task [] (kept old.files)) is_cleared.taken.files) lines ran.files
+      well_so = subst (λ (input : RunInput). EndsWell input lines ran.files) same_input well
 
       abbrev entry : Entry
       entry =

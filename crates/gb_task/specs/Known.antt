@@ -16,7 +16,7 @@ use Rattle.gb_task.specs.Case.{IsKnown}
 -- The records of a memory existed in these files, and all of them are true. What is remembered of the task
 -- has not changed since. If anything was remembered, no two contents that were remembered or exist now share
 -- a digest.
-pub record AreWorth (kinds : Kinds) (task : Task) (files : Files) (memory : Memory)
+pub record AreTrueRecords (kinds : Kinds) (task : Task) (files : Files) (memory : Memory)
     (world : World) : Type 0 where
   pub is_task : IsTrue (is_task_path task.path)
   pub existed : HoldsRecords files memory
@@ -32,4 +32,5 @@ pub record AreWorth (kinds : Kinds) (task : Task) (files : Files) (memory : Memo
 abbrev pub WhatIsReadIsKnown : Type 0
 WhatIsReadIsKnown =
     (kinds : Kinds) (task : Task) (files : Files) (memory : Memory) (world : World) (read : Option Record)
-    → AreWorth kinds task files memory world → IsReadAt files task.path read → IsKnown kinds task world read
+    → AreTrueRecords kinds task files memory world → IsReadAt files task.path read
+    → IsKnown kinds task world read

@@ -19,7 +19,7 @@ use Rattle.gb_records.specs.Faults.{reported_of}
 use Rattle.gb_records.specs.declared.fault.Unwritten.{Unwritten}
 use Rattle.gb_report.specs.declared.fault.Fault.TheVariants as faults
 use Rattle.gb_run.specs.AskingChanges.{GoesOn}
-use Rattle.gb_run.specs.Course.{course_of}
+use Rattle.gb_run.specs.RunInput.{run_input}
 use Rattle.gb_run.specs.Doing.{Ending}
 use Rattle.gb_run.specs.Emptying.{Emptying}
 use Rattle.gb_run.specs.Work.{AreAtOutputs, RunsInFull}
@@ -94,7 +94,7 @@ module _ {S : Type 0} (meanings : Meanings S) (rows : Rows S) (task : Task) (tre
   WritesGiven changes calls lines result =
       AreAtOutputs task calls
       × ((kinds : Kinds) → Agrees meanings rows kinds
-      → RunsInFull (course_of kinds task trees changes []) calls lines result)
+      → RunsInFull (run_input kinds task trees changes []) calls lines result)
 
   -- the same, where each file is reported as added
   abbrev pub WritesAll : Stage

@@ -17,7 +17,7 @@ ghost use Rattle.gb_plan.specs.Task.{is_output_of, output_places, given_files, g
 ghost use Rattle.gb_records.specs.Assumed.{IsAssumed};
 ghost use Rattle.gb_report.specs.declared.report.Options.{Options};
 ghost use Rattle.gb_run.specs.AskingChanges.{CanGoOn, GoesOn};
-ghost use Rattle.gb_run.specs.Course.{EndsWell, course_of};
+ghost use Rattle.gb_run.specs.RunInput.{EndsWell, run_input};
 ghost use Rattle.gb_run.specs.Failing.{ByChanges, Fails};
 ghost use Rattle.gb_run.specs.Doing.{Ending};
 ghost use Rattle.gb_run.specs.Work.{ending};
@@ -134,14 +134,14 @@ fn make_by_changes<A: Actions, F: Folder>(
     ensures ok { IsTrue F.faithful → OnOk result ((kinds : Kinds) → Agrees A.meanings table.now kinds
         → (old : Trees)
         → GoesOn kinds task.now old inputs.trees changes outputs.observed (F.contents folder.old).files
-        → EndsWell (course_of kinds task.now inputs.trees changes
+        → EndsWell (run_input kinds task.now inputs.trees changes
         (rest_of task.now (F.contents folder.old).files))
         lines.new (F.contents folder.new).files) }
     ensures err { IsTrue F.faithful → IfErr result
         (λ fault. (kinds : Kinds) → Agrees A.meanings table.now kinds
         → (old : Trees)
         → GoesOn kinds task.now old inputs.trees changes outputs.observed (F.contents folder.old).files
-        → Fails (course_of kinds task.now inputs.trees changes
+        → Fails (run_input kinds task.now inputs.trees changes
         (rest_of task.now (F.contents folder.old).files))
         (ByChanges (F.contents folder.old).files) (F.may_leave folder.old) (F.failures folder.old) fault
         lines.new (F.failures folder.new) (F.contents folder.new).files) }

@@ -18,7 +18,7 @@ ghost use Rattle.gb_plan.specs.Task.{is_output_of, given_files};
 ghost use Rattle.gb_records.specs.Assumed.{IsAssumed};
 ghost use Rattle.gb_report.specs.declared.report.Options.{Options};
 ghost use Rattle.gb_report.specs.declared.report.Outcome.TheVariants.{Failed};
-ghost use Rattle.gb_run.specs.Course.{EndsWell, course_of};
+ghost use Rattle.gb_run.specs.RunInput.{EndsWell, run_input};
 ghost use Rattle.gb_run.specs.Failing.{Fails, InFull};
 ghost use Rattle.gb_run.specs.Doing.{Ending};
 ghost use Rattle.gb_run.specs.Work.{ending};
@@ -227,11 +227,11 @@ fn make_in_full<A: Actions, F: Folder>(
     ensures changes { IsTrue F.faithful
         → ChangesOnly (is_output_of task.now) (F.contents folder.old) (F.contents folder.new) }
     ensures ok { IsTrue F.faithful → OnOk result ((kinds : Kinds) → Agrees A.meanings table.now kinds
-        → EndsWell (course_of kinds task.now trees changes (F.contents folder.old).files)
+        → EndsWell (run_input kinds task.now trees changes (F.contents folder.old).files)
         lines.new (F.contents folder.new).files) }
     ensures err { IsTrue F.faithful → IfErr result
         (λ fault. (kinds : Kinds) → Agrees A.meanings table.now kinds
-        → Fails (course_of kinds task.now trees changes (F.contents folder.old).files) InFull
+        → Fails (run_input kinds task.now trees changes (F.contents folder.old).files) InFull
         (F.may_leave folder.old) (F.failures folder.old) fault
         lines.new (F.failures folder.new) (F.contents folder.new).files) }
 {

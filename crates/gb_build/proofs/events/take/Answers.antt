@@ -1,6 +1,6 @@
 use Rattle.std.proofs.Common.{sym, subst}
 use Rattle.gb_build.specs.Registering.{registers_in}
-use Rattle.gb_build.specs.Leading.{Leads}
+use Rattle.gb_build.specs.Leading.{IsTransition}
 use Rattle.gb_meaning.specs.declared.events.Answer.{Answer}
 use Rattle.gb_meaning.specs.declared.events.Event.{Event}
 use Rattle.gb_meaning.specs.declared.events.Event.TheVariants as events
@@ -36,8 +36,8 @@ returns-in-Put-clause-leads g c = λ faithful kinds assumed.
     let may_leave = F.may_leave c.args.folder.now in
     let old : Shown = shows (F.contents c.args.folder.now) (F.failures c.args.folder.now) in
     let new : Shown = shows (F.contents c.put.new.folder) (F.failures c.put.new.folder) in
-    subst (λ (event : Event). Leads (setting_by kinds registers may_leave) old event c.edited.result new) (sym c.in-Put.is)
-    (subst (λ (answer : Answer). Leads (setting_by kinds registers may_leave) old (events.Put c.in-Put.place c.in-Put.bytes) answer new) (sym c.edited.ensures)
+    subst (λ (event : Event). IsTransition (setting_by kinds registers may_leave) old event c.edited.result new) (sym c.in-Put.is)
+    (subst (λ (answer : Answer). IsTransition (setting_by kinds registers may_leave) old (events.Put c.in-Put.place c.in-Put.bytes) answer new) (sym c.edited.ensures)
     (put_leads kinds registers may_leave old new (g.met.F.Folder.sound c.put.new.folder) c.in-Put.place c.in-Put.bytes (edit_answer c.put.result) (c.put.ensures.step faithful)))
 
 pub returns-in-Remove-clause-keeps : goal.returns-in-Remove-clause-keeps
@@ -57,8 +57,8 @@ returns-in-Remove-clause-leads g c = λ faithful kinds assumed.
     let may_leave = F.may_leave c.args.folder.now in
     let old : Shown = shows (F.contents c.args.folder.now) (F.failures c.args.folder.now) in
     let new : Shown = shows (F.contents c.remove.new.folder) (F.failures c.remove.new.folder) in
-    subst (λ (event : Event). Leads (setting_by kinds registers may_leave) old event c.edited-in-Remove.result new) (sym c.in-Remove.is)
-    (subst (λ (answer : Answer). Leads (setting_by kinds registers may_leave) old (events.Remove c.in-Remove.place) answer new) (sym c.edited-in-Remove.ensures)
+    subst (λ (event : Event). IsTransition (setting_by kinds registers may_leave) old event c.edited-in-Remove.result new) (sym c.in-Remove.is)
+    (subst (λ (answer : Answer). IsTransition (setting_by kinds registers may_leave) old (events.Remove c.in-Remove.place) answer new) (sym c.edited-in-Remove.ensures)
     (remove_leads kinds registers may_leave old new (g.met.F.Folder.sound c.remove.new.folder) c.in-Remove.place (edit_answer c.remove.result) (c.remove.ensures.step faithful)))
 
 pub returns-in-Lost-clause-leads : goal.returns-in-Lost-clause-leads
@@ -68,8 +68,8 @@ returns-in-Lost-clause-leads g c = λ faithful kinds assumed.
     let may_leave = F.may_leave c.args.folder.now in
     let old : Shown = shows (F.contents c.args.folder.now) (F.failures c.args.folder.now) in
     let new : Shown = shows (F.contents c.lose.new.folder) (F.failures c.lose.new.folder) in
-    subst (λ (event : Event). Leads (setting_by kinds registers may_leave) old event c.edited-in-Lost.result new) (sym c.in-Lost.is)
-    (subst (λ (answer : Answer). Leads (setting_by kinds registers may_leave) old events.Lost answer new) (sym c.edited-in-Lost.ensures)
+    subst (λ (event : Event). IsTransition (setting_by kinds registers may_leave) old event c.edited-in-Lost.result new) (sym c.in-Lost.is)
+    (subst (λ (answer : Answer). IsTransition (setting_by kinds registers may_leave) old events.Lost answer new) (sym c.edited-in-Lost.ensures)
     (loss_leads kinds registers may_leave assumed.tears old new (g.met.F.Folder.sound c.lose.new.folder) (edit_answer c.lose.result) (c.lose.ensures.step faithful)))
 
 pub returns-in-Put-clause-device : goal.returns-in-Put-clause-device

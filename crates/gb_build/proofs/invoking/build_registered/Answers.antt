@@ -4,7 +4,7 @@ use Rattle.gb_folder.specs.Files.{is_own}
 use Rattle.std.proofs.lemmas.Result.{err_from_is_err_and}
 use Rattle.gb_build.specs.Asking.{AreBuildable, NoneBlameDevice}
 use Rattle.gb_meaning.specs.Edits.{Shown}
-use Rattle.gb_build.specs.Leading.{Leads}
+use Rattle.gb_build.specs.Leading.{IsTransition}
 use Rattle.gb_build.specs.Refusing.{IsNotBegun}
 use Rattle.gb_build.proofs.Refusing.{refused_at}
 use Rattle.gb_meaning.specs.Outline.{IsOutlined, IsOutlinedBy}
@@ -52,7 +52,7 @@ returns-clause-leads g c = λ faithful kinds assumed.
     let same : declared ≡ registry_said tables c.args.configured.now.registry = c.in_ok-tasks.ensures.registry in
     let old : Shown = record { contents = F.contents c.args.folder.now; failures = F.failures c.args.folder.now } in
     let new : Shown = record { contents = F.contents c.build_requested-answered.new.folder; failures = F.failures c.build_requested-answered.new.folder } in
-    subst (λ (registry : Registry). Leads (setting_with kinds (λ files given. Ok registry) (F.may_leave c.args.folder.now)) old (events.Invoke c.args.invocation.now) (answer_of c.build_requested-answered.result) new) same
+    subst (λ (registry : Registry). IsTransition (setting_with kinds (λ files given. Ok registry) (F.may_leave c.args.folder.now)) old (events.Invoke c.args.invocation.now) (answer_of c.build_requested-answered.result) new) same
     (c.build_requested-answered.ensures.leads faithful kinds (λ files given. Ok declared) assumed refl)
 
 pub returns-clause-keeps : goal.returns-clause-keeps

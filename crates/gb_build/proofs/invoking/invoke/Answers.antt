@@ -2,7 +2,7 @@ use Rattle.std.proofs.Common.{◌≡◌, ◌&&◌, ◌∷◌, ◌∙◌, [], ℕ
 use Rattle.std.specs.Prelude.{OnOk}
 use Rattle.std.proofs.lemmas.Result.{err_from_is_err_and}
 use Rattle.gb_folder.specs.Files.{Contents, is_own}
-use Rattle.gb_build.specs.Leading.{Leads}
+use Rattle.gb_build.specs.Leading.{IsTransition}
 use Rattle.gb_build.specs.Refusing.{IsNotBegun}
 use Rattle.gb_build.proofs.Leading.{led_holds}
 use Rattle.gb_records.specs.Assumed.{IsAssumed}
@@ -69,9 +69,9 @@ returns-clause-leads g c = λ faithful kinds assumed.
     c.read_registry.ensures.requests.count
     (registered tables before c.into_vec-given.result.items c.args.invocation.now.properties (c.into_vec-given.ensures ∙ c.in_ok-copied.ensures) source (c.in_ok-configured.ensures.said faithful))
     c.build_registered-answered.result new c.build_registered-answered.ensures.count
-    (subst (λ (contents : Contents). Leads (setting_by kinds (always (registry_said tables source)) second) (shows contents later) (events.Invoke c.args.invocation.now) (answer_of c.build_registered-answered.result) new)
+    (subst (λ (contents : Contents). IsTransition (setting_by kinds (always (registry_said tables source)) second) (shows contents later) (events.Invoke c.args.invocation.now) (answer_of c.build_registered-answered.result) new)
     (c.read_registry.ensures.same faithful)
-    (subst (λ (given : handed.Tables _ _ _ _ _ _ _). Leads (setting_by kinds (always (registry_said (tables_of g.T.Transforms.meanings g.A.Actions.meanings given) source)) second)
+    (subst (λ (given : handed.Tables _ _ _ _ _ _ _). IsTransition (setting_by kinds (always (registry_said (tables_of g.T.Transforms.meanings g.A.Actions.meanings given) source)) second)
     (shows (F.contents c.read_registry.new.folder) later) (events.Invoke c.args.invocation.now) (answer_of c.build_registered-answered.result) new)
     same
     (c.build_registered-answered.ensures.leads faithful kinds

@@ -19,7 +19,7 @@ use Rattle.gb_task.specs.Executing.{Registering}
 use Rattle.gb_tree.specs.Seen.{AreSeenIn}
 use Rattle.gb_exec.proofs.Asking.{AreSoFar}
 use Rattle.gb_exec.specs.Building.{is_of_executions}
-use Rattle.gb_exec.specs.Built.{AreWorth}
+use Rattle.gb_exec.specs.Built.{AreTrueBefore}
 use Rattle.gb_exec.specs.Failing.{times_blamed}
 use Rattle.gb_exec.specs.Reports.{IsOf}
 use Rattle.gb_exec.proofs.Shut.{HasOwnPlaces}
@@ -52,7 +52,7 @@ invariant-loop-path g l =
       device : HasFailed (times_blamed l.reports.items) (F.failures start) (F.failures l.folder);
       changes : IsTrue F.faithful → ChangesOnly (is_of_executions done) (F.contents start) (F.contents l.folder);
       build : IsTrue F.faithful → (kinds : Kinds) (registry_of : Registering) (remembered : Memory) (clear : Bool) (observed : List Bytes) → IsAssumed g.A.Actions.meanings l.build.table.now kinds (F.may_leave start)
-          → (IsTrue clear → AreWorth kinds tasks l.build.records.now observed (F.contents start) remembered)
+          → (IsTrue clear → AreTrueBefore kinds tasks l.build.records.now observed (F.contents start) remembered)
           → IsUnderway kinds registry_of (F.may_leave start) clear observed l.build.options tasks
           (record { contents = F.contents start; remembered = remembered; failures = F.failures start }) done (drop l.index tasks) l.reports.items
           (record { contents = F.contents l.folder; failures = F.failures l.folder });

@@ -3,7 +3,7 @@ use Rattle.std.specs.Ordering.{is_lt}
 use Rattle.std.proofs.lemmas.List.{get_or_default}
 use Rattle.std.proofs.lemmas.List.Elements.{Contains-get_or}
 use Rattle.gb_core.specs.Lists.{byte_order}
-use Rattle.gb_graph.specs.Circle.{path_at}
+use Rattle.gb_graph.specs.Cycle.{path_at}
 use Rattle.gb_graph.specs.Conflicts.{IsLeastTask}
 use Rattle.gb_graph.proofs.Lesser.{task_lesser, task_passed}
 use Rattle.gb_graph.proofs.least.least_task.Goals as goal

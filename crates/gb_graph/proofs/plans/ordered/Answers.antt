@@ -2,11 +2,11 @@ use Rattle.std.proofs.Common.{◌++◌, [], List, map, get_or, inr, sym, subst, 
 use Rattle.gb_plan.specs.declared.plan.Planned.{Planned}
 use Rattle.gb_plan.specs.Task.{Path}
 use Rattle.gb_plan.specs.Graph.{order, stuck}
-use Rattle.gb_plan.specs.Refusal.{IsCircle}
+use Rattle.gb_plan.specs.Refusal.{IsCycle}
 use Rattle.gb_graph.specs.Order.{rows}
 use Rattle.gb_graph.specs.Ranked.{AreRanked, AreRanks}
 use Rattle.gb_graph.specs.Words.{asked}
-use Rattle.gb_graph.proofs.Circled.{cycle_refused, schedule_of, some_number, no_number}
+use Rattle.gb_graph.proofs.Cycled.{cycle_refused, schedule_of, some_number, no_number}
 use Rattle.gb_graph.proofs.plans.ordered.Goals as goal
 
 pub rank-requires : goal.rank-requires
@@ -15,8 +15,8 @@ rank-requires g c = c.in_ok-planned.ensures.scheduled.once
 pub ranks_of-requires : goal.ranks_of-requires
 ranks_of-requires g c = subst AreRanked (sym c.as_slice.ensures.value) c.rank.ensures.ranked
 
-pub circle_of-requires : goal.circle_of-requires
-circle_of-requires g c =
+pub cycle_of-requires : goal.cycle_of-requires
+cycle_of-requires g c =
     let others = c.in_ok-ranks.ranks.others in
     record {
       ranked = subst AreRanked (sym c.as_slice-then-not-is_empty.ensures.value) c.rank.ensures.ranked;
@@ -56,7 +56,7 @@ returns-then-not-is_empty g c =
     let sorted = c.rank.new.tasks.items in
     let others = c.in_ok-ranks.ranks.others in
     let done = c.in_ok-ranks.ranks.order.items in
-    let circle : List Path = c.in_ok-circle_of.field-0 in
+    let cycle : List Path = c.in_ok-cycle_of.field-0 in
     let some = some_number others.items others.len (omega arith) (sym c.is_empty.ensures ∙ c.if-not-is_empty.true) in
     record {
       kept = c.in_ok-planned.ensures.kept;
@@ -64,9 +64,9 @@ returns-then-not-is_empty g c =
       fault = inr (inr (
         request,
         c.in_ok-planned.ensures.request,
-        cycle_refused request c.in_ok-planned.planned.items sorted (rows c.in_ok-ranks.ranks.after.items) done others.items circle c.in_ok-planned.ensures.scheduled c.rank.ensures.same c.rank.ensures.ranked
+        cycle_refused request c.in_ok-planned.planned.items sorted (rows c.in_ok-ranks.ranks.after.items) done others.items cycle c.in_ok-planned.ensures.scheduled c.rank.ensures.same c.rank.ensures.ranked
             (subst (λ (ts : List Planned). AreRanks ts (rows c.in_ok-ranks.ranks.after.items) done others.items) c.as_slice.ensures.value c.in_ok-ranks.ensures) some
-            (λ d. subst (λ (ts : List Planned). IsCircle (map (λ k. get_or ts k d) (done ++ others.items)) (order (stuck (map (λ k. get_or ts k d) (done ++ others.items)) [] (map (λ k. get_or ts k d) (done ++ others.items)))) circle)
-            c.as_slice-then-not-is_empty.ensures.value (c.in_ok-circle_of.ensures d)),
+            (λ d. subst (λ (ts : List Planned). IsCycle (map (λ k. get_or ts k d) (done ++ others.items)) (order (stuck (map (λ k. get_or ts k d) (done ++ others.items)) [] (map (λ k. get_or ts k d) (done ++ others.items)))) cycle)
+            c.as_slice-then-not-is_empty.ensures.value (c.in_ok-cycle_of.ensures d)),
       ));
     }

@@ -19,7 +19,7 @@ use Rattle.gb_store.proofs.Machine.{at_err}
 use Rattle.gb_meaning.specs.Headline.{Agrees}
 use Rattle.gb_meaning.specs.Kinds.{Kinds}
 use Rattle.gb_meaning.specs.Made.{made_of, rest_of}
-use Rattle.gb_run.specs.Course.{EndsWell, course_of}
+use Rattle.gb_run.specs.RunInput.{EndsWell, run_input}
 use Rattle.gb_run.specs.Digests.{prints_at}
 use Rattle.gb_run.specs.Failing.{ByChanges, Fails}
 use Rattle.gb_run.specs.AskingChanges.{GoesOn}
@@ -77,9 +77,9 @@ returns-in_err-parts-clause-err g c = λ faithful.
     let p = err_from_is_err_and c.from_residual.result c.from_residual.ensures.1 in
     let IsFault : Fault → Type 0 = λ fault. (kinds : Kinds) → Agrees g.A.Actions.meanings c.args.table.now kinds → (old : Trees)
     → GoesOn kinds task old c.args.files c.args.changes c.args.outputs (F.contents folder).files
-    → Fails (course_of kinds task c.args.files c.args.changes (rest_of task (F.contents folder).files)) (ByChanges (F.contents folder).files) (F.may_leave folder) (F.failures folder) fault c.args.lines.now (F.failures folder) (F.contents folder).files in
+    → Fails (run_input kinds task c.args.files c.args.changes (rest_of task (F.contents folder).files)) (ByChanges (F.contents folder).files) (F.may_leave folder) (F.failures folder) fault c.args.lines.now (F.failures folder) (F.contents folder).files in
     at_err (λ r. IfErr r IsFault) c.from_residual.result p.0 faults.OutOfMemory p.1 p.2 (λ kinds agrees old goes_on.
-    subst (λ (lines : List Text). Fails (course_of kinds task c.args.files c.args.changes (rest_of task (F.contents folder).files)) (ByChanges (F.contents folder).files) (F.may_leave folder) (F.failures folder) faults.OutOfMemory lines (F.failures folder) (F.contents folder).files)
+    subst (λ (lines : List Text). Fails (run_input kinds task c.args.files c.args.changes (rest_of task (F.contents folder).files)) (ByChanges (F.contents folder).files) (F.may_leave folder) (F.failures folder) faults.OutOfMemory lines (F.failures folder) (F.contents folder).files)
     (sym c.requires.no_lines)
     (fails_early kinds task c.args.files c.args.changes (F.contents folder).files (F.may_leave folder) (F.failures folder) faults.OutOfMemory (F.failures folder) refl))
 
@@ -167,10 +167,10 @@ returns-clause-ok g c = λ faithful.
     let leads = leads_as F.device device g.met.F.Folder.said old new led.0 led.2 in
     let made = c.in_ok-parts.field-0.made in
     on_ok _ c.ended.result (or_made done made) c.ended.ensures (for_all (λ kinds. Agrees g.A.Actions.meanings c.args.table.now kinds) (λ kinds. (before : Trees) → GoesOn kinds task before c.args.files c.args.changes c.args.outputs start
-    → EndsWell (course_of kinds task c.args.files c.args.changes (rest_of task start)) lines (F.contents new).files)
-    (or_made done made) (λ kinds agrees. for_old (λ before. GoesOn kinds task before c.args.files c.args.changes c.args.outputs start) (EndsWell (course_of kinds task c.args.files c.args.changes (rest_of task start)) lines (F.contents new).files) (or_made done made) (λ before goes_on.
-    ended_well (course_of kinds task c.args.files c.args.changes (rest_of task start)) (ByChanges start) (F.may_leave old) (F.failures old) (F.failures new) lines (F.contents new).files done made
-    (subst (λ (ls : List Text). Ends (course_of kinds task c.args.files c.args.changes (rest_of task start)) (ByChanges start) (F.may_leave old) (F.failures old) (F.failures new) done (result_err made) ls (F.contents new).files) (sym (parts_so c.args.lines.now led.1 lines c.requires.no_lines led.4))
+    → EndsWell (run_input kinds task c.args.files c.args.changes (rest_of task start)) lines (F.contents new).files)
+    (or_made done made) (λ kinds agrees. for_old (λ before. GoesOn kinds task before c.args.files c.args.changes c.args.outputs start) (EndsWell (run_input kinds task c.args.files c.args.changes (rest_of task start)) lines (F.contents new).files) (or_made done made) (λ before goes_on.
+    ended_well (run_input kinds task c.args.files c.args.changes (rest_of task start)) (ByChanges start) (F.may_leave old) (F.failures old) (F.failures new) lines (F.contents new).files done made
+    (subst (λ (ls : List Text). Ends (run_input kinds task c.args.files c.args.changes (rest_of task start)) (ByChanges start) (F.may_leave old) (F.failures old) (F.failures new) done (result_err made) ls (F.contents new).files) (sym (parts_so c.args.lines.now led.1 lines c.requires.no_lines led.4))
     (done_work_ends kinds task c.args.files c.args.changes c.args.outputs before start goes_on (all_fitting g.A.Actions.meanings kinds c.args.table.now task task.actions g.A.Actions.own_output agrees c.requires.ready)
     (g.met.F.Folder.sound old) (g.met.F.Folder.placed old) (F.may_leave old) (F.failures old) (F.failures new) (count_of device old new led.0 leads) _ led.1 (F.contents old) (F.contents new) led.0 done (c.in_ok-parts.ensures.work kinds agrees) refl
     (subst (λ (ps : List Part). DoesParts (map part_held ps) led.0 led.1 done) c.as_slice.ensures.value led.3) (answered_all device faithful g.met.F.Folder.sound old new led.0 leads)
@@ -191,11 +191,11 @@ returns-clause-err g c = λ faithful.
     let made = c.in_ok-parts.field-0.made in
     if_err _ c.ended.result (or_made done made) c.ended.ensures (for_each (λ kinds. Agrees g.A.Actions.meanings c.args.table.now kinds)
     (λ kinds fault. (before : Trees) → GoesOn kinds task before c.args.files c.args.changes c.args.outputs start
-    → Fails (course_of kinds task c.args.files c.args.changes (rest_of task start)) (ByChanges start) (F.may_leave old) (F.failures old) fault lines (F.failures new) (F.contents new).files) (or_made done made) (λ kinds agrees.
+    → Fails (run_input kinds task c.args.files c.args.changes (rest_of task start)) (ByChanges start) (F.may_leave old) (F.failures old) fault lines (F.failures new) (F.contents new).files) (or_made done made) (λ kinds agrees.
     for_each_old (λ before. GoesOn kinds task before c.args.files c.args.changes c.args.outputs start)
-    (λ fault. Fails (course_of kinds task c.args.files c.args.changes (rest_of task start)) (ByChanges start) (F.may_leave old) (F.failures old) fault lines (F.failures new) (F.contents new).files) (or_made done made) (λ before goes_on.
-    ended_badly (course_of kinds task c.args.files c.args.changes (rest_of task start)) (ByChanges start) (F.may_leave old) (F.failures old) (F.failures new) lines (F.contents new).files done made
-    (subst (λ (ls : List Text). Ends (course_of kinds task c.args.files c.args.changes (rest_of task start)) (ByChanges start) (F.may_leave old) (F.failures old) (F.failures new) done (result_err made) ls (F.contents new).files) (sym (parts_so c.args.lines.now led.1 lines c.requires.no_lines led.4))
+    (λ fault. Fails (run_input kinds task c.args.files c.args.changes (rest_of task start)) (ByChanges start) (F.may_leave old) (F.failures old) fault lines (F.failures new) (F.contents new).files) (or_made done made) (λ before goes_on.
+    ended_badly (run_input kinds task c.args.files c.args.changes (rest_of task start)) (ByChanges start) (F.may_leave old) (F.failures old) (F.failures new) lines (F.contents new).files done made
+    (subst (λ (ls : List Text). Ends (run_input kinds task c.args.files c.args.changes (rest_of task start)) (ByChanges start) (F.may_leave old) (F.failures old) (F.failures new) done (result_err made) ls (F.contents new).files) (sym (parts_so c.args.lines.now led.1 lines c.requires.no_lines led.4))
     (done_work_ends kinds task c.args.files c.args.changes c.args.outputs before start goes_on (all_fitting g.A.Actions.meanings kinds c.args.table.now task task.actions g.A.Actions.own_output agrees c.requires.ready)
     (g.met.F.Folder.sound old) (g.met.F.Folder.placed old) (F.may_leave old) (F.failures old) (F.failures new) (count_of device old new led.0 leads) _ led.1 (F.contents old) (F.contents new) led.0 done (c.in_ok-parts.ensures.work kinds agrees) refl
     (subst (λ (ps : List Part). DoesParts (map part_held ps) led.0 led.1 done) c.as_slice.ensures.value led.3) (answered_all device faithful g.met.F.Folder.sound old new led.0 leads)

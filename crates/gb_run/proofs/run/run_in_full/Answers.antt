@@ -16,7 +16,7 @@ use Rattle.gb_store.proofs.Machine.{at_err}
 use Rattle.gb_meaning.specs.Headline.{Agrees}
 use Rattle.gb_meaning.specs.Kinds.{Kinds}
 use Rattle.gb_meaning.specs.Made.{made_of}
-use Rattle.gb_run.specs.Course.{EndsWell, course_of}
+use Rattle.gb_run.specs.RunInput.{EndsWell, run_input}
 use Rattle.gb_run.specs.Digests.{prints_at}
 use Rattle.gb_run.specs.Failing.{Fails, InFull}
 use Rattle.gb_run.specs.Work.{AreAtOutputs, RunsInFull, ending, or_made}
@@ -50,7 +50,7 @@ returns-in_err-parts-clause-calls g c =
     let p = err_from_is_err_and c.from_residual.result c.from_residual.ensures.1 in
     let Made : Type 0 = Vec (List ℕ × List (List ℕ × List ℕ)) Global in
     let IsDone : Result Made Fault → Type 0 = λ result. (calls : List Call) × Leads F.device folder calls folder × AreAtOutputs c.args.task.now calls
-    × ((kinds : Kinds) → Agrees g.A.Actions.meanings c.args.table.now kinds → RunsInFull (course_of kinds c.args.task.now c.args.files c.args.changes []) calls c.args.lines.now (ending result)) in
+    × ((kinds : Kinds) → Agrees g.A.Actions.meanings c.args.table.now kinds → RunsInFull (run_input kinds c.args.task.now c.args.files c.args.changes []) calls c.args.lines.now (ending result)) in
     at_err IsDone c.from_residual.result p.0 faults.OutOfMemory p.1 p.2 ([], refl, tt, λ kinds agrees. inl (refl, c.requires.no_lines, refl))
 
 pub returns-in_err-parts-clause-err : goal.returns-in_err-parts-clause-err
@@ -59,11 +59,11 @@ returns-in_err-parts-clause-err g c = λ faithful.
     let folder = c.args.folder.now in
     let p = err_from_is_err_and c.from_residual.result c.from_residual.ensures.1 in
     let IsFault : Fault → Type 0 = λ fault. (kinds : Kinds) → Agrees g.A.Actions.meanings c.args.table.now kinds
-    → Fails (course_of kinds c.args.task.now c.args.files c.args.changes (F.contents folder).files) InFull (F.may_leave folder) (F.failures folder) fault c.args.lines.now (F.failures folder) (F.contents folder).files in
+    → Fails (run_input kinds c.args.task.now c.args.files c.args.changes (F.contents folder).files) InFull (F.may_leave folder) (F.failures folder) fault c.args.lines.now (F.failures folder) (F.contents folder).files in
     at_err (λ r. IfErr r IsFault) c.from_residual.result p.0 faults.OutOfMemory p.1 p.2 (λ kinds agrees.
-    let course = course_of kinds c.args.task.now c.args.files c.args.changes (F.contents folder).files in
-    subst (λ (lines : List Text). Fails course InFull (F.may_leave folder) (F.failures folder) faults.OutOfMemory lines (F.failures folder) (F.contents folder).files) (sym c.requires.no_lines)
-    (fails_early course (F.may_leave folder) (F.failures folder) faults.OutOfMemory (F.failures folder) refl))
+    let input = run_input kinds c.args.task.now c.args.files c.args.changes (F.contents folder).files in
+    subst (λ (lines : List Text). Fails input InFull (F.may_leave folder) (F.failures folder) faults.OutOfMemory lines (F.failures folder) (F.contents folder).files) (sym c.requires.no_lines)
+    (fails_early input (F.may_leave folder) (F.failures folder) faults.OutOfMemory (F.failures folder) refl))
 
 pub returns-clause-named : goal.returns-clause-named
 returns-clause-named g c = subst (λ r. IfOk r (λ made. map (λ prints. prints.0) made.items ≡ map (λ (output : Output). output.name) c.args.task.now.outputs)) (sym c.ended.ensures)
@@ -87,10 +87,10 @@ returns-clause-calls g c =
       led.2,
       permitted_parts (changes_at at) c.as_slice.result.now led.0 led.1 c.do_parts-done.result places led.3,
       λ kinds agrees.
-          let course = course_of kinds c.args.task.now c.args.files c.args.changes [] in
+          let input = run_input kinds c.args.task.now c.args.files c.args.changes [] in
           let Made : Type 0 = Vec (List ℕ × List (List ℕ × List ℕ)) Global in
-          subst (λ (r : Result Made Fault). RunsInFull course led.0 c.do_parts-done.new.lines (ending r)) (sym c.ended.ensures)
-          (runs_so course led.0 c.in_ok-parts.field-0.parts.items c.as_slice.result.now c.in_ok-parts.field-0.made c.args.lines.now led.1 c.do_parts-done.new.lines c.do_parts-done.result
+          subst (λ (r : Result Made Fault). RunsInFull input led.0 c.do_parts-done.new.lines (ending r)) (sym c.ended.ensures)
+          (runs_so input led.0 c.in_ok-parts.field-0.parts.items c.as_slice.result.now c.in_ok-parts.field-0.made c.args.lines.now led.1 c.do_parts-done.new.lines c.do_parts-done.result
           c.as_slice.ensures.value (c.in_ok-parts.ensures.work kinds agrees) led.3 c.requires.no_lines led.4),
     )
 
@@ -145,9 +145,9 @@ returns-clause-ok g c = λ faithful.
     let led = c.do_parts-done.ensures in
     let leads = leads_as F.device device g.met.F.Folder.said old new led.0 led.2 in
     let made = c.in_ok-parts.field-0.made in
-    on_ok _ c.ended.result (or_made done made) c.ended.ensures (for_all (λ kinds. Agrees g.A.Actions.meanings c.args.table.now kinds) (λ kinds. EndsWell (course_of kinds c.args.task.now c.args.files c.args.changes (F.contents old).files) lines (F.contents new).files)
+    on_ok _ c.ended.result (or_made done made) c.ended.ensures (for_all (λ kinds. Agrees g.A.Actions.meanings c.args.table.now kinds) (λ kinds. EndsWell (run_input kinds c.args.task.now c.args.files c.args.changes (F.contents old).files) lines (F.contents new).files)
     (or_made done made) (λ kinds agrees.
-    ended_well (course_of kinds c.args.task.now c.args.files c.args.changes (F.contents old).files) InFull (F.may_leave old) (F.failures old) (F.failures new) lines (F.contents new).files done made
+    ended_well (run_input kinds c.args.task.now c.args.files c.args.changes (F.contents old).files) InFull (F.may_leave old) (F.failures old) (F.failures new) lines (F.contents new).files done made
     (ran kinds c.args.task.now c.args.files c.args.changes (F.may_leave old) (F.failures old) (F.failures new) (F.contents old) (F.contents new) led.0 c.in_ok-parts.field-0.parts.items c.as_slice.result.now (result_err made)
     c.args.lines.now led.1 lines done c.as_slice.ensures.value (c.in_ok-parts.ensures.work kinds agrees) (g.met.F.Folder.sound old).in_order (count_of device old new led.0 leads)
     (λ place is. blamed_parts_for device c.as_slice.result.now led.0 led.1 done _ _ led.3 leads place is) led.3 (answered_all device faithful g.met.F.Folder.sound old new led.0 leads) c.requires.no_lines led.4)))
@@ -164,8 +164,8 @@ returns-clause-err g c = λ faithful.
     let leads = leads_as F.device device g.met.F.Folder.said old new led.0 led.2 in
     let made = c.in_ok-parts.field-0.made in
     if_err _ c.ended.result (or_made done made) c.ended.ensures (for_each (λ kinds. Agrees g.A.Actions.meanings c.args.table.now kinds)
-    (λ kinds fault. Fails (course_of kinds c.args.task.now c.args.files c.args.changes (F.contents old).files) InFull (F.may_leave old) (F.failures old) fault lines (F.failures new) (F.contents new).files) (or_made done made) (λ kinds agrees.
-    ended_badly (course_of kinds c.args.task.now c.args.files c.args.changes (F.contents old).files) InFull (F.may_leave old) (F.failures old) (F.failures new) lines (F.contents new).files done made
+    (λ kinds fault. Fails (run_input kinds c.args.task.now c.args.files c.args.changes (F.contents old).files) InFull (F.may_leave old) (F.failures old) fault lines (F.failures new) (F.contents new).files) (or_made done made) (λ kinds agrees.
+    ended_badly (run_input kinds c.args.task.now c.args.files c.args.changes (F.contents old).files) InFull (F.may_leave old) (F.failures old) (F.failures new) lines (F.contents new).files done made
     (ran kinds c.args.task.now c.args.files c.args.changes (F.may_leave old) (F.failures old) (F.failures new) (F.contents old) (F.contents new) led.0 c.in_ok-parts.field-0.parts.items c.as_slice.result.now (result_err made)
     c.args.lines.now led.1 lines done c.as_slice.ensures.value (c.in_ok-parts.ensures.work kinds agrees) (g.met.F.Folder.sound old).in_order (count_of device old new led.0 leads)
     (λ place is. blamed_parts_for device c.as_slice.result.now led.0 led.1 done _ _ led.3 leads place is) led.3 (answered_all device faithful g.met.F.Folder.sound old new led.0 leads) c.requires.no_lines led.4)))

@@ -19,7 +19,7 @@ use Rattle.gb_meaning.specs.Headline.{Agrees}
 use Rattle.gb_meaning.specs.Kinds.{Kinds, kind_of}
 use Rattle.gb_meaning.specs.Made.{put_result}
 use Rattle.gb_run.specs.Asking.{IsFullRequest}
-use Rattle.gb_run.specs.Course.{course_of}
+use Rattle.gb_run.specs.RunInput.{run_input}
 use Rattle.gb_run.proofs.Endings.{none_left}
 use Rattle.gb_run.specs.Work.{part_of, work_of}
 use Rattle.gb_run.specs.Digests.{prints_at}
@@ -43,7 +43,7 @@ loop-action-init g c = record {
   placed = search rules;
   ready = search rules;
   places = search rules;
-  works = λ kinds agrees. begins (course_of kinds c.args.task.now c.args.files c.args.changes []) _ _ _ _ (search rules) c.new.ensures c.new-2.ensures c.new-parts.ensures.items;
+  works = λ kinds agrees. begins (run_input kinds c.args.task.now c.args.files c.args.changes []) _ _ _ _ (search rules) c.new.ensures c.new-2.ensures c.new-parts.ensures.items;
 }
 
 pub loop-action-preserved : goal.loop-action-preserved
@@ -61,16 +61,16 @@ loop-action-preserved g c =
       ready = (subst (λ (actions : List Action). AllByRecursion (IsReadyAction g.A.Actions.meanings c.args.table.now task) actions) next old.invariant.ready).1;
       places = subst (λ (parts : List Part). AllByRecursion (AreStepsAt (is_output_of task)) parts) (sym c.in_ok-push-in-Ok.ensures.items) (all_last (AreStepsAt (is_output_of task)) old.parts.items c.in-Ok.part old.invariant.places c.in-Ok.ensures.places);
       works = λ kinds agrees.
-          let course = course_of kinds task c.args.files c.args.changes [] in
-          subst (λ (parts : List Part). IsWorking course left c.part_of.new.working.taken c.part_of.new.working.digests parts) (sym c.in_ok-push-in-Ok.ensures.items)
-          (works_on course action left old.working.taken old.working.digests old.parts.items
-          (subst (λ (actions : List Action). IsWorking course actions old.working.taken old.working.digests old.parts.items) next (old.invariant.works kinds agrees))
+          let input = run_input kinds task c.args.files c.args.changes [] in
+          subst (λ (parts : List Part). IsWorking input left c.part_of.new.working.taken c.part_of.new.working.digests parts) (sym c.in_ok-push-in-Ok.ensures.items)
+          (works_on input action left old.working.taken old.working.digests old.parts.items
+          (subst (λ (actions : List Action). IsWorking input actions old.working.taken old.working.digests old.parts.items) next (old.invariant.works kinds agrees))
           c.in-Ok.part c.part_of.new.working.taken c.part_of.new.working.digests
           (λ held is.
           subst (λ (files : Trees). (more : Files) × (put_result task.outputs held (kinds.makes (kind_of action) action.args task.values files) ≡ Ok more) × IsKept more c.part_of.new.working.taken c.part_of.new.working.digests
-          × (part_held c.in-Ok.part ≡ part_of (course_of kinds task files c.args.changes []) action)) old.invariant.full.files
+          × (part_held c.in-Ok.part ≡ part_of (run_input kinds task files c.args.changes []) action)) old.invariant.full.files
           (subst (λ (lists : List Changes). (more : Files) × (put_result task.outputs held (kinds.makes (kind_of action) action.args task.values old.working.request.files) ≡ Ok more) × IsKept more c.part_of.new.working.taken c.part_of.new.working.digests
-          × (part_held c.in-Ok.part ≡ part_of (course_of kinds task old.working.request.files lists []) action)) old.invariant.full.lists
+          × (part_held c.in-Ok.part ≡ part_of (run_input kinds task old.working.request.files lists []) action)) old.invariant.full.lists
           (c.in-Ok.ensures.ok kinds agrees held is))));
     }
 
@@ -111,15 +111,15 @@ returns-in-Err-clause-work g c =
     let next : deque_iter_rest old.action-iterator ≡ action ∷ left = c.in-Some.ensures.steps in
     let fault = c.in-Err.fault in
     ok_both (λ (work : Work). (work.parts ≡ old.parts) × (work.made ≡ Err fault))
-    (λ (work : Work). (kinds : Kinds) → Agrees g.A.Actions.meanings c.args.table.now kinds → work_held work ≡ work_of (course_of kinds task c.args.files c.args.changes []) [] task.actions)
+    (λ (work : Work). (kinds : Kinds) → Agrees g.A.Actions.meanings c.args.table.now kinds → work_held work ≡ work_of (run_input kinds task c.args.files c.args.changes []) [] task.actions)
     (fault ≡ faults.OutOfMemory → ⊥) c.stopped.result c.stopped.ensures.same c.stopped.ensures.own (λ work same own kinds agrees.
-    let course = course_of kinds task c.args.files c.args.changes [] in
+    let input = run_input kinds task c.args.files c.args.changes [] in
     ap₂ (λ (ps : Vec Part Global) (made : Result (Vec Prints Global) Fault). record { parts = map part_held ps.items; fault = result_err made }) same.0 same.1
     ∙ sym (elim c.in-Err.ensures.err [
       | inl memory ↦ absurd (own memory)
       | inr stops ↦
-          works_until course action left old.working.taken old.working.digests old.parts.items
-          (subst (λ (actions : List Action). IsWorking course actions old.working.taken old.working.digests old.parts.items) next (old.invariant.works kinds agrees)) fault
+          works_until input action left old.working.taken old.working.digests old.parts.items
+          (subst (λ (actions : List Action). IsWorking input actions old.working.taken old.working.digests old.parts.items) next (old.invariant.works kinds agrees)) fault
           (λ held is. subst (λ (files : Trees). (hindrances : List Fault) × (put_result task.outputs held (kinds.makes (kind_of action) action.args task.values files) ≡ Err hindrances) × (first_of hindrances ≡ Some fault))
           old.invariant.full.files (stops kinds agrees held is))
     ]))
@@ -127,10 +127,10 @@ returns-in-Err-clause-work g c =
 pub returns-clause-work : goal.returns-clause-work
 returns-clause-work g c = λ kinds agrees.
     let old = c.loop-action in
-    let course = course_of kinds c.args.task.now c.args.files c.args.changes [] in
+    let input = run_input kinds c.args.task.now c.args.files c.args.changes [] in
     let nothing = none_left (deque_iter_rest old.action-iterator) c.in-None.ensures.steps.0 in
-    sym (worked course old.working.taken old.working.digests old.parts.items
-    (subst (λ (actions : List Action). IsWorking course actions old.working.taken old.working.digests old.parts.items) nothing (old.invariant.works kinds agrees)))
+    sym (worked input old.working.taken old.working.digests old.parts.items
+    (subst (λ (actions : List Action). IsWorking input actions old.working.taken old.working.digests old.parts.items) nothing (old.invariant.works kinds agrees)))
 
 pub returns-clause-named : goal.returns-clause-named
 returns-clause-named g c = c.in_ok-made.ensures.named ∙ ap (λ (outputs : List Output). map (λ (output : Output). output.name) outputs) c.as_slice.ensures
@@ -138,8 +138,8 @@ returns-clause-named g c = c.in_ok-made.ensures.named ∙ ap (λ (outputs : List
 pub returns-clause-made : goal.returns-clause-made
 returns-clause-made g c = λ kinds agrees.
     let old = c.loop-action in
-    let course = course_of kinds c.args.task.now c.args.files c.args.changes [] in
+    let input = run_input kinds c.args.task.now c.args.files c.args.changes [] in
     let nothing = none_left (deque_iter_rest old.action-iterator) c.in-None.ensures.steps.0 in
-    let all = all_made course old.working.taken old.working.digests old.parts.items
-    (subst (λ (actions : List Action). IsWorking course actions old.working.taken old.working.digests old.parts.items) nothing (old.invariant.works kinds agrees)) in
+    let all = all_made input old.working.taken old.working.digests old.parts.items
+    (subst (λ (actions : List Action). IsWorking input actions old.working.taken old.working.digests old.parts.items) nothing (old.invariant.works kinds agrees)) in
     (all.0, all.1, c.in_ok-made.ensures.prints all.0 all.2 ∙ ap (λ (outputs : List Output). prints_at outputs all.0) c.as_slice.ensures)

@@ -7,7 +7,7 @@ use Rattle.gb_plan.specs.Task.{is_output_of}
 use Rattle.gb_meaning.specs.Headline.{Agrees}
 use Rattle.gb_meaning.specs.Kinds.{Kinds}
 use Rattle.gb_run.specs.Asking.{IsFullRequest}
-use Rattle.gb_run.specs.Course.{course_of}
+use Rattle.gb_run.specs.RunInput.{run_input}
 use Rattle.gb_run.specs.Worked.{AreStepsAt}
 use Rattle.gb_run.proofs.Working.{IsWorking}
 use Rattle.gb_run.proofs.work.work_in_full.Given as goal
@@ -21,5 +21,5 @@ invariant-loop-action g l =
       ready : AllByRecursion (IsReadyAction g.A.Actions.meanings l.table l.task) left;
       places : AllByRecursion (AreStepsAt (is_output_of l.task)) l.parts.items;
       works : (kinds : Kinds) → Agrees g.A.Actions.meanings l.table kinds
-          → IsWorking (course_of kinds l.task l.fn.files l.fn.changes []) left l.working.taken l.working.digests l.parts.items;
+          → IsWorking (run_input kinds l.task l.fn.files l.fn.changes []) left l.working.taken l.working.digests l.parts.items;
     }

@@ -9,7 +9,7 @@ use Rattle.gb_meaning.specs.Memory.{recalled}
 use Rattle.gb_records.specs.Said.{IsSaidOf}
 use Rattle.gb_report.specs.declared.fault.Fault.{Fault}
 use Rattle.gb_report.specs.declared.fault.Fault.TheVariants as faults
-use Rattle.gb_run.specs.Course.{EndsWell, course_of}
+use Rattle.gb_run.specs.RunInput.{EndsWell, run_input}
 use Rattle.gb_run.proofs.Existed.{made_exists}
 use Rattle.gb_store.specs.Changes.{ChangesOnly}
 use Rattle.gb_store.proofs.Machine.{at_err, changes_chain}
@@ -121,7 +121,7 @@ returns-clause-execution g c = λ faithful kinds registry_of options plan moment
     let exists : c.in_ok-run.run' ≡ run_now task c.args.inputs.prints.items (F.contents ran).files =
     record_exists kinds task c.args.inputs.trees c.args.inputs.prints.items (F.contents ran).files c.in_ok-run.run' (c.in_ok-run.ensures.made kinds given.agrees) c.requires.digests
     (λ held makes. made_exists kinds task c.args.inputs.trees c.in_ok-changes.changes is_cleared.taken.files c.make_in_full.new.lines (F.contents ran).files held is_cleared.is_folder.in_order
-    (subst (λ (rest : Files). EndsWell (course_of kinds task c.args.inputs.trees c.in_ok-changes.changes rest) c.make_in_full.new.lines (F.contents ran).files) is_cleared.emptied ended) makes) in
+    (subst (λ (rest : Files). EndsWell (run_input kinds task c.args.inputs.trees c.in_ok-changes.changes rest) c.make_in_full.new.lines (F.contents ran).files) is_cleared.emptied ended) makes) in
     remembering kinds registry_of (F.may_leave start) options plan task c.args.was_read moment (F.contents start) (F.failures start) c.requires.buildable.not_own c.requires.separate at due
     (F.may_leave then) c.make_in_full.new.lines (F.failures then) (F.contents then) (F.contents ran) c.args.inputs.trees c.in_ok-changes.changes
     c.clear.ensures.requests.tearing c.clear.ensures.requests.count is_cleared

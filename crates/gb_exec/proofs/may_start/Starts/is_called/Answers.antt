@@ -1,7 +1,7 @@
 use Rattle.std.proofs.Common.{◌≡◌, ◌<◌, false, length, sym, subst, ◌∙◌, inl, inr, arith, IsTrue, ◌⊎◌}
 use Rattle.std.proofs.lemmas.Bool.{false≢true}
 use Rattle.std.proofs.lemmas.List.{get_or_default}
-use Rattle.gb_exec.specs.Starts.{IsCalled, mark_at, rows}
+use Rattle.gb_exec.specs.Starts.{FinalizesStarted, mark_at, rows}
 use Rattle.gb_exec.proofs.may_start.Starts.is_called.Goals as goal
 
 pub returns-else-index : goal.returns-else-index
@@ -13,8 +13,8 @@ returns-else-index c =
     c.index-else-index.ensures ∙ get_or_default c.self.inside.called.items c.args.task c.index-else-index.result.now false in_called in
     let unwanted : mark_at c.self.inside.wanted.items c.args.task ≡ false =
     sym (c.index.ensures ∙ get_or_default c.self.inside.wanted.items c.args.task c.index.result.now false in_wanted) ∙ c.if-index.false in
-    subst (λ p. (IsTrue c.index-else-index.result.now → IsTrue (mark_at p.wanted c.args.task) ⊎ IsCalled p c.args.task)
-    × (IsTrue (mark_at p.wanted c.args.task) ⊎ IsCalled p c.args.task → IsTrue c.index-else-index.result.now)) c.self.view_is (
+    subst (λ p. (IsTrue c.index-else-index.result.now → IsTrue (mark_at p.wanted c.args.task) ⊎ FinalizesStarted p c.args.task)
+    × (IsTrue (mark_at p.wanted c.args.task) ⊎ FinalizesStarted p c.args.task → IsTrue c.index-else-index.result.now)) c.self.view_is (
       λ h. inr ((c.self.invariant.are_called c.args.task).0 (sym is ∙ h)),
       λ either. elim either [
         | inl wanted ↦ absurd (false≢true (sym unwanted ∙ wanted))

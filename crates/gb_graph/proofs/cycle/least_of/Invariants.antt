@@ -1,7 +1,7 @@
 use Rattle.std.proofs.Common.{◌≡◌, ◌<◌, ℕ, false, take, length, Contains, MatchOption}
 use Rattle.gb_graph.specs.Settled.{exists_in}
-use Rattle.gb_graph.specs.Circle.{IsLeastNumber}
-use Rattle.gb_graph.proofs.circle.least_of.Given as goal
+use Rattle.gb_graph.specs.Cycle.{IsLeastNumber}
+use Rattle.gb_graph.proofs.cycle.least_of.Given as goal
 
 abbrev pub invariant-loop-number : goal.invariant-loop-number
 invariant-loop-number l = record {

@@ -3,10 +3,10 @@ use Rattle.std.proofs.Math.Seq.{take-length}
 use Rattle.std.proofs.lemmas.List.{get_or_default}
 use Rattle.std.proofs.lemmas.List.Elements.{Contains-get_or}
 use Rattle.gb_graph.specs.Settled.{exists_in}
-use Rattle.gb_graph.specs.Circle.{IsLeastNumber}
+use Rattle.gb_graph.specs.Cycle.{IsLeastNumber}
 use Rattle.gb_graph.proofs.Rounds.{IsWithin, so_far_marked, so_far_shut}
-use Rattle.gb_graph.proofs.circle.least_of.Goals as goal
-use Rattle.gb_graph.proofs.circle.least_of.Goals.{then-marks-number, else-marks-number}
+use Rattle.gb_graph.proofs.cycle.least_of.Goals as goal
+use Rattle.gb_graph.proofs.cycle.least_of.Goals.{then-marks-number, else-marks-number}
 
 pub bounds-marks-number : goal.bounds-marks-number
 bounds-marks-number c =

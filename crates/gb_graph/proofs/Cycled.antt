@@ -1,4 +1,4 @@
--- From numbers to paths: the circle of tasks that never get ready.
+-- From numbers to paths: the cycle of tasks that never get ready.
 use Rattle.std.specs.Prelude.{ℕ, ◌≡◌, ◌⊎◌, ◌<◌, Bool, true, false, not, cond, List, [], ◌∷◌, ◌++◌, map, length, get_or, bytes_eq, refl, Contains, ◌==◌}
 use Rattle.std.specs.List.{filter, flat_map, AllByRecursion}
 use Rattle.std.specs.Ordering.{is_lt}
@@ -12,7 +12,7 @@ use Rattle.gb_core.specs.Lists.{byte_order}
 use Rattle.gb_plan.specs.declared.plan.Planned.{Planned}
 use Rattle.gb_plan.specs.Task.{Path, has_path}
 use Rattle.gb_plan.specs.Graph.{Plan, Request, IsSchedule, IsRegistered, IsFirstWord, selected, order, after, after_at, stuck, no_repeats}
-use Rattle.gb_plan.specs.Refusal.{IsLeastOf, IsLeastBefore, IsCircle, Leads, IsRefused, has_cycle}
+use Rattle.gb_plan.specs.Refusal.{IsLeastOf, IsLeastBefore, IsCycle, IsWalk, IsRefused, has_cycle}
 use Rattle.gb_plan.specs.Refusal as refusal
 use Rattle.gb_plan.proofs.Tests.{not_true, or_right, all_of_members, in_filter, into_filter}
 use Rattle.gb_plan.proofs.Same.{In, planned_at, path_of_in}
@@ -20,7 +20,7 @@ use Rattle.gb_graph.specs.Order.{row}
 use Rattle.gb_graph.specs.Settled.{exists_in}
 use Rattle.gb_graph.specs.Ranked.{AreRanked, AreRanks, AreSame, IsArranged}
 use Rattle.gb_graph.specs.Words.{AreScheduled}
-use Rattle.gb_graph.specs.Circle.{IsLeastNumber, IsNextNumber, IsRound, LeadsTo, is_there, goes, path_at}
+use Rattle.gb_graph.specs.Cycle.{IsLeastNumber, IsNextNumber, IsRound, LeadsTo, is_there, goes, path_at}
 use Rattle.gb_graph.proofs.Arranged.{after_is, after_so, order_mapped, once_mapped, plan_once, in_numbers, one_path, path_of, path_once, stuck_others_are, is_arranged}
 use Rattle.gb_graph.proofs.Numbers.{among, in_of, of_in, has_mapped, of_mapped, into_map, left_or}
 use Rattle.gb_graph.proofs.Queues.{split_or, has_append}
@@ -133,7 +133,7 @@ module _ (tasks : List Planned) (ranked : AreRanked tasks) (table : List (List �
             (not_before at.0 j lu lj (is.least at.0 (edge_from k at.0 lk lu (ap (has_path (after_at plan (path k))) (sym at.2) ∙ both.0)) (marked at.0 at.1))));
       }
 
-  way_path : (a b : ℕ) (xs : List ℕ) → a < length tasks → LeadsTo (IsNextNumber tasks table marks) a xs b → Leads (IsLeastBefore plan unplaced) (path a) (map path xs) (path b)
+  way_path : (a b : ℕ) (xs : List ℕ) → a < length tasks → LeadsTo (IsNextNumber tasks table marks) a xs b → IsWalk (IsLeastBefore plan unplaced) (path a) (map path xs) (path b)
   way_path a b xs la is_there = refusal.is_there
   way_path a b xs la (goes {next = next} {passed = passed} s way) = refusal.goes (step_path a next la s) (way_path next b passed (known next (shows next s.marked)) way)
 
@@ -142,28 +142,28 @@ module _ (tasks : List Planned) (ranked : AreRanked tasks) (table : List (List �
   way_marked a b xs m (goes {next = next} {passed = passed} s way) k (inl e) = ap (exists_in marks) e ∙ m
   way_marked a b xs m (goes {next = next} {passed = passed} s way) k (inr i) = way_marked next b passed s.marked way k i
 
-  pub circle_is : (circle : List ℕ) → IsRound tasks table marks others circle → IsCircle plan unplaced (map path circle)
-  circle_is circle is =
-      let all : (k : ℕ) → Contains circle k → exists_in marks k ≡ true = λ k c. way_marked is.first is.first circle is.least_first.marked is.goes_round k (in_of circle k c) in
-      let low : (k : ℕ) → Contains circle k → k < length tasks = λ k c. known k (shows k (all k c)) in
+  pub cycle_is : (cycle : List ℕ) → IsRound tasks table marks others cycle → IsCycle plan unplaced (map path cycle)
+  cycle_is cycle is =
+      let all : (k : ℕ) → Contains cycle k → exists_in marks k ≡ true = λ k c. way_marked is.first is.first cycle is.least_first.marked is.goes_round k (in_of cycle k c) in
+      let low : (k : ℕ) → Contains cycle k → k < length tasks = λ k c. known k (shows k (all k c)) in
       record {
         start = path is.start;
         first = path is.first;
         way = map path is.way;
         from_least = subst (λ ps. IsLeastOf ps (path is.start)) (sym unplaced_is) (least_path others known marked is.start is.from_least);
         comes_to = way_path is.start is.first is.way (known is.start (shows is.start is.from_least.marked)) is.comes_to;
-        goes_round = way_path is.first is.first circle (known is.first (shows is.first is.least_first.marked)) is.goes_round;
-        once = ap no_repeats (sym (mapped circle)) ∙ once_mapped (length tasks) f table done others ranks.reported.each (λ k j. ranks.reported.reported k j d) (λ i j. ranked.ranked i j d) (one_path tasks ranked d) ranks.is_order ranks.are_others
-            circle is.once (λ k i. low k (of_in k circle i));
-        least_first = least_path circle low all is.first is.least_first;
+        goes_round = way_path is.first is.first cycle (known is.first (shows is.first is.least_first.marked)) is.goes_round;
+        once = ap no_repeats (sym (mapped cycle)) ∙ once_mapped (length tasks) f table done others ranks.reported.each (λ k j. ranks.reported.reported k j d) (λ i j. ranked.ranked i j d) (one_path tasks ranked d) ranks.is_order ranks.are_others
+            cycle is.once (λ k i. low k (of_in k cycle i));
+        least_first = least_path cycle low all is.first is.least_first;
       }
 
-  pub circle_known : (circle : List ℕ) → IsRound tasks table marks others circle → (k : ℕ) → Contains circle k → k < length tasks
-  circle_known circle is k c = known k (shows k (way_marked is.first is.first circle is.least_first.marked is.goes_round k (in_of circle k c)))
+  pub cycle_known : (cycle : List ℕ) → IsRound tasks table marks others cycle → (k : ℕ) → Contains cycle k → k < length tasks
+  cycle_known cycle is k c = known k (shows k (way_marked is.first is.first cycle is.least_first.marked is.goes_round k (in_of cycle k c)))
 
-  pub paths_are : (circle : List ℕ) → ((k : ℕ) → Contains circle k → k < length tasks) → map (path_at tasks) circle ≡ map path circle
+  pub paths_are : (cycle : List ℕ) → ((k : ℕ) → Contains cycle k → k < length tasks) → map (path_at tasks) cycle ≡ map path cycle
   paths_are [] low = refl
-  paths_are (k ∷ circle) low = (λ i. path_is k (low k (0, omega arith, refl)) i ∷ paths_are circle (λ j c. low j (of_in j (k ∷ circle) (inr (in_of circle j c)))) i)
+  paths_are (k ∷ cycle) low = (λ i. path_is k (low k (0, omega arith, refl)) i ∷ paths_are cycle (λ j c. low j (of_in j (k ∷ cycle) (inr (in_of cycle j c)))) i)
 
 -- ---- The requirements of the code
 
@@ -223,12 +223,12 @@ not_empty_map : {X : Type 0} (f : ℕ → X) (xs : List ℕ) (k : ℕ) → Conta
 not_empty_map f [] k c = absurd (omega (arith, c.1))
 not_empty_map f (x ∷ xs) k c = refl
 
--- the request is refused with the circle
-pub cycle_refused : (request : Request) (tasks sorted : List Planned) (table : List (List ℕ)) (done others : List ℕ) (circle : List Path) → AreScheduled request tasks → AreSame tasks sorted
+-- the request is refused with the cycle
+pub cycle_refused : (request : Request) (tasks sorted : List Planned) (table : List (List ℕ)) (done others : List ℕ) (cycle : List Path) → AreScheduled request tasks → AreSame tasks sorted
     → AreRanked sorted → AreRanks sorted table done others → (some : (k : ℕ) × Contains others k)
-    → ((d : Planned) → IsCircle (map (λ k. get_or sorted k d) (done ++ others)) (order (stuck (map (λ k. get_or sorted k d) (done ++ others)) [] (map (λ k. get_or sorted k d) (done ++ others)))) circle)
-    → IsRefused request (faults.Cycle circle)
-cycle_refused request tasks sorted table done others circle s same ranked ranks some is =
+    → ((d : Planned) → IsCycle (map (λ k. get_or sorted k d) (done ++ others)) (order (stuck (map (λ k. get_or sorted k d) (done ++ others)) [] (map (λ k. get_or sorted k d) (done ++ others)))) cycle)
+    → IsRefused request (faults.Cycle cycle)
+cycle_refused request tasks sorted table done others cycle s same ranked ranks some is =
     let lt = (ranks.are_others.within some.0 some.1).0 in
     let d = (element sorted some.0 lt).0 in
     let plan : List Planned = map (λ k. get_or sorted k d) (done ++ others) in
@@ -237,8 +237,8 @@ cycle_refused request tasks sorted table done others circle s same ranked ranks 
       schedule_of request tasks sorted plan s same (is_arranged sorted ranked table done others ranks d),
       has_cycle (record {
         some_stuck = ap is_empty (stuck_others_are sorted ranked table done others ranks d) ∙ not_empty_map (λ k. get_or sorted k d) others some.0 some.1;
-        circle = circle;
-        is_circle = is d;
+        cycle = cycle;
+        is_cycle = is d;
         reported = refl;
       }),
     )

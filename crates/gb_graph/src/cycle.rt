@@ -1,11 +1,11 @@
-//! The circle of tasks that never get ready.
+//! The cycle of tasks that never get ready.
 ghost use Rattle.std.specs.Prelude.{◌≡◌, ◌<◌, ◌⊎◌, ◌++◌, ◌∷◌, ℕ, List, length, map, true, false, Contains};
 ghost use Rattle.std.specs.Prelude.{MatchOption, IfOk, IsTrue};
 ghost use Rattle.std.specs.Ordering.{is_lt};
 ghost use Rattle.gb_core.specs.Lists.{byte_order};
 ghost use Rattle.gb_graph.specs.Order.{rows, row};
 ghost use Rattle.gb_graph.specs.Settled.{exists_in};
-ghost use Rattle.gb_graph.specs.Circle.{IsLeastNumber, IsRound, IsTrail, path_at};
+ghost use Rattle.gb_graph.specs.Cycle.{IsLeastNumber, IsRound, IsTrail, path_at};
 
 use gb_core::tasks::TaskList;
 use gb_plan::plan::Planned;
@@ -102,7 +102,7 @@ fn cut(
     unreachable!()
 }
 
-/// The circle of marked tasks, starting with its least one.
+/// The cycle of marked tasks, starting with its least one.
 pub(crate) fn round_of(
     alloc: Global,
     tasks: &[Planned],
@@ -119,16 +119,16 @@ pub(crate) fn round_of(
     requires goes_on { (number : ℕ) → exists_in marks.now number ≡ true
         → (next : ℕ) × Contains (row (rows after.now) number) next
         × (exists_in marks.now next ≡ true) }
-    ensures { IfOk result (λ circle.
-        IsRound tasks.now (rows after.now) marks.now numbers.now circle.items) }
+    ensures { IfOk result (λ cycle.
+        IsRound tasks.now (rows after.now) marks.now numbers.now cycle.items) }
 {
     let start = least_of(tasks, numbers, marks).unwrap_or(0);
     let (trail, back) = trail_of(alloc, tasks, after, marks, start)?;
     let (_, round) = cut(alloc, trail.as_slice(), back)?;
     let first = least_of(tasks, round.as_slice(), marks).unwrap_or(0);
-    let (end, mut circle) = cut(alloc, round.as_slice(), first)?;
-    circle.extend_from_slice(end.as_slice())?;
-    Ok(circle)
+    let (end, mut cycle) = cut(alloc, round.as_slice(), first)?;
+    cycle.extend_from_slice(end.as_slice())?;
+    Ok(cycle)
 }
 
 /// The paths of the tasks of these numbers.

@@ -5,13 +5,13 @@ use Rattle.std.proofs.lemmas.List.Elements.{Contains-push_cases}
 use Rattle.gb_graph.specs.Order.{rows, row}
 use Rattle.gb_graph.specs.Settled.{exists_in}
 use Rattle.gb_graph.specs.Ranked.{AreDistinct}
-use Rattle.gb_graph.specs.Circle.{IsNextNumber, IsLeastNumber, LeadsTo, is_there}
+use Rattle.gb_graph.specs.Cycle.{IsNextNumber, IsLeastNumber, LeadsTo, is_there}
 use Rattle.gb_graph.proofs.Keeping.{fewer, not_both}
 use Rattle.gb_graph.proofs.Numbers.{separate_push}
 use Rattle.gb_graph.proofs.Reached.{none_exist}
 use Rattle.gb_graph.proofs.Rounds.{leads_push, met_grows, exists_within}
 use Rattle.gb_graph.proofs.Rows.{rows_row}
-use Rattle.gb_graph.proofs.circle.trail_of.Goals as goal
+use Rattle.gb_graph.proofs.cycle.trail_of.Goals as goal
 
 pub loop-met-init : goal.loop-met-init
 loop-met-init c = record {

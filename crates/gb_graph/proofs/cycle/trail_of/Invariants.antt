@@ -2,8 +2,8 @@ use Rattle.std.proofs.Common.{◌≡◌, ◌↔◌, ℕ, true, vec_len, length, 
 use Rattle.gb_graph.specs.Order.{rows}
 use Rattle.gb_graph.specs.Ranked.{AreDistinct}
 use Rattle.gb_graph.specs.Settled.{exists_in, missing}
-use Rattle.gb_graph.specs.Circle.{IsNextNumber, LeadsTo}
-use Rattle.gb_graph.proofs.circle.trail_of.Given as goal
+use Rattle.gb_graph.specs.Cycle.{IsNextNumber, LeadsTo}
+use Rattle.gb_graph.proofs.cycle.trail_of.Given as goal
 
 abbrev pub invariant-loop-met : goal.invariant-loop-met
 invariant-loop-met l = record {

@@ -1,4 +1,4 @@
--- Moments of a run between two actions, and what a later failure of the machine means for an earlier call.
+-- States of a run between two actions, and what a later failure of the machine means for an earlier call.
 use Rattle.std.specs.Prelude.{ℕ, ◌≡◌, ◌≤◌, ◌⊎◌, ◌++◌, List, [], ◌∷◌, None, Result, Err}
 use Rattle.std.proofs.Common.{refl, ap, subst, ◌∙◌, inl, inr}
 use Rattle.gb_folder.specs.Files.{Contents, Files, HasRisen, Place, SameTearing, Tearing, file_at, with_left}
@@ -10,8 +10,8 @@ use Rattle.gb_plan.specs.declared.task.Action.{Action}
 use Rattle.gb_store.specs.Changes.{IsHindered}
 use Rattle.gb_meaning.specs.Run.{step_by}
 use Rattle.gb_run.specs.Asking.{made_by}
-use Rattle.gb_run.specs.Course.{Course, files_at_hand, lines_by, run_along}
-use Rattle.gb_run.specs.Failing.{AreAtHand, ByChanges, Fails, FailsByItself, InFull, Moment, Way, ended_files}
+use Rattle.gb_run.specs.RunInput.{RunInput, files_at_hand, lines_by, run_along}
+use Rattle.gb_run.specs.Failing.{AreAtHand, ByChanges, Fails, FailsByItself, InFull, RunState, RunMode, ended_files}
 use Rattle.gb_run.specs.Named.{put}
 use Rattle.gb_run.specs.Stepping.{FailsByMachine, StopsAt}
 use Rattle.gb_run.specs.Steps.{Step, after_steps, folder_after}
@@ -52,55 +52,55 @@ by_machine may_leave before after old existed prefix step following fault new is
 
 -- ---- between two actions
 
-module _ (course : Course) where
+module _ (input : RunInput) where
   -- none of the steps at hand is done
-  pub unbegun : (way : Way) (done left : List Action) → (steps : List Step) × AreAtHand course way done left steps
-  unbegun InFull done left = (put (files_at_hand course (run_along course done).held left), refl)
+  pub unbegun : (mode : RunMode) (done left : List Action) → (steps : List Step) × AreAtHand input mode done left steps
+  unbegun InFull done left = (put (files_at_hand input (run_along input done).held left), refl)
   unbegun (ByChanges old) done [] = ([], refl)
   unbegun (ByChanges old) done (action ∷ left) = ([], inl refl)
 
-  module _ (way : Way) (done left : List Action) (all : course.task.actions ≡ done ++ left) (no_fault : (run_along course done).fault ≡ None) where
-    abbrev pub moment_at : Moment course way
-    moment_at = record {
+  module _ (mode : RunMode) (done left : List Action) (all : input.task.actions ≡ done ++ left) (no_fault : (run_along input done).fault ≡ None) where
+    abbrev pub state_at : RunState input mode
+    state_at = record {
       done = done;
       left = left;
       all = all;
       no_fault = no_fault;
       prefix = [];
-      following = (unbegun way done left).0;
-      at_hand = (unbegun way done left).1;
+      following = (unbegun mode done left).0;
+      at_hand = (unbegun mode done left).1;
     }
 
     -- memory ran out there
-    pub fails_between : (may_leave : Tearing) (before after : ℕ) (fault : Fault) (lines : List Text) (new : Files) → fault ≡ faults.OutOfMemory → lines ≡ lines_by course done → new ≡ ended_files course way done
-        → Fails course way may_leave before fault lines after new
-    fails_between may_leave before after fault lines new reported printed exists = record { moment = moment_at; printed = printed; why = inr (inl (reported, exists)) }
+    pub fails_between : (may_leave : Tearing) (before after : ℕ) (fault : Fault) (lines : List Text) (new : Files) → fault ≡ faults.OutOfMemory → lines ≡ lines_by input done → new ≡ ended_files input mode done
+        → Fails input mode may_leave before fault lines after new
+    fails_between may_leave before after fault lines new reported printed exists = record { state = state_at; printed = printed; why = inr (inl (reported, exists)) }
 
 -- ---- at an action
 
-module _ (course : Course) (way : Way) (done left : List Action) (action : Action) (all : course.task.actions ≡ done ++ action ∷ left) (no_fault : (run_along course done).fault ≡ None) where
+module _ (input : RunInput) (mode : RunMode) (done left : List Action) (action : Action) (all : input.task.actions ≡ done ++ action ∷ left) (no_fault : (run_along input done).fault ≡ None) where
   -- the result of the action after those that have ended
   abbrev comes_to : Result Files Fault
-  comes_to = step_by course.task.outputs course.rest (run_along course done).held (made_by course.kinds course.task action course.trees)
+  comes_to = step_by input.task.outputs input.rest (run_along input done).held (made_by input.kinds input.task action input.trees)
 
   -- it stops
-  pub fails_at : (first second : Tearing) (before between after : ℕ) (fault : Fault) (lines : List Text) (new : Files) → SameTearing first second → before ≤ between → between ≤ after → lines ≡ lines_by course done
-      → StopsAt (AreAtHand course way done (action ∷ left)) comes_to second between (ended_files course way done) fault after new → Fails course way first before fault lines after new
-  fails_at first second before between after fault lines new same le more printed stops = record { moment = here; printed = printed; why = at_stop stops.why }
+  pub fails_at : (first second : Tearing) (before between after : ℕ) (fault : Fault) (lines : List Text) (new : Files) → SameTearing first second → before ≤ between → between ≤ after → lines ≡ lines_by input done
+      → StopsAt (AreAtHand input mode done (action ∷ left)) comes_to second between (ended_files input mode done) fault after new → Fails input mode first before fault lines after new
+  fails_at first second before between after fault lines new same le more printed stops = record { state = here; printed = printed; why = at_stop stops.why }
     where
-      here : Moment course way
+      here : RunState input mode
       here = record { done = done; left = action ∷ left; all = all; no_fault = no_fault; prefix = stops.prefix; following = stops.following; at_hand = stops.at_hand }
 
-      at_stop : ((comes_to ≡ Err fault) × (new ≡ after_steps (ended_files course way done) stops.prefix))
-          ⊎ FailsByMachine second between (after_steps (ended_files course way done) stops.prefix) stops.following fault after new
-          → FailsByItself course way here fault new ⊎ FailsByMachine first before (after_steps (ended_files course way done) stops.prefix) stops.following fault after new
+      at_stop : ((comes_to ≡ Err fault) × (new ≡ after_steps (ended_files input mode done) stops.prefix))
+          ⊎ FailsByMachine second between (after_steps (ended_files input mode done) stops.prefix) stops.following fault after new
+          → FailsByItself input mode here fault new ⊎ FailsByMachine first before (after_steps (ended_files input mode done) stops.prefix) stops.following fault after new
       at_stop (inl itself) = inl (record {
         faulty =
-            ap (λ (actions : List Action). (run_along course actions).fault) all
-            ∙ stops_fault course.kinds course.task.outputs course.task.values course.trees course.rest done left [] action fault no_fault itself.0;
+            ap (λ (actions : List Action). (run_along input actions).fault) all
+            ∙ stops_fault input.kinds input.task.outputs input.task.values input.trees input.rest done left [] action fault no_fault itself.0;
         done =
-            ap (λ (actions : List Action). (run_along course actions).done) all
-            ∙ stops_done course.kinds course.task.outputs course.task.values course.trees course.rest done left [] action fault no_fault itself.0;
+            ap (λ (actions : List Action). (run_along input actions).done) all
+            ∙ stops_done input.kinds input.task.outputs input.task.values input.trees input.rest done left [] action fault no_fault itself.0;
         files = itself.1;
       })
-      at_stop (inr machine) = inr (machine_before first second before between after (after_steps (ended_files course way done) stops.prefix) new stops.following fault same le more machine)
+      at_stop (inr machine) = inr (machine_before first second before between after (after_steps (ended_files input mode done) stops.prefix) new stops.following fault same le more machine)

@@ -4,9 +4,9 @@ use Rattle.std.proofs.lemmas.List.{get_or-map, get_or_default}
 use Rattle.std.proofs.lemmas.List.Elements.{Contains-get_or}
 use Rattle.gb_plan.specs.declared.plan.Planned.{Planned}
 use Rattle.gb_plan.specs.Task.{Path}
-use Rattle.gb_graph.specs.Circle.{path_at}
+use Rattle.gb_graph.specs.Cycle.{path_at}
 use Rattle.gb_graph.proofs.Selections.{map_more}
-use Rattle.gb_graph.proofs.circle.paths_of.Goals as goal
+use Rattle.gb_graph.proofs.cycle.paths_of.Goals as goal
 
 pub bounds-tasks-number : goal.bounds-tasks-number
 bounds-tasks-number c = c.requires _ (Contains-get_or c.args.numbers.now c.loop-number.number-index 0 c.loop-number-test.true)

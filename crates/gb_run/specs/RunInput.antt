@@ -16,38 +16,38 @@ use Rattle.gb_run.specs.Asking.{made_by}
 
 -- What a run depends on: what kinds mean, the task with its trees and its change lists, and the rest of the
 -- folder.
-pub record Course : Type 0 where
+pub record RunInput : Type 0 where
   pub kinds : Kinds
   pub task : Task
   pub trees : Trees
   pub changes : List Changes
   pub rest : Files
 
-abbrev pub course_of : Kinds → Task → Trees → List Changes → Files → Course
-course_of kinds task trees changes rest =
+abbrev pub run_input : Kinds → Task → Trees → List Changes → Files → RunInput
+run_input kinds task trees changes rest =
     record { kinds = kinds; task = task; trees = trees; changes = changes; rest = rest }
 
 -- the run of these actions, from no file
-abbrev pub run_along : Course → List Action → Ended
-run_along course actions =
-    ends course.kinds course.task.outputs course.task.values course.trees course.rest [] actions
+abbrev pub run_along : RunInput → List Action → Ended
+run_along input actions =
+    ends input.kinds input.task.outputs input.task.values input.trees input.rest [] actions
 
 -- the run of all actions of the task
-abbrev pub whole_run : Course → Ended
-whole_run course = run_along course course.task.actions
+abbrev pub whole_run : RunInput → Ended
+whole_run input = run_along input input.task.actions
 
 -- the lines that these actions print
-abbrev pub lines_by : Course → List Action → List Text
-lines_by course actions = lines_of course.kinds course.task course.trees course.changes actions
+abbrev pub lines_by : RunInput → List Action → List Text
+lines_by input actions = lines_of input.kinds input.task input.trees input.changes actions
 
 -- ---- The end
 
 -- The run ended well: the folder is the rest with what was made put over it, and each action printed its
 -- lines.
-pub record EndsWell (course : Course) (lines : List Text) (new : Files) : Type 0 where
-  pub no_fault : (whole_run course).fault ≡ None
-  pub files : new ≡ put_over course.rest (whole_run course).held
-  pub printed : lines ≡ lines_by course course.task.actions
+pub record EndsWell (input : RunInput) (lines : List Text) (new : Files) : Type 0 where
+  pub no_fault : (whole_run input).fault ≡ None
+  pub files : new ≡ put_over input.rest (whole_run input).held
+  pub printed : lines ≡ lines_by input input.task.actions
 
 -- ---- The action at hand
 
@@ -59,7 +59,7 @@ free_files outputs held (Ok written) =
     else []
 
 -- those of the action at hand, the first of those left
-abbrev pub files_at_hand : Course → Files → List Action → Files
-files_at_hand course held [] = []
-files_at_hand course held (action ∷ later) =
-    free_files course.task.outputs held (made_by course.kinds course.task action course.trees)
+abbrev pub files_at_hand : RunInput → Files → List Action → Files
+files_at_hand input held [] = []
+files_at_hand input held (action ∷ later) =
+    free_files input.task.outputs held (made_by input.kinds input.task action input.trees)

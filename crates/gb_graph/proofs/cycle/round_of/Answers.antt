@@ -2,10 +2,10 @@ use Rattle.std.proofs.Common.{◌≡◌, ◌++◌, ℕ, false, Contains, MatchOp
 use Rattle.gb_plan.proofs.Same.{In}
 use Rattle.gb_graph.specs.Order.{rows}
 use Rattle.gb_graph.specs.Settled.{exists_in}
-use Rattle.gb_graph.specs.Circle.{IsLeastNumber, IsRound}
+use Rattle.gb_graph.specs.Cycle.{IsLeastNumber, IsRound}
 use Rattle.gb_graph.proofs.Numbers.{in_of, of_in, in_back}
 use Rattle.gb_graph.proofs.Rounds.{least_or, round_is, exists_within}
-use Rattle.gb_graph.proofs.circle.round_of.Goals as goal
+use Rattle.gb_graph.proofs.cycle.round_of.Goals as goal
 
 pub trail_of-requires : goal.trail_of-requires
 trail_of-requires c =
@@ -52,7 +52,7 @@ returns c =
     let round = c.in_ok-round.round.items in
     let back = c.in_ok-trail.back in
     let end = c.in_ok-end.end.items in
-    let most = c.in_ok-end.circle.items in
+    let most = c.in_ok-end.cycle.items in
     let first = c.unwrap_or-first.result in
     let begins : Contains round back = of_in back round (subst (λ ks. In back ks) (sym c.in_ok-round.ensures.1.1) (inl refl)) in
     let start_least = least_or tasks c.args.numbers.now marks c.least_of.result c.least_of.ensures c.requires.some.0 c.requires.some.1 c.requires.some.2 c.unwrap_or-start.result c.unwrap_or-start.ensures in

@@ -14,11 +14,11 @@ needing path needs = plain path [] needs []
 abbrev pub round : Plan
 round = planned (needing (codes ":b") (codes ":c" ∷ [])) 0 ∷ planned (needing (codes ":c") (codes ":a" ∷ [])) 0 ∷ planned (needing (codes ":a") (codes ":b" ∷ [])) 0 ∷ []
 
-pub circle_of_three : IsScheduleFault round (faults.Cycle (codes ":a" ∷ codes ":b" ∷ codes ":c" ∷ []))
-circle_of_three = has_cycle (record {
+pub cycle_of_three : IsScheduleFault round (faults.Cycle (codes ":a" ∷ codes ":b" ∷ codes ":c" ∷ []))
+cycle_of_three = has_cycle (record {
   some_stuck = refl;
-  circle = _;
-  is_circle = record {
+  cycle = _;
+  is_cycle = record {
     start = codes ":a";
     first = codes ":a";
     way = [];
@@ -37,11 +37,11 @@ abbrev pub into : Plan
 into = planned (needing (codes ":a") (codes ":c" ∷ [])) 0 ∷ planned (needing (codes ":b") (codes ":c" ∷ [])) 0
     ∷ planned (record (needing (codes ":c") []) { must_run_after = codes ":b" ∷ [] }) 0 ∷ []
 
-pub circle_through_order : IsScheduleFault into (faults.Cycle (codes ":b" ∷ codes ":c" ∷ []))
-circle_through_order = has_cycle (record {
+pub cycle_through_order : IsScheduleFault into (faults.Cycle (codes ":b" ∷ codes ":c" ∷ []))
+cycle_through_order = has_cycle (record {
   some_stuck = refl;
-  circle = _;
-  is_circle = record {
+  cycle = _;
+  is_cycle = record {
     start = codes ":a";
     first = codes ":b";
     way = codes ":a" ∷ codes ":c" ∷ [];
@@ -58,11 +58,11 @@ circle_through_order = has_cycle (record {
 abbrev pub finalized : Plan
 finalized = planned (plain (codes ":a") [] (codes ":f" ∷ []) (codes ":f" ∷ [])) 0 ∷ planned (needing (codes ":f") []) 0 ∷ []
 
-pub circle_through_finalizer : IsScheduleFault finalized (faults.Cycle (codes ":a" ∷ codes ":f" ∷ []))
-circle_through_finalizer = has_cycle (record {
+pub cycle_through_finalizer : IsScheduleFault finalized (faults.Cycle (codes ":a" ∷ codes ":f" ∷ []))
+cycle_through_finalizer = has_cycle (record {
   some_stuck = refl;
-  circle = _;
-  is_circle = record {
+  cycle = _;
+  is_cycle = record {
     start = codes ":a";
     first = codes ":a";
     way = [];

@@ -1,4 +1,4 @@
--- The circle of tasks that never get ready, by number.
+-- The cycle of tasks that never get ready, by number.
 use Rattle.std.specs.Prelude.{ℕ, ◌≡◌, Bool, true, false, List, [], ◌∷◌, Contains, slice_index_or}
 use Rattle.std.specs.Ordering.{is_lt}
 use Rattle.gb_core.specs.Lists.{byte_order}
@@ -39,15 +39,15 @@ pub record IsTrail (tasks : List Planned) (after : List (List ℕ)) (marks : Lis
   pub comes_back : Contains trail back
   pub marked : (number : ℕ) → Contains trail number → exists_in marks number ≡ true
 
--- The circle that the trail from the least of these leads into, starting with the least number of the
--- circle.
+-- The cycle that the trail from the least of these leads into, starting with the least number of the
+-- cycle.
 pub record IsRound (tasks : List Planned) (after : List (List ℕ)) (marks : List Bool)
-    (numbers circle : List ℕ) : Type 0 where
+    (numbers cycle : List ℕ) : Type 0 where
   pub start : ℕ
   pub first : ℕ
   pub way : List ℕ
   pub from_least : IsLeastNumber tasks numbers marks start
   pub comes_to : LeadsTo (IsNextNumber tasks after marks) start way first
-  pub goes_round : LeadsTo (IsNextNumber tasks after marks) first circle first
-  pub once : AreDistinct circle
-  pub least_first : IsLeastNumber tasks circle marks first
+  pub goes_round : LeadsTo (IsNextNumber tasks after marks) first cycle first
+  pub once : AreDistinct cycle
+  pub least_first : IsLeastNumber tasks cycle marks first

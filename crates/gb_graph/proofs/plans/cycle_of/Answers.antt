@@ -4,13 +4,13 @@ use Rattle.std.proofs.lemmas.Result.{IfOk-weaker}
 use Rattle.gb_plan.specs.declared.plan.Planned.{Planned}
 use Rattle.gb_plan.specs.Task.{Path}
 use Rattle.gb_plan.specs.Graph.{order, stuck}
-use Rattle.gb_plan.specs.Refusal.{IsCircle}
+use Rattle.gb_plan.specs.Refusal.{IsCycle}
 use Rattle.gb_graph.specs.Order.{rows, row}
 use Rattle.gb_graph.specs.Settled.{exists_in}
-use Rattle.gb_graph.specs.Circle.{IsRound, path_at}
-use Rattle.gb_graph.proofs.Circled.{circle_is, circle_known, paths_are, comes_after_other}
+use Rattle.gb_graph.specs.Cycle.{IsRound, path_at}
+use Rattle.gb_graph.proofs.Cycled.{cycle_is, cycle_known, paths_are, comes_after_other}
 use Rattle.gb_graph.proofs.Firsts.{element}
-use Rattle.gb_graph.proofs.plans.circle_of.Goals as goal
+use Rattle.gb_graph.proofs.plans.cycle_of.Goals as goal
 
 pub marks_of-requires : goal.marks_of-requires
 marks_of-requires c = λ k h. (c.requires.ranks.are_others.within k (subst (λ ks. Contains ks k) c.as_slice.ensures.value h)).0
@@ -58,7 +58,7 @@ paths_of-requires c = λ k h.
     (subst (λ ks. IsRound tasks (rows c.as_slice-2.result.now) c.as_slice-3.result.now ks c.in_ok-round.round.items) c.as_slice-4.ensures.value c.in_ok-round.ensures)) in
     let lt = (ranks.are_others.within c.requires.some.0 c.requires.some.1).0 in
     let d = (element tasks c.requires.some.0 lt).0 in
-    circle_known tasks c.requires.ranked table done others ranks d marks shows marked c.in_ok-round.round.items is k (subst (λ ks. Contains ks k) c.as_slice-5.ensures.value h)
+    cycle_known tasks c.requires.ranked table done others ranks d marks shows marked c.in_ok-round.round.items is k (subst (λ ks. Contains ks k) c.as_slice-5.ensures.value h)
 
 pub returns : goal.returns
 returns c =
@@ -76,11 +76,11 @@ returns c =
     (subst (λ m. IsRound tasks (rows c.as_slice-2.result.now) m others c.in_ok-round.round.items) c.as_slice-3.ensures.value
     (subst (λ ks. IsRound tasks (rows c.as_slice-2.result.now) c.as_slice-3.result.now ks c.in_ok-round.round.items) c.as_slice-4.ensures.value c.in_ok-round.ensures)) in
     let round = c.in_ok-round.round.items in
-    IfOk-weaker c.paths_of.result (λ (circle : List Path). circle ≡ map (path_at tasks) c.as_slice-5.result.now)
-    (λ (circle : List Path). (d : Planned) → IsCircle (map (λ k. get_or tasks k d) (done ++ others)) (order (stuck (map (λ k. get_or tasks k d) (done ++ others)) [] (map (λ k. get_or tasks k d) (done ++ others)))) circle)
-    (λ circle h d.
-    let low = circle_known tasks c.requires.ranked table done others ranks d marks shows marked round is in
-    subst (IsCircle (map (λ k. get_or tasks k d) (done ++ others)) (order (stuck (map (λ k. get_or tasks k d) (done ++ others)) [] (map (λ k. get_or tasks k d) (done ++ others)))))
+    IfOk-weaker c.paths_of.result (λ (cycle : List Path). cycle ≡ map (path_at tasks) c.as_slice-5.result.now)
+    (λ (cycle : List Path). (d : Planned) → IsCycle (map (λ k. get_or tasks k d) (done ++ others)) (order (stuck (map (λ k. get_or tasks k d) (done ++ others)) [] (map (λ k. get_or tasks k d) (done ++ others)))) cycle)
+    (λ cycle h d.
+    let low = cycle_known tasks c.requires.ranked table done others ranks d marks shows marked round is in
+    subst (IsCycle (map (λ k. get_or tasks k d) (done ++ others)) (order (stuck (map (λ k. get_or tasks k d) (done ++ others)) [] (map (λ k. get_or tasks k d) (done ++ others)))))
     (sym (h ∙ (ap (map (path_at tasks)) c.as_slice-5.ensures.value ∙ paths_are tasks c.requires.ranked table done others ranks d marks shows marked round low)))
-    (circle_is tasks c.requires.ranked table done others ranks d marks shows marked round is))
+    (cycle_is tasks c.requires.ranked table done others ranks d marks shows marked round is))
     c.paths_of.ensures
