@@ -4,7 +4,7 @@ ghost use Rattle.std.specs.Prelude.{◌≡◌, IfOk};
 ghost use Rattle.gb_disk.specs.Disk.{AllUnder};
 
 use crate::entry::FileInfo;
-use crate::names::alone;
+use crate::names::only;
 use gb_core::place::Place;
 use std::alloc::{AllocError, Global};
 

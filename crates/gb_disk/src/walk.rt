@@ -5,7 +5,7 @@ ghost use Rattle.gb_disk.specs.Disk.{AllUnder, IsOfListing, IsOfMachine};
 
 use crate::device::Device;
 use crate::entry::{Entry, FileInfo, fault_of};
-use crate::names::{alone, places_in};
+use crate::names::{only, places_in};
 use crate::trail::Trail;
 use gb_core::place::Place;
 use gb_folder::folder::FolderFault;
