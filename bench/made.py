@@ -21,6 +21,8 @@ COLUMNS = 110
 # The crates whose calls are listed, and the modules of them that are, if not all public ones.
 PUBLIC = {
     "gb_build": None,
+    "gb_answers": None,
+    "gb_logged": None,
     "gb_meaning": ["events"],
     "gb_report": ["fault", "render", "report"],
     "gb_exec": ["building", "listener"],

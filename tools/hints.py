@@ -495,7 +495,8 @@ def of_name(number, word, detail, here):
         return cure, ([] if cure else every) + here.word(word)
     if number == "50":
         project = ":" + word.rpartition(":")[0].strip(":")
-        return near(project, here.projects), here.lines_with(re.escape(word))
+        known = [name for name in dict.fromkeys(here.projects) if name != ":"]
+        return near(project, known), here.lines_with(re.escape(word))
     if number == "59":
         task = detail.split(" ")[-2]
         outputs = re.findall(r"\boutput(?:File|Dir)\s+([\w-]+)", here.blocks(task))

@@ -10,18 +10,20 @@ use gb_registry::tables::Tables;
 
 /// For any folder that keeps its calls: if contents answer as the calls of an invocation were
 /// answered, and no task failed, the calls left what the unskipped tasks make from scratch on these
-/// contents. The premises: the records that they hold are true, and no two contents share a digest.
+/// contents. The premises: kinds agree, no call was kept before, the records that these contents
+/// hold are true, and no two contents share a digest.
 pub fn answered_success_is_from_scratch<A: Actions, T: Transforms, F: Folder>(tables: &Tables<A, T>)
     ensures { AnsweredSuccessIsFromScratch F.failures F.may_leave F.allowed
         (tables_of T.meanings A.meanings tables.now) }
 {}
 
-/// For any folder that keeps its calls, whoever else writes there at any time: if each record that
-/// a build read is one that an earlier build was to store, and no two contents that calls returned
-/// or were to write share a digest, then each record that these builds were to store is true: its
-/// outputs are what its actions make of its inputs. Where a build reported a task with actions as up
-/// to date, the files that calls had returned of its outputs are what its actions make of those of
-/// its inputs. And the law above holds of each of these builds without its premise on records.
+/// For any folder that keeps its calls, whoever else writes there at any time: if kinds agree, each
+/// record that a build read is one that an earlier build was to store, and no two contents that
+/// calls returned or were to write share a digest, then each record that these builds were to store
+/// is true: its outputs are what its actions make of its inputs. Where a build reported a task with
+/// actions as up to date, the files that calls had returned of its outputs are what its actions make
+/// of those of its inputs. And the law above holds of each of these builds without its premise on
+/// records.
 pub fn records_stay_true<A: Actions, T: Transforms, F: Folder>(tables: &Tables<A, T>)
     ensures { RecordsStayTrue F.failures F.may_leave F.allowed
         (tables_of T.meanings A.meanings tables.now) }

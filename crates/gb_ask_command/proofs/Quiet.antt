@@ -1,26 +1,30 @@
 -- The findings for a folder; and if there is no fault, builds of it are refused for no task.
-use Rattle.std.proofs.Common.{ℕ, ◌≡◌, ◌⊎◌, List, [], ◌∷◌, Ok, Err, Result, ap, subst, sym, ◌∙◌, inl, inr}
-use Rattle.std.specs.Prelude.{Bool, IsTrue}
+use Rattle.std.proofs.Common.{◌≡◌, ◌⊎◌, List, [], ◌∷◌, Ok, Err, ap, subst, sym, ◌∙◌, inl, inr}
+use Rattle.std.specs.Prelude.{Bool, IsTrue, MatchOption, Option, None, Some, find}
 use Rattle.gb_build.proofs.OneLemmas.{folders_one}
 use Rattle.gb_build.proofs.Readings.{registered}
 use Rattle.gb_ask_command.specs.Faulty.{IsFaulty}
 use Rattle.gb_build.specs.Registering.{registers_in}
 use Rattle.gb_build.specs.Scripts.{FolderSays}
 use Rattle.gb_check.specs.All.{AreFindings}
-use Rattle.gb_check.specs.Found.{IsSilent}
+use Rattle.gb_check.specs.Found.{IsOfWords, IsSilent}
+use Rattle.gb_check.specs.DefaultWords.{AreDefaultsFound, IsDefaultsSpot, defaults_line, is_root}
+use Rattle.gb_check.specs.Marks.{Lines}
 use Rattle.gb_check.specs.Sites.{AreLinesAt, AreSites, script_of_project}
 use Rattle.gb_check.specs.Warnings.{bare_roots, declared_in}
 use Rattle.gb_check.specs.declared.findings.Finding.{Finding}
 use Rattle.gb_check.specs.declared.findings.Findings.{Findings}
+use Rattle.gb_check.specs.declared.findings.Spot.{Spot}
+use Rattle.gb_check.specs.declared.findings.Spot.TheVariants as spots
 use Rattle.gb_check.specs.declared.clause_lines.ClauseMark.{ClauseMark}
 use Rattle.gb_check.specs.declared.sites.Site.{Site}
 use Rattle.gb_declare.specs.Registered.{registry_said}
-use Rattle.gb_folder.specs.Files.{Contents, Files, Place}
-use Rattle.gb_meaning.specs.Events.{IsDeviceFault, IsRefusedBy}
+use Rattle.gb_folder.specs.Files.{Contents, Files}
+use Rattle.gb_meaning.specs.Events.{IsRefusedBy}
 use Rattle.gb_meaning.specs.TrueRecord.{outside}
 use Rattle.gb_meaning.specs.declared.events.Invocation.{Invocation}
 use Rattle.gb_plan.specs.Graph.{Plan, Registry, paths_of}
-use Rattle.gb_plan.specs.Refusal.{IsScheduleFault, request_of}
+use Rattle.gb_plan.specs.Refusal.{IsScheduleFault}
 use Rattle.gb_plan.specs.Task.{Path, Text}
 use Rattle.gb_query.specs.Inventory.{AreUnregistered}
 use Rattle.gb_registry.specs.References.{Names}
@@ -47,6 +51,22 @@ sites_of_same tables names faithful old new same (script ∷ scripts) sites mark
   of,
 )
 
+spot_of_same : (faithful : Bool) (old new : Files) → (IsTrue faithful → new ≡ old) → (scripts : List (Path × List Statement)) (spot : Spot)
+    → IsDefaultsSpot faithful new scripts spot → IsDefaultsSpot faithful old scripts spot
+spot_of_same faithful old new same scripts spot = of (find is_root scripts)
+  where
+    At : Files → Option (Path × List Statement) → Type 0
+    At files root = MatchOption root (spot ≡ spots.Unknown) (λ script.
+        (lines : List Lines) × (IsTrue faithful → AreLinesAt files (script_of_project script.0) lines) × (spot ≡ spots.Line (script_of_project script.0) (defaults_line 1 script.1 lines)))
+
+    of : (root : Option (Path × List Statement)) → At new root → At old root
+    of None is = is
+    of (Some script) (lines, at, is) = (lines, λ reported. subst (λ (files : Files). AreLinesAt files (script_of_project script.0) lines) (same reported) (at reported), is)
+
+words_of_same : (faithful : Bool) (old new : Files) → (IsTrue faithful → new ≡ old) → (scripts : List (Path × List Statement)) (registry : Registry) (found : List Finding)
+    → AreDefaultsFound faithful new scripts registry found → AreDefaultsFound faithful old scripts registry found
+words_of_same faithful old new same scripts registry found (spot, at, is) = (spot, λ some. spot_of_same faithful old new same scripts spot (at some), is)
+
 -- findings for a folder are findings for one with the same contents
 pub found_of_same : {M F Z S A : Type 0} (tables : Tables M F Z S A) (names : Names) (faithful : Bool) (old new : Contents) → (IsTrue faithful → new ≡ old)
     → (registry : Registry) (scripts : List (Path × List Statement)) (findings : Findings)
@@ -55,6 +75,10 @@ found_of_same tables names faithful old new same registry scripts findings are =
   sites = are.sites;
   marks = are.marks;
   are_sites = sites_of_same tables names faithful old.files new.files (λ reported. ap (λ (c : Contents). c.files) (same reported)) scripts are.sites are.marks are.are_sites;
+  in_words = are.in_words;
+  of_words = words_of_same faithful old.files new.files (λ reported. ap (λ (c : Contents). c.files) (same reported)) scripts registry are.in_words are.of_words;
+  in_tasks = are.in_tasks;
+  of_tasks = are.of_tasks;
   faults = are.faults;
   silent = are.silent;
   warnings = record {
@@ -99,7 +123,7 @@ module _ {M F Z S A : Type 0} (tables : Tables M F Z S A) where
         is ∙ ap (registry_said tables) same_source ∙ sym here.2
 
     of_refusal : (invocation : Invocation) (fault : Fault) → IsRefusedBy (registry_said tables source) invocation fault
-        → (fault ≡ faults.OutOfMemory) ⊎ ((request_of (registry_said tables source) invocation.requested invocation.excluded ≡ Err fault) ⊎ ((plan : Plan) × IsScheduleFault plan fault))
+        → (fault ≡ faults.OutOfMemory) ⊎ (IsOfWords (registry_said tables source) invocation.requested invocation.excluded fault ⊎ ((plan : Plan) × IsScheduleFault plan fault))
     of_refusal invocation fault refused = silent invocation.requested invocation.excluded fault (inr refused)
 
     pub quiet : IsQuiet tables source contents given

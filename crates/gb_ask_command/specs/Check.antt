@@ -5,7 +5,7 @@ use Rattle.gb_ask_command.specs.Faulty.{IsFaulty, IsTextFault}
 use Rattle.gb_build.specs.Registering.{registers_in}
 use Rattle.gb_build.specs.Scripts.{FolderSays}
 use Rattle.gb_check.specs.All.{AreFindings}
-use Rattle.gb_check.specs.Found.{findings_text, unread_text}
+use Rattle.gb_check.specs.Found.{IsOfWords, findings_text, unread_text}
 use Rattle.gb_check.specs.Statement.{IsStatementSpot}
 use Rattle.gb_check.specs.declared.findings.Problem.TheVariants as problems
 use Rattle.gb_check.specs.declared.findings.Finding.{Finding}
@@ -18,7 +18,7 @@ use Rattle.gb_folder.specs.Files.{Contents, Files, Place, is_empty}
 use Rattle.gb_meaning.specs.Events.{IsDeviceFault, IsNotBuilt}
 use Rattle.gb_meaning.specs.declared.events.Invocation.{Invocation}
 use Rattle.gb_plan.specs.Graph.{Plan, Registry, paths_of}
-use Rattle.gb_plan.specs.Refusal.{IsScheduleFault, request_of}
+use Rattle.gb_plan.specs.Refusal.{IsScheduleFault}
 use Rattle.gb_plan.specs.Task.{Text}
 use Rattle.gb_query.specs.Inventory.{AreUnregistered}
 use Rattle.gb_query.specs.Objects.{IsJsonOf}
@@ -83,16 +83,17 @@ AreLeft faithful contents registered found =
 
 -- ---- Silence
 
--- a refusal for lack of memory, for a device that failed, for an argument, or for the plan (60 to 63)
+-- a refusal for lack of memory, for a device that failed, for a word that is requested or excluded, or for
+-- the plan (60 to 63)
 abbrev pub IsNotForATask : Registry → Invocation → ℕ → ℕ → Fault → Type 0
 IsNotForATask registry invocation before after fault =
     (fault ≡ faults.OutOfMemory) ⊎ (((place : Place) × IsDeviceFault before after place fault)
-    ⊎ ((request_of registry invocation.requested invocation.excluded ≡ Err fault)
+    ⊎ (IsOfWords registry invocation.requested invocation.excluded fault
     ⊎ ((plan : Plan) × IsScheduleFault plan fault)))
 
 module _ {M F Z S A : Type 0} (tables : Tables M F Z S A) where
   -- The theorem of silence, for builds of this folder with these values: whatever else is requested, no task
-  -- causes a refusal.
+  -- and no word of `defaultTasks` causes a refusal.
   abbrev pub IsQuiet : Source → Contents → List (Text × Text) → Type 0
   IsQuiet source contents given =
       (invocation : Invocation) (failures after : ℕ) (fault : Fault) → invocation.properties ≡ given

@@ -52,11 +52,11 @@ use gb_report::fault::Fault;
 use std::alloc::{AllocError, Global};
 
 /// Prints the findings for all registered tasks, as lines or in JSON: first the faults, then the
-/// warnings, each with its script and line. If no task has a fault, the fault of the plan of all
-/// tasks, if any, takes their place. If a statement has a fault, the first one is the only finding.
-/// Of the arguments, only the values of properties count. The exit status is 0 if there is no
-/// fault, 2 if the arguments are not understood, and otherwise 1; there is none if the output could
-/// not be printed.
+/// warnings, each with its script and line. The faults are those of the words of `defaultTasks`,
+/// then those of tasks, or if no task has one, that of the plan of all tasks. If a statement has a
+/// fault, the first one is the only finding. Of the arguments, only the values of properties count.
+/// The exit status is 0 if there is no fault, 2 if the arguments are not understood, and otherwise
+/// 1; there is none if the output could not be printed.
 pub fn run<A: Actions, T: Transforms, F: Folder, W: Printer>(
     alloc: Global,
     folder: &mut F,

@@ -10,6 +10,7 @@ pub mod Earlier
 pub mod Fewer
 pub mod Leading
 pub mod Refusing
+pub mod Promised
 pub mod RequestAsked
 pub mod Changed
 pub mod Holding

@@ -9,6 +9,7 @@ pub mod Leading
 pub mod RequestAsked
 pub mod Registering
 pub mod InvocationAsked
+pub mod Invoking
 pub mod Answers
 pub mod EventAsked
 pub mod Words

@@ -41,7 +41,8 @@ pub fn run_events<A: Actions, T: Transforms, F: Folder, L: TaskListener>(
     ensures unbegun { OnErr result (folder.new ≡ folder.old) }
     ensures unnotified { OnErr result (listeners.new ≡ listeners.old) }
     ensures tearing { SameTearing (F.may_leave folder.old) (F.may_leave folder.new) }
-    // Over any folder: an edit makes at most one call, at its own place. A build requests a write
+    // Over any folder: an edit makes at most one call, at its own place, and a loss removes files in
+    // `.gb` alone. A build requests a write
     // or a removal only at or under an output of a task of its plan or at the record of one, and
     // the text of such a record is that of a run of the task. A refused build and a dry run request
     // none.

@@ -1,12 +1,10 @@
 //! One invocation over the scripts of a folder.
-ghost use Rattle.std.specs.Prelude.{◌≡◌, ◌≤◌, ◌&&◌, ◌∷◌, [], ℕ, List, Ok, map, not, true, IfErr};
+ghost use Rattle.std.specs.Prelude.{◌≡◌, ◌≤◌, ◌&&◌, ℕ, List, Ok, map, not, true, IfErr};
 ghost use Rattle.std.specs.Prelude.{IfOk, IsTrue, OnErr, OnOk};
 ghost use Rattle.gb_declare.specs.Registered.{registry_said};
 ghost use Rattle.gb_folder.specs.Files.{SameTearing, is_own};
 ghost use Rattle.gb_meaning.specs.declared.events.Event.TheVariants as events;
-ghost use Rattle.gb_meaning.specs.Events.{IsNotBuilt, is_read_first};
-ghost use Rattle.gb_meaning.specs.Every.{PromiseHolds};
-ghost use Rattle.gb_meaning.specs.Headline.{EventKeeps, HaveHeard, InvocationHolds, KeepsElsewhere};
+ghost use Rattle.gb_meaning.specs.Headline.{HaveHeard, KeepsElsewhere};
 ghost use Rattle.gb_meaning.specs.Headline.{HasFailed, answer_of, times_blamed};
 ghost use Rattle.gb_meaning.specs.Kinds.{Kinds};
 ghost use Rattle.gb_meaning.specs.Outline.{IsOutlined};
@@ -18,9 +16,8 @@ ghost use Rattle.gb_task.specs.Executing.{setting_with};
 ghost use Rattle.gb_build.specs.Leading.{IsTransition};
 ghost use Rattle.gb_build.specs.Refusing.{IsNotBegun};
 ghost use Rattle.gb_build.specs.Asking.{AreBuildable};
-ghost use Rattle.gb_build.specs.InvocationAsked.{InvocationRequests};
+ghost use Rattle.gb_build.specs.Invoking.{IsInvocation, KeepsPromise};
 ghost use Rattle.gb_build.specs.RequestAsked.{BuildRequests};
-ghost use Rattle.gb_build.specs.Registering.{registers_in, setting_of};
 
 use crate::requested::build_requested;
 use crate::workspace::read_registry;
@@ -53,7 +50,14 @@ pub fn invoke<A: Actions, T: Transforms, F: Folder, L: TaskListener, P: Printer>
     listeners: &mut Vec<L>,
     printer: &mut P,
 ) -> Result<Report, Fault>
-    ensures dry_run { IfOk result (λ report. report.dry_run ≡ invocation.now.options.dry_run) }
+    // Over any folder: the calls of the invocation, and what its answer may be.
+    ensures does { IsInvocation F.failures F.may_leave F.allowed
+        (tables_of T.meanings A.meanings tables.now) invocation.now result folder.old folder.new }
+    // Where contents are known: the promise, with success as from scratch.
+    ensures promise { IsTrue F.faithful → KeepsPromise (tables_of T.meanings A.meanings tables.now)
+        (F.may_leave folder.old) invocation.now
+        (record { contents = F.contents folder.old; failures = F.failures folder.old }) result
+        (record { contents = F.contents folder.new; failures = F.failures folder.new }) }
     // Each listener was notified of the start and the end of each started task once, in the order
     // of the report; a notification that it refused is counted. In a dry run there are none.
     ensures heard { IfOk result (λ report.
@@ -63,69 +67,6 @@ pub fn invoke<A: Actions, T: Transforms, F: Folder, L: TaskListener, P: Printer>
     ensures printed { IfOk result (λ report.
         Prints P.contents P.whole (parts_text report) printer.old printer.new) }
     ensures unprinted { OnErr result (printer.new ≡ printer.old) }
-    ensures count { F.failures folder.old ≤ F.failures folder.new }
-    // Faults are attributed to the device no more often than it failed.
-    ensures device { HasFailed (times_blamed (answer_of result))
-        (F.failures folder.old) (F.failures folder.new) }
-    ensures tearing { SameTearing (F.may_leave folder.old) (F.may_leave folder.new) }
-    // Over any folder: the plan is that of the scripts that calls returned. It requests a write or a
-    // removal only at or under an output of a task of this plan or at the record of one, and the
-    // text of such a record is that of a run of the task. A refused build and a dry run request
-    // none.
-    ensures requests { InvocationRequests F.failures F.may_leave F.allowed
-        (tables_of T.meanings A.meanings tables.now) invocation.now result folder.old folder.new }
-    // Over any folder: for some registry, the report is that of the plan of the request. Which of its
-    // tasks start, and which outcomes each may have, is as `Outlines` says.
-    ensures outlined { IfOk result (IsOutlined invocation.now) }
-    // Over any folder: a refusal that is attributed to the device (10) names a place that may be
-    // read before the first task: `settings.gb`, one whose last segment is `build.gb`, or, except
-    // in a dry run, one in `.gb`.
-    ensures places { IfErr result (λ fault. (place : List ℕ) → fault ≡ Fault.Device place
-        → IsTrue (is_read_first invocation.now.options place)) }
-    ensures refused { IsTrue F.faithful → OnErr result (F.contents folder.new ≡ F.contents folder.old) }
-    // Where contents are known, `refused`, `not_built`, `dry` and `keeps` need no assumption about
-    // the kinds or the device. A build is refused only for the first fault of the scripts, the
-    // requested names or the plan, because memory ran out, or because the device failed while
-    // scripts or records were read.
-    ensures not_built { IsTrue F.faithful → IfErr result (λ fault.
-        IsNotBuilt (registers_in (tables_of T.meanings A.meanings tables.now))
-        (record { contents = F.contents folder.old; failures = F.failures folder.old })
-        invocation.now fault (F.failures folder.new)) }
-    // A dry run changes nothing.
-    ensures dry { IsTrue F.faithful → invocation.now.options.dry_run ≡ true
-        → F.contents folder.new ≡ F.contents folder.old }
-    // A build changes nothing but `.gb` and the build folders of the projects, and a refusal
-    // changes nothing.
-    ensures keeps { IsTrue F.faithful
-        → EventKeeps (registers_in (tables_of T.meanings A.meanings tables.now))
-        (events.Invoke invocation.now)
-        (answer_of result) (F.contents folder.old) (F.contents folder.new) }
-    // Where contents are known and kinds agree, the invocation continues a run of events, whatever
-    // is remembered.
-    ensures leads { IsTrue F.faithful → (kinds : Kinds)
-        → IsAssumed A.meanings tables.now.actions kinds (F.may_leave folder.old)
-        → IsTransition
-        (setting_of (tables_of T.meanings A.meanings tables.now) kinds (F.may_leave folder.old))
-        (record { contents = F.contents folder.old; failures = F.failures folder.old })
-        (events.Invoke invocation.now) (answer_of result)
-        (record { contents = F.contents folder.new; failures = F.failures folder.new }) }
-    // From any true records that the folder holds, this is a run of one event by the definitions.
-    ensures holds { IsTrue F.faithful → (kinds : Kinds)
-        → IsAssumed A.meanings tables.now.actions kinds (F.may_leave folder.old)
-        → InvocationHolds
-        (setting_of (tables_of T.meanings A.meanings tables.now) kinds (F.may_leave folder.old))
-        (record { contents = F.contents folder.old; failures = F.failures folder.old })
-        invocation.now result
-        (record { contents = F.contents folder.new; failures = F.failures folder.new }) }
-    // So, if no two contents share a digest, it is a step of the definition, and a build in which
-    // no task failed leaves what a build from scratch makes, whichever true records it starts from.
-    ensures promise { IsTrue F.faithful → (kinds : Kinds)
-        → IsAssumed A.meanings tables.now.actions kinds (F.may_leave folder.old)
-        → PromiseHolds
-        (setting_of (tables_of T.meanings A.meanings tables.now) kinds (F.may_leave folder.old))
-        (record { contents = F.contents folder.old; failures = F.failures folder.old })
-        (events.Invoke invocation.now ∷ []) (answer_of result ∷ [])
-        (record { contents = F.contents folder.new; failures = F.failures folder.new }) }
 {
     let copied = invocation.properties.copy(alloc)?;
     let given = copied.into_vec();

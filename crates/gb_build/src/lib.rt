@@ -29,16 +29,17 @@
 //! | `run_events` | any list of edits, lost records and invocations, each with its answer |
 //! | `run_from_nothing` | the same over an empty folder in memory, where all premises are proved |
 //!
-//! `invoke` and `run_events` ask nothing of their caller. Their clauses are of three sorts:
+//! `invoke` and `run_events` ask nothing of their caller. What they promise is of three sorts:
 //!
-//! - **Where contents are known and kinds agree** (`IsAssumed` of `gb_records`): each event is a
-//!   step by the definitions (`holds`, `leads`), and `promise` is the theorem.
+//! - **Where contents are known and `IsAssumed` of `gb_records` holds** (kinds agree, and no torn
+//!   write reads as a record): each event is a step by the definitions (`holds`, `continues`), and
+//!   `promise` is the theorem.
 //! - **Where contents are known**, whatever the kinds and the device do: a refusal changes nothing
 //!   and has its reason, a dry run changes nothing, and a build changes only `.gb` and the build
-//!   folders of its projects.
-//! - **Over any folder**: what is asked for, which tasks start and what each may answer, what
-//!   listeners hear and what is printed. The device is blamed no more often than it failed, and by
-//!   no fault of a script or a task.
+//!   folders of its projects. With the above, this is `KeepsPromise` of `invoke`.
+//! - **Over any folder**: what is asked for, which tasks start and what each may answer
+//!   (`IsInvocation`), what listeners hear and what is printed. The device is blamed no more often
+//!   than it failed, and by no fault of a script or a task.
 //!
 //! Laws: `folders_say_one_thing` (a folder declares one thing, or has one fault),
 //! `own_files_say_nothing` (the files of `.gb` do not count for that), `scripts_give_one_plan` (so

@@ -51,6 +51,12 @@ const FINAL: &str = "property a\nset a =\n    \"1\" disallowChanges a\nset a = \
 const CLAUSE: &str = "register t : copyFiles {\n    inputFiles src from dir(\"src\")\n    \
      dependsOn \"u\"\n    mustRunAfter \"u\"\n    outputDir out = dir(\"build/t\")\n}\n";
 
+/// Two words of the `defaultTasks` that counts have a fault.
+const DEFAULTS: &str =
+    "defaultTasks \"v\"\nregister t {}\ndefaultTasks \"t\", \"u\",\n    \":lib:t\"\n";
+
+const UNKNOWN: &str = "build.gb:3: 52 task not found u\nbuild.gb:3: 50 unknown project :lib:t\n";
+
 const UNREAD: &str = "[{\"file\":\"build.gb\",\"kind\":\"fault\",\"line\":2,\"number\":20,\
      \"text\":\"20 syntax build.gb:2\"}]\n";
 
@@ -109,6 +115,7 @@ fn all_hold<A: Actions, T: Transforms>(alloc: Global, tables: &Tables<A, T>) -> 
             "build.gb:3: 52 task not found u\n",
             1,
         ),
+        (Notation::Lines, DEFAULTS, "", UNKNOWN, 1),
         (Notation::Json, BROKEN, "", UNREAD, 1),
         (Notation::Json, "", "-Pv=1", VALUE, 0),
     ];

@@ -3,3 +3,4 @@ pub mod OfClauses
 pub mod Refused
 pub mod Rows
 pub mod Silence
+pub mod Words

@@ -1,12 +1,13 @@
 -- The findings for registered tasks, and what follows if there are none.
 use Rattle.std.specs.Prelude.{ℕ, ◌≡◌, ◌≢◌, ◌⊎◌, List, [], ◌∷◌, ◌++◌, Option, Some, None, Result, Ok, Err}
+use Rattle.std.specs.Prelude.{Contains}
 use Rattle.std.specs.Prelude.{bytes_eq, codes, decimal, find, map}
 use Rattle.std.specs.List.{flat_map}
 use Rattle.std.specs.Option.{option_map_or}
 use Rattle.gb_folder.specs.Files.{Place}
 use Rattle.gb_graph.specs.Answer.{IsPlanOf, IsRefusalOf}
 use Rattle.gb_plan.specs.Graph.{Plan, Registry, declaration_at, paths_of}
-use Rattle.gb_plan.specs.Refusal.{IsScheduleFault, request_of}
+use Rattle.gb_plan.specs.Refusal.{IsScheduleFault, word_faults}
 use Rattle.gb_plan.specs.Task.{Path, Text}
 use Rattle.gb_plan.specs.declared.task.TaskDeclaration.{TaskDeclaration}
 use Rattle.gb_report.specs.Fault.{fault_text}
@@ -136,10 +137,16 @@ pub data IsFound (sites : List Site) (marks : List ClauseMark) (registry : Regis
 
 -- ---- If nothing is found
 
--- Whatever is requested and excluded, no task causes a refusal: the only causes are lack of memory, the
--- words, and the plan (60 to 63).
+-- the fault is that of a word which is requested or excluded, or no word is requested and none is a default
+abbrev pub IsOfWords : Registry → List Text → List Text → Fault → Type 0
+IsOfWords registry requested excluded fault =
+    ((word : Text) × Contains (requested ++ excluded) word × Contains (word_faults registry word) fault)
+    ⊎ ((requested ≡ []) × (registry.default_tasks ≡ []) × (fault ≡ faults.NoTasks))
+
+-- Whatever is requested and excluded, no task and no default word causes a refusal: the only causes are lack
+-- of memory, these words, and the plan (60 to 63).
 abbrev pub IsSilent : Registry → Type 0
 IsSilent registry =
     (requested excluded : List Text) (fault : Fault) → IsRefusalOf registry requested excluded fault
-    → (fault ≡ faults.OutOfMemory) ⊎ ((request_of registry requested excluded ≡ Err fault)
+    → (fault ≡ faults.OutOfMemory) ⊎ (IsOfWords registry requested excluded fault
     ⊎ ((plan : Plan) × IsScheduleFault plan fault))

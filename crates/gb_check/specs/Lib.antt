@@ -4,5 +4,6 @@ pub mod Sites
 pub mod Statement
 pub mod Findings
 pub mod Found
+pub mod DefaultWords
 pub mod Warnings
 pub mod All

@@ -1,9 +1,9 @@
 //! The faults of all registered tasks.
 ghost use Rattle.std.specs.Prelude.{◌≡◌, ◌≢◌, ◌∷◌, ◌++◌, [], IfErr, IfOk, IsTrue, OnOk};
 ghost use Rattle.std.specs.Option.{option_copied, option_map_or};
-ghost use Rattle.gb_plan.specs.Graph.{declaration_at, paths_of};
+ghost use Rattle.gb_plan.specs.Graph.{paths_of};
 ghost use Rattle.gb_plan.specs.Task.{has_path};
-ghost use Rattle.gb_check.specs.Found.{IsFound, IsSilent, fault_spot, found_of, line_spot, task_found};
+ghost use Rattle.gb_check.specs.Found.{IsFound, fault_spot, found_of, line_spot, task_found};
 ghost use Rattle.gb_check.specs.Found.{tasks_found};
 
 use crate::clause_lines::ClauseMark;
@@ -29,9 +29,6 @@ pub(crate) fn check<Ts: Tasks>(
     ensures kept { Ts.registry tasks.new ≡ Ts.registry tasks.old }
     ensures found { IfOk result (λ found.
         IsFound sites.now marks.now (Ts.registry tasks.old) found.items) }
-    // If nothing is found, no task by itself is the cause of a refusal, whatever is requested. The
-    // only causes are lack of memory, the request, and the plan (faults 60 to 63).
-    ensures silent { IfOk result (λ found. found.items ≡ [] → IsSilent (Ts.registry tasks.old)) }
     ensures err { IfErr result (λ fault. fault ≡ Fault.OutOfMemory) }
 {
     let found = check_each(alloc, tasks, names, sites, marks)?;

@@ -9,6 +9,7 @@ ghost use Rattle.gb_check.specs.All.{AreFindings};
 ghost use Rattle.gb_check.specs.Sites.{IsUnread};
 
 use crate::checking::check;
+use crate::default_words::check_default_words;
 use crate::findings::Findings;
 use crate::sites::read_sites;
 use crate::warning::warn;
@@ -26,7 +27,9 @@ use std::alloc::Global;
 /// Finds the faults and warnings of the tasks that these scripts of a folder register. `paths` are
 /// the paths of all tasks, in the order of registration; `known` has what scripts may name.
 ///
-/// Faults: for each task that has one, in that order, its fault, after the script and a line: that
+/// Faults: first those of the words that the last `defaultTasks` of the root's script has, after the
+/// line of that statement. Then for each task that has one, in that order, its fault, after the
+/// script and a line: that
 /// of the first clause of the task that has a fault by itself; if no clause has one, that of the
 /// one clause that the fault names; or else the line that registers the task. If no task has a
 /// fault, the reason why there is no plan of all tasks, after the line of the first task that it
@@ -58,7 +61,9 @@ pub fn find<A: Actions, T: Transforms, Ts: Tasks, F: Folder>(
         ⊎ IsUnread (F.contents folder.old).files (scripts_in scripts.now) fault) }
 {
     let (sites, marks) = read_sites(alloc, folder, tables, known, scripts)?;
-    let faults = check(alloc, tasks, paths, sites.as_slice(), marks.as_slice())?;
+    let mut faults = check_default_words(alloc, folder, tasks, scripts)?;
+    let mut of_tasks = check(alloc, tasks, paths, sites.as_slice(), marks.as_slice())?;
     let warnings = warn(alloc, folder, tasks, paths, scripts, sites.as_slice())?;
+    faults.append(&mut of_tasks)?;
     Ok(Findings { faults, warnings })
 }

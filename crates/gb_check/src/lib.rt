@@ -5,12 +5,12 @@
 //! scripts that register them. It asks for no change, and returns faults and warnings, each with
 //! its place (`AreFindings`).
 //!
-//! - The faults are exactly those of the tasks, in the order of registration, each as builds report
-//!   it. Where no task has one, they are exactly why there is no plan of all tasks (`IsFound`,
-//!   `IsFoundInPlan`).
+//! - The faults are first exactly those of the words of `defaultTasks` (`AreDefaultsFound`), then
+//!   exactly those of the tasks, in the order of registration, each as builds report it. Where no
+//!   task has one, they are exactly why there is no plan of all tasks (`IsFound`, `IsFoundInPlan`).
 //! - Silence (`IsSilent`): where no fault is found, nothing that is requested and excluded is
-//!   refused for a task. What is left is want of memory, the fault of a word, and that of a plan
-//!   (60 to 63).
+//!   refused for a task. What is left is want of memory, the fault of one of these words, and that
+//!   of a plan (60 to 63).
 //! - The warnings are exactly those of four sorts (`docs/GUIDE.md#what-is-wrong`), over the tasks
 //!   without a fault (`AreWarnings`). Those of roots at which nothing is are exact where contents
 //!   are known.
@@ -37,6 +37,7 @@ mod checking;
 pub mod clause_lines;
 mod common_roots;
 mod declared;
+mod default_words;
 mod fault_line;
 pub mod find;
 pub mod finding_text;

@@ -233,7 +233,7 @@ fn push_statements<A: Actions, T: Transforms>(
 }
 
 /// The lines of the first statement.
-fn first_lines(lines: &[StatementLines]) -> (u64, &[u64])
+pub(crate) fn first_lines(lines: &[StatementLines]) -> (u64, &[u64])
     ensures { (result.0, result.1.now) ≡ first_lines lines.now }
 {
     match lines.first() {
@@ -242,7 +242,7 @@ fn first_lines(lines: &[StatementLines]) -> (u64, &[u64])
     }
 }
 
-fn other_lines(lines: &[StatementLines]) -> &[StatementLines]
+pub(crate) fn other_lines(lines: &[StatementLines]) -> &[StatementLines]
     ensures { result.now ≡ other_lines lines.now }
 {
     match lines.split_first() {

@@ -8,7 +8,7 @@ ghost use Rattle.gb_printer.specs.Printing.{Prints};
 ghost use Rattle.gb_registry.specs.Tables.{tables_of};
 ghost use Rattle.gb_report.specs.declared.fault.Fault.{Fault};
 ghost use Rattle.gb_report.specs.declared.report.Report.{Report};
-ghost use Rattle.gb_command.specs.Answered.{Answers, AreRefused, AskFor, RequestsFor, given_of};
+ghost use Rattle.gb_command.specs.Answered.{Answers, AreRefused, AskFor, DoesFor, given_of};
 
 use gb_action::actions::Actions;
 use gb_answer::answer::status_of;
@@ -50,7 +50,7 @@ pub fn run<A: Actions, T: Transforms, F: Folder, W: Printer>(
         (record { contents = F.contents folder.old; failures = F.failures folder.old })
         answer
         (record { contents = F.contents folder.new; failures = F.failures folder.new }))
-        × RequestsFor F.failures F.may_leave F.allowed (tables_of T.meanings A.meanings tables.now)
+        × DoesFor F.failures F.may_leave F.allowed (tables_of T.meanings A.meanings tables.now)
         (given_of (λ words. map string_bytes words.items) words) answer folder.old folder.new
         × Prints W.contents W.whole (answer_text answer) writer.old writer.new
         × IfSome result (λ status.
@@ -84,7 +84,7 @@ fn answered<A: Actions, T: Transforms, F: Folder, W: Printer>(
         (record { contents = F.contents folder.old; failures = F.failures folder.old })
         result
         (record { contents = F.contents folder.new; failures = F.failures folder.new }) }
-    ensures requests { RequestsFor F.failures F.may_leave F.allowed
+    ensures does { DoesFor F.failures F.may_leave F.allowed
         (tables_of T.meanings A.meanings tables.now)
         (given_of (λ words. map string_bytes words.items) words) result folder.old folder.new }
 {

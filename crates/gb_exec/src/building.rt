@@ -77,8 +77,8 @@ pub fn execute<A: Actions, F: Folder, L: TaskListener, P: Printer>(
     ensures dry { options.dry_run ≡ true → folder.new ≡ folder.old }
     ensures changes { IsTrue F.faithful
         → ChangesOnly (is_of_executions plan.now) (F.contents folder.old) (F.contents folder.new) }
-    // Where contents are known and kinds agree: if `AreTrueBefore` holds of the records, this is a build
-    // of the plan by the definitions. If also `guard` holds of the contents so far (no two share a
+    // Where contents are known and `IsAssumed` holds: if `AreTrueBefore` holds of the records, this is
+    // a build of the plan by the definitions. If also `guard` holds of the contents so far (no two share a
     // digest, or nothing was remembered), the records of what is remembered exist after it.
     ensures build { IsTrue F.faithful → IfOk result (λ report. (kinds : Kinds) (registry_of : Registering)
         (remembered : Memory) (clear : Bool) (observed : List Bytes)

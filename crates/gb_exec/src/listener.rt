@@ -15,7 +15,7 @@ pub trait TaskListener: Drop {
     ghost use Rattle.gb_meaning.specs.Headline.{Ear};
 
     /// The notifications that it got, and how many calls it has refused: one more for each, up to
-    /// the last value.
+    /// 2^64 - 1.
     ghost ear: { Self → Ear };
 
     /// The task's execution begins.

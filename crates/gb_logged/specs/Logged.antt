@@ -34,7 +34,7 @@ allowed_over failures may_leave allowed old call new =
     × Requests failures may_leave allowed no_change old.inner new.inner)
 
 -- Each state of a folder keeps the calls that led to it, with their answers. A call for which memory ran out
--- did nothing, and may be left out.
+-- may be left out.
 pub record LogsCalls {F : Type 0} (allowed : F → Call → F → Type 0) (log : F → List Call) : Type 0 where
   pub kept : (old : F) (call : Call) (new : F) → allowed old call new
       → (log new ≡ log old ++ call ∷ []) ⊎ ((log new ≡ log old) × (fault_of call ≡ Some folders.OutOfMemory))

@@ -17,7 +17,7 @@ returns g c =
           c.new-folder.ensures.inner
           (leaves_from_scratch _ _ _ tables log c.logged_folders_keep_calls.ensures
           c.answered_success_is_from_scratch.ensures c.args.invocation.now c.invoke-answer.result
-          c.new-folder.result after (ap log_of c.new-folder.ensures.calls) c.invoke-answer.ensures.requests);
+          c.new-folder.result after (ap log_of c.new-folder.ensures.calls) c.invoke-answer.ensures.does.requests);
       kept = λ kinds. (
         record {
           invocation = c.args.invocation.now;
@@ -25,7 +25,7 @@ returns g c =
           old = c.new-folder.result;
           new = after;
           begins = ap log_of c.new-folder.ensures.calls;
-          requests = c.invoke-answer.ensures.requests;
+          requests = c.invoke-answer.ensures.does.requests;
         },
         refl,
         refl,

@@ -106,7 +106,7 @@ pub returns-in-Invoke-clause-outlined : goal.returns-in-Invoke-clause-outlined
 returns-in-Invoke-clause-outlined g c =
     subst (λ (event : Event). AnswerIsOutlined event c.built.result) (sym c.in-Invoke.is)
     (subst (λ (answer : Answer). AnswerIsOutlined (events.Invoke c.in-Invoke.invocation) answer) (sym c.built.ensures)
-    (report_outlined c.in-Invoke.invocation c.invoke.result c.invoke.ensures.outlined))
+    (report_outlined c.in-Invoke.invocation c.invoke.result c.invoke.ensures.does.outlined))
 
 pub returns-in-Put-clause-requests : goal.returns-in-Put-clause-requests
 returns-in-Put-clause-requests g c =
@@ -131,4 +131,37 @@ returns-in-Invoke-clause-requests g c =
     let F = g.F.Folder in
     subst (λ (event : Event). EventRequests F.failures F.may_leave F.allowed (tables_of g.T.Transforms.meanings g.A.Actions.meanings c.args.tables.now) event c.built.result c.args.folder.now c.invoke.new.folder) (sym c.in-Invoke.is)
     (subst (λ (answer : Answer). EventRequests F.failures F.may_leave F.allowed (tables_of g.T.Transforms.meanings g.A.Actions.meanings c.args.tables.now) (events.Invoke c.in-Invoke.invocation) answer c.args.folder.now c.invoke.new.folder) (sym c.built.ensures)
-    (invocation_requests g.F.Folder.failures g.F.Folder.may_leave g.F.Folder.allowed (tables_of g.T.Transforms.meanings g.A.Actions.meanings c.args.tables.now) c.in-Invoke.invocation c.invoke.result c.args.folder.now c.invoke.new.folder c.invoke.ensures.requests))
+    (invocation_requests g.F.Folder.failures g.F.Folder.may_leave g.F.Folder.allowed (tables_of g.T.Transforms.meanings g.A.Actions.meanings c.args.tables.now) c.in-Invoke.invocation c.invoke.result c.args.folder.now c.invoke.new.folder c.invoke.ensures.does.requests))
+
+-- ---- An invocation
+
+pub returns-in-Invoke-clause-count : goal.returns-in-Invoke-clause-count
+returns-in-Invoke-clause-count g c = c.invoke.ensures.does.count
+
+pub returns-in-Invoke-clause-tearing : goal.returns-in-Invoke-clause-tearing
+returns-in-Invoke-clause-tearing g c = c.invoke.ensures.does.tearing
+
+pub returns-in-Invoke-clause-device : goal.returns-in-Invoke-clause-device
+returns-in-Invoke-clause-device g c =
+    let F = g.F.Folder in
+    subst (λ (answer : Answer). HasFailed (times_blamed answer) (F.failures c.args.folder.now) (F.failures c.invoke.new.folder)) (sym c.built.ensures) c.invoke.ensures.does.device
+
+pub returns-in-Invoke-clause-keeps : goal.returns-in-Invoke-clause-keeps
+returns-in-Invoke-clause-keeps g c = λ faithful.
+    let F = g.F.Folder in
+    let registers = registers_in (tables_of g.T.Transforms.meanings g.A.Actions.meanings c.args.tables.now) in
+    let old = F.contents c.args.folder.now in
+    let new = F.contents c.invoke.new.folder in
+    subst (λ (event : Event). EventKeeps registers event c.built.result old new) (sym c.in-Invoke.is)
+    (subst (λ (answer : Answer). EventKeeps registers (events.Invoke c.in-Invoke.invocation) answer old new) (sym c.built.ensures) (c.invoke.ensures.promise faithful).keeps)
+
+pub returns-in-Invoke-clause-leads : goal.returns-in-Invoke-clause-leads
+returns-in-Invoke-clause-leads g c = λ faithful kinds assumed.
+    let F = g.F.Folder in
+    let registers = registers_in (tables_of g.T.Transforms.meanings g.A.Actions.meanings c.args.tables.now) in
+    let may_leave = F.may_leave c.args.folder.now in
+    let old : Shown = shows (F.contents c.args.folder.now) (F.failures c.args.folder.now) in
+    let new : Shown = shows (F.contents c.invoke.new.folder) (F.failures c.invoke.new.folder) in
+    subst (λ (event : Event). IsTransition (setting_by kinds registers may_leave) old event c.built.result new) (sym c.in-Invoke.is)
+    (subst (λ (answer : Answer). IsTransition (setting_by kinds registers may_leave) old (events.Invoke c.in-Invoke.invocation) answer new) (sym c.built.ensures)
+    ((c.invoke.ensures.promise faithful).continues kinds assumed))

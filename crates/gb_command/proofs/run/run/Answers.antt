@@ -15,7 +15,7 @@ returns-then-is_whole-clause-reported g c =
     (prints_more W.contents W.whole (parts_of answer) (rest_of answer) old c.answered-answer.new.writer new c.answered-answer.ensures.printed c.print_rest.ensures) in (
       answer,
       c.answered-answer.ensures.answers,
-      c.answered-answer.ensures.requests,
+      c.answered-answer.ensures.does,
       printed,
       (all_printed W.contents W.whole (answer_text answer) old new printed (sym c.is_whole.ensures ∙ c.if-is_whole.true), c.status_of-status.ensures),
     )
@@ -28,7 +28,7 @@ returns-else-is_whole-clause-reported g c =
     let new = c.print_rest.new.printer in (
       answer,
       c.answered-answer.ensures.answers,
-      c.answered-answer.ensures.requests,
+      c.answered-answer.ensures.does,
       subst (λ (text : List ℕ). Prints W.contents W.whole text old new) (sym (in_parts_of answer))
           (prints_more W.contents W.whole (parts_of answer) (rest_of answer) old c.answered-answer.new.writer new c.answered-answer.ensures.printed c.print_rest.ensures),
       tt,

@@ -1,0 +1,67 @@
+-- What one invocation does: over any folder, and where the contents of the folder are known.
+use Rattle.std.specs.Prelude.{ℕ, ◌≡◌, ◌≤◌, ◌∷◌, [], true, Result, IfErr, IfOk, IsTrue, OnErr}
+use Rattle.gb_folder.specs.Calls.{Call}
+use Rattle.gb_folder.specs.Files.{Place, SameTearing, Tearing}
+use Rattle.gb_meaning.specs.Edits.{Shown}
+use Rattle.gb_meaning.specs.Events.{IsNotBuilt, is_read_first}
+use Rattle.gb_meaning.specs.Every.{PromiseHolds}
+use Rattle.gb_meaning.specs.Headline.{EventKeeps, HasFailed, InvocationHolds, answer_of, times_blamed}
+use Rattle.gb_meaning.specs.Kinds.{Kinds}
+use Rattle.gb_meaning.specs.Outline.{IsOutlined}
+use Rattle.gb_meaning.specs.declared.events.Event.TheVariants as events
+use Rattle.gb_meaning.specs.declared.events.Invocation.{Invocation}
+use Rattle.gb_records.specs.Assumed.{IsAssumed}
+use Rattle.gb_registry.specs.Tables.{Tables}
+use Rattle.gb_report.specs.declared.fault.Fault.{Fault}
+use Rattle.gb_report.specs.declared.fault.Fault.TheVariants as faults
+use Rattle.gb_report.specs.declared.report.Report.{Report}
+use Rattle.gb_build.specs.InvocationAsked.{InvocationRequests}
+use Rattle.gb_build.specs.Leading.{IsTransition}
+use Rattle.gb_build.specs.Registering.{registers_in, setting_of}
+
+-- Over any folder: the calls of an invocation, and what its answer may be.
+pub record IsInvocation {F M N Z S A : Type 0} (failures : F → ℕ) (may_leave : F → Tearing)
+    (allowed : F → Call → F → Type 0) (tables : Tables M N Z S A) (invocation : Invocation)
+    (answer : Result Report Fault) (old new : F) : Type 0 where
+  -- The plan is that of the scripts that calls returned. A write or a removal is requested only at or under
+  -- an output of a task of this plan or at the record of one, and the text of such a record is that of a run
+  -- of the task. A refused build and a dry run request none.
+  pub requests : InvocationRequests failures may_leave allowed tables invocation answer old new
+  pub dry_run : IfOk answer (λ report. report.dry_run ≡ invocation.options.dry_run)
+  -- For some registry, the report is that of the plan of the request. Which of its tasks start, and which
+  -- outcomes each may have, is as `Outlines` says.
+  pub outlined : IfOk answer (IsOutlined invocation)
+  -- A refusal that is attributed to the device (10) names a place that may be read before the first task:
+  -- `settings.gb`, one whose last segment is `build.gb`, or, except in a dry run, one in `.gb`.
+  pub places : IfErr answer (λ fault. (place : Place) → fault ≡ faults.Device place
+      → IsTrue (is_read_first invocation.options place))
+  -- Faults are attributed to the device no more often than it failed.
+  pub device : HasFailed (times_blamed (answer_of answer)) (failures old) (failures new)
+  pub count : failures old ≤ failures new
+  pub tearing : SameTearing (may_leave old) (may_leave new)
+
+-- Where contents are known: the promise. Only the last three need an assumption, about the kinds and the
+-- device.
+pub record KeepsPromise {M F Z S A : Type 0} (tables : Tables M F Z S A) (may_leave : Tearing)
+    (invocation : Invocation) (old : Shown) (answer : Result Report Fault) (new : Shown) : Type 0 where
+  -- A build is refused only for the first fault of the scripts, the requested names or the plan, because
+  -- memory ran out, or because the device failed while scripts or records were read. Then nothing changes.
+  pub not_built : IfErr answer (λ fault.
+      IsNotBuilt (registers_in tables) old invocation fault new.failures)
+  pub refused : OnErr answer (new.contents ≡ old.contents)
+  -- a dry run changes nothing
+  pub dry : invocation.options.dry_run ≡ true → new.contents ≡ old.contents
+  -- nothing changes but `.gb` and the build folders of the projects
+  pub keeps : EventKeeps (registers_in tables) (events.Invoke invocation) (answer_of answer) old.contents
+      new.contents
+  -- it continues a run of events, whatever is remembered
+  pub continues : (kinds : Kinds) → IsAssumed tables.shapes tables.kinds kinds may_leave
+      → IsTransition (setting_of tables kinds may_leave) old (events.Invoke invocation) (answer_of answer) new
+  -- from any true records that the folder holds, it is a run of one event by the definitions
+  pub holds : (kinds : Kinds) → IsAssumed tables.shapes tables.kinds kinds may_leave
+      → InvocationHolds (setting_of tables kinds may_leave) old invocation answer new
+  -- So, if no two contents share a digest, it is a step of the definition, and a build in which no task failed
+  -- leaves what a build from scratch makes, whichever true records it starts from.
+  pub promise : (kinds : Kinds) → IsAssumed tables.shapes tables.kinds kinds may_leave
+      → PromiseHolds (setting_of tables kinds may_leave) old (events.Invoke invocation ∷ [])
+      (answer_of answer ∷ []) new

@@ -1,0 +1,32 @@
+-- The faults of words one after another.
+use Rattle.std.proofs.Common.{◌≡◌, Bool, true, false, not, cond, List, [], ◌∷◌, Some, refl, ap}
+use Rattle.std.specs.Prelude.{find, map, option_map}
+use Rattle.gb_core.specs.Lists.{first_of}
+use Rattle.gb_core.specs.Path.{is_task_path}
+use Rattle.gb_folder.specs.Files.{is_empty}
+use Rattle.gb_plan.specs.Graph.{Registry, absolute, selected_by}
+use Rattle.gb_plan.specs.Refusal.{lacks_project, word_faults}
+use Rattle.gb_plan.specs.Task.{Text}
+use Rattle.gb_report.specs.declared.fault.Fault.{Fault}
+use Rattle.gb_report.specs.declared.fault.Fault.TheVariants as faults
+
+-- a word has at most one fault
+pub one_fault : (registry : Registry) (word : Text) (fault : Fault) → first_of (word_faults registry word) ≡ Some fault → word_faults registry word ≡ fault ∷ []
+one_fault registry word fault = by (not (is_task_path (absolute word))) (lacks_project registry word) (is_empty (selected_by registry word))
+  where
+    by : (bad lacking empty : Bool)
+        → first_of (cond bad (faults.BadName word ∷ []) (cond lacking (faults.UnknownProject word ∷ []) (cond empty (faults.TaskNotFound word ∷ []) []))) ≡ Some fault
+        → cond bad (faults.BadName word ∷ []) (cond lacking (faults.UnknownProject word ∷ []) (cond empty (faults.TaskNotFound word ∷ []) [])) ≡ fault ∷ []
+    by true lacking empty first = let same : faults.BadName word ≡ fault = cc in ap (λ f. f ∷ []) same
+    by false true empty first = let same : faults.UnknownProject word ≡ fault = cc in ap (λ f. f ∷ []) same
+    by false false true first = let same : faults.TaskNotFound word ≡ fault = cc in ap (λ f. f ∷ []) same
+    by false false false first = absurd (cc)
+
+-- the first of a row that passes, and what is made of it
+pub found_of_each : {X Y : Type 0} (made : X → Y) (test : Y → Bool) (xs : List X) → find test (map made xs) ≡ option_map made (find (λ x. test (made x)) xs)
+found_of_each made test [] = refl
+found_of_each made test (x ∷ xs) = by (test (made x)) refl
+  where
+    by : (b : Bool) → test (made x) ≡ b → find test (map made (x ∷ xs)) ≡ option_map made (find (λ x. test (made x)) (x ∷ xs))
+    by true is = cc
+    by false is = cc
