@@ -1,6 +1,7 @@
 -- The faults of words one after another.
-use Rattle.std.proofs.Common.{◌≡◌, Bool, true, false, not, cond, List, [], ◌∷◌, Some, refl, ap}
-use Rattle.std.specs.Prelude.{find, map, option_map}
+use Rattle.std.proofs.Common.{◌≡◌, ◌≢◌, ◌⊎◌, ◌++◌, ◌∙◌, Bool, true, false, not, cond, List, [], ◌∷◌, Some, Result, Ok, Err, refl, ap, inl, inr, subst, sym}
+use Rattle.std.specs.Prelude.{Contains, OnOk, find, map, option_map}
+use Rattle.std.proofs.lemmas.List.Elements.{Contains-append_left, Contains-append_right, Contains-push}
 use Rattle.gb_core.specs.Lists.{first_of}
 use Rattle.gb_core.specs.Path.{is_task_path}
 use Rattle.gb_folder.specs.Files.{is_empty}
@@ -30,3 +31,25 @@ found_of_each made test (x ∷ xs) = by (test (made x)) refl
     by : (b : Bool) → test (made x) ≡ b → find test (map made (x ∷ xs)) ≡ option_map made (find (λ x. test (made x)) (x ∷ xs))
     by true is = cc
     by false is = cc
+
+-- it is one of them
+pub found_among : {X : Type 0} (test : X → Bool) (xs : List X) (x : X) → find test xs ≡ Some x → Contains xs x
+found_among test [] x e = absurd (cc)
+found_among {X} test (y ∷ xs) x e =
+    elim (test y) as (λ b. test y ≡ b → cond b (Some y) (find test xs) ≡ Some x → Contains (y ∷ xs) x) [
+      | true ↦ λ _ here. let same : y ≡ x = cc in Contains-append_left (y ∷ []) xs x (Contains-push_same same)
+      | false ↦ λ _ later. Contains-append_right (y ∷ []) xs x (found_among test xs x later)
+    ] refl e
+  where
+    Contains-push_same : y ≡ x → Contains (y ∷ []) x
+    Contains-push_same same = subst (Contains (y ∷ [])) same (Contains-push [] y)
+
+-- ---- What is added
+
+-- the fault of a word, if it is not lack of memory
+pub word_added : {T : Type 0} (result : Result T Fault) (registry : Registry) (word : Text) (fault : Fault) (old new : List Fault)
+    → (fault ≡ faults.OutOfMemory) ⊎ (first_of (word_faults registry word) ≡ Some fault) → OnOk result (fault ≢ faults.OutOfMemory)
+    → OnOk result (new ≡ old ++ fault ∷ []) → OnOk result (new ≡ old ++ word_faults registry word)
+word_added (Err other) registry word fault old new which known added = tt
+word_added (Ok done) registry word fault old new (inl memory) known added = absurd (known memory)
+word_added (Ok done) registry word fault old new (inr first) known added = added ∙ ap (λ (reported : List Fault). old ++ reported) (sym (one_fault registry word fault first))

@@ -1,6 +1,6 @@
 -- All findings: faults and warnings.
 use Rattle.std.specs.Prelude.{◌≡◌, Bool, List, [], ◌++◌}
-use Rattle.gb_folder.specs.Files.{Contents}
+use Rattle.gb_folder.specs.Files.{Contents, Files}
 use Rattle.gb_plan.specs.Graph.{Registry}
 use Rattle.gb_plan.specs.Task.{Path}
 use Rattle.gb_registry.specs.References.{Names}
@@ -15,6 +15,18 @@ use Rattle.gb_check.specs.declared.findings.Findings.{Findings}
 use Rattle.gb_check.specs.declared.clause_lines.ClauseMark.{ClauseMark}
 use Rattle.gb_check.specs.declared.sites.Site.{Site}
 
+-- The faults of a registry whose tasks these scripts register: first those of the words of `defaultTasks`, then
+-- those of tasks.
+pub record AreFaults (faithful : Bool) (files : Files) (sites : List Site) (marks : List ClauseMark)
+    (registry : Registry) (scripts : List (Path × List Statement)) (found : List Finding) : Type 0 where
+  pub in_words : List Finding
+  pub of_words : AreDefaultsFound faithful files scripts registry in_words
+  pub in_tasks : List Finding
+  pub of_tasks : IsFound sites marks registry in_tasks
+  pub both : found ≡ in_words ++ in_tasks
+  -- If nothing is found, only lack of memory, the words or the plan (60 to 63) cause a refusal.
+  pub silent : found ≡ [] → IsSilent registry
+
 -- The findings for a registry whose tasks these scripts register, with the lines in which they do.
 pub record AreFindings {M F Z S A : Type 0} (tables : Tables M F Z S A) (names : Names) (faithful : Bool)
     (contents : Contents) (registry : Registry) (scripts : List (Path × List Statement)) (findings : Findings)
@@ -22,12 +34,5 @@ pub record AreFindings {M F Z S A : Type 0} (tables : Tables M F Z S A) (names :
   pub sites : List Site
   pub marks : List ClauseMark
   pub are_sites : AreSites tables names faithful contents.files scripts sites marks
-  -- first the faults of the default words, then those of the tasks
-  pub in_words : List Finding
-  pub of_words : AreDefaultsFound faithful contents.files scripts registry in_words
-  pub in_tasks : List Finding
-  pub of_tasks : IsFound sites marks registry in_tasks
-  pub faults : findings.faults.items ≡ in_words ++ in_tasks
-  -- If nothing is found, only lack of memory, the words or the plan (60 to 63) cause a refusal.
-  pub silent : findings.faults.items ≡ [] → IsSilent registry
+  pub faults : AreFaults faithful contents.files sites marks registry scripts findings.faults.items
   pub warnings : AreWarnings faithful sites scripts contents registry findings.warnings.items

@@ -5,13 +5,14 @@ ghost use Rattle.gb_plan.specs.Graph.{paths_of};
 ghost use Rattle.gb_registry.specs.SoFar.{scripts_in};
 ghost use Rattle.gb_registry.specs.Tables.{tables_of};
 ghost use Rattle.gb_store.specs.Faults.{IsOfMachine};
-ghost use Rattle.gb_check.specs.All.{AreFindings};
+ghost use Rattle.gb_check.specs.All.{AreFaults, AreFindings};
 ghost use Rattle.gb_check.specs.Sites.{IsUnread};
 
 use crate::checking::check;
+use crate::clause_lines::ClauseMark;
 use crate::default_words::check_default_words;
-use crate::findings::Findings;
-use crate::sites::read_sites;
+use crate::findings::{Finding, Findings};
+use crate::sites::{Site, read_sites};
 use crate::warning::warn;
 use gb_action::actions::Actions;
 use gb_core::path::TaskPath;
@@ -61,9 +62,41 @@ pub fn find<A: Actions, T: Transforms, Ts: Tasks, F: Folder>(
         ⊎ IsUnread (F.contents folder.old).files (scripts_in scripts.now) fault) }
 {
     let (sites, marks) = read_sites(alloc, folder, tables, known, scripts)?;
-    let mut faults = check_default_words(alloc, folder, tasks, scripts)?;
-    let mut of_tasks = check(alloc, tasks, paths, sites.as_slice(), marks.as_slice())?;
+    let faults = find_faults(
+        alloc,
+        folder,
+        tasks,
+        paths,
+        scripts,
+        sites.as_slice(),
+        marks.as_slice(),
+    )?;
     let warnings = warn(alloc, folder, tasks, paths, scripts, sites.as_slice())?;
-    faults.append(&mut of_tasks)?;
     Ok(Findings { faults, warnings })
+}
+
+/// The faults of the words of `defaultTasks`, and then those of the tasks.
+fn find_faults<Ts: Tasks, F: Folder>(
+    alloc: Global,
+    folder: &mut F,
+    tasks: &mut Ts,
+    paths: &[TaskPath],
+    scripts: &[Scripted],
+    sites: &[Site],
+    marks: &[ClauseMark],
+) -> Result<Vec<Finding>, Fault>
+    requires { paths.now ≡ paths_of (Ts.registry tasks.old) }
+    ensures kept { Ts.registry tasks.new ≡ Ts.registry tasks.old }
+    ensures requests { Requests F.failures F.may_leave F.allowed no_change folder.old folder.new }
+    ensures same { IsTrue F.faithful → F.contents folder.new ≡ F.contents folder.old }
+    ensures faults { IfOk result (λ found. AreFaults F.faithful (F.contents folder.old).files sites.now
+        marks.now (Ts.registry tasks.old) (scripts_in scripts.now) found.items) }
+    ensures err { IsTrue F.faithful → IfErr result (λ fault.
+        IsOfMachine (F.failures folder.old) (F.failures folder.new) fault
+        ⊎ IsUnread (F.contents folder.old).files (scripts_in scripts.now) fault) }
+{
+    let mut found = check_default_words(alloc, folder, tasks, scripts)?;
+    let mut of_tasks = check(alloc, tasks, paths, sites, marks)?;
+    found.append(&mut of_tasks)?;
+    Ok(found)
 }

@@ -46,7 +46,7 @@ returns-in-Ok-clause-reply g c =
       source = source;
       said = said;
       found_of = here;
-      quiet = λ faithful none. quiet tables source old given (said faithful) (here.findings.silent (sym here.faults ∙ none));
+      quiet = λ faithful none. quiet tables source old given (said faithful) (here.findings.faults.silent (sym here.faults ∙ none));
     }))
     (λ fault faithful bad.
     elim bad as (λ _. Worse fault) [
