@@ -1,7 +1,7 @@
 use Rattle.std.proofs.Common.{◌+◌, List, drop, ap, sym, ◌∙◌}
 use Rattle.gb_script.specs.declared.script.Statement.{Statement}
 use Rattle.gb_check.specs.DefaultWords.{defaults_line, line_after}
-use Rattle.gb_check.specs.Marks.{Lines, first_lines, other_lines}
+use Rattle.gb_check.specs.Marks.{Lines, other_lines}
 use Rattle.gb_check.proofs.Rows.{rest_from}
 use Rattle.gb_check.proofs.default_words.defaults_line.Goals as goal
 

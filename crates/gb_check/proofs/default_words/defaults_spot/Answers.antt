@@ -1,15 +1,14 @@
 use Rattle.std.proofs.Common.{◌≡◌, ◌⊎◌, ◌∙◌, List, Some, None, refl, ap, inl, inr, subst, sym}
-use Rattle.std.specs.Prelude.{IfErr, IfOk, IsTrue, MatchOption, Option, find, option_map}
+use Rattle.std.specs.Prelude.{IsTrue, MatchOption, Option, find, option_map}
 use Rattle.std.proofs.lemmas.Result.{IfErr-weaker, IfOk-weaker}
 use Rattle.gb_registry.specs.Projects.{Path}
 use Rattle.gb_registry.specs.SoFar.{scripts_in}
 use Rattle.gb_registry.specs.declared.checking.Scripted.{Scripted}
-use Rattle.gb_report.specs.declared.fault.Fault.{Fault}
 use Rattle.gb_script.specs.declared.script.Statement.{Statement}
 use Rattle.gb_store.specs.Faults.{IsOfMachine}
 use Rattle.gb_check.specs.DefaultWords.{defaults_line, is_root}
 use Rattle.gb_check.specs.Marks.{Lines}
-use Rattle.gb_check.specs.Sites.{AreLinesAt, HasTextFault, IsUnread, script_of_project}
+use Rattle.gb_check.specs.Sites.{AreLinesAt, IsUnread, script_of_project}
 use Rattle.gb_check.specs.declared.findings.Spot.{Spot}
 use Rattle.gb_check.specs.declared.findings.Spot.TheVariants as spots
 use Rattle.gb_check.proofs.Words.{found_among, found_of_each}
