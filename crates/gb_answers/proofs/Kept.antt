@@ -78,9 +78,6 @@ module _ {F : Type 0} (failures : F → ℕ) (may_leave : F → Tearing) (allowe
     is = within.is ∙ ap (λ (calls : List Call). calls ++ within.later) grows.is ∙ append_assoc (log old) grows.more within.later;
   }
 
-  pub within_itself : (state : F) → IsWithin (log state) state
-  within_itself state = record { later = []; is = sym (append-nil (log state)) }
-
   pub itself : (calls : List Call) → AllByRecursion (λ (call : Call). call ≡ call) calls
   itself [] = tt
   itself (call ∷ calls) = (refl, itself calls)

@@ -14,5 +14,6 @@ pub mod OfPlan
 pub mod Built
 pub mod Logged
 pub mod Kept
+pub mod Cut
 pub mod Made
 pub mod Truthful

@@ -1,8 +1,9 @@
 -- All records that builds were to store are true, and all that they reported as up to date was right, over any
--- folder that keeps its calls.
+-- folder that keeps its calls, wherever the process of one was stopped.
 use Rattle.std.specs.Prelude.{ℕ, ◌≡◌, ◌⊎◌, ◌++◌, Bool, true, false, not, List, [], ◌∷◌, map, Option, None, Some, Result, Ok, Err, Contains, IsTrue, is_some}
 use Rattle.std.specs.List.{AllByRecursion, AllZip, flat_map}
 use Rattle.std.proofs.Common.{refl, sym, ap, subst, ◌∙◌, inl, inr, true≢false}
+use Rattle.std.proofs.lemmas.List.{append-nil}
 use Rattle.std.proofs.lemmas.List.Elements.{All-contains, All-from_recursion, Contains-append_left, Contains-append_right, Contains-push}
 use Rattle.sha2.specs.Sha256.{sha256}
 use Rattle.gb_action.specs.Changes.{Changes}
@@ -71,8 +72,9 @@ use Rattle.gb_answers.specs.Answering.{AnswersSoundly}
 use Rattle.gb_answers.specs.Stored.{AreCurrentRight, EachReadsOnly, HadRight, IsCurrentRight, IsTrueText, IsTruthful, BuildWithLog, ReadsOnly, RecordsStayTrue, StoresTruth, content_of}
 use Rattle.gb_answers.proofs.Built.{from_scratch_left}
 use Rattle.gb_answers.proofs.Chain.{IsTrueWithin, MayStep}
+use Rattle.gb_answers.proofs.Cut.{AllButLast, HoldsFrom, all_but_last, at_last, calls_back, from_first, front_last, requests_back}
 use Rattle.gb_answers.proofs.Going.{IsOfTrue}
-use Rattle.gb_answers.proofs.Kept.{Grows, IsWithin, all_among, calls_grow, each_kept, grows_then, has_on_way, requests_grow, stays, trees_among, within_before, within_calls, within_itself, within_requests}
+use Rattle.gb_answers.proofs.Kept.{IsWithin, all_among, each_kept, has_on_way, trees_among, within_calls, within_requests}
 use Rattle.gb_answers.proofs.Made.{Has, WroteFile, left_part, made_by_changes, made_in_full, right_part}
 use Rattle.gb_answers.proofs.OfPlan.{each_may, each_named}
 use Rattle.gb_answers.proofs.Step.{step}
@@ -163,18 +165,21 @@ IsTrusted kinds all last = (run : Record) → last ≡ Some run → (true_one : 
 
 module _ {F S : Type 0} (failures : F → ℕ) (may_leave : F → Tearing) (allowed : F → Call → F → Type 0) (log : F → List Call) (keeps : LogsCalls allowed log)
     (meanings : Meanings S) (rows : Rows S) (kinds : Kinds) (agrees : Agrees meanings rows kinds) (own_output : (kind : ℕ) → WritesItsOutput meanings kind) (options : Options)
-    (final : List Call) (all : List Bytes) (among : (call : Call) → Contains final call → AllByRecursion (Contains all) (content_of call)) (separate : AreCollisionFree sha256 all) where
+    (made unmade : List Call) (all : List Bytes) (among : (call : Call) → Contains made call → AllByRecursion (Contains all) (content_of call)) (separate : AreCollisionFree sha256 all) where
   abbrev Stored : Call → Type 0
   Stored = StoresTruth kinds all
 
-  abbrev Grown : F → F → Type 0
-  Grown old new = Grows failures may_leave allowed log keeps Stored old new
-
   abbrev Within : F → Type 0
-  Within state = IsWithin failures may_leave allowed log keeps final state
+  Within state = IsWithin failures may_leave allowed log keeps made state
+
+  abbrev StoredFrom : F → Type 0
+  StoredFrom state = HoldsFrom failures may_leave allowed log keeps Stored made unmade state
 
   no_calls : (calls : List Call) → calls ≡ [] → AllByRecursion Stored calls
   no_calls calls none = subst (AllByRecursion Stored) (sym none) tt
+
+  no_last : (calls : List Call) → calls ≡ [] → AllButLast Stored calls
+  no_last calls none = subst (AllButLast Stored) (sym none) tt
 
   -- ---- what changes nothing
 
@@ -186,10 +191,8 @@ module _ {F S : Type 0} (failures : F → ℕ) (may_leave : F → Tearing) (allo
   reads (Writes place bytes limit answer) may = absurd may
   reads (Removes place answer) may = tt
 
-  only_read : (old new : F) → Requests failures may_leave allowed no_change old new → Grown old new
-  only_read old new requests =
-      let grows = requests_grow failures may_leave allowed log keeps no_change old new requests in
-      record { more = grows.more; is = grows.is; each = each (IsPermitted no_change) Stored reads grows.more grows.each }
+  only_read : (old new : F) → Requests failures may_leave allowed no_change old new → StoredFrom new → StoredFrom old
+  only_read old new requests later = requests_back failures may_leave allowed log keeps Stored made unmade no_change reads old new requests later
 
   -- ---- stages
 
@@ -211,6 +214,16 @@ module _ {F S : Type 0} (failures : F → ℕ) (may_leave : F → Tearing) (allo
       rest : (mid : Ending) → OrStops mid (second does.1 does.3 result) does.1 does.3 result → AllByRecursion Stored does.1
       rest (Ok done) h = two does.1 does.3 result h
       rest (Err fault) h = no_calls does.1 h.0
+
+  then_last : (first second : Stage) → ((calls : List Call) (lines : List Text) (result : Ending) → first calls lines result → AllByRecursion Stored calls)
+      → ((calls : List Call) (lines : List Text) (result : Ending) → second calls lines result → AllButLast Stored calls)
+      → (calls : List Call) (lines : List Text) (result : Ending) → Then first second calls lines result → AllButLast Stored calls
+  then_last first second one two calls lines result does =
+      subst (AllButLast Stored) (sym does.5) (front_last Stored does.0 does.1 (one does.0 does.2 does.4 does.7) (rest does.4 does.8))
+    where
+      rest : (mid : Ending) → OrStops mid (second does.1 does.3 result) does.1 does.3 result → AllButLast Stored does.1
+      rest (Ok done) h = two does.1 does.3 result h
+      rest (Err fault) h = no_last does.1 h.0
 
   each_stored : {E X Y : Type 0} (One : X → List Call → List Y → Ended E → Type 0) → ((x : X) (calls : List Call) (made : List Y) (result : Ended E) → One x calls made result → AllByRecursion Stored calls)
       → (xs : List X) (calls : List Call) (made : List Y) (result : Ended E) → Each One xs calls made result → AllByRecursion Stored calls
@@ -242,8 +255,7 @@ module _ {F S : Type 0} (failures : F → ℕ) (may_leave : F → Tearing) (allo
   deletes path true calls ended (inl hindered) = no_calls calls hindered.0
   deletes path true calls ended (inr called) = subst (AllByRecursion Stored) (sym called.1) (tt, tt)
 
-  module _ (task : Task) (last : Option Record) (buildable : IsBuildable meanings rows task) (apart : some_overlap (output_places task) ≡ false) (named : IsTrue (is_task_path task.path))
-      (trusted : IsTrusted kinds all last) where
+  module _ (task : Task) (last : Option Record) (buildable : IsBuildable meanings rows task) (apart : some_overlap (output_places task) ≡ false) (named : IsTrue (is_task_path task.path)) where
     lie : AreSeparate task
     lie = record { separate = apart; not_own = buildable.not_own }
 
@@ -296,13 +308,43 @@ module _ {F S : Type 0} (failures : F → ℕ) (may_leave : F → Tearing) (allo
             called (inl hindered) = no_calls calls hindered.0
             called (inr one) = subst (AllByRecursion Stored) (sym one.1) ((λ own. truth does.1.0 does.1.1 one.3), tt)
 
+    stores_once : (IsGood : Record → Type 0) (calls : List Call) (lines : List Text) (result : Ending) → Stores task IsGood calls lines result → AllButLast Stored calls
+    stores_once IsGood calls lines result (inl memory) = no_last calls memory.0
+    stores_once IsGood calls lines result (inr does) = unless (is_empty task.outputs) does.1.2
+      where
+        unless : (none : Bool) → StoresUnless none task.path does.1.0 calls result → AllButLast Stored calls
+        unless true is = no_last calls is.0
+        unless false is = called is.1
+          where
+            called : Storing task.path does.1.0 calls is.0 → AllButLast Stored calls
+            called (inl hindered) = no_last calls hindered.0
+            called (inr one) = subst (AllButLast Stored) (sym one.1) (tt, tt)
+
     -- what was written is among the contents
     written_among : (calls : List Call) (old new : F) → AreAnswered failures may_leave allowed old calls new → Within new → (place : Place) (bytes : Bytes) → WroteFile calls place bytes → Contains all bytes
     written_among calls old new led within place bytes wrote =
         (among (Writes place bytes max_file (Ok tt))
-        (one_of (λ (call : Call). fault_of call ≡ None → Contains final call) calls (Writes place bytes max_file (Ok tt)) (each_kept failures may_leave allowed log keeps final old calls new led within) wrote refl)).0
+        (one_of (λ (call : Call). fault_of call ≡ None → Contains made call) calls (Writes place bytes max_file (Ok tt)) (each_kept failures may_leave allowed log keeps made old calls new led within) wrote refl)).0
 
     -- ---- runs
+
+    -- whatever was read, all calls but that of the storing
+    writes_last : (writing : Stage) (IsGood : Record → Type 0) → ((calls : List Call) (lines : List Text) (result : Ending) → writing calls lines result → AllByRecursion Stored calls)
+        → (calls : List Call) (lines : List Text) (result : Ending) → Then writing (Stores task IsGood) calls lines result → AllButLast Stored calls
+    writes_last writing IsGood written calls lines result does = then_last writing (Stores task IsGood) written (stores_once IsGood) calls lines result does
+
+    full_last : (trees : Trees) (was_read : Bool) (calls : List Call) (lines : List Text) (result : Ending) → FullRun meanings rows task trees was_read calls lines result → AllButLast Stored calls
+    full_last trees was_read calls lines result (inl memory) = no_last calls memory.0
+    full_last trees was_read calls lines result (inr does) =
+        then_last (Clears task was_read) (Then (WritesAll meanings rows task trees) (Stores task (IsOfFullRun meanings rows task trees))) (clears was_read)
+        (writes_last (WritesAll meanings rows task trees) (IsOfFullRun meanings rows task trees) (λ cs ls r is. at_outputs cs is.0)) calls lines result does
+
+    changes_last : (trees : Trees) (changes : List Changes) (observed : List OutputFiles) (calls : List Call) (lines : List Text) (result : Ending)
+        → RunByChanges meanings rows task trees changes observed calls lines result → AllButLast Stored calls
+    changes_last trees changes observed calls lines result does =
+        then_last (Silently (DeletesRecord task.path true)) (Then (WritesChanges meanings rows task trees changes observed) (Stores task (IsOfRunByChanges meanings rows task trees changes observed)))
+        (deletes_record true)
+        (writes_last (WritesChanges meanings rows task trees changes observed) (IsOfRunByChanges meanings rows task trees changes observed) (λ cs ls r is. at_outputs cs is.0)) calls lines result does
 
     module _ (trees : Trees) (first read : F) (have : HaveRead failures may_leave allowed task trees first read) where
       full : (was_read : Bool) (calls : List Call) (lines : List Text) (result : Ending) (new : F) → AreAnswered failures may_leave allowed read calls new → Within new
@@ -315,7 +357,7 @@ module _ {F S : Type 0} (failures : F → ℕ) (may_leave : F → Tearing) (allo
           parts = split does.0 does.1 read new calls does.5 led
 
           trees_read : AllByRecursion (Contains all) (contents_in trees)
-          trees_read = trees_among failures may_leave allowed log keeps final all among first read (within_calls failures may_leave allowed log keeps final read calls new led within) task trees have.inputs
+          trees_read = trees_among failures may_leave allowed log keeps made all among first read (within_calls failures may_leave allowed log keeps made read calls new led within) task trees have.inputs
 
           second : Then (WritesAll meanings rows task trees) (Stores task (IsOfFullRun meanings rows task trees)) does.1 does.3 result → AllByRecursion Stored does.1
           second then = subst (AllByRecursion Stored) (sym then.5) (all_append Stored then.0 then.1 (at_outputs then.0 then.7.0) (last_one then.4 then.7 then.8))
@@ -331,7 +373,7 @@ module _ {F S : Type 0} (failures : F → ℕ) (may_leave : F → Tearing) (allo
                   (λ run of text.
                   true_text trees run (of kinds agrees) trees_read
                   (each (λ (file : Place × Bytes). WroteFile then.0 file.0 file.1) (λ (file : Place × Bytes). Contains all file.1)
-                  (λ file wrote. written_among then.0 parts.0 ends.0 ends.1 (within_calls failures may_leave allowed log keeps final ends.0 then.1 new ends.2 within) file.0 file.1 wrote) (of kinds agrees).0
+                  (λ file wrote. written_among then.0 parts.0 ends.0 ends.1 (within_calls failures may_leave allowed log keeps made ends.0 then.1 new ends.2 within) file.0 file.1 wrote) (of kinds agrees).0
                   (made_in_full kinds task trees (added_of task.files trees) (of kinds agrees).0 then.0 then.2 (of kinds agrees).1 (writes.1 kinds agrees)))
                   text)
                   then.1 then.3 result next
@@ -340,7 +382,7 @@ module _ {F S : Type 0} (failures : F → ℕ) (may_leave : F → Tearing) (allo
           rest (Ok done) h = second h
           rest (Err fault) h = no_calls does.1 h.0
 
-      module _ (run : Record) (is : last ≡ Some run) (one : IsTrue (has_one_writer kinds task.actions)) (changes : List Changes) (observed : List OutputFiles)
+      module _ (trusted : IsTrusted kinds all last) (run : Record) (is : last ≡ Some run) (one : IsTrue (has_one_writer kinds task.actions)) (changes : List Changes) (observed : List OutputFiles)
           (goes : GoesFrom failures may_leave allowed options task run trees changes observed first read) where
         by_changes : (calls : List Call) (lines : List Text) (result : Ending) (new : F) → AreAnswered failures may_leave allowed read calls new → Within new
             → RunByChanges meanings rows task trees changes observed calls lines result → AllByRecursion Stored calls
@@ -351,13 +393,13 @@ module _ {F S : Type 0} (failures : F → ℕ) (may_leave : F → Tearing) (allo
             parts = split does.0 does.1 read new calls does.5 led
 
             read_within : Within read
-            read_within = within_calls failures may_leave allowed log keeps final read calls new led within
+            read_within = within_calls failures may_leave allowed log keeps made read calls new led within
 
             trees_read : AllByRecursion (Contains all) (contents_in trees)
-            trees_read = trees_among failures may_leave allowed log keeps final all among first read read_within task trees have.inputs
+            trees_read = trees_among failures may_leave allowed log keeps made all among first read read_within task trees have.inputs
 
             all_read : AllByRecursion (Contains all) (contents_read trees observed)
-            all_read = all_among failures may_leave allowed log keeps final all among first read read_within task trees observed have.inputs goes.outputs
+            all_read = all_among failures may_leave allowed log keeps made all among first read read_within task trees observed have.inputs goes.outputs
 
             observed_read : AllByRecursion (Contains all) (contents_in (map (λ output. (output.name, output.files)) observed))
             observed_read = right_part (Contains all) (contents_in trees) (contents_in (map (λ output. (output.name, output.files)) observed)) all_read
@@ -384,7 +426,7 @@ module _ {F S : Type 0} (failures : F → ℕ) (may_leave : F → Tearing) (allo
 
                 now_among : (file : Place × Bytes) → WroteFile then.0 file.0 file.1 ⊎ Contains all file.1 → Contains all file.1
                 now_among file (inl wrote) =
-                    written_among then.0 parts.0 ends.0 ends.1 (within_calls failures may_leave allowed log keeps final ends.0 then.1 new ends.2 within) file.0 file.1 wrote
+                    written_among then.0 parts.0 ends.0 ends.1 (within_calls failures may_leave allowed log keeps made ends.0 then.1 new ends.2 within) file.0 file.1 wrote
                 now_among file (inr there) = there
 
                 last_one : (mid : Ending) → WritesChanges meanings rows task trees changes observed then.0 then.2 mid
@@ -408,36 +450,42 @@ module _ {F S : Type 0} (failures : F → ℕ) (may_leave : F → Tearing) (allo
 
     -- ---- executions
 
-    cleared : (result : Ending) (lines : List Text) (old new : F) → WasCleared failures may_leave allowed task (is_some last) lines result old new → Grown old new
-    cleared result lines old new was =
-        grows_then failures may_leave allowed log keeps Stored old was.0 new (only_read old was.0 was.1)
-        (calls_grow failures may_leave allowed log keeps Stored was.0 was.3.0 new was.3.1 (clears (is_some last) was.3.0 lines result was.3.2))
+    cleared : (result : Ending) (lines : List Text) (old new : F) → WasCleared failures may_leave allowed task (is_some last) lines result old new → StoredFrom new → StoredFrom old
+    cleared result lines old new was later =
+        let all_clear : AllByRecursion Stored was.3.0 = clears (is_some last) was.3.0 lines result was.3.2 in
+        only_read old was.0 was.1
+        (calls_back failures may_leave allowed log keeps Stored made unmade was.0 was.3.0 new was.3.1 (all_but_last Stored was.3.0 all_clear) (λ within. all_clear) later)
 
-    ran : (result : Ending) (lines : List Text) (old new : F) → WasRun failures may_leave allowed meanings rows task options last lines result old new → Within new → Grown old new
-    ran result lines old new (inl was) within =
-        grows_then failures may_leave allowed log keeps Stored old was.1 new (only_read old was.1 was.2.requests)
-        (calls_grow failures may_leave allowed log keeps Stored was.1 was.3.0 new was.3.1 (full was.0 old was.1 was.2 (is_some last) was.3.0 lines result new was.3.1 within was.3.2))
-    ran result lines old new (inr by) within =
+    ran : (result : Ending) (lines : List Text) (old new : F) → (Within old → IsTrusted kinds all last)
+        → WasRun failures may_leave allowed meanings rows task options last lines result old new → StoredFrom new → StoredFrom old
+    ran result lines old new trusted (inl was) later =
+        only_read old was.1 was.2.requests
+        (calls_back failures may_leave allowed log keeps Stored made unmade was.1 was.3.0 new was.3.1 (full_last was.0 (is_some last) was.3.0 lines result was.3.2)
+        (λ within. full was.0 old was.1 was.2 (is_some last) was.3.0 lines result new was.3.1 within was.3.2) later)
+    ran result lines old new trusted (inr by) later =
         let was = by.3 in
-        grows_then failures may_leave allowed log keeps Stored old was.3 new (only_read old was.3 was.4.requests)
-        (calls_grow failures may_leave allowed log keeps Stored was.3 was.6.0 new was.6.1
-        (by_changes was.0 old was.3 was.4 by.0 by.1 (by.2 kinds agrees) was.1 was.2 was.5 was.6.0 lines result new was.6.1 within was.6.2))
+        only_read old was.3 was.4.requests
+        (calls_back failures may_leave allowed log keeps Stored made unmade was.3 was.6.0 new was.6.1 (changes_last was.0 was.1 was.2 was.6.0 lines result was.6.2)
+        (λ within.
+        by_changes was.0 old was.3 was.4 (trusted (run_before failures may_leave allowed log keeps meanings rows options made task last result lines old new (inr by) within))
+        by.0 by.1 (by.2 kinds agrees) was.1 was.2 was.5 was.6.0 lines result new was.6.1 within was.6.2) later)
 
-    execution : (outcome : Outcome) (lines : List Text) (since old new : F) → ExecutionRequests failures may_leave allowed meanings rows options task last outcome lines since old new → Within new → Grown old new
-    execution outcomes.NotRun lines since old new requests within = stays failures may_leave allowed log keeps Stored old new (ap log requests)
-    execution outcomes.Skipped lines since old new requests within = only_read old new requests
-    execution outcomes.UpToDate lines since old new requests within = only_read old new requests.0
-    execution outcomes.NoSource lines since old new requests within = cleared (Ok tt) lines old new requests
-    execution outcomes.Executed lines since old new (inl rests) within = only_read old new rests.1
-    execution outcomes.Executed lines since old new (inr was) within = ran (Ok tt) lines old new was within
-    execution (outcomes.Failed fault) lines since old new (inl read) within = only_read old new read.0
-    execution (outcomes.Failed fault) lines since old new (inr (inl was)) within = cleared (Err fault) lines old new was
-    execution (outcomes.Failed fault) lines since old new (inr (inr was)) within = ran (Err fault) lines old new was within
+    execution : (outcome : Outcome) (lines : List Text) (since old new : F) → (Within old → IsTrusted kinds all last)
+        → ExecutionRequests failures may_leave allowed meanings rows options task last outcome lines since old new → StoredFrom new → StoredFrom old
+    execution outcomes.NotRun lines since old new trusted requests later = subst (λ (f : F). StoredFrom f) requests later
+    execution outcomes.Skipped lines since old new trusted requests later = only_read old new requests later
+    execution outcomes.UpToDate lines since old new trusted requests later = only_read old new requests.0 later
+    execution outcomes.NoSource lines since old new trusted requests later = cleared (Ok tt) lines old new requests later
+    execution outcomes.Executed lines since old new trusted (inl rests) later = only_read old new rests.1 later
+    execution outcomes.Executed lines since old new trusted (inr was) later = ran (Ok tt) lines old new trusted was later
+    execution (outcomes.Failed fault) lines since old new trusted (inl read) later = only_read old new read.0 later
+    execution (outcomes.Failed fault) lines since old new trusted (inr (inl was)) later = cleared (Err fault) lines old new was later
+    execution (outcomes.Failed fault) lines since old new trusted (inr (inr was)) later = ran (Err fault) lines old new trusted was later
 
     -- what is reported as up to date had the right files
-    had_right : (since new : F) → Within new → IsReportedCurrent failures may_leave allowed options task last since new outcomes.UpToDate → is_empty task.actions ≡ false
-        → HadRight failures may_leave allowed log kinds final task
-    had_right since new within current acts = record {
+    had_right : (since new : F) → IsTrusted kinds all last → Within new → IsReportedCurrent failures may_leave allowed options task last since new outcomes.UpToDate → is_empty task.actions ≡ false
+        → HadRight failures may_leave allowed log kinds made task
+    had_right since new trusted within current acts = record {
       since = since;
       at = new;
       later = within.later;
@@ -458,7 +506,7 @@ module _ {F S : Type 0} (failures : F → ℕ) (may_leave : F → Tearing) (allo
         known = trusted on.run on.remembered
 
         all_read : AllByRecursion (Contains all) (contents_read on.trees on.observed)
-        all_read = all_among failures may_leave allowed log keeps final all among since new within task on.trees on.observed on.inputs_read on.outputs_read
+        all_read = all_among failures may_leave allowed log keeps made all among since new within task on.trees on.observed on.inputs_read on.outputs_read
 
         beside : IsTrueBeside kinds on.run (contents_read on.trees on.observed)
         beside = record {
@@ -470,40 +518,53 @@ module _ {F S : Type 0} (failures : F → ℕ) (may_leave : F → Tearing) (allo
 
   -- ---- one after another
 
-  abbrev AreRight : List Planned → List TaskReport → Type 0
-  AreRight rest reports = AllZip (IsCurrentRight failures may_leave allowed log kinds final) rest reports
-
   executed : (rest : List Planned) (records : List (Option Record)) (reports : List TaskReport) (since old new : F) → AllByRecursion (MayStep meanings rows) rest
-      → AllByRecursion (λ (path : Path). IsTrue (is_task_path path)) (order rest) → AllByRecursion (IsTrusted kinds all) records
-      → ExecutionsRequest failures may_leave allowed meanings rows options rest records reports since old new → Within new → Grown old new × AreRight rest reports
-  executed [] [] [] since old new may named trusted requests within = (stays failures may_leave allowed log keeps Stored old new (ap log requests), tt)
-  executed [] [] (report ∷ reports) since old new may named trusted requests within = absurd requests
-  executed [] (last ∷ records) reports since old new may named trusted requests within = absurd requests
-  executed (planned ∷ rest) [] reports since old new may named trusted requests within = absurd requests
-  executed (planned ∷ rest) (last ∷ records) [] since old new may named trusted requests within = absurd requests
-  executed (planned ∷ rest) (last ∷ records) (report ∷ reports) since old new may named trusted requests within =
-      let later = executed rest records reports (since_after report.outcome since requests.0) requests.0 new may.1 named.1 trusted.1 requests.2 within in
-      let mid = within_before failures may_leave allowed log keeps final requests.0 new later.0 within in
-      let here = execution planned.task last may.0.0 may.0.2 named.0 trusted.0 report.outcome report.lines since old requests.0 requests.1 mid in (
-        grows_then failures may_leave allowed log keeps Stored old requests.0 new here later.0,
-        (
-          λ is acts. had_right planned.task last may.0.0 may.0.2 named.0 trusted.0 since requests.0 mid
-              (subst (λ (o : Outcome). ExecutionRequests failures may_leave allowed meanings rows options planned.task last o report.lines since old requests.0) is requests.1).1 acts,
-          later.1,
-        ),
-      )
+      → AllByRecursion (λ (path : Path). IsTrue (is_task_path path)) (order rest) → (Within old → AllByRecursion (IsTrusted kinds all) records)
+      → ExecutionsRequest failures may_leave allowed meanings rows options rest records reports since old new → StoredFrom new → StoredFrom old
+  executed [] [] [] since old new may named trusted requests later = subst (λ (f : F). StoredFrom f) requests later
+  executed [] [] (report ∷ reports) since old new may named trusted requests later = absurd requests
+  executed [] (last ∷ records) reports since old new may named trusted requests later = absurd requests
+  executed (planned ∷ rest) [] reports since old new may named trusted requests later = absurd requests
+  executed (planned ∷ rest) (last ∷ records) [] since old new may named trusted requests later = absurd requests
+  executed (planned ∷ rest) (last ∷ records) (report ∷ reports) since old new may named trusted requests later =
+      execution planned.task last may.0.0 may.0.2 named.0 report.outcome report.lines since old requests.0 (λ within. (trusted within).0) requests.1
+      (executed rest records reports (since_after report.outcome since requests.0) requests.0 new may.1 named.1
+      (λ within.
+      (trusted (execution_before failures may_leave allowed log keeps meanings rows options made planned.task last report.outcome report.lines since old requests.0 requests.1 within)).1)
+      requests.2 later)
 
   -- in a dry run
   dry : (rest : List Planned) (records : List (Option Record)) (since old new : F)
-      → ExecutionsRequest failures may_leave allowed meanings rows options rest records (dry_reports rest) since old new → Grown old new × AreRight rest (dry_reports rest)
-  dry [] [] since old new requests = (stays failures may_leave allowed log keeps Stored old new (ap log requests), tt)
-  dry [] (last ∷ records) since old new requests = absurd requests
-  dry (planned ∷ rest) [] since old new requests = absurd requests
-  dry (planned ∷ rest) (last ∷ records) since old new requests =
-      let later = dry rest records since requests.0 new requests.2 in (
-        grows_then failures may_leave allowed log keeps Stored old requests.0 new (only_read old requests.0 requests.1) later.0,
-        (λ is acts. absurd (let e = is in (cc)), later.1),
+      → ExecutionsRequest failures may_leave allowed meanings rows options rest records (dry_reports rest) since old new → StoredFrom new → StoredFrom old
+  dry [] [] since old new requests later = subst (λ (f : F). StoredFrom f) requests later
+  dry [] (last ∷ records) since old new requests later = absurd requests
+  dry (planned ∷ rest) [] since old new requests later = absurd requests
+  dry (planned ∷ rest) (last ∷ records) since old new requests later = only_read old requests.0 requests.1 (dry rest records since requests.0 new requests.2 later)
+
+  -- ---- what was reported, if all calls were made
+
+  abbrev AreRight : List Planned → List TaskReport → Type 0
+  AreRight rest reports = AllZip (IsCurrentRight failures may_leave allowed log kinds made) rest reports
+
+  each_right : (rest : List Planned) (records : List (Option Record)) (reports : List TaskReport) (since old new : F) → AllByRecursion (MayStep meanings rows) rest
+      → AllByRecursion (λ (path : Path). IsTrue (is_task_path path)) (order rest) → AllByRecursion (IsTrusted kinds all) records
+      → ExecutionsRequest failures may_leave allowed meanings rows options rest records reports since old new → Within new → AreRight rest reports
+  each_right [] [] [] since old new may named trusted requests within = tt
+  each_right [] [] (report ∷ reports) since old new may named trusted requests within = absurd requests
+  each_right [] (last ∷ records) reports since old new may named trusted requests within = absurd requests
+  each_right (planned ∷ rest) [] reports since old new may named trusted requests within = absurd requests
+  each_right (planned ∷ rest) (last ∷ records) [] since old new may named trusted requests within = absurd requests
+  each_right (planned ∷ rest) (last ∷ records) (report ∷ reports) since old new may named trusted requests within =
+      let mid = executions_before failures may_leave allowed log keeps meanings rows options made rest records reports (since_after report.outcome since requests.0) requests.0 new requests.2 within in (
+        λ is acts. had_right planned.task last may.0.0 may.0.2 named.0 since requests.0 trusted.0 mid
+            (subst (λ (o : Outcome). ExecutionRequests failures may_leave allowed meanings rows options planned.task last o report.lines since old requests.0) is requests.1).1 acts,
+        each_right rest records reports (since_after report.outcome since requests.0) requests.0 new may.1 named.1 trusted.1 requests.2 within,
       )
+
+  -- in a dry run nothing is
+  dry_right : (rest : List Planned) → AreRight rest (dry_reports rest)
+  dry_right [] = tt
+  dry_right (planned ∷ rest) = (λ is acts. absurd (let e = is in (cc)), dry_right rest)
 
 -- ---- Builds
 
@@ -554,48 +615,67 @@ module _ {F M N Z S A : Type 0} (failures : F → ℕ) (may_leave : F → Tearin
   abbrev Build : Type 0
   Build = BuildWithLog failures may_leave allowed log tables kinds
 
-  -- from nothing, all that was kept
-  whole : (old new : F) → log old ≡ [] → Grows failures may_leave allowed log keeps (StoresTruth kinds all) old new → AllByRecursion (StoresTruth kinds all) (log new)
-  whole old new begins grows = subst (AllByRecursion (StoresTruth kinds all)) (sym (grows.is ∙ ap (λ (calls : List Call). calls ++ grows.more) begins)) grows.each
+  module _ (earlier : List Call) (stored : AllByRecursion (StoresTruth kinds all) earlier) (invocation : Invocation) (old new : F) (begins : log old ≡ [])
+      (made unmade : List Call) (cut : log new ≡ made ++ unmade) (only : ReadsOnly earlier made)
+      (among : (call : Call) → Contains made call → AllByRecursion (Contains all) (content_of call)) where
+    abbrev StoredAfter : F → Type 0
+    StoredAfter state = HoldsFrom failures may_leave allowed log keeps (StoresTruth kinds all) made unmade state
 
-  module _ (earlier : List Call) (stored : AllByRecursion (StoresTruth kinds all) earlier) (invocation : Invocation) (old new : F) (begins : log old ≡ []) (only : ReadsOnly earlier (log new))
-      (among : (call : Call) → Contains (log new) call → AllByRecursion (Contains all) (content_of call)) where
+    all_at_end : StoredAfter new
+    all_at_end = at_last failures may_leave allowed log keeps (StoresTruth kinds all) made unmade new cut
+
+    all_from : StoredAfter old → AllByRecursion (StoresTruth kinds all) made
+    all_from later = from_first failures may_leave allowed log keeps (StoresTruth kinds all) made unmade old begins later
+
+    read_before : (from to : F) → Requests failures may_leave allowed no_change from to → StoredAfter to → StoredAfter from
+    read_before from to requests later =
+        only_read failures may_leave allowed log keeps tables.shapes tables.kinds kinds agrees own_output invocation.options made unmade all among separate from to requests later
+
+    -- a build that ended made all calls
+    all_made : unmade ≡ [] → log new ≡ made
+    all_made ended = cut ∙ ap (λ (calls : List Call). made ++ calls) ended ∙ append-nil made
+
+    new_within : unmade ≡ [] → IsWithin failures may_leave allowed log keeps made new
+    new_within ended = record { later = []; is = sym (all_made ended) ∙ sym (append-nil (log new)) }
+
     module _ (report : Report) (builds : BuildsDeclared failures may_leave allowed tables invocation report old new) where
-      reads_first : Grows failures may_leave allowed log keeps (StoresTruth kinds all) old builds.plan.begun
-      reads_first =
-          grows_then failures may_leave allowed log keeps (StoresTruth kinds all) old builds.begun builds.plan.begun
-          (only_read failures may_leave allowed log keeps tables.shapes tables.kinds kinds agrees own_output invocation.options (log new) all among separate old builds.begun builds.first)
-          (only_read failures may_leave allowed log keeps tables.shapes tables.kinds kinds agrees own_output invocation.options (log new) all among separate builds.begun builds.plan.begun builds.plan.first)
-
-      plan_within : IsWithin failures may_leave allowed log keeps (log new) builds.plan.begun
-      plan_within =
-          executions_before failures may_leave allowed log keeps tables.shapes tables.kinds invocation.options (log new) builds.by.plan builds.plan.records report.tasks
-          builds.plan.begun builds.plan.begun new builds.plan.executions (within_itself failures may_leave allowed log keeps new)
-
-      trusted : invocation.options.dry_run ≡ false → AllByRecursion (IsTrusted kinds all) builds.plan.records
-      trusted wet =
-          trusted_records failures may_leave allowed log keeps kinds all earlier (log new) stored only builds.begun builds.plan.begun plan_within
+      trusted : IsWithin failures may_leave allowed log keeps made builds.plan.begun → invocation.options.dry_run ≡ false → AllByRecursion (IsTrusted kinds all) builds.plan.records
+      trusted within wet =
+          trusted_records failures may_leave allowed log keeps kinds all earlier made stored only builds.begun builds.plan.begun within
           (order builds.by.plan) builds.plan.records (each_named failures may_leave allowed tables invocation report old new builds) (builds.plan.answered wet)
 
-      run_well : Grows failures may_leave allowed log keeps (StoresTruth kinds all) builds.plan.begun new × AllZip (IsCurrentRight failures may_leave allowed log kinds (log new)) builds.by.plan report.tasks
-      run_well = elim builds.by.outlines [
-        | inl is_dry ↦ subst (λ (reports : List TaskReport). Grows failures may_leave allowed log keeps (StoresTruth kinds all) builds.plan.begun new
-            × AllZip (IsCurrentRight failures may_leave allowed log kinds (log new)) builds.by.plan reports) (sym is_dry.1)
-            (dry failures may_leave allowed log keeps tables.shapes tables.kinds kinds agrees own_output invocation.options (log new) all among separate
+      executions_stored : StoredAfter builds.plan.begun
+      executions_stored = elim builds.by.outlines [
+        | inl is_dry ↦ dry failures may_leave allowed log keeps tables.shapes tables.kinds kinds agrees own_output invocation.options made unmade all among separate
             builds.by.plan builds.plan.records builds.plan.begun builds.plan.begun new
             (subst (λ (reports : List TaskReport). ExecutionsRequest failures may_leave allowed tables.shapes tables.kinds invocation.options builds.by.plan builds.plan.records reports builds.plan.begun builds.plan.begun new) is_dry.1
-            builds.plan.executions))
-        | inr wet ↦ executed failures may_leave allowed log keeps tables.shapes tables.kinds kinds agrees own_output invocation.options (log new) all among separate
+            builds.plan.executions) all_at_end
+        | inr wet ↦ executed failures may_leave allowed log keeps tables.shapes tables.kinds kinds agrees own_output invocation.options made unmade all among separate
             builds.by.plan builds.plan.records report.tasks builds.plan.begun builds.plan.begun new
             (each_may failures may_leave allowed tables invocation report old new builds) (each_named failures may_leave allowed tables invocation report old new builds)
-            (trusted wet.0) builds.plan.executions (within_itself failures may_leave allowed log keeps new)
+            (λ within. trusted within wet.0) builds.plan.executions all_at_end
       ]
 
-      all_stored : AllByRecursion (StoresTruth kinds all) (log new)
-      all_stored = whole old new begins (grows_then failures may_leave allowed log keeps (StoresTruth kinds all) old builds.plan.begun new reads_first run_well.0)
+      all_stored : AllByRecursion (StoresTruth kinds all) made
+      all_stored = all_from (read_before old builds.begun builds.first (read_before builds.begun builds.plan.begun builds.plan.first executions_stored))
+
+      plan_within : unmade ≡ [] → IsWithin failures may_leave allowed log keeps made builds.plan.begun
+      plan_within ended =
+          executions_before failures may_leave allowed log keeps tables.shapes tables.kinds invocation.options made builds.by.plan builds.plan.records report.tasks
+          builds.plan.begun builds.plan.begun new builds.plan.executions (new_within ended)
+
+      all_right : unmade ≡ [] → AllZip (IsCurrentRight failures may_leave allowed log kinds made) builds.by.plan report.tasks
+      all_right ended = elim builds.by.outlines [
+        | inl is_dry ↦ subst (λ (reports : List TaskReport). AllZip (IsCurrentRight failures may_leave allowed log kinds made) builds.by.plan reports) (sym is_dry.1)
+            (dry_right failures may_leave allowed log keeps tables.shapes tables.kinds kinds agrees own_output invocation.options made unmade all among separate builds.by.plan)
+        | inr wet ↦ each_right failures may_leave allowed log keeps tables.shapes tables.kinds kinds agrees own_output invocation.options made unmade all among separate
+            builds.by.plan builds.plan.records report.tasks builds.plan.begun builds.plan.begun new
+            (each_may failures may_leave allowed tables invocation report old new builds) (each_named failures may_leave allowed tables invocation report old new builds)
+            (trusted (plan_within ended) wet.0) builds.plan.executions (new_within ended)
+      ]
 
       -- in contents that answer the calls
-      module _ (none_failed : has_failure report ≡ false) (start end : Contents) (answers : AnswersSoundly (may_leave old) start (log new) end)
+      module _ (ended : unmade ≡ []) (none_failed : has_failure report ≡ false) (start end : Contents) (answers : AnswersSoundly (may_leave old) start (log new) end)
           (none_shared : AreCollisionFree sha256 (all ++ contents_outside start ++ contents_outside end)) where
         abbrev wider : List Bytes
         wider = all ++ contents_outside start ++ contents_outside end
@@ -614,42 +694,42 @@ module _ {F M N Z S A : Type 0} (failures : F → ℕ) (may_leave : F → Tearin
             log keeps kinds agrees invocation report old new start end begins answers builds none_failed wider none_shared
             (λ c h. in_left c (all ++ contents_outside start) (contents_outside end) (in_right c all (contents_outside start) h))
             (λ c h. in_right c (all ++ contents_outside start) (contents_outside end) h)
-            (λ shows wet. true_within builds.plan.records (trusted wet))
+            (λ shows wet. true_within builds.plan.records (trusted (plan_within ended) wet))
 
-    stored_by : (answer : Result Report Fault) → InvocationRequests failures may_leave allowed tables invocation answer old new → AllByRecursion (StoresTruth kinds all) (log new)
+    stored_by : (answer : Result Report Fault) → InvocationRequests failures may_leave allowed tables invocation answer old new → AllByRecursion (StoresTruth kinds all) made
     stored_by (Ok report) builds = all_stored report builds
-    stored_by (Err fault) requests =
-        whole old new begins (only_read failures may_leave allowed log keeps tables.shapes tables.kinds kinds agrees own_output invocation.options (log new) all among separate old new requests)
+    stored_by (Err fault) requests = all_from (read_before old new requests all_at_end)
 
-    current_by : (answer : Result Report Fault) (requests : InvocationRequests failures may_leave allowed tables invocation answer old new)
+    current_by : unmade ≡ [] → (answer : Result Report Fault) (requests : InvocationRequests failures may_leave allowed tables invocation answer old new)
         → AreCurrentRight failures may_leave allowed log tables kinds invocation answer old new requests
-    current_by (Ok report) builds = (run_well report builds).1
-    current_by (Err fault) requests = tt
+    current_by ended (Ok report) builds =
+        subst (λ (calls : List Call). AllZip (IsCurrentRight failures may_leave allowed log kinds calls) builds.by.plan report.tasks) (sym (all_made ended)) (all_right report builds ended)
+    current_by ended (Err fault) requests = tt
 
-  truthful : (earlier : List Call) → AllByRecursion (StoresTruth kinds all) earlier → (build : Build) → ReadsOnly earlier (log build.new)
-      → ((call : Call) → Contains (log build.new) call → AllByRecursion (Contains all) (content_of call)) → IsTruthful failures may_leave allowed log tables kinds all build
+  truthful : (earlier : List Call) → AllByRecursion (StoresTruth kinds all) earlier → (build : Build) → ReadsOnly earlier build.made
+      → ((call : Call) → Contains build.made call → AllByRecursion (Contains all) (content_of call)) → IsTruthful failures may_leave allowed log tables kinds all build
   truthful earlier stored build only among = record {
-    stored = stored_by earlier stored build.invocation build.old build.new build.begins only among build.answer build.requests;
-    current = current_by earlier stored build.invocation build.old build.new build.begins only among build.answer build.requests;
-    left = λ report is none_failed start end answers none_shared.
-        left earlier stored build.invocation build.old build.new build.begins only among report
-        (subst (λ (answer : Result Report Fault). InvocationRequests failures may_leave allowed tables build.invocation answer build.old build.new) is build.requests) none_failed start end answers none_shared;
+    stored = stored_by earlier stored build.invocation build.old build.new build.begins build.made build.unmade build.cut only among build.answer build.requests;
+    current = λ ended. current_by earlier stored build.invocation build.old build.new build.begins build.made build.unmade build.cut only among ended build.answer build.requests;
+    left = λ ended report is none_failed start end answers none_shared.
+        left earlier stored build.invocation build.old build.new build.begins build.made build.unmade build.cut only among report
+        (subst (λ (answer : Result Report Fault). InvocationRequests failures may_leave allowed tables build.invocation answer build.old build.new) is build.requests) ended none_failed start end answers none_shared;
   }
 
   all_truthful : (earlier : List Call) (builds : List Build) → AllByRecursion (StoresTruth kinds all) earlier
-      → EachReadsOnly earlier (map (λ (build : Build). log build.new) builds)
-      → AllByRecursion (λ (calls : List Call). AllByRecursion (λ (call : Call). AllByRecursion (Contains all) (content_of call)) calls) (map (λ (build : Build). log build.new) builds)
+      → EachReadsOnly earlier (map (λ (build : Build). build.made) builds)
+      → AllByRecursion (λ (calls : List Call). AllByRecursion (λ (call : Call). AllByRecursion (Contains all) (content_of call)) calls) (map (λ (build : Build). build.made) builds)
       → AllByRecursion (IsTruthful failures may_leave allowed log tables kinds all) builds
   all_truthful earlier [] stored only among = tt
   all_truthful earlier (build ∷ builds) stored only among =
-      let here = truthful earlier stored build only.0 (λ call has. member (λ (c : Call). AllByRecursion (Contains all) (content_of c)) (log build.new) call among.0 has) in
-      (here, all_truthful (earlier ++ log build.new) builds (all_append (StoresTruth kinds all) earlier (log build.new) stored here.stored) only.1 among.1)
+      let here = truthful earlier stored build only.0 (λ call has. member (λ (c : Call). AllByRecursion (Contains all) (content_of c)) build.made call among.0 has) in
+      (here, all_truthful (earlier ++ build.made) builds (all_append (StoresTruth kinds all) earlier build.made stored here.stored) only.1 among.1)
 
 -- records stay true
 pub records_stay_true : {F M N Z S A : Type 0} (failures : F → ℕ) (may_leave : F → Tearing) (allowed : F → Call → F → Type 0) (tables : Tables M N Z S A)
     → ((kind : ℕ) → WritesItsOutput tables.shapes kind) → RecordsStayTrue failures may_leave allowed tables
 records_stay_true failures may_leave allowed tables own_output log keeps kinds agrees builds separate only =
-    let kept = map (λ (build : BuildWithLog failures may_leave allowed log tables kinds). log build.new) builds in
+    let kept = map (λ (build : BuildWithLog failures may_leave allowed log tables kinds). build.made) builds in
     let all = flat_map (λ (calls : List Call). flat_map content_of calls) kept in
     all_truthful failures may_leave allowed tables own_output log keeps kinds agrees all separate [] builds tt only
     (each (λ (calls : List Call). AllByRecursion (Contains all) (flat_map content_of calls)) (λ (calls : List Call). AllByRecursion (λ (call : Call). AllByRecursion (Contains all) (content_of call)) calls)

@@ -101,7 +101,8 @@ module _ {F : Type 0} (failures : F → ℕ) (may_leave : F → Tearing) (allowe
 
 module _ {F M N Z S A : Type 0} (failures : F → ℕ) (may_leave : F → Tearing)
     (allowed : F → Call → F → Type 0) (log : F → List Call) (tables : Tables M N Z S A) (kinds : Kinds) where
-  -- A build on a folder that keeps its calls, and has kept none before it.
+  -- A build on a folder that keeps its calls, and has kept none before it. Its process may have been stopped:
+  -- then only the first ones of its calls were made.
   pub record BuildWithLog : Type 0 where
     pub invocation : Invocation
     pub answer : Result Report Fault
@@ -109,11 +110,18 @@ module _ {F M N Z S A : Type 0} (failures : F → ℕ) (may_leave : F → Tearin
     pub new : F
     pub begins : log old ≡ []
     pub requests : InvocationRequests failures may_leave allowed tables invocation answer old new
+    -- The calls that were made before its process was stopped, and the others, which it would have made. Of a
+    -- build that ended there are no others. A call during which it was stopped may be taken as made, with any
+    -- answer.
+    pub made : List Call
+    pub unmade : List Call
+    pub cut : log new ≡ made ++ unmade
 
-  -- there was such a build, with this answer, and this is the folder after it
+  -- there was such a build, it ended with this answer, and this is the folder after it
   abbrev pub WasLogged : Invocation → Result Report Fault → F → Type 0
   WasLogged invocation answer new =
       (build : BuildWithLog) × (build.invocation ≡ invocation) × (build.answer ≡ answer) × (build.new ≡ new)
+      × (build.unmade ≡ [])
 
   -- this holds for each task of the plan
   abbrev pub AreCurrentRight : (invocation : Invocation) (answer : Result Report Fault) (old new : F)
@@ -131,23 +139,25 @@ module _ {F M N Z S A : Type 0} (failures : F → ℕ) (may_leave : F → Tearin
       → AreCollisionFree sha256 (all ++ contents_outside start ++ contents_outside end)
       → IsFromScratch (setting_of tables kinds (may_leave build.old)) start build.invocation report end
 
-  -- The records that the build was to store are true, what it reported as up to date was right, and what it
-  -- left is from scratch.
+  -- The records that the build was to store are true. If it ended, what it reported as up to date was right,
+  -- and what it left is from scratch.
   pub record IsTruthful (all : List Bytes) (build : BuildWithLog) : Type 0 where
-    pub stored : AllByRecursion (StoresTruth kinds all) (log build.new)
-    pub current : AreCurrentRight build.invocation build.answer build.old build.new build.requests
-    pub left : LeftFromScratch all build
+    pub stored : AllByRecursion (StoresTruth kinds all) build.made
+    pub current : build.unmade ≡ []
+        → AreCurrentRight build.invocation build.answer build.old build.new build.requests
+    pub left : build.unmade ≡ [] → LeftFromScratch all build
 
--- Of any folder that keeps its calls: builds one after another, whatever others write in between. If each
--- record that a build read is one that an earlier one was to store, and no two contents that calls returned
--- or were to write share a digest, each build is truthful. No record is assumed to be true.
+-- Of any folder that keeps its calls: builds one after another, whatever others write in between, and whether
+-- the process of one was stopped or not. The calls are those that were made. If each record that a build read
+-- is one that an earlier one was to store, and no two contents that calls returned or were to write share a
+-- digest, each build is truthful. No record is assumed to be true.
 abbrev pub RecordsStayTrue : {F M N Z S A : Type 0} → (F → ℕ) → (F → Tearing) → (F → Call → F → Type 0)
     → Tables M N Z S A → Type 0
 RecordsStayTrue {F = F} failures may_leave allowed tables =
     (log : F → List Call) → LogsCalls allowed log
     → (kinds : Kinds) → Agrees tables.shapes tables.kinds kinds
     → (builds : List (BuildWithLog failures may_leave allowed log tables kinds))
-    → let kept = map (λ build. log build.new) builds in
+    → let kept = map (λ build. build.made) builds in
     let all = flat_map (λ calls. flat_map content_of calls) kept in
     AreCollisionFree sha256 all → EachReadsOnly [] kept
     → AllByRecursion (IsTruthful failures may_leave allowed log tables kinds all) builds

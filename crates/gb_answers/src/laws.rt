@@ -23,7 +23,8 @@ pub fn answered_success_is_from_scratch<A: Actions, T: Transforms, F: Folder>(ta
 /// is true: its outputs are what its actions make of its inputs. Where a build reported a task with
 /// actions as up to date, the files that calls had returned of its outputs are what its actions make
 /// of those of its inputs. And the law above holds of each of these builds without its premise on
-/// records.
+/// records. A build whose process was killed counts with the calls that it made: each record that
+/// they were to store is true.
 pub fn records_stay_true<A: Actions, T: Transforms, F: Folder>(tables: &Tables<A, T>)
     ensures { RecordsStayTrue F.failures F.may_leave F.allowed
         (tables_of T.meanings A.meanings tables.now) }

@@ -1,4 +1,6 @@
-use Rattle.std.proofs.Common.{IfOk, ap, refl, subst}
+use Rattle.std.specs.Prelude.{[]}
+use Rattle.std.proofs.Common.{IfOk, ap, refl, subst, sym}
+use Rattle.std.proofs.lemmas.List.{append-nil}
 use Rattle.gb_logged.specs.Logged.{log, log_of}
 use Rattle.gb_registry.specs.Tables.{tables_of}
 use Rattle.gb_answers.specs.Scratch.{LeavesFromScratch}
@@ -18,7 +20,7 @@ returns g c =
           (leaves_from_scratch _ _ _ tables log c.logged_folders_keep_calls.ensures
           c.answered_success_is_from_scratch.ensures c.args.invocation.now c.invoke-answer.result
           c.new-folder.result after (ap log_of c.new-folder.ensures.calls) c.invoke-answer.ensures.does.requests);
-      kept = λ kinds. (
+      logged = λ kinds. (
         record {
           invocation = c.args.invocation.now;
           answer = c.invoke-answer.result;
@@ -26,7 +28,11 @@ returns g c =
           new = after;
           begins = ap log_of c.new-folder.ensures.calls;
           requests = c.invoke-answer.ensures.does.requests;
+          made = log after;
+          unmade = [];
+          cut = sym (append-nil (log after));
         },
+        refl,
         refl,
         refl,
         refl,
