@@ -1,5 +1,5 @@
 -- Where no task has a fault, nothing is refused for one.
-use Rattle.std.proofs.Common.{◌≡◌, ◌≢◌, true, false, cond, ◌||◌, List, [], ◌∷◌, ◌++◌, Some, None, Result, Ok, Err, IfOk, map, arith, refl, ap, sym, subst, ◌∙◌, inl, inr}
+use Rattle.std.proofs.Common.{◌≡◌, ◌≢◌, ◌⊎◌, true, false, cond, ◌||◌, List, [], ◌∷◌, ◌++◌, Some, None, Result, Ok, Err, IfOk, map, arith, refl, ap, sym, subst, ◌∙◌, inl, inr}
 use Rattle.std.specs.Prelude.{Contains, bytes_eq}
 use Rattle.std.specs.List.{flat_map}
 use Rattle.std.specs.FinMap.Entries.{find}
@@ -144,10 +144,10 @@ module _ (sites : List Site) (marks : List ClauseMark) (registry : Registry) (no
   silent_of requested excluded fault (inr (inr (request, allowed, inr (plan, schedule, bad)))) = inr (inr (plan, bad))
 
 -- no fault of tasks and of default words
-pub silence : (sites : List Site) (marks : List ClauseMark) (registry : Registry) (in_words in_tasks : List Finding)
-    → (spot : Spot) → in_words ≡ map (fault_at spot) (default_faults registry) → IsFound sites marks registry in_tasks → in_words ++ in_tasks ≡ [] → IsSilent registry
-silence sites marks registry in_words in_tasks spot are (in_tasks full is) empty = absurd (full (back_empty in_words in_tasks empty))
-silence sites marks registry in_words in_tasks spot are (in_plan none is) empty = silent_of sites marks registry none (nothing_of (default_faults registry) (sym are ∙ prefix_empty in_words in_tasks empty))
+pub silence : (sites : List Site) (marks : List ClauseMark) (registry : Registry) (first rest : List Finding)
+    → (spot : Spot) → first ≡ map (fault_at spot) (default_faults registry) → IsFound sites marks registry rest → first ++ rest ≡ [] → IsSilent registry
+silence sites marks registry first rest spot are (in_tasks full is) empty = absurd (full (back_empty first rest empty))
+silence sites marks registry first rest spot are (in_plan none is) empty = silent_of sites marks registry none (nothing_of (default_faults registry) (sym are ∙ prefix_empty first rest empty))
   where
     nothing_of : (reported : List Fault) → map (fault_at spot) reported ≡ [] → reported ≡ []
     nothing_of [] e = refl

@@ -26,11 +26,11 @@ one_fault registry word fault = by (not (is_task_path (absolute word))) (lacks_p
 -- the first of a row that passes, and what is made of it
 pub found_of_each : {X Y : Type 0} (made : X → Y) (test : Y → Bool) (xs : List X) → find test (map made xs) ≡ option_map made (find (λ x. test (made x)) xs)
 found_of_each made test [] = refl
-found_of_each made test (x ∷ xs) = by (test (made x)) refl
-  where
-    by : (b : Bool) → test (made x) ≡ b → find test (map made (x ∷ xs)) ≡ option_map made (find (λ x. test (made x)) (x ∷ xs))
-    by true is = cc
-    by false is = cc
+found_of_each made test (x ∷ xs) =
+    elim (test (made x)) as (λ b. cond b (Some (made x)) (find test (map made xs)) ≡ option_map made (cond b (Some x) (find (λ y. test (made y)) xs))) [
+      | true ↦ refl
+      | false ↦ found_of_each made test xs
+    ]
 
 -- it is one of them
 pub found_among : {X : Type 0} (test : X → Bool) (xs : List X) (x : X) → find test xs ≡ Some x → Contains xs x

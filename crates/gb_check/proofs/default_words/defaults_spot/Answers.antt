@@ -14,7 +14,7 @@ use Rattle.gb_check.specs.declared.findings.Spot.TheVariants as spots
 use Rattle.gb_check.proofs.Words.{found_among, found_of_each}
 use Rattle.gb_check.proofs.default_words.defaults_spot.Goals as goal
 
-said : Scripted → Path × List Statement
+abbrev said : Scripted → Path × List Statement
 said scripted = (scripted.project, scripted.script)
 
 pub returns-in-Some-clause-spot : goal.returns-in-Some-clause-spot

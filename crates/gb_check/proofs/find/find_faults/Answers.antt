@@ -12,6 +12,6 @@ returns-clause-faults g c =
       of_words = words;
       in_tasks = in_tasks;
       of_tasks = c.in_ok-of_tasks.ensures.found;
-      both = c.in_ok-append.ensures;
-      silent = λ none. silence c.args.sites.now c.args.marks.now (g.Ts.Tasks.registry c.args.tasks.now) in_words in_tasks words.0 words.2 c.in_ok-of_tasks.ensures.found (sym c.in_ok-append.ensures ∙ none);
+      both = c.in_ok-append.ensures.items;
+      silent = λ none. silence c.args.sites.now c.args.marks.now (g.Ts.Tasks.registry c.args.tasks.now) in_words in_tasks words.0 words.2 c.in_ok-of_tasks.ensures.found (sym c.in_ok-append.ensures.items ∙ none);
     }
