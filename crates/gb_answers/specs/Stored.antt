@@ -35,7 +35,7 @@ use Rattle.gb_answers.specs.Answering.{AnswersSoundly}
 
 -- ---- What calls returned and wrote
 
--- the content that a call returned or was to write
+-- the content that a read of a whole file returned, or that a write was to put
 abbrev pub content_of : Call → List Bytes
 content_of (Lists root answer) = []
 content_of (Reads place limit (Ok bytes)) = bytes ∷ []
@@ -79,8 +79,8 @@ EachReadsOnly earlier (calls ∷ builds) = ReadsOnly earlier calls × EachReadsO
 
 module _ {F : Type 0} (failures : F → ℕ) (may_leave : F → Tearing) (allowed : F → Call → F → Type 0)
     (log : F → List Call) (kinds : Kinds) where
-  -- While these calls were made, at some state and without a change before it, calls had returned trees of
-  -- the task's inputs and files of its outputs, and the files are what its actions make of the trees.
+  -- Up to some state, calls among these, without a change between them, had returned trees of the task's
+  -- inputs and files of its outputs, and the files are what its actions make of the trees.
   pub record HadRight (calls : List Call) (task : Task) : Type 0 where
     pub since : F
     pub at : F
@@ -110,8 +110,8 @@ module _ {F M N Z S A : Type 0} (failures : F → ℕ) (may_leave : F → Tearin
     pub new : F
     pub begins : log old ≡ []
     pub requests : InvocationRequests failures may_leave allowed tables invocation answer old new
-    -- The calls that were made before its process was stopped, and the others, which it would have made. Of a
-    -- build that ended there are no others. A call during which it was stopped may be taken as made, with any
+    -- The calls that were made before its process was stopped, and the others, which it would have made. A
+    -- build counts as ended if there are no others. A call during which it was stopped may be taken as made, with any
     -- answer.
     pub made : List Call
     pub unmade : List Call
@@ -131,7 +131,7 @@ module _ {F M N Z S A : Type 0} (failures : F → ℕ) (may_leave : F → Tearin
       AllZip (IsCurrentRight failures may_leave allowed log kinds (log new)) builds.by.plan report.tasks
 
   -- In contents that answer its calls, a build in which no task failed left what is made from scratch on the
-  -- first ones, if no two contents of these and of those share a digest.
+  -- first ones, if no two contents there or of any of the calls share a digest.
   abbrev pub LeftFromScratch : List Bytes → BuildWithLog → Type 0
   LeftFromScratch all build =
       (report : Report) → build.answer ≡ Ok report → has_failure report ≡ false → (start end : Contents)

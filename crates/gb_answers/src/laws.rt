@@ -20,11 +20,11 @@ pub fn answered_success_is_from_scratch<A: Actions, T: Transforms, F: Folder>(ta
 /// For any folder that keeps its calls, whoever else writes there at any time: if kinds agree, each
 /// record that a build read is one that an earlier build was to store, and no two contents that
 /// calls returned or were to write share a digest, then each record that these builds were to store
-/// is true: its outputs are what its actions make of its inputs. Where a build reported a task with
+/// is true: its outputs are what its actions make of its inputs. A build whose process was killed
+/// counts with the calls that it made. If a build ended, the law above holds of it without its
+/// premise on records (that on digests is about all these calls); and where it reported a task with
 /// actions as up to date, the files that calls had returned of its outputs are what its actions make
-/// of those of its inputs. And the law above holds of each of these builds without its premise on
-/// records. A build whose process was killed counts with the calls that it made: each record that
-/// they were to store is true.
+/// of those of its inputs. All builds have the same tables.
 pub fn records_stay_true<A: Actions, T: Transforms, F: Folder>(tables: &Tables<A, T>)
     ensures { RecordsStayTrue F.failures F.may_leave F.allowed
         (tables_of T.meanings A.meanings tables.now) }

@@ -9,11 +9,11 @@
 //!   the folder keeps of a build, no two contents share a digest, and no task failed, then in these
 //!   contents, outside `.gb`, the calls leave what a build from scratch makes of them. The folder
 //!   need not have these contents.
-//! - `records_stay_true`: of builds one after another, while others write at any time. If each
-//!   record that one of them read is one that an earlier one was to store, and no two contents that
-//!   calls returned or were to write share a digest, all of these records are true, what was
-//!   reported as up to date was right, and the first law holds of each build without its premise on
-//!   records.
+//! - `records_stay_true`: of builds one after another, while others write at any time, and some are
+//!   killed. If each record that one of them read is one that an earlier one was to store, and no
+//!   two contents that calls returned or were to write share a digest, all of these records are
+//!   true. Of a build that ended, what was reported as up to date was right, and the first law holds
+//!   without its premise on records.
 //!
 //! The proof of the first goes back from the last state of the folder: a call that led to a state
 //! that shows contents came from one that shows the contents before the call (`proofs/Back.antt`).

@@ -16,7 +16,7 @@ use Rattle.gb_check.specs.declared.clause_lines.ClauseMark.{ClauseMark}
 use Rattle.gb_check.specs.declared.sites.Site.{Site}
 
 -- The faults of a registry whose tasks these scripts register: first those of the words of `defaultTasks`, then
--- those of tasks.
+-- those of tasks or of their plan.
 pub record AreFaults (faithful : Bool) (files : Files) (sites : List Site) (marks : List ClauseMark)
     (registry : Registry) (scripts : List (Path × List Statement)) (found : List Finding) : Type 0 where
   pub in_words : List Finding
@@ -24,7 +24,7 @@ pub record AreFaults (faithful : Bool) (files : Files) (sites : List Site) (mark
   pub in_tasks : List Finding
   pub of_tasks : IsFound sites marks registry in_tasks
   pub both : found ≡ in_words ++ in_tasks
-  -- If nothing is found, only lack of memory, the words or the plan (60 to 63) cause a refusal.
+  -- If none is found, only lack of memory, words that are given, or a plan (60 to 63) cause a refusal.
   pub silent : found ≡ [] → IsSilent registry
 
 -- The findings for a registry whose tasks these scripts register, with the lines in which they do.

@@ -17,7 +17,7 @@ use Rattle.gb_check.specs.declared.findings.Spot.TheVariants as spots
 
 -- ---- Where they are
 
--- the line of a `defaultTasks`; of another statement, the line before
+-- the line of the statement if it is a `defaultTasks`, else the line known before
 abbrev pub line_after : ℕ → ℕ → Statement → ℕ
 line_after before line (statements.DefaultTasks words) = line
 line_after before line other = before
@@ -31,8 +31,8 @@ defaults_line line (statement ∷ statements) lines =
 abbrev pub is_root : Path × List Statement → Bool
 is_root script = bytes_eq script.0 root_path
 
--- Where the words stand: in the last `defaultTasks` of the root's script. If the contents of the folder are
--- known, its line is that of the file.
+-- The words are in the last `defaultTasks` of the root's script (in line 1 if there is none; nowhere without
+-- that script). If the contents of the folder are known, its line is that of the file.
 abbrev pub IsDefaultsSpot : Bool → Files → List (Path × List Statement) → Spot → Type 0
 IsDefaultsSpot faithful files scripts spot =
     MatchOption (find is_root scripts) (spot ≡ spots.Unknown) (λ script.
@@ -41,7 +41,7 @@ IsDefaultsSpot faithful files scripts spot =
 
 -- ---- What they are
 
--- the faults of the words that are requested where none is
+-- the faults of the words of `defaultTasks`
 abbrev pub default_faults : Registry → List Fault
 default_faults registry = flat_map (word_faults registry) registry.default_tasks
 

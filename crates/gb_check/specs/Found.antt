@@ -70,7 +70,7 @@ unread_text fault = line (unread_where (unread_spot fault) ++ fault_text fault)
 
 -- ---- The findings
 
--- the line of the clause that the fault of a registered task names, or else of the registration
+-- the line of the clause at fault, or of the one that the fault names, or else of the registration
 abbrev pub line_spot : List ClauseMark → Path → Fault → Site → Spot
 line_spot marks path fault site = spots.Line site.script (line_for marks path fault site.line)
 
@@ -98,11 +98,11 @@ task_found sites marks registry path =
 abbrev pub tasks_found : List Site → List ClauseMark → Registry → List Finding
 tasks_found sites marks registry = flat_map (task_found sites marks registry) (paths_of registry)
 
--- the task whose line is named for the fault of a plan: the first that the fault names
 abbrev pub first_path : List Path → Option Path
 first_path [] = None
 first_path (path ∷ paths) = Some path
 
+-- the task whose line is named for the fault of a plan: the first that the fault names
 abbrev pub named_by : Fault → Option Path
 named_by (faults.Cycle paths) = first_path paths
 named_by (faults.OverlappingOutputs task other place) = Some task
@@ -137,14 +137,14 @@ pub data IsFound (sites : List Site) (marks : List ClauseMark) (registry : Regis
 
 -- ---- If nothing is found
 
--- the fault is that of a word which is requested or excluded, or no word is requested and none is a default
+-- the fault is that of a word which is requested or excluded; or 64, as none is requested and none is a default
 abbrev pub IsOfWords : Registry → List Text → List Text → Fault → Type 0
 IsOfWords registry requested excluded fault =
     ((word : Text) × Contains (requested ++ excluded) word × Contains (word_faults registry word) fault)
     ⊎ ((requested ≡ []) × (registry.default_tasks ≡ []) × (fault ≡ faults.NoTasks))
 
 -- Whatever is requested and excluded, no task and no default word causes a refusal: the only causes are lack
--- of memory, these words, and the plan (60 to 63).
+-- of memory, these words or their lack (64), and a plan (60 to 63).
 abbrev pub IsSilent : Registry → Type 0
 IsSilent registry =
     (requested excluded : List Text) (fault : Fault) → IsRefusalOf registry requested excluded fault

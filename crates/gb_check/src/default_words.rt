@@ -154,7 +154,7 @@ fn defaults_line(statements: &[Statement], lines: &[StatementLines]) -> u64
     last
 }
 
-/// The line of a `defaultTasks`; of another statement, the line before.
+/// The line of the statement if it is a `defaultTasks`, else the line known before.
 fn line_after(before: u64, line: u64, statement: &Statement) -> u64
     ensures { result ≡ line_after before line statement.now }
 {

@@ -29,17 +29,16 @@ use std::alloc::Global;
 /// the paths of all tasks, in the order of registration; `known` has what scripts may name.
 ///
 /// Faults: first those of the words that the last `defaultTasks` of the root's script has, after the
-/// line of that statement. Then for each task that has one, in that order, its fault, after the
-/// script and a line: that
-/// of the first clause of the task that has a fault by itself; if no clause has one, that of the
-/// one clause that the fault names; or else the line that registers the task. If no task has a
-/// fault, the reason why there is no plan of all tasks, after the line of the first task that it
-/// names.
+/// line of that statement. Then, in the order of `paths`, the fault of each task that has one, after
+/// the script and a line: that of the first clause of the task that has a fault by itself; if no
+/// clause has one, that of the one clause that the fault names; or else the line that registers the
+/// task. If no task has a fault, the reason why there is no plan of all tasks, after the line of the
+/// first task that it names.
 ///
 /// Warnings: for each two file properties of a task that have a root in common; for each two tasks
 /// of which the first has a root that overlaps an output of the second: that the first does not
-/// need the second, once for each such root; and that a test may skip the second; and for each root
-/// without files.
+/// need the second, once for each such root; and that a clause may skip the second; and for each
+/// root at which nothing is and no task makes anything.
 ///
 /// Refused if memory runs out or the device fails, or if a script, which is read once more for its
 /// lines, cannot be read as one (faults 2, 12 and 20 to 23; see `docs/FAULTS.md`).

@@ -25,8 +25,7 @@ abbrev pub AskFor : Given → Invocation → Type 0
 AskFor (Ok words) invocation = IsAsked words invocation
 AskFor (Err fault) invocation = ⊥
 
--- the arguments are refused for this: they cannot be read, or it is the first fault of them, or memory ran
--- out
+-- the arguments are refused for this: they cannot be read, or it is the first fault of them, or 3 (no memory)
 abbrev pub AreRefused : Given → Fault → Type 0
 AreRefused (Ok words) fault = IsFirstFault (words_faults words) fault
 AreRefused (Err unread) fault = fault ≡ unread

@@ -29,7 +29,7 @@ use std::alloc::Global;
 pub const UNPRINTED: u8 = 1;
 
 /// Builds what the arguments request, prints the output, and returns the exit status: 0 where the
-/// build was successful, 2 if the arguments are not understood, and else 1. The part of each task
+/// build was successful, 2 if the arguments are refused with 96, and else 1. The part of each task
 /// is printed as soon as its execution has ended, the rest after the last. If something cannot be
 /// printed, because memory ran out or the writer failed, the build continues, and `None` is
 /// returned.
@@ -41,9 +41,9 @@ pub fn run<A: Actions, T: Transforms, F: Folder, W: Printer>(
     tables: &Tables<A, T>,
 ) -> Option<u8>
     ensures count { F.failures folder.old ≤ F.failures folder.new }
-    // There is an answer, whether it could be printed or not. Where it could, its text and nothing
-    // else is printed, and the status is its own; where it could not, a beginning of its text is
-    // printed.
+    // There is an answer to these arguments: where contents are known, as `Answers` says, and over
+    // any folder as `DoesFor` says. With a status, its text and nothing else is printed, and the
+    // status is its own; without one, a beginning of its text is printed.
     ensures reported { (answer : Result Report Fault)
         × (IsTrue F.faithful → Answers (tables_of T.meanings A.meanings tables.now) (F.may_leave folder.old)
         (given_of (λ words. map string_bytes words.items) words)
