@@ -111,8 +111,8 @@ module _ {F M N Z S A : Type 0} (failures : F → ℕ) (may_leave : F → Tearin
     pub begins : log old ≡ []
     pub requests : InvocationRequests failures may_leave allowed tables invocation answer old new
     -- The calls that were made before its process was stopped, and the others, which it would have made. A
-    -- build counts as ended if there are no others. A call during which it was stopped may be taken as made, with any
-    -- answer.
+    -- build counts as ended if there are no others. A call during which it was stopped may be taken as made,
+    -- with any answer.
     pub made : List Call
     pub unmade : List Call
     pub cut : log new ≡ made ++ unmade

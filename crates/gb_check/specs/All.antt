@@ -15,8 +15,8 @@ use Rattle.gb_check.specs.declared.findings.Findings.{Findings}
 use Rattle.gb_check.specs.declared.clause_lines.ClauseMark.{ClauseMark}
 use Rattle.gb_check.specs.declared.sites.Site.{Site}
 
--- The faults of a registry whose tasks these scripts register: first those of the words of `defaultTasks`, then
--- those of tasks or of their plan.
+-- The faults of a registry whose tasks these scripts register: first those of the words of `defaultTasks`,
+-- then those of tasks or of their plan.
 pub record AreFaults (faithful : Bool) (files : Files) (sites : List Site) (marks : List ClauseMark)
     (registry : Registry) (scripts : List (Path × List Statement)) (found : List Finding) : Type 0 where
   pub in_words : List Finding

@@ -137,7 +137,7 @@ pub data IsFound (sites : List Site) (marks : List ClauseMark) (registry : Regis
 
 -- ---- If nothing is found
 
--- the fault is that of a word which is requested or excluded; or 64, as none is requested and none is a default
+-- the fault is that of a word which is requested or excluded; or 64, as none is requested or a default
 abbrev pub IsOfWords : Registry → List Text → List Text → Fault → Type 0
 IsOfWords registry requested excluded fault =
     ((word : Text) × Contains (requested ++ excluded) word × Contains (word_faults registry word) fault)

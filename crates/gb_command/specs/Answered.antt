@@ -46,7 +46,7 @@ DoesFor failures may_leave allowed tables given answer old new =
     × IsInvocation failures may_leave allowed tables asked answer old new)
 
 module _ {M F Z S A : Type 0} (tables : Tables M F Z S A) (may_leave : Tearing) where
-  -- where contents are known: the arguments are refused, or they request an invocation, and this is its answer
+  -- where contents are known: the arguments are refused, or they request an invocation, with this answer
   abbrev pub Answers : Given → Shown → Result Report Fault → Shown → Type 0
   Answers given old answer new =
       IsRefused given old answer new
