@@ -1,23 +1,16 @@
 -- The findings for a folder; and if there is no fault, builds of it are refused for no task.
-use Rattle.std.proofs.Common.{◌≡◌, ◌⊎◌, List, [], ◌∷◌, Ok, Err, ap, subst, sym, ◌∙◌, inl, inr}
-use Rattle.std.specs.Prelude.{Bool, IsTrue, MatchOption, Option, None, Some, find}
+use Rattle.std.proofs.Common.{◌≡◌, ◌⊎◌, List, Ok, Err, ap, subst, sym, ◌∙◌, inl, inr}
+use Rattle.std.specs.Prelude.{Bool, IsTrue}
 use Rattle.gb_build.proofs.OneLemmas.{folders_one}
 use Rattle.gb_build.proofs.Readings.{registered}
 use Rattle.gb_ask_command.specs.Faulty.{IsFaulty}
 use Rattle.gb_build.specs.Registering.{registers_in}
 use Rattle.gb_build.specs.Scripts.{FolderSays}
-use Rattle.gb_check.specs.All.{AreFindings}
 use Rattle.gb_check.specs.Found.{IsOfWords, IsSilent}
-use Rattle.gb_check.specs.DefaultWords.{AreDefaultsFound, IsDefaultsSpot, defaults_line, is_root}
-use Rattle.gb_check.specs.Marks.{Lines}
-use Rattle.gb_check.specs.Sites.{AreLinesAt, AreSites, script_of_project}
-use Rattle.gb_check.specs.Warnings.{bare_roots, declared_in}
+use Rattle.gb_check.specs.Sites.{AreLinesAt, script_of_project}
+use Rattle.gb_check.proofs.Same.{found_of_same}
 use Rattle.gb_check.specs.declared.findings.Finding.{Finding}
 use Rattle.gb_check.specs.declared.findings.Findings.{Findings}
-use Rattle.gb_check.specs.declared.findings.Spot.{Spot}
-use Rattle.gb_check.specs.declared.findings.Spot.TheVariants as spots
-use Rattle.gb_check.specs.declared.clause_lines.ClauseMark.{ClauseMark}
-use Rattle.gb_check.specs.declared.sites.Site.{Site}
 use Rattle.gb_declare.specs.Registered.{registry_said}
 use Rattle.gb_folder.specs.Files.{Contents, Files}
 use Rattle.gb_meaning.specs.Events.{IsRefusedBy}
@@ -27,68 +20,13 @@ use Rattle.gb_plan.specs.Graph.{Plan, Registry, paths_of}
 use Rattle.gb_plan.specs.Refusal.{IsScheduleFault}
 use Rattle.gb_plan.specs.Task.{Path, Text}
 use Rattle.gb_query.specs.Inventory.{AreUnregistered}
-use Rattle.gb_registry.specs.References.{Names}
 use Rattle.gb_registry.specs.Source.{Source}
 use Rattle.gb_registry.specs.Tables.{Tables}
 use Rattle.gb_report.specs.declared.fault.Fault.{Fault}
 use Rattle.gb_report.specs.declared.fault.Fault.TheVariants as faults
-use Rattle.gb_script.specs.declared.script.Statement.{Statement}
 use Rattle.gb_ask_command.specs.Check.{AreFindingsOf, AreLeft, IsFoundAt, IsNotForATask, IsQuiet}
 
 -- ---- The same folder
-
-sites_of_same : {M F Z S A : Type 0} (tables : Tables M F Z S A) (names : Names) (faithful : Bool) (old new : Files) → (IsTrue faithful → new ≡ old)
-    → (scripts : List (Path × List Statement)) (sites : List Site) (marks : List ClauseMark)
-    → AreSites tables names faithful new scripts sites marks → AreSites tables names faithful old scripts sites marks
-sites_of_same tables names faithful old new same [] sites marks are = are
-sites_of_same tables names faithful old new same (script ∷ scripts) sites marks (lines, others, words, at, rest, is, of) = (
-  lines,
-  others,
-  words,
-  λ reported. subst (λ (files : Files). AreLinesAt files (script_of_project script.0) lines) (same reported) (at reported),
-  sites_of_same tables names faithful old new same scripts others words rest,
-  is,
-  of,
-)
-
-spot_of_same : (faithful : Bool) (old new : Files) → (IsTrue faithful → new ≡ old) → (scripts : List (Path × List Statement)) (spot : Spot)
-    → IsDefaultsSpot faithful new scripts spot → IsDefaultsSpot faithful old scripts spot
-spot_of_same faithful old new same scripts spot = of (find is_root scripts)
-  where
-    At : Files → Option (Path × List Statement) → Type 0
-    At files root = MatchOption root (spot ≡ spots.Unknown) (λ script.
-        (lines : List Lines) × (IsTrue faithful → AreLinesAt files (script_of_project script.0) lines) × (spot ≡ spots.Line (script_of_project script.0) (defaults_line 1 script.1 lines)))
-
-    of : (root : Option (Path × List Statement)) → At new root → At old root
-    of None is = is
-    of (Some script) (lines, at, is) = (lines, λ reported. subst (λ (files : Files). AreLinesAt files (script_of_project script.0) lines) (same reported) (at reported), is)
-
-words_of_same : (faithful : Bool) (old new : Files) → (IsTrue faithful → new ≡ old) → (scripts : List (Path × List Statement)) (registry : Registry) (found : List Finding)
-    → AreDefaultsFound faithful new scripts registry found → AreDefaultsFound faithful old scripts registry found
-words_of_same faithful old new same scripts registry found (spot, at, is) = (spot, λ some. spot_of_same faithful old new same scripts spot (at some), is)
-
--- findings for a folder are findings for one with the same contents
-pub found_of_same : {M F Z S A : Type 0} (tables : Tables M F Z S A) (names : Names) (faithful : Bool) (old new : Contents) → (IsTrue faithful → new ≡ old)
-    → (registry : Registry) (scripts : List (Path × List Statement)) (findings : Findings)
-    → AreFindings tables names faithful new registry scripts findings → AreFindings tables names faithful old registry scripts findings
-found_of_same tables names faithful old new same registry scripts findings are = record {
-  sites = are.sites;
-  marks = are.marks;
-  are_sites = sites_of_same tables names faithful old.files new.files (λ reported. ap (λ (c : Contents). c.files) (same reported)) scripts are.sites are.marks are.are_sites;
-  faults = record {
-    in_words = are.faults.in_words;
-    of_words = words_of_same faithful old.files new.files (λ reported. ap (λ (c : Contents). c.files) (same reported)) scripts registry are.faults.in_words are.faults.of_words;
-    in_tasks = are.faults.in_tasks;
-    of_tasks = are.faults.of_tasks;
-    both = are.faults.both;
-    silent = are.faults.silent;
-  };
-  warnings = record {
-    bare = are.warnings.bare;
-    are_bare = λ reported. subst (λ (contents : Contents). are.warnings.bare ≡ bare_roots are.sites contents (declared_in registry)) (same reported) (are.warnings.are_bare reported);
-    found_is = are.warnings.found_is;
-  };
-}
 
 pub left_of_same : (faithful : Bool) (old new : Contents) → (IsTrue faithful → new ≡ old) → (registered : List Path) (found : List Finding) → AreLeft faithful new registered found → AreLeft faithful old registered found
 left_of_same faithful old new same registered found (left, are, is) = (
@@ -104,7 +42,7 @@ module _ {M F Z S A : Type 0} (tables : Tables M F Z S A) where
     scripts = are.scripts;
     are_scripts = are.are_scripts;
     in_tasks = are.in_tasks;
-    findings = found_of_same tables source.names faithful old new same (registry_said tables source) are.scripts are.in_tasks are.findings;
+    findings = found_of_same faithful old new same tables source.names (registry_said tables source) are.scripts are.in_tasks are.findings;
     left = are.left;
     are_left = left_of_same faithful old new same (paths_of (registry_said tables source)) are.left are.are_left;
     faults = are.faults;

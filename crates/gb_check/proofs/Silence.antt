@@ -98,7 +98,7 @@ module _ (registry : Registry) where
       ] refl (ap first_of (sym (flat_map-cons (word_faults registry) word words)) ∙ e)
 
   -- what is requested by these words
-  allowed : List Text → List Text → Result Request Fault
+  abbrev allowed : List Text → List Text → Result Request Fault
   allowed words excluded = cond (is_empty words) (Err faults.NoTasks)
       (elim (first_of (flat_map (word_faults registry) (words ++ excluded))) [
         | None ↦ Ok (record { registry = registry; words = words; excluded = flat_map (selected_by registry) excluded })
@@ -109,8 +109,12 @@ module _ (registry : Registry) where
   first_refused request [] fault e = absurd (cc)
   first_refused request (f ∷ reported) fault e = let same : f ≡ fault = cc in ap Some same
 
+  abbrev fault_of : Result Request Fault → Fault
+  fault_of (Ok request) = faults.NoTasks
+  fault_of (Err fault) = fault
+
   refused_by : (words excluded : List Text) (fault : Fault) → allowed words excluded ≡ Err fault → ((words ≡ []) × (fault ≡ faults.NoTasks)) ⊎ (first_of (flat_map (word_faults registry) (words ++ excluded)) ≡ Some fault)
-  refused_by [] excluded fault e = let same : fault ≡ faults.NoTasks = cc in inl (refl, same)
+  refused_by [] excluded fault e = inl (refl, sym (ap fault_of e))
   refused_by (word ∷ words) excluded fault e =
       inr (first_refused (record { registry = registry; words = word ∷ words; excluded = flat_map (selected_by registry) excluded }) (flat_map (word_faults registry) ((word ∷ words) ++ excluded)) fault e)
 

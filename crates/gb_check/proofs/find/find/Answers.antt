@@ -1,0 +1,50 @@
+use Rattle.std.proofs.Common.{◌⊎◌, ◌∙◌, List, ap, arith, inl, subst}
+use Rattle.gb_folder.specs.Files.{Contents}
+use Rattle.gb_plan.specs.Graph.{Registry}
+use Rattle.gb_registry.specs.SoFar.{scripts_in}
+use Rattle.gb_report.specs.declared.fault.Fault.{Fault}
+use Rattle.gb_store.proofs.Machine.{machine_before}
+use Rattle.gb_store.specs.Faults.{IsOfMachine}
+use Rattle.gb_check.specs.All.{AreFaults}
+use Rattle.gb_check.specs.Sites.{IsUnread}
+use Rattle.gb_check.specs.Warnings.{AreWarnings}
+use Rattle.gb_check.specs.declared.clause_lines.ClauseMark.{ClauseMark}
+use Rattle.gb_check.specs.declared.sites.Site.{Site}
+use Rattle.gb_check.proofs.Refused.{handed}
+use Rattle.gb_check.proofs.Same.{faults_of_same, warnings_of_same}
+use Rattle.gb_check.proofs.find.find.Goals as goal
+
+pub returns-in_err-warnings-clause-err : goal.returns-in_err-warnings-clause-err
+returns-in_err-warnings-clause-err g c = λ faithful.
+    let F = g.F.Folder in
+    let fault = c.in_err-warnings.field-0.0 in
+    let before = F.failures c.args.folder.now in
+    let between = F.failures c.find_faults.new.folder in
+    let after = F.failures c.warn.new.folder in
+    let Bad : Fault → Type 0 = λ fault. IsOfMachine before after fault ⊎ IsUnread (F.contents c.args.folder.now).files (scripts_in c.args.scripts.now) fault in
+    handed Bad c.from_residual-in_err-warnings.result fault c.from_residual-in_err-warnings.ensures.1
+    (inl (machine_before before between after fault (omega (arith, c.read_sites.ensures.requests.count, c.find_faults.ensures.requests.count)) c.warn.ensures.requests.count (c.in_err-warnings.ensures.err faithful)))
+
+pub returns-clause-findings : goal.returns-clause-findings
+returns-clause-findings g c =
+    let F = g.F.Folder in
+    let registry = g.Ts.Tasks.registry c.args.tasks.now in
+    let scripts = scripts_in c.args.scripts.now in
+    let sites = c.in_ok-sites.sites.items in
+    let marks = c.in_ok-sites.marks.items in
+    let old : Contents = F.contents c.args.folder.now in
+    let mid : Contents = F.contents c.read_sites.new.folder in
+    let late : Contents = F.contents c.find_faults.new.folder in
+    let faults = c.in_ok-faults.faults.items in
+    let warnings = c.in_ok-warnings.warnings.items in
+    record {
+      sites = sites;
+      marks = marks;
+      are_sites = c.in_ok-sites.ensures.sites;
+      faults = faults_of_same F.faithful old.files mid.files (λ known. ap (λ (contents : Contents). contents.files) (c.read_sites.ensures.same known)) sites marks registry scripts faults
+          (subst (λ (s : List Site). AreFaults F.faithful mid.files s marks registry scripts faults) c.as_slice.ensures.value
+          (subst (λ (m : List ClauseMark). AreFaults F.faithful mid.files c.as_slice.result.now m registry scripts faults) c.as_slice-2.ensures.value c.in_ok-faults.ensures.faults));
+      warnings = warnings_of_same F.faithful old late (λ known. c.find_faults.ensures.same known ∙ c.read_sites.ensures.same known) sites scripts registry warnings
+          (subst (λ (r : Registry). AreWarnings F.faithful sites scripts late r warnings) c.find_faults.ensures.kept
+          (subst (λ (s : List Site). AreWarnings F.faithful s scripts late (g.Ts.Tasks.registry c.find_faults.new.tasks) warnings) c.as_slice-3.ensures.value c.in_ok-warnings.ensures.warnings));
+    }
