@@ -3,7 +3,7 @@
 //! No contract says what a disk holds, so the theorem about known contents says nothing of it. But
 //! the contracts over any folder say which calls a build made, and with which bytes, given their
 //! answers. This crate has what follows for a folder that keeps its calls (`LogsCalls`), in two
-//! laws over the clause `requests` of `invoke`. No body is changed for them.
+//! laws over what `invoke` does (`requests` of its clause `does`). No body is changed for them.
 //!
 //! - `answered_success_is_from_scratch`: if contents that hold true records answer all calls that
 //!   the folder keeps of a build, no two contents share a digest, and no task failed, then in these
@@ -23,7 +23,8 @@
 //! folder with known contents are (`Chain`, `Built`). The second goes along the calls that were
 //! kept (`Kept`): what a run makes was written by its calls or read at its outputs (`Made`), so the
 //! contents of a record are among those of the calls, and that of the next build is true by the one
-//! before (`Truthful`).
+//! before (`Truthful`). Of a killed build the calls are a beginning of those of one that would have
+//! ended (`Cut`).
 //!
 //! `invoke_logged` is a build over a folder that keeps its calls (`gb_logged`): of it the laws hold
 //! whatever the folder beneath is, and its caller can read the calls.

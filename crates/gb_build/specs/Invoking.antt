@@ -35,7 +35,8 @@ pub record IsInvocation {F M N Z S A : Type 0} (failures : F → ℕ) (may_leave
   -- `settings.gb`, one whose last segment is `build.gb`, or, except in a dry run, one in `.gb`.
   pub places : IfErr answer (λ fault. (place : Place) → fault ≡ faults.Device place
       → IsTrue (is_read_first invocation.options place))
-  -- Faults are attributed to the device no more often than it failed.
+  -- Faults are attributed to the device no more often than it failed, as long as the folder's count of
+  -- failures is below 2^64 - 1, the last value that it can have.
   pub device : HasFailed (times_blamed (answer_of answer)) (failures old) (failures new)
   pub count : failures old ≤ failures new
   pub tearing : SameTearing (may_leave old) (may_leave new)
@@ -44,8 +45,8 @@ pub record IsInvocation {F M N Z S A : Type 0} (failures : F → ℕ) (may_leave
 -- device.
 pub record KeepsPromise {M F Z S A : Type 0} (tables : Tables M F Z S A) (may_leave : Tearing)
     (invocation : Invocation) (old : Shown) (answer : Result Report Fault) (new : Shown) : Type 0 where
-  -- A build is refused only for the first fault of the scripts, the requested names or the plan, because
-  -- memory ran out, or because the device failed while scripts or records were read. Then nothing changes.
+  -- A build is refused only for the first fault of the scripts, the requested names or the plan, for want of
+  -- memory (3), or because the device failed while scripts or records were read (10). Then nothing changes.
   pub not_built : IfErr answer (λ fault.
       IsNotBuilt (registers_in tables) old invocation fault new.failures)
   pub refused : OnErr answer (new.contents ≡ old.contents)
@@ -54,14 +55,14 @@ pub record KeepsPromise {M F Z S A : Type 0} (tables : Tables M F Z S A) (may_le
   -- nothing changes but `.gb` and the build folders of the projects
   pub keeps : EventKeeps (registers_in tables) (events.Invoke invocation) (answer_of answer) old.contents
       new.contents
-  -- it continues a run of events, whatever is remembered
+  -- it continues any run of events that has led to the old state, whatever that run remembers
   pub continues : (kinds : Kinds) → IsAssumed tables.shapes tables.kinds kinds may_leave
       → IsTransition (setting_of tables kinds may_leave) old (events.Invoke invocation) (answer_of answer) new
   -- from any true records that the folder holds, it is a run of one event by the definitions
   pub holds : (kinds : Kinds) → IsAssumed tables.shapes tables.kinds kinds may_leave
       → InvocationHolds (setting_of tables kinds may_leave) old invocation answer new
   -- So, if no two contents share a digest, it is a step of the definition, and a build in which no task failed
-  -- leaves what a build from scratch makes, whichever true records it starts from.
+  -- leaves outside `.gb` what a build from scratch makes, whichever true records it starts from.
   pub promise : (kinds : Kinds) → IsAssumed tables.shapes tables.kinds kinds may_leave
       → PromiseHolds (setting_of tables kinds may_leave) old (events.Invoke invocation ∷ [])
       (answer_of answer ∷ []) new

@@ -41,7 +41,7 @@ use std::alloc::{AllocError, Global};
 /// and its head line and its lines are printed as soon as its execution has ended. The build is
 /// refused before the first task, with nothing changed or printed and no listener notified, for the
 /// first fault of the scripts, of the requested names or of the plan, where memory runs out, or
-/// where scripts or records cannot be read.
+/// where scripts or records cannot be read. `KeepsPromise` has the promise, field by field.
 pub fn invoke<A: Actions, T: Transforms, F: Folder, L: TaskListener, P: Printer>(
     alloc: Global,
     folder: &mut F,

@@ -62,7 +62,7 @@ pub struct FaultyFolder<F> {
 impl<F: Folder + Drop> FaultyFolder<F> {
     ghost use Rattle.gb_folder.specs.Faulty.{may_leave_by, tears};
 
-    /// The folder over `inner`, whose call `at` fails.
+    /// The folder over `inner`, whose call `at` fails. Calls are counted from 1.
     pub fn new(inner: F, at: u64, mode: FaultMode) -> FaultyFolder<F>
         ensures inner { result.inner ≡ inner }
         ensures plan { result.plan ≡ record { mode = mode; at = at; calls = 0; failed = 0 } }

@@ -13,7 +13,7 @@ use std::alloc::Global;
 /// The plan of a request, or why there is none: memory ran out, or the first of these. A fault of
 /// the requested and excluded names; the fault of a task, in the order in which tasks are queued; a
 /// cycle (60); the least overlap of outputs (61), the least output that its own task reads (63),
-/// or the least output of another task that the reader does not come after (62).
+/// or the least output of another task that a task reads without coming after it (62).
 pub fn plan<T: Tasks>(
     alloc: Global,
     tasks: &mut T,

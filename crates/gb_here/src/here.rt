@@ -28,9 +28,9 @@ pub type Functions<T> = TransformTable<
 
 /// Builds the current directory with these kinds and functions, as the arguments of the command
 /// request, under its locks where the system gives them, and prints the output. The exit status is
-/// 0 where the build was successful, 2 if the arguments are not understood, and else 1: also where
-/// there is no table, as two kinds have one name (fault 41) or memory ran out (fault 3), and where
-/// nothing can be printed.
+/// 0 where the build was successful, 2 if an argument is not understood (fault 96), and else 1: also
+/// where there is no table, as two kinds have one name (fault 41) or memory ran out (fault 3), and
+/// where nothing can be printed.
 pub fn build_here<A: Actions, T: Transforms, R: Files<File = File> + Env + Print + AllocGlobal>(
     rt: &R,
     actions: Result<ActionTable<A::Stored>, TableFault>,

@@ -6,8 +6,8 @@ use bstr::ByteSlice;
 use gb_core::bytes::Bytes;
 use std::alloc::{AllocError, Global};
 
-/// One byte more than a file may have, which is 8 MiB: a file with that many bytes is refused (13),
-/// whatever follows them.
+/// One byte more than a file may have (8 MiB). A file with that many bytes is refused (13), whatever
+/// follows them.
 const MOST_MADE: usize = 8 * 1024 * 1024 + 1;
 
 /// The bytes with a value in place of each occurrence of a sign. No more are made than show that a

@@ -35,7 +35,7 @@ pub type ZipRun = Box<dyn Fn(Global, &Value, &Value, &[Text]) -> Result<Value, T
 /// The closure of a test.
 pub type TestRun = Box<dyn Fn(Global, &Value, &[Text]) -> Result<bool, TransformFault>>;
 
-/// Names the closures of all uses. Each stored type has it as its first field, since the meanings
+/// Names the closures of all uses. Each stored type has it before its closure, since the meanings
 /// in `Transforms` are about all four types, and a method can mention only the closure types that
 /// its parameters name, in one order.
 type Runs = PhantomData<(MapRun, FlatRun, ZipRun, TestRun)>;

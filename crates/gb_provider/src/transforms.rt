@@ -9,13 +9,14 @@ use std::alloc::Global;
 
 /// The types of a program's stored functions, and the meaning of each kind.
 pub trait Transforms {
-    /// A function of `map`: a closure, with its kind and the number of its arguments.
+    /// The stored form of a function of `map`: a closure, with its kind and the number of its
+    /// arguments.
     type Map: Drop;
-    /// A function of `flatMap`.
+    /// The stored form of a function of `flatMap`.
     type FlatMap: Drop;
-    /// A function of `zip`.
+    /// The stored form of a function of `zip`.
     type Zip: Drop;
-    /// A test.
+    /// The stored form of a test.
     type Test: Drop;
 
     /// The result of each kind, and how many arguments each function takes.

@@ -13,8 +13,8 @@ use gb_core::place::RelPath;
 use std::alloc::{AllocError, Global};
 use std::cmp::Ordering;
 
-/// What was added, modified or removed from the old state to the new one, by the bytes of the
-/// paths. One pass merges the entries of both.
+/// What was added, modified or removed from the old state to the new one, in the order of the bytes
+/// of the paths. One pass merges the entries of both.
 pub fn compare(alloc: Global, old: &Prints, new: &Prints) -> Result<ChangeList, AllocError>
     ensures changes { IfOk result (λ changes. changes ≡ changes_between old.now.1 new.now.1) }
     ensures exact { IfOk result (λ changes. (before after : Tree) → old.now.1 ≡ digests_of before

@@ -7,8 +7,8 @@ use gb_core::bytes::Bytes;
 use std::alloc::{AllocError, Global};
 
 /// A kind that makes a file from each file of `src`, at the same path under `out`, or fails with a
-/// text. The task then fails with the path of the first file that failed, `: ` and the text, and
-/// writes nothing. A value of the kind is made from the arguments of one call: it is made once a
+/// text. The task then fails with the path of the first file that failed, `: ` and the text, and the
+/// action writes nothing. A value of the kind is made from the arguments of one call: it is made once a
 /// run, and then makes all files.
 pub trait TryFileKind: Drop {
     ghost use Rattle.std.specs.Prelude.{◌≡◌, ℕ, List, Result, true, Ok, IfOk, MatchResult};
