@@ -21,8 +21,9 @@
 //! and a read trusts the length of a file that is the only one listed by the preceding call.
 //!
 //! A folder for one build ([`for_one_build`](disk::DiskFolder::for_one_build)) also remembers the
-//! last eight listings, of at most 65,536 places each: a hundred tasks that each take their part of
-//! one folder list it once. A write or a removal forgets the listings of its place, of roots above
+//! last 32 listings, of which eight may have more than 16 places, and none more than 65,536: a
+//! hundred tasks that each take their part of one folder list it once, and where files are read
+//! ahead of their tasks, these list nothing again. A write or a removal forgets the listings of its place, of roots above
 //! and under it and of `.gb`; a failure forgets all. So the build finds each change of its own.
 //! What others add or remove meanwhile it may not find, as if the folder had been listed earlier. A
 //! record has what was worked on, so the next build finds the difference. It has to ask the system

@@ -13,7 +13,13 @@ use std::alloc::{AllocError, Global};
 use std::fs::Files;
 
 /// The maximum number of listings.
-const MOST: usize = 8;
+const MOST: usize = 32;
+
+/// A listing of no more places is small.
+const FEW: usize = 16;
+
+/// The maximum number of listings that are not small.
+const MOST_LARGE: usize = 8;
 
 /// A listing of more places is not remembered.
 const MOST_PLACES: usize = 65_536;
@@ -32,6 +38,11 @@ struct Listing {
 pub(crate) struct Listings {
     /// Each has another root; the one asked for last is at the end.
     kept: Vec<Listing>,
+}
+
+/// Whether it has too many places to be small.
+fn is_large(listing: &Listing) -> bool {
+    listing.places.len() > FEW
 }
 
 /// Equal places in the same order.
@@ -110,7 +121,7 @@ impl Listings {
         }
     }
 
-    /// Adds a listing. The one asked for longest ago is dropped if there are too many.
+    /// Adds a listing. Another is dropped if there are too many.
     fn keep(&mut self, root: &Place, places: &[Place]) -> Result<(), AllocError>
         requires under { AllUnder root.now places.now }
         requires ordered { IsStrictlySortedBy byte_order places.now }
@@ -119,10 +130,27 @@ impl Listings {
             root: root.copy()?,
             places: copies(*self.kept.allocator(), places)?,
         };
-        if self.kept.len() == MOST {
+        self.make_room(places.len());
+        Ok(self.kept.push(listing)?)
+    }
+
+    /// Drops the listing asked for longest ago if there are too many for one more with so many
+    /// places, or the one among those that are not small.
+    fn make_room(&mut self, size: usize) {
+        let large = self.kept.iter().filter(|listing| is_large(listing)).count();
+        if size > FEW && large >= MOST_LARGE {
+            self.drop_large();
+        }
+        if self.kept.len() >= MOST {
             self.kept.remove(0);
         }
-        Ok(self.kept.push(listing)?)
+    }
+
+    /// Drops the listing asked for longest ago of those that are not small.
+    fn drop_large(&mut self) {
+        if let Some(at) = self.kept.iter().position(is_large) {
+            self.kept.remove(at);
+        }
     }
 
     /// Forgets each listing that a change at the place may change: its root is the place, is under

@@ -25,6 +25,7 @@ ghost use Rattle.gb_exec.specs.Built.{AreTrueBefore, HasBuilt};
 ghost use Rattle.gb_exec.specs.Failing.{times_blamed};
 ghost use Rattle.gb_exec.specs.Reports.{IsOf};
 
+use crate::ahead::Ahead;
 use crate::heard_laws::reported_more;
 use crate::listener::TaskListener;
 use crate::may_start::Starts;
@@ -105,14 +106,17 @@ pub(crate) fn execute_tasks<A: Actions, F: Folder, L: TaskListener, P: Printer>(
     reported_more();
     let mut all_heard = true;
     let mut index = 0;
+    let mut ahead = Ahead::new(build.options.rerun);
     let mut seen = Seen::new(alloc);
     for path in paths {
         // For the proof alone: `as_str` states that this is a task's path, which the contract about
         // records needs.
         let _path = path.as_str();
+        let next = ahead.next(alloc, build, index);
         let taken = execute_one::<A, F, L>(
-            alloc, folder, build, starts, index, path, listeners, &mut seen,
+            alloc, folder, build, starts, index, path, &next, listeners, &mut seen,
         );
+        ahead.note(&taken.report.outcome);
         all_heard = all_heard && taken.all_heard;
         printer.print_task(alloc, &taken.report);
         starts.end(index, &taken.report.outcome);

@@ -7,8 +7,9 @@
 //!
 //! How it works: `may_start` decides which tasks start, by the outcomes of those before them. For
 //! each that starts, the listeners are notified, `gb_task` executes it, the listeners are notified
-//! again, and its part of the report is printed. Memory for the report is reserved before the first
-//! task, so that a build that has begun always has one. A dry run executes nothing.
+//! again, and its part of the report is printed. While nothing is out of date, the files of later
+//! tasks are read ahead (`ahead`). Memory for the report is reserved before the first task, so that
+//! a build that has begun always has one. A dry run executes nothing.
 //!
 //! Whoever builds from scripts calls `gb_build`. `specs/Words.antt` re-exports the definitions that
 //! the contract of [`execute`] names, so that the clauses of a caller can use them.
@@ -26,6 +27,7 @@
 //! laws of listeners.
 #![tactic(auto)]
 
+mod ahead;
 pub mod building;
 mod dry;
 mod executions;

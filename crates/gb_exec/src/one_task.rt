@@ -31,6 +31,7 @@ use crate::start_laws::{needs_by_number, starts_by_number};
 use gb_action::actions::Actions;
 use gb_action::table::ActionTable;
 use gb_core::path::TaskPath;
+use gb_core::place::Place;
 use gb_core::text::Texts;
 use gb_folder::folder::Folder;
 use gb_history::record::Record;
@@ -71,8 +72,8 @@ fn not_run_report(alloc: Global, planned: &Planned, path: TaskPath) -> TaskRepor
     }
 }
 
-/// Executes the task of a number, if it starts. The path is the task's own. `seen` has the digests
-/// of files that were read since the last change.
+/// Executes the task of a number, if it starts. The path is the task's own. The files at the places
+/// of `next` are read ahead. `seen` has the digests of files that were read since the last change.
 pub(crate) fn execute_one<A: Actions, F: Folder, L: TaskListener>(
     alloc: Global,
     folder: &mut F,
@@ -80,6 +81,7 @@ pub(crate) fn execute_one<A: Actions, F: Folder, L: TaskListener>(
     starts: &mut Starts,
     index: usize,
     path: TaskPath,
+    next: &[Place],
     listeners: &mut Vec<L>,
     seen: &mut Seen,
 ) -> OneEnded
@@ -156,6 +158,7 @@ pub(crate) fn execute_one<A: Actions, F: Folder, L: TaskListener>(
         build.options,
         last,
         need,
+        next,
         seen,
     );
     let ended = notify(alloc, listeners, &planned.task.path, Some(&report.outcome));

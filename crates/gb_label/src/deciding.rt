@@ -8,6 +8,7 @@ ghost use Rattle.gb_history.specs.Record.{prints_in};
 ghost use Rattle.gb_meaning.specs.Tree.{listing_faults, trees_of};
 ghost use Rattle.gb_plan.specs.Task.{is_output_of};
 ghost use Rattle.gb_store.specs.Faults.{Blames, BlamesOnly};
+ghost use Rattle.gb_tree.specs.Seen.{AreSeen, AreSeenIn};
 ghost use Rattle.gb_label.specs.Answered.{WasDecided};
 ghost use Rattle.gb_label.specs.Deciding.{AreOutputsFor, AreOutputsObservedFor, FollowsFrom, HasNamesInOrder};
 ghost use Rattle.gb_label.specs.Deciding.{IsBasisIn, IsGrown, IsPresentOf, MayDecide};
@@ -28,6 +29,7 @@ use gb_report::fault::Fault;
 use gb_report::report::Options;
 use gb_tree::kept::Reading;
 use gb_tree::prints::Prints;
+use gb_tree::seen::Seen;
 use std::alloc::{AllocError, Global};
 
 /// Why a task runs in full, whatever its record says.
@@ -64,9 +66,10 @@ pub struct Verdict {
 }
 
 /// Decides on a task that has a source: by its record and by what it has now. Its outputs are
-/// listed once, and they are read only if there is a record that may count. Their bytes are kept
-/// while there is `room` for them. Nothing is changed, even if it fails. The error is the first
-/// unsupported entry at its outputs (fault 14), or that memory ran out or the device failed.
+/// listed once, and they are read only if there is a record that may count; those whose digests are
+/// in `seen` are not read. The bytes of the others are kept while there is `room` for them. Nothing
+/// is changed, even if it fails. The error is the first unsupported entry at its outputs (fault 14),
+/// or that memory ran out or the device failed.
 pub fn decided<F: Folder>(
     alloc: Global,
     folder: &mut F,
@@ -74,6 +77,7 @@ pub fn decided<F: Folder>(
     options: Options,
     old: Option<&Record>,
     inputs: &[Reading],
+    seen: &Seen,
     room: u64,
 ) -> Result<Verdict, Fault>
     requires in_order { HasNamesInOrder task.now }
@@ -88,18 +92,23 @@ pub fn decided<F: Folder>(
     ensures may_decide { IfOk result (λ found. MayDecide options task.now found.decision) }
     // Over any folder: if it may execute incrementally, its outputs were read.
     ensures read { IfOk result (λ found. AreOutputsFor task.now found.decision found.outputs.items) }
-    ensures answered { IfOk result (λ found. WasDecided F.failures F.may_leave F.allowed folder.old folder.new
+    ensures answered { (first : _) → Requests F.failures F.may_leave F.allowed no_change first folder.old
+        → AreSeen F.failures F.may_leave F.allowed first folder.old seen.now
+        → IfOk result (λ found. WasDecided F.failures F.may_leave F.allowed first folder.new
         options task.now (option_copied old.entry) inputs.now found.decision found.outputs.items) }
     ensures same { IsTrue F.faithful → F.contents folder.new ≡ F.contents folder.old }
-    ensures based { IsTrue F.faithful
+    ensures based { IsTrue F.faithful → AreSeenIn (F.contents folder.old).files seen.now
         → prints_read inputs.now ≡ digests_in (trees_of task.now (F.contents folder.old).files)
         → IfOk result (λ found. IsBasisIn options task.now (F.contents folder.old) found.basis) }
-    ensures observed { IsTrue F.faithful → IfOk result
+    ensures observed { IsTrue F.faithful → AreSeenIn (F.contents folder.old).files seen.now
+        → IfOk result
         (λ found. AreOutputsObservedFor task.now (F.contents folder.old).files found.decision
         found.outputs.items) }
-    ensures none_special { IsTrue F.faithful → OnOk result
+    ensures none_special { IsTrue F.faithful → AreSeenIn (F.contents folder.old).files seen.now
+        → OnOk result
         (listing_faults task.now (F.contents folder.old) ≡ []) }
-    ensures err { IsTrue F.faithful → IfErr result (CannotRead (F.failures folder.old) (F.failures folder.new)
+    ensures err { IsTrue F.faithful → AreSeenIn (F.contents folder.old).files seen.now
+        → IfErr result (CannotRead (F.failures folder.old) (F.failures folder.new)
         (listing_faults task.now (F.contents folder.old))) }
 {
     let Some(run) = old else {
@@ -111,7 +120,7 @@ pub fn decided<F: Folder>(
     if task.is_stale {
         return in_full(alloc, folder, task, FullReason::Stale);
     }
-    by_record(alloc, folder, task, options, run, inputs, room)
+    by_record(alloc, folder, task, options, run, inputs, seen, room)
 }
 
 /// The decision that the task runs in full for this cause, if its outputs can be listed.
@@ -148,6 +157,7 @@ fn by_record<F: Folder>(
     options: Options,
     run: &Record,
     inputs: &[Reading],
+    seen: &Seen,
     room: u64,
 ) -> Result<Verdict, Fault>
     requires in_order { HasNamesInOrder task.now }
@@ -160,21 +170,26 @@ fn by_record<F: Folder>(
         FollowsFrom options task.now (Some run.now) found.decision found.basis) }
     ensures may_decide { IfOk result (λ found. MayDecide options task.now found.decision) }
     ensures read { IfOk result (λ found. AreOutputsFor task.now found.decision found.outputs.items) }
-    ensures answered { IfOk result (λ found. WasDecided F.failures F.may_leave F.allowed folder.old folder.new
+    ensures answered { (first : _) → Requests F.failures F.may_leave F.allowed no_change first folder.old
+        → AreSeen F.failures F.may_leave F.allowed first folder.old seen.now
+        → IfOk result (λ found. WasDecided F.failures F.may_leave F.allowed first folder.new
         options task.now (Some run.now) inputs.now found.decision found.outputs.items) }
     ensures same { IsTrue F.faithful → F.contents folder.new ≡ F.contents folder.old }
-    ensures based { IsTrue F.faithful
+    ensures based { IsTrue F.faithful → AreSeenIn (F.contents folder.old).files seen.now
         → prints_read inputs.now ≡ digests_in (trees_of task.now (F.contents folder.old).files)
         → IfOk result (λ found. IsBasisIn options task.now (F.contents folder.old) found.basis) }
-    ensures observed { IsTrue F.faithful → IfOk result
+    ensures observed { IsTrue F.faithful → AreSeenIn (F.contents folder.old).files seen.now
+        → IfOk result
         (λ found. AreOutputsObservedFor task.now (F.contents folder.old).files found.decision
         found.outputs.items) }
-    ensures none_special { IsTrue F.faithful → OnOk result
+    ensures none_special { IsTrue F.faithful → AreSeenIn (F.contents folder.old).files seen.now
+        → OnOk result
         (listing_faults task.now (F.contents folder.old) ≡ []) }
-    ensures err { IsTrue F.faithful → IfErr result (CannotRead (F.failures folder.old) (F.failures folder.new)
+    ensures err { IsTrue F.faithful → AreSeenIn (F.contents folder.old).files seen.now
+        → IfErr result (CannotRead (F.failures folder.old) (F.failures folder.new)
         (listing_faults task.now (F.contents folder.old))) }
 {
-    match read_outputs_now(alloc, folder, task, room) {
+    match read_outputs_now(alloc, folder, task, seen, room) {
         Ok(outputs) => {
             let on = decide_by(alloc, task, options, run, inputs, outputs.as_slice())?;
             Ok(Verdict {
@@ -197,6 +212,7 @@ fn read_outputs_now<F: Folder>(
     alloc: Global,
     folder: &mut F,
     task: &TaskDeclaration,
+    seen: &Seen,
     mut room: u64,
 ) -> Result<Vec<Reading>, Fault>
     ensures requests { Requests F.failures F.may_leave F.allowed no_change folder.old folder.new }
@@ -204,24 +220,30 @@ fn read_outputs_now<F: Folder>(
     ensures blamed { BlamesOnly (is_output_of task.now) result }
     ensures same { IsTrue F.faithful → F.contents folder.new ≡ F.contents folder.old }
     ensures read { IfOk result (λ found. AreOutputs task.now found.items) }
-    ensures answered { IfOk result (λ found. AreOutputsAnswered F.failures F.may_leave F.allowed
-        folder.old folder.new task.now found.items) }
-    ensures prints { IsTrue F.faithful → IfOk result (λ found. prints_read found.items
+    ensures answered { (first : _) → Requests F.failures F.may_leave F.allowed no_change first folder.old
+        → AreSeen F.failures F.may_leave F.allowed first folder.old seen.now
+        → IfOk result (λ found. AreOutputsAnswered F.failures F.may_leave F.allowed
+        first folder.new task.now found.items) }
+    ensures prints { IsTrue F.faithful → AreSeenIn (F.contents folder.old).files seen.now
+        → IfOk result (λ found. prints_read found.items
         ≡ prints_in (map (recorded_of (F.contents folder.old).files) task.now.outputs)) }
-    ensures observed { IsTrue F.faithful → IfOk result
+    ensures observed { IsTrue F.faithful → AreSeenIn (F.contents folder.old).files seen.now
+        → IfOk result
         (λ found. AreOutputsObserved task.now (F.contents folder.old).files found.items) }
-    ensures none_special { IsTrue F.faithful → OnOk result
+    ensures none_special { IsTrue F.faithful → AreSeenIn (F.contents folder.old).files seen.now
+        → OnOk result
         (listing_faults task.now (F.contents folder.old) ≡ []) }
-    ensures err { IsTrue F.faithful → IfErr result (λ fault.
+    ensures err { IsTrue F.faithful → AreSeenIn (F.contents folder.old).files seen.now
+        → IfErr result (λ fault.
         (IsGrown fault
         × (is_empty (flat_map (print_faults (F.contents folder.old)) task.now.outputs) ≡ false))
         ⊎ CannotRead (F.failures folder.old) (F.failures folder.new)
         (listing_faults task.now (F.contents folder.old)) fault) }
 {
     if has_own(task.outputs.as_slice()) {
-        return list_and_read(alloc, folder, task, room);
+        return list_and_read(alloc, folder, task, seen, room);
     }
-    read_outputs(alloc, folder, task, &mut room)
+    read_outputs(alloc, folder, task, seen, &mut room)
 }
 
 /// The same if some outputs are in the tool's own folder, where nothing is read: all are listed
@@ -230,6 +252,7 @@ fn list_and_read<F: Folder>(
     alloc: Global,
     folder: &mut F,
     task: &TaskDeclaration,
+    seen: &Seen,
     mut room: u64,
 ) -> Result<Vec<Reading>, Fault>
     ensures requests { Requests F.failures F.may_leave F.allowed no_change folder.old folder.new }
@@ -237,22 +260,28 @@ fn list_and_read<F: Folder>(
     ensures blamed { BlamesOnly (is_output_of task.now) result }
     ensures same { IsTrue F.faithful → F.contents folder.new ≡ F.contents folder.old }
     ensures read { IfOk result (λ found. AreOutputs task.now found.items) }
-    ensures answered { IfOk result (λ found. AreOutputsAnswered F.failures F.may_leave F.allowed
-        folder.old folder.new task.now found.items) }
-    ensures prints { IsTrue F.faithful → IfOk result (λ found. prints_read found.items
+    ensures answered { (first : _) → Requests F.failures F.may_leave F.allowed no_change first folder.old
+        → AreSeen F.failures F.may_leave F.allowed first folder.old seen.now
+        → IfOk result (λ found. AreOutputsAnswered F.failures F.may_leave F.allowed
+        first folder.new task.now found.items) }
+    ensures prints { IsTrue F.faithful → AreSeenIn (F.contents folder.old).files seen.now
+        → IfOk result (λ found. prints_read found.items
         ≡ prints_in (map (recorded_of (F.contents folder.old).files) task.now.outputs)) }
-    ensures observed { IsTrue F.faithful → IfOk result
+    ensures observed { IsTrue F.faithful → AreSeenIn (F.contents folder.old).files seen.now
+        → IfOk result
         (λ found. AreOutputsObserved task.now (F.contents folder.old).files found.items) }
-    ensures none_special { IsTrue F.faithful → OnOk result
+    ensures none_special { IsTrue F.faithful → AreSeenIn (F.contents folder.old).files seen.now
+        → OnOk result
         (listing_faults task.now (F.contents folder.old) ≡ []) }
-    ensures err { IsTrue F.faithful → IfErr result (λ fault.
+    ensures err { IsTrue F.faithful → AreSeenIn (F.contents folder.old).files seen.now
+        → IfErr result (λ fault.
         (IsGrown fault
         × (is_empty (flat_map (print_faults (F.contents folder.old)) task.now.outputs) ≡ false))
         ⊎ CannotRead (F.failures folder.old) (F.failures folder.new)
         (listing_faults task.now (F.contents folder.old)) fault) }
 {
     check_outputs(alloc, folder, task)?;
-    read_outputs(alloc, folder, task, &mut room)
+    read_outputs(alloc, folder, task, seen, &mut room)
 }
 
 /// The decision on a task by its record, and what the record was compared with.

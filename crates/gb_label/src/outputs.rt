@@ -10,6 +10,7 @@ ghost use Rattle.gb_store.specs.Faults.{Blames, BlamesOnly, IsOfMachine};
 ghost use Rattle.gb_tree.specs.Answered.{IsTreeRead, WereObserved};
 ghost use Rattle.gb_tree.specs.Prints.{digests_of};
 ghost use Rattle.gb_tree.specs.Reading.{IsObservedIn, digests_observed, entries_observed};
+ghost use Rattle.gb_tree.specs.Seen.{AreSeen, AreSeenIn};
 ghost use Rattle.gb_tree.specs.Tree.{contents_at, files_from, is_among};
 ghost use Rattle.gb_label.specs.ReadingAnswered.{AreOutputsAnswered, AreOutputsRead, IsOutputAnswered};
 ghost use Rattle.gb_label.specs.Reading.{AreOutputs, AreOutputsObserved, CannotRead};
@@ -27,6 +28,7 @@ use gb_report::fault::Fault;
 use gb_tree::kept::Reading;
 use gb_tree::output::output_reading;
 use gb_tree::prints::Prints;
+use gb_tree::seen::Seen;
 use std::alloc::{AllocError, Global};
 
 /// The files of one output.
@@ -34,6 +36,7 @@ fn read_one<F: Folder>(
     alloc: Global,
     folder: &mut F,
     output: &Output,
+    seen: &Seen,
     room: &mut u64,
 ) -> Result<Reading, Fault>
     ensures requests { Requests F.failures F.may_leave F.allowed no_change folder.old folder.new }
@@ -44,52 +47,65 @@ fn read_one<F: Folder>(
     ensures within { IfOk result
         (λ reading. AllByRecursion (λ observed. IsTrue (is_under observed.place output.now.place))
         reading.1) }
-    ensures answered { IfOk result
-        (IsOutputAnswered F.failures F.may_leave F.allowed folder.old folder.new output.now) }
-    ensures digests { IsTrue F.faithful → IfOk result (λ reading. digests_observed reading.1
+    ensures answered { (first : _) → Requests F.failures F.may_leave F.allowed no_change first folder.old
+        → AreSeen F.failures F.may_leave F.allowed first folder.old seen.now
+        → IfOk result (IsOutputAnswered F.failures F.may_leave F.allowed first folder.new output.now) }
+    ensures digests { IsTrue F.faithful → AreSeenIn (F.contents folder.old).files seen.now
+        → IfOk result (λ reading. digests_observed reading.1
         ≡ digests_of (files_from (F.contents folder.old).files output.now.place)) }
-    ensures observed { IsTrue F.faithful → IfOk result
+    ensures observed { IsTrue F.faithful → AreSeenIn (F.contents folder.old).files seen.now
+        → IfOk result
         (IsOutputObserved (F.contents folder.old).files output.now) }
-    ensures fit { IsTrue F.faithful → OnOk result (print_faults (F.contents folder.old) output.now ≡ []) }
-    ensures err { IsTrue F.faithful → IfErr result
+    ensures fit { IsTrue F.faithful → AreSeenIn (F.contents folder.old).files seen.now
+        → OnOk result (print_faults (F.contents folder.old) output.now ≡ []) }
+    ensures err { IsTrue F.faithful → AreSeenIn (F.contents folder.old).files seen.now
+        → IfErr result
         (CannotRead (F.failures folder.old) (F.failures folder.new) (print_faults
         (F.contents folder.old) output.now)) }
 {
-    match output_reading(alloc, folder, &output.name, &output.place, room) {
+    match output_reading(alloc, folder, &output.name, &output.place, seen, room) {
         Ok(reading) => Ok(reading),
         Err(fault) => Err(reported(fault)),
     }
 }
 
-/// The files at the outputs of a task, in the order of their names. Their bytes are kept while
-/// there is `room` for them, and reduce it. Nothing is changed, even if it fails. The error is the
+/// The files at the outputs of a task, in the order of their names. A file whose digest is in `seen`
+/// is not read. The bytes of the others are kept while there is `room` for them, and reduce it. Nothing is changed, even if it fails. The error is the
 /// first fault in reading them.
 pub fn read_outputs<F: Folder>(
     alloc: Global,
     folder: &mut F,
     task: &TaskDeclaration,
+    seen: &Seen,
     room: &mut u64,
 ) -> Result<Vec<Reading>, Fault>
     ensures requests { Requests F.failures F.may_leave F.allowed no_change folder.old folder.new }
     ensures blame { Blames result (F.failures folder.old) (F.failures folder.new) }
     ensures blamed { BlamesOnly (is_output_of task.now) result }
     ensures read { IfOk result (λ readings. AreOutputs task.now readings.items) }
-    // Over any folder: the files are those that calls answered, and so are their digests and bytes.
-    ensures answered { IfOk result (λ readings. AreOutputsAnswered F.failures F.may_leave F.allowed
-        folder.old folder.new task.now readings.items) }
+    // Over any folder: the files are those that calls answered, and so are their digests and bytes,
+    // since the state from which the files are seen.
+    ensures answered { (first : _) → Requests F.failures F.may_leave F.allowed no_change first folder.old
+        → AreSeen F.failures F.may_leave F.allowed first folder.old seen.now
+        → IfOk result (λ readings. AreOutputsAnswered F.failures F.may_leave F.allowed
+        first folder.new task.now readings.items) }
     ensures same { IsTrue F.faithful → F.contents folder.new ≡ F.contents folder.old }
-    ensures prints { IsTrue F.faithful → IfOk result (λ readings. prints_read readings.items
+    ensures prints { IsTrue F.faithful → AreSeenIn (F.contents folder.old).files seen.now
+        → IfOk result (λ readings. prints_read readings.items
         ≡ prints_in (map (recorded_of (F.contents folder.old).files) task.now.outputs)) }
-    ensures observed { IsTrue F.faithful → IfOk result
+    ensures observed { IsTrue F.faithful → AreSeenIn (F.contents folder.old).files seen.now
+        → IfOk result
         (λ readings. AreOutputsObserved task.now (F.contents folder.old).files readings.items) }
-    ensures fit { IsTrue F.faithful → OnOk result (flat_map (print_faults
+    ensures fit { IsTrue F.faithful → AreSeenIn (F.contents folder.old).files seen.now
+        → OnOk result (flat_map (print_faults
         (F.contents folder.old)) task.now.outputs ≡ []) }
-    ensures err { IsTrue F.faithful → IfErr result (CannotRead (F.failures folder.old) (F.failures folder.new)
+    ensures err { IsTrue F.faithful → AreSeenIn (F.contents folder.old).files seen.now
+        → IfErr result (CannotRead (F.failures folder.old) (F.failures folder.new)
         (flat_map (print_faults (F.contents folder.old)) task.now.outputs)) }
 {
     let mut readings = Vec::new(alloc);
     for output in task.outputs.as_slice() {
-        readings.push(read_one(alloc, folder, output, room)?)?;
+        readings.push(read_one(alloc, folder, output, seen, room)?)?;
     }
     Ok(readings)
 }

@@ -51,7 +51,7 @@ pub struct Observed {
 /// At most so many bytes of a task's inputs are kept if it may be up to date, and of its outputs.
 const KEPT: u64 = 67_108_864;
 
-/// The outcome of a task by its record, its inputs and its outputs as they are. Inputs whose digests
+/// The outcome of a task by its record, its inputs and its outputs as they are. Files whose digests
 /// are in `seen` are not read. If an execution follows, bytes that were read are kept for it, within
 /// a limit. Nothing is changed, even if it fails. The error is the first fault in
 /// reading its inputs or listing its outputs, or that memory ran out or the device failed.
@@ -102,7 +102,16 @@ pub fn prepare<F: Folder>(
         EarlyCase::HasNoSource => Ok(Prepared::HasNoSource),
         EarlyCase::Open(inputs) => {
             let room = output_room(task.files.as_slice(), follows);
-            let found = decided(alloc, folder, task, options, old, inputs.as_slice(), room)?;
+            let found = decided(
+                alloc,
+                folder,
+                task,
+                options,
+                old,
+                inputs.as_slice(),
+                seen,
+                room,
+            )?;
             let outputs = found.outputs;
             Ok(Prepared::Decided(found.decision, found.basis, Observed { inputs, outputs }))
         }

@@ -447,12 +447,15 @@ const REMEMBERED: [RememberedRow; 9] = [
         "ok;ok;o/a ;ok;ok;o/a ;x;",
         "ok;ok;o/a ;ok;ok;o/a o/b ;x;",
     ),
-    // The listing that was asked for longest ago is dropped for the ninth.
+    // The listing that was asked for longest ago is dropped for the 33rd.
     (
-        "list a;list b;list c;list d;list e;list f;list g;list h;list a;list i;\
-         !put a x;!put b x;list a;list b",
-        ";;;;;;;;;;;b ;",
-        ";;;;;;;;;;a ;b ;",
+        "list p0;list p1;list p2;list p3;list p4;list p5;list p6;list p7;list p8;list p9;\
+         list p10;list p11;list p12;list p13;list p14;list p15;list p16;list p17;\
+         list p18;list p19;list p20;list p21;list p22;list p23;list p24;list p25;\
+         list p26;list p27;list p28;list p29;list p30;list p31;\
+         list p0;list p32;!put p0 x;!put p1 x;list p0;list p1",
+        ";;;;;;;;;;;;;;;;;;;;;;;;;;;;;;;;;;;p1 ;",
+        ";;;;;;;;;;;;;;;;;;;;;;;;;;;;;;;;;;p0 ;p1 ;",
     ),
     // A file is looked up for a read after a listing that was remembered.
     (

@@ -8,6 +8,7 @@ use gb_core::place::{Place, RelPath};
 use gb_folder::faulty::{FaultMode, FaultyFolder};
 use gb_folder::folder::Folder;
 use gb_folder::memory::MemoryFolder;
+use gb_tree::ahead::read_ahead;
 use gb_tree::changes::compare;
 use gb_tree::digest::prints;
 use gb_tree::fault::TreeFault;
@@ -15,6 +16,7 @@ use gb_tree::output::{output_prints, output_reading, outputs};
 use gb_tree::pattern::Pattern;
 use gb_tree::prints::Prints;
 use gb_tree::property::{Naming, prints_of, snapshot};
+use gb_tree::seen::Seen;
 use std::alloc::{AllocError, Global};
 use std::test::Fail;
 
@@ -139,6 +141,19 @@ fn files_asked<F: Folder>(
     }
 }
 
+/// The prints of an output as it is read where these files were seen.
+fn prints_read<F: Folder>(
+    alloc: Global,
+    folder: &mut F,
+    name: &Name,
+    place: &Place,
+    seen: &Seen,
+) -> Result<Prints, TreeFault> {
+    let mut room = 65_600;
+    let reading = output_reading(alloc, folder, name, place, seen, &mut room)?;
+    Ok(reading.prints(alloc)?)
+}
+
 /// The prints of an output or of a property.
 fn prints_asked<F: Folder>(
     alloc: Global,
@@ -149,9 +164,13 @@ fn prints_asked<F: Folder>(
     match (word, asked.places.as_slice()) {
         ("output-digests", [place]) => output_prints(alloc, folder, &asked.name, place),
         ("read-digests", [place]) => {
-            let mut room = 65_600;
-            let reading = output_reading(alloc, folder, &asked.name, place, &mut room)?;
-            Ok(reading.prints(alloc)?)
+            let seen = Seen::new(alloc);
+            prints_read(alloc, folder, &asked.name, place, &seen)
+        }
+        ("ahead-digests", [place, _]) => {
+            let mut seen = Seen::new(alloc);
+            read_ahead(alloc, folder, &asked.places[1..], &mut seen);
+            prints_read(alloc, folder, &asked.name, place, &seen)
         }
         (_, roots) => prints_of(
             alloc,
@@ -246,7 +265,7 @@ fn report<F: Folder>(
 ) -> Result<(), TreeFault> {
     match word {
         "changes" => report_changes(alloc, folder, asked, all),
-        "digests" | "output-digests" | "read-digests" => {
+        "digests" | "output-digests" | "read-digests" | "ahead-digests" => {
             push_prints(alloc, all, &prints_asked(alloc, folder, word, asked)?)
         }
         _ => report_files(alloc, word, &files_asked(alloc, folder, word, asked)?, all),
@@ -539,7 +558,7 @@ fn what_no_include_names_is_not_looked_at(rt: HostRuntime) -> Result<(), Fail> {
     Ok(())
 }
 
-const DIGESTS: [Row; 8] = [
+const DIGESTS: [Row; 9] = [
     // Digests are those of the standard.
     (
         "put m/b;put m/a abc;prints m",
@@ -593,6 +612,14 @@ const DIGESTS: [Row; 8] = [
          src i da2ae4d6b36748f2a318f23e7ab1dfdf45acdc9d049bd80e59de82a60895f562\n\
          src j 1901da1c9f699b48f6b2636e65cbf73abf99d0441ef67f5c540a42f7051dec6f\n\
          src k 4b227777d4dd1fc61c6f884f48641d02b4d121d3fd328cb08b5531fcacdabf8a\n;",
+    ),
+    // A file that was read ahead, and one beside it. What cannot be read ahead is passed over.
+    (
+        "put m/a abc;put m/b;ahead-digests m m/a;ahead-digests m n",
+        "src a ba7816bf8f01cfea414140de5dae2223b00361a396177a9cb410ff61f20015ad\n\
+         src b e3b0c44298fc1c149afbf4c8996fb92427ae41e4649b934ca495991b7852b855\n;\
+         src a ba7816bf8f01cfea414140de5dae2223b00361a396177a9cb410ff61f20015ad\n\
+         src b e3b0c44298fc1c149afbf4c8996fb92427ae41e4649b934ca495991b7852b855\n;",
     ),
 ];
 

@@ -1,7 +1,7 @@
 -- What is remembered after a task's execution was prepared.
-use Rattle.std.specs.Prelude.{ℕ, ◌≡◌, ◌++◌, Bool, true, false, List, [], ◌∷◌, Option, Result, Ok, Err, IfOk}
-use Rattle.std.specs.List.{AllByRecursion}
-use Rattle.std.proofs.Common.{sym, subst}
+use Rattle.std.specs.Prelude.{ℕ, ◌≡◌, Bool, true, false, List, [], ◌∷◌, Option, Result, Ok, Err, IfOk}
+use Rattle.std.proofs.Common.{arith, refl}
+use Rattle.std.proofs.lemmas.List.Elements.{Contains-append_left}
 use Rattle.gb_folder.specs.Calls.{Requests, Call, no_change}
 use Rattle.gb_folder.specs.Files.{Files, Tearing}
 use Rattle.gb_folder.proofs.Asked.{requests_nothing}
@@ -10,59 +10,79 @@ use Rattle.gb_history.specs.declared.decide.Decision.TheVariants as decisions
 use Rattle.gb_label.specs.Preparing.{IsObserved}
 use Rattle.gb_label.specs.declared.prepare.Prepared.{Prepared}
 use Rattle.gb_label.specs.declared.prepare.Prepared.TheVariants as prepared
-use Rattle.gb_label.proofs.ReadingAnswering.{outputs_were_read}
+use Rattle.gb_label.proofs.Answering.{decided_longer}
+use Rattle.gb_label.proofs.ReadingAnswering.{inputs_longer, outputs_were_read}
 use Rattle.gb_label.proofs.Readings.{outputs_as_read}
 use Rattle.gb_plan.specs.Task.{Path}
 use Rattle.gb_plan.specs.declared.task.TaskDeclaration.{TaskDeclaration as Task}
 use Rattle.gb_report.specs.declared.fault.Fault.{Fault}
 use Rattle.gb_report.specs.declared.report.Options.{Options}
-use Rattle.gb_tree.specs.Seen.{AreSeen, AreSeenIn, IsSeenIn, SeenFile, WasSeen}
-use Rattle.gb_tree.proofs.Remembering.{all_after, none_seen, none_seen_in, seen_in_remembered, seen_longer, seen_remembered}
-use Rattle.gb_task.specs.Current.{WasPreparedSince}
+use Rattle.gb_tree.specs.Seen.{AreAmong, AreSeen, AreSeenIn, IsSeenIn, SeenFile, WasSeen}
+use Rattle.gb_tree.proofs.Remembering.{all_among, none_seen, none_seen_in, seen_in_remembered, seen_remembered}
+use Rattle.gb_label.specs.Answered.{WasPrepared}
+use Rattle.gb_task.specs.Current.{WasPreparedSince, is_current}
 use Rattle.gb_task.specs.Seen.{Remembers, seen_by}
 use Rattle.gb_task.specs.Settled.{settled_as}
 
-none_after : (forgotten seen : List SeenFile) → forgotten ++ seen ≡ [] → seen ≡ []
-none_after [] seen e = e
-none_after (file ∷ forgotten) seen e = absurd (let q = e in (cc))
+none_after : (seen : List SeenFile) → AreAmong seen [] → seen ≡ []
+none_after [] among = refl
+none_after (file ∷ seen) among = absurd (omega (arith, (among file (Contains-append_left (file ∷ []) seen file (0, omega arith, refl))).1))
 
--- what holds of all holds of those that were not forgotten
-kept_all : (P : SeenFile → Type 0) (forgotten seen before : List SeenFile) → forgotten ++ seen ≡ before → AllByRecursion P before → AllByRecursion P seen
-kept_all P forgotten seen before e all = all_after P forgotten seen (subst (AllByRecursion P) (sym e) all)
+-- what was prepared on a part of the way was so on all of it
+module _ {F : Type 0} {failures : F → ℕ} {may_leave : F → Tearing} {allowed : F → Call → F → Type 0} where
+  pub prepared_longer : (since : F) {old mid : F} (new : F) → Requests failures may_leave allowed no_change old mid → (options : Options) (task : Task) (last : Option Record) (found : Prepared)
+      → WasPreparedSince failures may_leave allowed since mid new options task last found → WasPreparedSince failures may_leave allowed since old new options task last found
+  prepared_longer since new before options task last prepared.Skips was = was
+  prepared_longer since new before options task last prepared.HasNoActions was = was
+  prepared_longer since new before options task last prepared.HasNoSource was = (was.0, inputs_longer before (requests_nothing new) task was.0 was.1, was.2)
+  prepared_longer since new before options task last (prepared.Decided decisions.UpToDate basis observed) was = was
+  prepared_longer since new before options task last (prepared.Decided (decisions.Incremental changes) basis observed) was = (
+    was.0,
+    inputs_longer before (requests_nothing new) task observed.inputs.items was.1,
+    decided_longer before (requests_nothing new) options task last observed.inputs.items (decisions.Incremental changes) observed.outputs.items was.2,
+  )
+  prepared_longer since new before options task last (prepared.Decided decisions.Full basis observed) was = (was.0, inputs_longer before (requests_nothing new) task observed.inputs.items was.1, was.2)
+
+-- what is up to date may have been found so since an earlier state
+module _ {F : Type 0} (failures : F → ℕ) (may_leave : F → Tearing) (allowed : F → Call → F → Type 0) (since old new : F) (options : Options) (task : Task) (last : Option Record) where
+  pub current_since : (found : Prepared) → is_current found ≡ true → WasPrepared failures may_leave allowed since new options task last found
+      → WasPreparedSince failures may_leave allowed since old new options task last found
+  current_since prepared.Skips is was = was
+  current_since prepared.HasNoActions is was = was
+  current_since prepared.HasNoSource is was = absurd (cc)
+  current_since (prepared.Decided decisions.UpToDate basis observed) is was = was
+  current_since (prepared.Decided (decisions.Incremental changes) basis observed) is was = absurd (cc)
+  current_since (prepared.Decided decisions.Full basis observed) is was = absurd (cc)
 
 module _ {F : Type 0} (failures : F → ℕ) (may_leave : F → Tearing) (allowed : F → Call → F → Type 0) (old new : F) (options : Options) (task : Task) (last : Option Record)
-    (forgotten seen before : List SeenFile) (requests : Requests failures may_leave allowed no_change old new) where
-  longer : (since : F) → AreSeen failures may_leave allowed since old before → AreSeen failures may_leave allowed since new before
-  longer since was = seen_longer (requests_nothing since) requests before was
-
-  pub remembers : (path : Path) (need : Bool) (result : Result Prepared Fault) → forgotten ++ seen ≡ seen_by result need before
+    (seen middle before : List SeenFile)
+    (held : (since : F) → Requests failures may_leave allowed no_change since old → AreSeen failures may_leave allowed since old before → AreSeen failures may_leave allowed since new middle) where
+  pub remembers : (path : Path) (need : Bool) (result : Result Prepared Fault) → AreAmong seen (seen_by result need middle)
       → ((since : F) → Requests failures may_leave allowed no_change since old → AreSeen failures may_leave allowed since old before
       → IfOk result (WasPreparedSince failures may_leave allowed since old new options task last))
       → Remembers failures may_leave allowed old new before seen (settled_as task path result need)
-  remembers path need (Err fault) e prepares = λ since earlier was. none_seen failures may_leave allowed new new seen (none_after forgotten seen e)
-  remembers path need (Ok prepared.Skips) e prepares =
-      λ since earlier was. kept_all (WasSeen failures may_leave allowed since new) forgotten seen before e (longer since was)
-  remembers path true (Ok prepared.HasNoActions) e prepares = λ since earlier was. none_seen failures may_leave allowed new new seen (none_after forgotten seen e)
-  remembers path false (Ok prepared.HasNoActions) e prepares =
-      λ since earlier was. kept_all (WasSeen failures may_leave allowed since new) forgotten seen before e (longer since was)
-  remembers path need (Ok prepared.HasNoSource) e prepares = none_after forgotten seen e
+  remembers path need (Err fault) e prepares = λ since earlier was. none_seen failures may_leave allowed new new seen (none_after seen e)
+  remembers path need (Ok prepared.Skips) e prepares = λ since earlier was. all_among (WasSeen failures may_leave allowed since new) seen middle e (held since earlier was)
+  remembers path true (Ok prepared.HasNoActions) e prepares = λ since earlier was. none_seen failures may_leave allowed new new seen (none_after seen e)
+  remembers path false (Ok prepared.HasNoActions) e prepares = λ since earlier was. all_among (WasSeen failures may_leave allowed since new) seen middle e (held since earlier was)
+  remembers path need (Ok prepared.HasNoSource) e prepares = none_after seen e
   remembers path need (Ok (prepared.Decided decisions.UpToDate basis observed)) e prepares =
       λ since earlier was.
-      seen_remembered failures may_leave allowed since new forgotten seen before observed.outputs.items e (longer since was)
+      seen_remembered failures may_leave allowed since new seen middle observed.outputs.items e (held since earlier was)
       (outputs_were_read failures may_leave allowed since new task.outputs observed.outputs.items (prepares since earlier was).2.1)
-  remembers path need (Ok (prepared.Decided (decisions.Incremental changes) basis observed)) e prepares = none_after forgotten seen e
-  remembers path need (Ok (prepared.Decided decisions.Full basis observed)) e prepares = none_after forgotten seen e
+  remembers path need (Ok (prepared.Decided (decisions.Incremental changes) basis observed)) e prepares = none_after seen e
+  remembers path need (Ok (prepared.Decided decisions.Full basis observed)) e prepares = none_after seen e
 
 -- in a folder whose contents are known
-module _ (task : Task) (files : Files) (forgotten seen before : List SeenFile) where
-  pub remembers_in : (need : Bool) (result : Result Prepared Fault) → forgotten ++ seen ≡ seen_by result need before → IfOk result (IsObserved task files)
-      → AreSeenIn files before → AreSeenIn files seen
-  remembers_in need (Err fault) e observed_so there = none_seen_in files seen (none_after forgotten seen e)
-  remembers_in need (Ok prepared.Skips) e observed_so there = kept_all (IsSeenIn files) forgotten seen before e there
-  remembers_in true (Ok prepared.HasNoActions) e observed_so there = none_seen_in files seen (none_after forgotten seen e)
-  remembers_in false (Ok prepared.HasNoActions) e observed_so there = kept_all (IsSeenIn files) forgotten seen before e there
-  remembers_in need (Ok prepared.HasNoSource) e observed_so there = none_seen_in files seen (none_after forgotten seen e)
+module _ (task : Task) (files : Files) (seen middle : List SeenFile) where
+  pub remembers_in : (need : Bool) (result : Result Prepared Fault) → AreAmong seen (seen_by result need middle) → IfOk result (IsObserved task files)
+      → AreSeenIn files middle → AreSeenIn files seen
+  remembers_in need (Err fault) e observed_so there = none_seen_in files seen (none_after seen e)
+  remembers_in need (Ok prepared.Skips) e observed_so there = all_among (IsSeenIn files) seen middle e there
+  remembers_in true (Ok prepared.HasNoActions) e observed_so there = none_seen_in files seen (none_after seen e)
+  remembers_in false (Ok prepared.HasNoActions) e observed_so there = all_among (IsSeenIn files) seen middle e there
+  remembers_in need (Ok prepared.HasNoSource) e observed_so there = none_seen_in files seen (none_after seen e)
   remembers_in need (Ok (prepared.Decided decisions.UpToDate basis observed)) e observed_so there =
-      seen_in_remembered files forgotten seen before observed.outputs.items e there (outputs_as_read files task.outputs observed.outputs.items observed_so)
-  remembers_in need (Ok (prepared.Decided (decisions.Incremental changes) basis observed)) e observed_so there = none_seen_in files seen (none_after forgotten seen e)
-  remembers_in need (Ok (prepared.Decided decisions.Full basis observed)) e observed_so there = none_seen_in files seen (none_after forgotten seen e)
+      seen_in_remembered files seen middle observed.outputs.items e there (outputs_as_read files task.outputs observed.outputs.items observed_so)
+  remembers_in need (Ok (prepared.Decided (decisions.Incremental changes) basis observed)) e observed_so there = none_seen_in files seen (none_after seen e)
+  remembers_in need (Ok (prepared.Decided decisions.Full basis observed)) e observed_so there = none_seen_in files seen (none_after seen e)

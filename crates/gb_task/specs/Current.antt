@@ -1,5 +1,5 @@
 -- What an execution is based on, as calls returned it, over any folder.
-use Rattle.std.specs.Prelude.{ℕ, ◌≡◌, false, List, map, Option, Some}
+use Rattle.std.specs.Prelude.{ℕ, ◌≡◌, Bool, true, false, List, map, Option, Some}
 use Rattle.gb_action.specs.Files.{Trees}
 use Rattle.gb_action.specs.declared.output.OutputFiles.{OutputFiles}
 use Rattle.gb_folder.specs.Calls.{Call}
@@ -61,6 +61,11 @@ WasPreparedSince failures may_leave allowed since old new options task last
     (prepared.Decided decisions.UpToDate basis observed)
 WasPreparedSince failures may_leave allowed since old new options task last found =
     WasPrepared failures may_leave allowed old new options task last found
+
+-- it was found that the task is up to date
+abbrev pub is_current : Prepared → Bool
+is_current (prepared.Decided decisions.UpToDate basis observed) = true
+is_current found = false
 
 -- what is decided is based on what calls returned, and so are reports
 abbrev pub WasSettled : {F : Type 0} → (F → ℕ) → (F → Tearing) → (F → Call → F → Type 0) → F → F → F → Options

@@ -1,5 +1,5 @@
 //! The part of a task's execution that is decided before anything is changed.
-ghost use Rattle.std.specs.Prelude.{◌≡◌, ◌||◌, ◌++◌, List, false, IsTrue, option_copied};
+ghost use Rattle.std.specs.Prelude.{◌≡◌, false, IsTrue, option_copied};
 ghost use Rattle.std.specs.List.{list_any};
 ghost use Rattle.gb_folder.specs.Calls.{Requests, no_change};
 ghost use Rattle.gb_folder.specs.Files.{is_empty, is_own};
@@ -9,7 +9,7 @@ ghost use Rattle.gb_meaning.specs.Label.{Moment, some_outcome};
 ghost use Rattle.gb_meaning.specs.TrueRecord.{outside};
 ghost use Rattle.gb_plan.specs.Graph.{Plan, needs_in};
 ghost use Rattle.gb_report.specs.Outcome.{is_executed};
-ghost use Rattle.gb_tree.specs.Seen.{AreSeen, AreSeenIn, SeenFile};
+ghost use Rattle.gb_tree.specs.Seen.{AreAmong, AreSeen, AreSeenIn};
 ghost use Rattle.gb_task.specs.Case.{IsKnown};
 ghost use Rattle.gb_task.specs.Current.{WasSettled};
 ghost use Rattle.gb_task.specs.Seen.{Remembers, seen_by};
@@ -23,6 +23,7 @@ use crate::case_laws::{
     idle_executions_are_executions, outside_is_enough, prepared_is_case, runs_are_of_case,
 };
 use gb_core::path::TaskPath;
+use gb_core::place::Place;
 use gb_core::text::Texts;
 use gb_folder::folder::Folder;
 use gb_history::decide::Decision;
@@ -49,8 +50,8 @@ pub enum Settled {
 /// Nothing is changed. `last` is the record that was read of the task, and `has_executed_need` says
 /// whether a task that it needs was executed in this build. `path` is a copy of the task's path,
 /// made in advance: it is moved into the report, so that a report allocates nothing. `seen` gets the
-/// outputs of a task that is up to date. It is emptied where a change may follow, or where the
-/// report is of one.
+/// files at the places of `next`, which are read ahead, and the outputs of a task that is up to
+/// date. It is emptied where a change may follow, or where the report is of one.
 pub fn settle<F: Folder>(
     alloc: Global,
     folder: &mut F,
@@ -59,6 +60,7 @@ pub fn settle<F: Folder>(
     options: Options,
     last: Option<&Record>,
     has_executed_need: bool,
+    next: &[Place],
     seen: &mut Seen,
 ) -> Settled
     requires in_order { HasNamesInOrder task.now }
@@ -97,7 +99,7 @@ pub fn settle<F: Folder>(
     prepared_is_case();
     idle_executions_are_executions();
     runs_are_of_case();
-    let prepared = prepare_by_seen(alloc, folder, task, options, last, seen);
+    let prepared = prepare_by_seen(alloc, folder, task, options, last, next, seen);
     settled_by(alloc, task, path, prepared, has_executed_need, seen)
 }
 
@@ -111,8 +113,7 @@ fn settled_by(
     seen: &mut Seen,
 ) -> Settled
     ensures settled { result ≡ settled_as task.now path prepared has_executed_need }
-    ensures seen { (forgotten : List SeenFile)
-        × (forgotten ++ seen.new ≡ seen_by prepared has_executed_need seen.old) }
+    ensures seen { AreAmong seen.new (seen_by prepared has_executed_need seen.old) }
 {
     match prepared {
         Ok(Prepared::Skips) => reported(alloc, task, path, Outcome::Skipped),

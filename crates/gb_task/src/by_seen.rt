@@ -1,10 +1,11 @@
 //! Whether a task is up to date by files that were seen, or else by what is read of it now.
 //!
 //! In a build where nothing is out of date a file between two tasks would be read twice: as output
-//! and as input. So a task is first compared with its record by the digests of files that were read
+//! and as input. And a task of few files has no four to digest at a time. So files of later tasks are
+//! read ahead, and a task is first compared with its record by the digests of files that were read
 //! since the last change. Only that it is up to date is concluded from this. Otherwise all of it is
 //! read now, and its execution goes by that alone.
-ghost use Rattle.std.specs.Prelude.{◌≡◌, ◌||◌, true, false, IsTrue, option_copied};
+ghost use Rattle.std.specs.Prelude.{◌≡◌, ◌||◌, true, false, IsTrue, Ok, option_copied};
 ghost use Rattle.std.specs.Prelude.{IfOk, IfSome, IfErr, OnErr};
 ghost use Rattle.gb_folder.specs.Calls.{Requests, no_change};
 ghost use Rattle.gb_folder.specs.Files.{is_empty};
@@ -15,8 +16,9 @@ ghost use Rattle.gb_label.specs.Reading.{is_input_of};
 ghost use Rattle.gb_plan.specs.Task.{is_output_of};
 ghost use Rattle.gb_store.specs.Faults.{Blames, BlamesOnly};
 ghost use Rattle.gb_tree.specs.Seen.{AreSeen, AreSeenIn};
-ghost use Rattle.gb_task.specs.Current.{WasPreparedSince};
+ghost use Rattle.gb_task.specs.Current.{WasPreparedSince, is_current};
 
+use gb_core::place::Place;
 use gb_folder::folder::Folder;
 use gb_history::decide::Decision;
 use gb_history::record::Record;
@@ -24,19 +26,21 @@ use gb_label::prepare::{Prepared, prepare};
 use gb_plan::task::TaskDeclaration;
 use gb_report::fault::Fault;
 use gb_report::report::Options;
+use gb_tree::ahead::read_ahead;
 use gb_tree::seen::Seen;
 use std::alloc::Global;
 
 /// What the execution of a started task is prepared for: that the task is up to date, where it is
-/// so by files that were seen; or else what is found by reading all of it. Nothing is changed, even
-/// if it fails.
+/// so by files that were seen; or else what is found by reading all of it. The files at the places
+/// of `next` are read ahead first. Nothing is changed, even if it fails.
 pub(crate) fn prepare_by_seen<F: Folder>(
     alloc: Global,
     folder: &mut F,
     task: &TaskDeclaration,
     options: Options,
     last: Option<&Record>,
-    seen: &Seen,
+    next: &[Place],
+    seen: &mut Seen,
 ) -> Result<Prepared, Fault>
     requires in_order { HasNamesInOrder task.now }
     ensures requests { Requests F.failures F.may_leave F.allowed no_change folder.old folder.new }
@@ -48,17 +52,24 @@ pub(crate) fn prepare_by_seen<F: Folder>(
     ensures read { IfOk result (IsRead task.now) }
     // Over any folder: only what is up to date was found so on what calls returned before.
     ensures answered { (since : _) → Requests F.failures F.may_leave F.allowed no_change since folder.old
-        → AreSeen F.failures F.may_leave F.allowed since folder.old seen.now
+        → AreSeen F.failures F.may_leave F.allowed since folder.old seen.old
         → IfOk result (WasPreparedSince F.failures F.may_leave F.allowed since folder.old folder.new options
         task.now (option_copied last.entry)) }
+    // What is remembered was read since the last change.
+    ensures seen { (since : _) → Requests F.failures F.may_leave F.allowed no_change since folder.old
+        → AreSeen F.failures F.may_leave F.allowed since folder.old seen.old
+        → AreSeen F.failures F.may_leave F.allowed since folder.new seen.new }
     ensures same { IsTrue F.faithful → F.contents folder.new ≡ F.contents folder.old }
-    ensures prepared { IsTrue F.faithful → AreSeenIn (F.contents folder.old).files seen.now
+    ensures prepared { IsTrue F.faithful → AreSeenIn (F.contents folder.old).files seen.old
         → IfOk result (IsPrepared options task.now (F.contents folder.old) (option_copied last.entry)) }
-    ensures observed { IsTrue F.faithful → AreSeenIn (F.contents folder.old).files seen.now
+    ensures observed { IsTrue F.faithful → AreSeenIn (F.contents folder.old).files seen.old
         → IfOk result (IsObserved task.now (F.contents folder.old).files) }
+    ensures seen_in { IsTrue F.faithful → AreSeenIn (F.contents folder.old).files seen.old
+        → AreSeenIn (F.contents folder.old).files seen.new }
     ensures err { IsTrue F.faithful → IfErr result
         (IsHindered task.now (F.contents folder.old) (F.failures folder.old) (F.failures folder.new)) }
 {
+    read_ahead(alloc, folder, next, seen);
     if let Some(current) = current_by_seen(alloc, folder, task, options, last, seen) {
         return Ok(current);
     }
@@ -91,21 +102,58 @@ fn current_by_seen<F: Folder>(
     ensures observed { IsTrue F.faithful → AreSeenIn (F.contents folder.old).files seen.now
         → IfSome result (IsObserved task.now (F.contents folder.old).files) }
 {
-    if last.is_none() || options.rerun || !reads_seen(task, seen) {
+    if last.is_none() || options.rerun || !was_seen(task, seen) {
         return None;
     }
-    match prepare(alloc, folder, task, options, last, seen, false) {
-        Ok(Prepared::Decided(Decision::UpToDate, basis, observed)) => {
-            Some(Prepared::Decided(Decision::UpToDate, basis, observed))
+    let found = prepare(alloc, folder, task, options, last, seen, false);
+    if_current(found)
+}
+
+/// What was found, if it is that the task is up to date.
+fn if_current(found: Result<Prepared, Fault>) -> Option<Prepared>
+    ensures { IfSome result (λ current. (found ≡ Ok current) × IsTrue (is_current current)) }
+{
+    match found {
+        Ok(prepared) => current_alone(prepared),
+        Err(fault) => {
+            drop(fault);
+            None
         }
-        _ => None,
     }
 }
 
-/// Whether an input of the task may have been seen. It is a guess, and only speed depends on it.
-fn reads_seen(task: &TaskDeclaration, seen: &Seen) -> bool {
-    task.files
+/// The same of what was prepared.
+fn current_alone(prepared: Prepared) -> Option<Prepared>
+    ensures { IfSome result (λ current. (current ≡ prepared) × IsTrue (is_current prepared)) }
+{
+    if is_current(&prepared) {
+        Some(prepared)
+    } else {
+        drop(prepared);
+        None
+    }
+}
+
+/// Whether it was found that the task is up to date.
+fn is_current(prepared: &Prepared) -> bool
+    ensures { result ≡ is_current prepared.now }
+{
+    match prepared {
+        Prepared::Decided(Decision::UpToDate, _, _) => true,
+        _ => false,
+    }
+}
+
+/// Whether an input or an output of the task may have been seen. It is a guess, and only speed
+/// depends on it.
+fn was_seen(task: &TaskDeclaration, seen: &Seen) -> bool {
+    task.outputs
         .as_slice()
         .iter()
-        .any(|property| seen.serves(property.roots.as_slice()))
+        .any(|output| seen.serves(&output.place))
+        || task.files.as_slice().iter().any(|property| property
+            .roots
+            .as_slice()
+            .iter()
+            .any(|root| seen.serves(root)))
 }

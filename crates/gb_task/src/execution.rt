@@ -39,6 +39,7 @@ use crate::sourceless::execute_without_source;
 use gb_action::actions::Actions;
 use gb_action::table::ActionTable;
 use gb_core::path::TaskPath;
+use gb_core::place::Place;
 use gb_folder::folder::Folder;
 use gb_history::decide::Decision;
 use gb_history::record::Record;
@@ -52,9 +53,9 @@ use std::alloc::Global;
 
 /// Executes a started task. `last` is the record that was read of it, and `has_executed_need` says
 /// whether a task that it needs was executed in this build. `path` is a copy of the task's path,
-/// made in advance: it is moved into the report, so that a report allocates nothing. A file that was
-/// seen is not read again to find that the task is up to date; whatever runs reads all that it works
-/// on.
+/// made in advance: it is moved into the report, so that a report allocates nothing. The files at
+/// the places of `next`, of this task and of later ones, are read ahead. A file that was seen is not
+/// read again to find that the task is up to date; whatever runs reads all that it works on.
 pub fn execute_task<A: Actions, F: Folder>(
     alloc: Global,
     folder: &mut F,
@@ -64,6 +65,7 @@ pub fn execute_task<A: Actions, F: Folder>(
     options: Options,
     last: Option<&Record>,
     has_executed_need: bool,
+    next: &[Place],
     seen: &mut Seen,
 ) -> TaskReport
     requires buildable { IsBuildable A.meanings table.now task.now }
@@ -120,6 +122,7 @@ pub fn execute_task<A: Actions, F: Folder>(
         options,
         last,
         has_executed_need,
+        next,
         seen,
     ) {
         Settled::Reported(report) => report,

@@ -1,31 +1,29 @@
 -- What is remembered of files that were read, and what holds of it later.
-use Rattle.std.proofs.Common.{arith, ◌≡◌, ◌<◌, ◌+◌, ◌++◌, ℕ, zero, suc, List, [], ◌∷◌, None, append_assoc, get_or, inl, length, refl, sym, ap, subst, take, ◌∙◌}
-use Rattle.std.proofs.lemmas.List.{flat_map_more, map-append, take_more}
-use Rattle.std.proofs.lemmas.List.Elements.{Contains-append_left, Contains-append_right}
+use Rattle.std.proofs.Common.{arith, ◌≡◌, ◌<◌, ◌+◌, ◌++◌, ℕ, zero, suc, List, [], ◌∷◌, None, get_or, inl, inr, length, refl, sym, ap, subst, take, ◌∙◌}
+use Rattle.std.proofs.lemmas.List.{append-nil, flat_map_more, map-append, take_more}
+use Rattle.std.proofs.lemmas.List.Elements.{Contains-append_cases, Contains-append_left, Contains-append_right}
 use Rattle.std.specs.List.{AllByRecursion, Contains, flat_map}
 use Rattle.gb_folder.proofs.Answering.{read_longer}
 use Rattle.gb_folder.specs.Calls.{Requests, Call, no_change}
 use Rattle.gb_folder.specs.Files.{Contents, Files, Place, Tearing}
 use Rattle.gb_tree.specs.Answered.{WasObserved, WereObserved}
 use Rattle.gb_tree.specs.Reading.{IsObservedIn}
-use Rattle.gb_tree.specs.Seen.{AreSeen, AreSeenIn, IsSeenIn, SeenFile, WasSeen, places_read, seen_in}
+use Rattle.gb_tree.specs.Seen.{AreAmong, AreSeen, AreSeenIn, IsSeenIn, SeenFile, WasSeen, places_read, seen_in}
 use Rattle.gb_tree.specs.declared.kept.ScannedFile.{ScannedFile}
 use Rattle.gb_tree.proofs.Holding.{all_append}
 use Rattle.gb_tree.proofs.Observed.{all_at}
 
--- what holds of all holds of the last ones
-pub all_after : {X : Type 0} (P : X → Type 0) (xs ys : List X) → AllByRecursion P (xs ++ ys) → AllByRecursion P ys
-all_after P [] ys all = all
-all_after P (x ∷ xs) ys all = all_after P xs ys all.1
-
--- what holds of the old and of the new holds of what is remembered
-pub all_remembered : {X : Type 0} (P : X → Type 0) (forgotten now old more : List X) → forgotten ++ now ≡ old ++ more → AllByRecursion P old → AllByRecursion P more → AllByRecursion P now
-all_remembered {X} P forgotten now old more same before new =
-    all_after P forgotten now (subst (λ (xs : List X). AllByRecursion P xs) (sym same) (all_append P old more before new))
-
 -- what holds of all holds of one of them
 pub all_contained : {X : Type 0} (P : X → Type 0) (xs : List X) (x : X) → Contains xs x → AllByRecursion P xs → P x
 all_contained P xs x among all = all_at P xs among.0 x among.1 (sym among.2) all
+
+-- what holds of all of those holds of each file that is among them
+pub all_among : (P : SeenFile → Type 0) (files those : List SeenFile) → AreAmong files those → AllByRecursion P those → AllByRecursion P files
+all_among P [] those among all = tt
+all_among P (file ∷ files) those among all = (
+  all_contained P those file (among file (Contains-append_left (file ∷ []) files file (0, omega arith, refl))) all,
+  all_among P files those (λ other there. among other (Contains-append_right (file ∷ []) files other there)) all,
+)
 
 -- what holds of each file of each reading
 pub all_seen : (P : SeenFile → Type 0) (Q : ScannedFile → Type 0) → ((file : ScannedFile) → Q file → P (file.place, file.digest)) → (readings : List (List ℕ × List ScannedFile))
@@ -45,18 +43,40 @@ places_more files i x within is =
     sym (map-append (λ (file : ScannedFile). let seen : SeenFile = (file.place, file.digest) in seen) (take i files) (x ∷ []))
     ∙ ap (λ y. places_read (take i files ++ y ∷ [])) is ∙ sym (ap places_read (take_more files i x within))
 
--- what is forgotten now comes after what was forgotten before
-pub more_remembered : {X : Type 0} (first middle old second now more : List X) → first ++ middle ≡ old → second ++ now ≡ middle ++ more → (first ++ second) ++ now ≡ old ++ more
-more_remembered first middle old second now more before then =
-    append_assoc first second now ∙ ap (λ files. first ++ files) then ∙ sym (append_assoc first middle more) ∙ ap (λ files. files ++ more) before
+-- no files are among any
+pub none_among : (seen those : List SeenFile) → seen ≡ [] → AreAmong seen those
+none_among seen those none = subst (λ (files : List SeenFile). AreAmong files those) (sym none) (λ file there. absurd (omega (arith, there.1)))
 
--- one reading more
-pub reading_more : (old first middle second now : List SeenFile) (readings : List (List ℕ × List ScannedFile)) (i : ℕ) (x : List ℕ × List ScannedFile) → i < length readings → x ≡ get_or readings i x
-    → first ++ middle ≡ old ++ seen_in (take i readings) → second ++ now ≡ middle ++ places_read x.1 → (first ++ second) ++ now ≡ old ++ seen_in (take (i + 1) readings)
-reading_more old first middle second now readings i x within is before then =
-    more_remembered first middle (old ++ seen_in (take i readings)) second now (places_read x.1) before then
-    ∙ flat_map_more (λ (reading : List ℕ × List ScannedFile). places_read reading.1) old (take i readings) x
+-- what was not forgotten at the end is among what there was
+pub among_first : (seen forgotten old : List SeenFile) → seen ++ forgotten ≡ old → AreAmong seen old
+among_first seen forgotten old same = λ file there. subst (λ (files : List SeenFile). Contains files file) same (Contains-append_left seen forgotten file there)
+
+-- the order does not matter
+pub among_turned : (old more : List SeenFile) → AreAmong (more ++ old) (old ++ more)
+among_turned old more = λ file there. elim (Contains-append_cases more old file there) [
+  | inl later ↦ Contains-append_right old more file later
+  | inr earlier ↦ Contains-append_left old more file earlier
+]
+
+-- what is among the ones is among these and more
+pub among_more : (before old more : List SeenFile) → AreAmong before old → AreAmong (before ++ more) (old ++ more)
+among_more before old more among = λ file there. elim (Contains-append_cases before more file there) [
+  | inl earlier ↦ Contains-append_left old more file (among file earlier)
+  | inr later ↦ Contains-append_right old more file later
+]
+
+-- what is remembered of one reading more
+seen_more : (old : List SeenFile) (readings : List (List ℕ × List ScannedFile)) (i : ℕ) (x : List ℕ × List ScannedFile) → i < length readings → x ≡ get_or readings i x
+    → (old ++ seen_in (take i readings)) ++ places_read x.1 ≡ old ++ seen_in (take (i + 1) readings)
+seen_more old readings i x within is =
+    flat_map_more (λ (reading : List ℕ × List ScannedFile). places_read reading.1) old (take i readings) x
     ∙ ap (λ y. old ++ seen_in (take i readings ++ y ∷ [])) is ∙ sym (ap (λ rs. old ++ seen_in rs) (take_more readings i x within))
+
+pub reading_more : (old middle now : List SeenFile) (readings : List (List ℕ × List ScannedFile)) (i : ℕ) (x : List ℕ × List ScannedFile) → i < length readings → x ≡ get_or readings i x
+    → AreAmong middle (old ++ seen_in (take i readings)) → AreAmong now (middle ++ places_read x.1) → AreAmong now (old ++ seen_in (take (i + 1) readings))
+reading_more old middle now readings i x within is before then =
+    subst (λ (those : List SeenFile). AreAmong now those) (seen_more old readings i x within is)
+    (λ file there. among_more middle (old ++ seen_in (take i readings)) (places_read x.1) before file (then file there))
 
 -- what is among those of one reading is remembered
 pub contained_in : {A X : Type 0} (f : A → List X) (ys : List A) (i : ℕ) (y : A) (x : X) → i < length ys → y ≡ get_or ys i y → Contains (f y) x → Contains (flat_map f ys) x
@@ -71,12 +91,18 @@ pub none_seen : {F : Type 0} (failures : F → ℕ) (may_leave : F → Tearing) 
 none_seen failures may_leave allowed since now seen none = subst (λ (files : List SeenFile). AreSeen failures may_leave allowed since now files) (sym none) tt
 
 -- what was seen before, and what was read
-pub seen_remembered : {F : Type 0} (failures : F → ℕ) (may_leave : F → Tearing) (allowed : F → Call → F → Type 0) (since now : F) (forgotten seen old : List SeenFile) (readings : List (List ℕ × List ScannedFile)) → forgotten ++ seen ≡ old ++ seen_in readings
+pub seen_remembered : {F : Type 0} (failures : F → ℕ) (may_leave : F → Tearing) (allowed : F → Call → F → Type 0) (since now : F) (seen old : List SeenFile) (readings : List (List ℕ × List ScannedFile)) → AreAmong seen (old ++ seen_in readings)
     → AreSeen failures may_leave allowed since now old → AllByRecursion (λ reading. WereObserved failures may_leave allowed since now reading.1) readings
     → AreSeen failures may_leave allowed since now seen
-seen_remembered failures may_leave allowed since now forgotten seen old readings same before were =
-    all_remembered (WasSeen failures may_leave allowed since now) forgotten seen old (seen_in readings) same before
-    (all_seen (WasSeen failures may_leave allowed since now) (WasObserved failures may_leave allowed since now) (λ file was. (was.0, was.1, was.2)) readings were)
+seen_remembered failures may_leave allowed since now seen old readings among before were =
+    all_among (WasSeen failures may_leave allowed since now) seen (old ++ seen_in readings) among (all_append (WasSeen failures may_leave allowed since now) old (seen_in readings) before
+    (all_seen (WasSeen failures may_leave allowed since now) (WasObserved failures may_leave allowed since now) (λ file was. (was.0, was.1, was.2)) readings were))
+
+-- the same of the files of one reading
+pub files_remembered : {F : Type 0} (failures : F → ℕ) (may_leave : F → Tearing) (allowed : F → Call → F → Type 0) (since now : F) (seen old : List SeenFile) (files : List ScannedFile) → AreAmong seen (old ++ places_read files)
+    → AreSeen failures may_leave allowed since now old → WereObserved failures may_leave allowed since now files → AreSeen failures may_leave allowed since now seen
+files_remembered failures may_leave allowed since now seen old files among before were =
+    seen_remembered failures may_leave allowed since now seen old (([], files) ∷ []) (subst (λ (more : List SeenFile). AreAmong seen (old ++ more)) (sym (append-nil (places_read files))) among) before (were, tt)
 
 -- a file with a digest that was seen
 pub seen_observed : {F : Type 0} (failures : F → ℕ) (may_leave : F → Tearing) (allowed : F → Call → F → Type 0) (since now : F) (seen : List SeenFile) (path : List ℕ) (place : Place) (digest : List ℕ) → Contains seen (place, digest)
@@ -105,11 +131,17 @@ seen_observed_in files seen path place digest among all =
 pub none_seen_in : (files : Files) (seen : List SeenFile) → seen ≡ [] → AreSeenIn files seen
 none_seen_in files seen none = subst (λ (those : List SeenFile). AreSeenIn files those) (sym none) tt
 
-pub seen_in_remembered : (files : Files) (forgotten seen old : List SeenFile) (readings : List (List ℕ × List ScannedFile)) → forgotten ++ seen ≡ old ++ seen_in readings
+pub seen_in_remembered : (files : Files) (seen old : List SeenFile) (readings : List (List ℕ × List ScannedFile)) → AreAmong seen (old ++ seen_in readings)
     → AreSeenIn files old → AllByRecursion (λ reading. AllByRecursion (IsObservedIn files) reading.1) readings → AreSeenIn files seen
-seen_in_remembered files forgotten seen old readings same before are =
-    all_remembered (IsSeenIn files) forgotten seen old (seen_in readings) same before
-    (all_seen (IsSeenIn files) (IsObservedIn files) (λ file is. record { exists = is.exists; small = is.small; digested = is.digested }) readings are)
+seen_in_remembered files seen old readings among before are =
+    all_among (IsSeenIn files) seen (old ++ seen_in readings) among (all_append (IsSeenIn files) old (seen_in readings) before
+    (all_seen (IsSeenIn files) (IsObservedIn files) (λ file is. record { exists = is.exists; small = is.small; digested = is.digested }) readings are))
+
+-- the same of the files of one reading
+pub files_in_remembered : (files : Files) (seen old : List SeenFile) (read : List ScannedFile) → AreAmong seen (old ++ places_read read)
+    → AreSeenIn files old → AllByRecursion (IsObservedIn files) read → AreSeenIn files seen
+files_in_remembered files seen old read among before are =
+    seen_in_remembered files seen old (([], read) ∷ []) (subst (λ (more : List SeenFile). AreAmong seen (old ++ more)) (sym (append-nil (places_read read))) among) before (are, tt)
 
 -- it is known as long as the contents stay the same
 pub known_still : (old now : Contents) (seen : List SeenFile) → now ≡ old → AreSeenIn old.files seen → AreSeenIn now.files seen

@@ -1,6 +1,6 @@
 -- The digests of files that were read earlier, by their places.
 use Rattle.std.specs.Prelude.{ℕ, ◌≡◌, false, List, map, IsSome}
-use Rattle.std.specs.List.{AllByRecursion, flat_map}
+use Rattle.std.specs.List.{AllByRecursion, Contains, flat_map}
 use Rattle.sha2.specs.Sha256.{sha256}
 use Rattle.gb_folder.specs.Answers.{WereRead}
 use Rattle.gb_folder.specs.Calls.{Call}
@@ -19,6 +19,10 @@ places_read files = map (λ file. (file.place, file.digest)) files
 -- what is remembered of readings, in their order
 abbrev pub seen_in : List (List ℕ × List ScannedFile) → List SeenFile
 seen_in readings = flat_map (λ reading. places_read reading.1) readings
+
+-- each of these files is one of those
+abbrev pub AreAmong : List SeenFile → List SeenFile → Type 0
+AreAmong files those = (file : SeenFile) → Contains files file → Contains those file
 
 -- a call returned the bytes of the file, and the digest is theirs
 abbrev pub WasSeen : {F : Type 0} → (F → ℕ) → (F → Tearing) → (F → Call → F → Type 0) → F → F → SeenFile

@@ -13,8 +13,9 @@
 //! files once, take their digests, and keep the bytes where there is room for them. From such a
 //! [`Reading`](kept::Reading) a run gets the contents by [`completed`](kept::Reading::completed),
 //! with the digests of these very contents.
-//! [`Seen`](seen::Seen) remembers the digests of readings, and `reading_of` reads no file whose
-//! digest it remembers.
+//! [`Seen`](seen::Seen) remembers the digests of readings, and neither of the two reads a file whose
+//! digest it remembers. [`read_ahead`](ahead::read_ahead) reads files for that before it is their
+//! turn.
 //!
 //! The digests of such files are remembered: [`prints`](digest::prints) takes them from contents,
 //! [`prints_of`](property::prints_of) and [`output_prints`](output::output_prints) from the folder,
@@ -39,6 +40,7 @@
 //! whole tree, which could not show which file changed.
 #![tactic(auto)]
 
+pub mod ahead;
 pub mod changes;
 mod completing;
 pub mod digest;

@@ -12,6 +12,7 @@ ghost use Rattle.gb_tree.specs.Tree.{output_entries, output_faults, output_listi
 ghost use Rattle.gb_tree.specs.Prints.{digests_of};
 ghost use Rattle.gb_tree.specs.Answered.{AreOutputEntriesListed, WereObserved};
 ghost use Rattle.gb_tree.specs.Reading.{AreObserved, digests_observed, entries_observed};
+ghost use Rattle.gb_tree.specs.Seen.{AreSeen, AreSeenIn};
 
 use crate::fault::{TreeFault, is_gone};
 use crate::kept::Reading;
@@ -80,14 +81,16 @@ pub fn output_prints<F: Folder>(
     Ok(Prints::new(name.copy()?, digests))
 }
 
-/// The files that [`outputs`] returns, each read once, with the same faults. Their bytes are kept
-/// where `room` is left for them; kept bytes reduce `room`. If a listed file is gone when it is
-/// read, all are listed and read once more, and only then 11.
+/// The files that [`outputs`] returns, each read once, with the same faults. A file that was seen is
+/// not read: it has the digest that is remembered of it. Of the others the bytes are kept where
+/// `room` is left for them; kept bytes reduce `room`. If a listed file is gone when it is read, all
+/// are listed and read once more, and only then 11.
 pub fn output_reading<F: Folder>(
     alloc: Global,
     folder: &mut F,
     name: &Name,
     place: &Place,
+    seen: &Seen,
     room: &mut u64,
 ) -> Result<Reading, TreeFault>
     ensures requests { Requests F.failures F.may_leave F.allowed no_change folder.old folder.new }
@@ -97,30 +100,37 @@ pub fn output_reading<F: Folder>(
     ensures named { IfOk result (λ reading. reading.0 ≡ name.now) }
     ensures under { IfOk result
         (λ reading. AllByRecursion (λ observed. IsTrue (is_under observed.place place.now)) reading.1) }
-    // Over any folder: the files are those that calls returned, and so are the digests and the
-    // bytes.
+    // Over any folder: the files are those that calls returned. If the seen digests are of bytes
+    // read since a state `first`, with no change requested from there on, then so is each digest
+    // here, and no other bytes are kept.
     ensures listed { IfOk result (λ reading. AreOutputEntriesListed F.failures F.may_leave F.allowed
         folder.old folder.new place.now (entries_observed reading.1)) }
-    ensures answered { IfOk result
-        (λ reading. WereObserved F.failures F.may_leave F.allowed folder.old folder.new reading.1) }
-    ensures digests { IsTrue F.faithful → IfOk result (λ reading.
+    ensures answered { (first : _) → Requests F.failures F.may_leave F.allowed no_change first folder.old
+        → AreSeen F.failures F.may_leave F.allowed first folder.old seen.now
+        → IfOk result
+        (λ reading. WereObserved F.failures F.may_leave F.allowed first folder.new reading.1) }
+    // Where contents are known and the seen digests are those of the files there:
+    ensures digests { IsTrue F.faithful → AreSeenIn (F.contents folder.old).files seen.now
+        → IfOk result (λ reading.
         digests_observed reading.1 ≡ digests_of (files_from (F.contents folder.old).files place.now)) }
-    ensures observed { IsTrue F.faithful → IfOk result (λ reading. AreObserved (F.contents folder.old).files
+    ensures observed { IsTrue F.faithful → AreSeenIn (F.contents folder.old).files seen.now
+        → IfOk result (λ reading. AreObserved (F.contents folder.old).files
         (output_entries (F.contents folder.old).files place.now) reading.1) }
-    ensures fit { IsTrue F.faithful → OnOk result
+    ensures fit { IsTrue F.faithful → AreSeenIn (F.contents folder.old).files seen.now → OnOk result
         (output_faults name.now place.now (F.contents folder.old) ≡ []) }
-    ensures err { IsTrue F.faithful → IfErr result (λ fault.
+    ensures err { IsTrue F.faithful → AreSeenIn (F.contents folder.old).files seen.now
+        → IfErr result (λ fault.
         IsRefused (F.failures folder.old) (F.failures folder.new)
         (output_faults name.now place.now (F.contents folder.old)) fault) }
 {
     let free = *room;
-    let first = read_output_once(alloc, folder, name, place, room);
+    let first = read_output_once(alloc, folder, name, place, seen, room);
     if !is_gone(&first) {
         return first;
     }
     drop(first);
     *room = free;
-    read_output_once(alloc, folder, name, place, room)
+    read_output_once(alloc, folder, name, place, seen, room)
 }
 
 /// The files as one listing has them.
@@ -129,6 +139,7 @@ fn read_output_once<F: Folder>(
     folder: &mut F,
     name: &Name,
     place: &Place,
+    seen: &Seen,
     room: &mut u64,
 ) -> Result<Reading, TreeFault>
     ensures requests { Requests F.failures F.may_leave F.allowed no_change folder.old folder.new }
@@ -138,25 +149,31 @@ fn read_output_once<F: Folder>(
     ensures named { IfOk result (λ reading. reading.0 ≡ name.now) }
     ensures under { IfOk result
         (λ reading. AllByRecursion (λ observed. IsTrue (is_under observed.place place.now)) reading.1) }
-    // Over any folder: the files are those that calls returned, and so are the digests and the
-    // bytes.
+    // Over any folder: the files are those that calls returned. If the seen digests are of bytes
+    // read since a state `first`, with no change requested from there on, then so is each digest
+    // here, and no other bytes are kept.
     ensures listed { IfOk result (λ reading. AreOutputEntriesListed F.failures F.may_leave F.allowed
         folder.old folder.new place.now (entries_observed reading.1)) }
-    ensures answered { IfOk result
-        (λ reading. WereObserved F.failures F.may_leave F.allowed folder.old folder.new reading.1) }
-    ensures digests { IsTrue F.faithful → IfOk result (λ reading.
+    ensures answered { (first : _) → Requests F.failures F.may_leave F.allowed no_change first folder.old
+        → AreSeen F.failures F.may_leave F.allowed first folder.old seen.now
+        → IfOk result
+        (λ reading. WereObserved F.failures F.may_leave F.allowed first folder.new reading.1) }
+    // Where contents are known and the seen digests are those of the files there:
+    ensures digests { IsTrue F.faithful → AreSeenIn (F.contents folder.old).files seen.now
+        → IfOk result (λ reading.
         digests_observed reading.1 ≡ digests_of (files_from (F.contents folder.old).files place.now)) }
-    ensures observed { IsTrue F.faithful → IfOk result (λ reading. AreObserved (F.contents folder.old).files
+    ensures observed { IsTrue F.faithful → AreSeenIn (F.contents folder.old).files seen.now
+        → IfOk result (λ reading. AreObserved (F.contents folder.old).files
         (output_entries (F.contents folder.old).files place.now) reading.1) }
-    ensures fit { IsTrue F.faithful → OnOk result
+    ensures fit { IsTrue F.faithful → AreSeenIn (F.contents folder.old).files seen.now → OnOk result
         (output_faults name.now place.now (F.contents folder.old) ≡ []) }
-    ensures err { IsTrue F.faithful → IfErr result (λ fault.
+    ensures err { IsTrue F.faithful → AreSeenIn (F.contents folder.old).files seen.now
+        → IfErr result (λ fault.
         IsRefused (F.failures folder.old) (F.failures folder.new)
         (output_faults name.now place.now (F.contents folder.old)) fault) }
 {
     let entries = entries_at(alloc, folder, name, place)?;
-    let seen = Seen::new(alloc);
-    let observed = scan_all(alloc, folder, entries.as_slice(), &seen, room)?;
+    let observed = scan_all(alloc, folder, entries.as_slice(), seen, room)?;
     Ok(Reading::new(name.copy()?, observed))
 }
 

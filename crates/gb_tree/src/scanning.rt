@@ -100,7 +100,7 @@ fn scan_bytes<F: Folder>(
 }
 
 /// One file as it is read.
-fn scan_file<F: Folder>(
+pub(crate) fn scan_file<F: Folder>(
     alloc: Global,
     folder: &mut F,
     path: &RelPath,

@@ -1,7 +1,7 @@
 //! The digests of files that were read since the last change that the build asked for.
-ghost use Rattle.std.specs.Prelude.{◌≡◌, ◌++◌, List, ℕ, [], IfOk, IfSome, OnOk};
+ghost use Rattle.std.specs.Prelude.{◌≡◌, ◌++◌, List, [], IfOk, IfSome};
 ghost use Rattle.std.specs.List.{Contains};
-ghost use Rattle.gb_tree.specs.Seen.{SeenFile, places_read, seen_in};
+ghost use Rattle.gb_tree.specs.Seen.{AreAmong, SeenFile, places_read, seen_in};
 
 use crate::kept::{Reading, ScannedFile};
 use gb_core::place::Place;
@@ -9,12 +9,13 @@ use std::alloc::{AllocError, Global};
 use std::marker::Model;
 
 /// Of so many readings the digests are kept.
-const READINGS: usize = 16;
+const READINGS: usize = 8;
 
 /// The digests of files that were read since the last change that the build asked for.
 #[derive(Drop)]
 pub struct Seen {
-    /// Those of one reading are in its order, which for an output is that of the places.
+    /// Those of one reading are in its order, which for an output is that of the places. The last
+    /// reading comes first.
     readings: Vec<Vec<(Place, [u8; 32])>>,
 }
 
@@ -46,19 +47,27 @@ impl Seen {
     }
 
     /// Remembers the files of these readings too, without the bytes that are kept of them. Of more
-    /// than 16 readings the oldest are forgotten, and where memory lacks, all that were remembered.
+    /// than 8 readings the oldest are forgotten, and where memory lacks, all that were remembered.
     pub fn remember(&mut self, alloc: Global, readings: Vec<Reading>)
-        ensures { (forgotten : List SeenFile) × (forgotten ++ self.new ≡ self.old ++ seen_in readings.items) }
+        ensures { AreAmong self.new (self.old ++ seen_in readings.items) }
     {
         for reading in readings {
-            self.add(alloc, reading.into_files());
+            self.add_new(alloc, reading.into_files());
+        }
+    }
+
+    /// Remembers the files of one reading too, unless the first of them is remembered already.
+    fn add_new(&mut self, alloc: Global, files: Vec<ScannedFile>)
+        ensures { AreAmong self.new (self.old ++ places_read files.items) }
+    {
+        if !self.has_first(files.as_slice()) {
+            self.add(alloc, files);
         }
     }
 
     /// Remembers the files of one reading too.
-    fn add(&mut self, alloc: Global, files: Vec<ScannedFile>)
-        ensures { (forgotten : List SeenFile)
-            × (forgotten ++ self.new ≡ self.old ++ places_read files.items) }
+    pub(crate) fn add(&mut self, alloc: Global, files: Vec<ScannedFile>)
+        ensures { AreAmong self.new (self.old ++ places_read files.items) }
     {
         self.drop_oldest();
         match places_read(alloc, files) {
@@ -67,20 +76,27 @@ impl Seen {
         }
     }
 
+    /// Whether the first of these files is remembered.
+    fn has_first(&self, files: &[ScannedFile]) -> bool {
+        files
+            .first()
+            .is_some_and(|file| self.digest_at(&file.place).is_some())
+    }
+
     /// Forgets the oldest reading, where there is room for no other.
     fn drop_oldest(&mut self)
-        ensures { (forgotten : List SeenFile) × (forgotten ++ self.new ≡ self.old) }
+        ensures { (forgotten : List SeenFile) × (self.new ++ forgotten ≡ self.old) }
     {
         if self.readings.len() >= READINGS {
-            self.readings.remove(0);
+            self.readings.pop();
         }
     }
 
     /// Remembers these files too. Where memory lacks, all are forgotten.
     fn push(&mut self, places: Vec<(Place, [u8; 32])>)
-        ensures { (forgotten : List SeenFile) × (forgotten ++ self.new ≡ self.old ++ places.items) }
+        ensures { AreAmong self.new (self.old ++ places.items) }
     {
-        if self.readings.push(places).is_err() {
+        if self.readings.insert(0, places).is_err() {
             self.forget();
         }
     }
@@ -98,13 +114,13 @@ impl Seen {
         None
     }
 
-    /// Whether a file at or under one of these roots may be remembered. It is a guess by the first
-    /// and the last file of each reading, and only speed depends on it. If no file is remembered,
-    /// it is false.
-    pub fn serves(&self, roots: &[Place]) -> bool {
-        self.readings.iter().any(|files| roots
+    /// Whether a file at or under the root is remembered. It is found in a reading that is in the
+    /// order of its places; in another it may be missed, and so it may where places between have
+    /// the root's text as a beginning. Only speed depends on it.
+    pub fn serves(&self, root: &Place) -> bool {
+        self.readings
             .iter()
-            .any(|root| may_lie_at(files.as_slice(), root)))
+            .any(|files| has_at(files.as_slice(), root))
     }
 }
 
@@ -128,11 +144,12 @@ fn may_have(files: &[(Place, [u8; 32])], place: &Place) -> bool {
     }
 }
 
-/// Whether one of these files may be at or under the root.
-fn may_lie_at(files: &[(Place, [u8; 32])], root: &Place) -> bool {
-    may_have(files, root)
-        || files.first().is_some_and(|first| first.0.is_beneath(root))
-        || files.last().is_some_and(|last| last.0.is_beneath(root))
+/// Whether one of these files is at the root, or the next one in their order is beneath it.
+fn has_at(files: &[(Place, [u8; 32])], root: &Place) -> bool {
+    match files.binary_search_by(|file| file.0.cmp(root)) {
+        Ok(_) => true,
+        Err(at) => files.get(at).is_some_and(|file| file.0.is_beneath(root)),
+    }
 }
 
 /// The digest of the file at the place, if it is among these files, which are in the order of their

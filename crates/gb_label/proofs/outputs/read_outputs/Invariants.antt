@@ -2,6 +2,7 @@ use Rattle.std.proofs.Common.{◌≡◌, [], take, map, IsTrue}
 use Rattle.std.specs.List.{AllZip, flat_map}
 use Rattle.gb_folder.specs.Calls.{Requests, no_change}
 use Rattle.gb_plan.specs.Task.{is_output_of}
+use Rattle.gb_tree.specs.Seen.{AreSeen, AreSeenIn}
 use Rattle.gb_label.specs.ReadingAnswered.{IsOutputAnswered}
 use Rattle.gb_label.specs.Reading.{AreWithin, IsOutputObserved, print_faults, prints_read, recorded_of}
 use Rattle.gb_label.proofs.outputs.read_outputs.Given as goal
@@ -16,8 +17,10 @@ invariant-loop-output g l =
       same : IsTrue g.F.Folder.faithful → contents l.folder ≡ old;
       named : map (λ reading. reading.0) l.readings.items ≡ map (λ output. output.name) done;
       within : AreWithin (is_output_of l.task) l.readings.items;
-      answered : AllZip (IsOutputAnswered g.F.Folder.failures g.F.Folder.may_leave g.F.Folder.allowed l.fn.folder l.folder) done l.readings.items;
-      prints : IsTrue g.F.Folder.faithful → prints_read l.readings.items ≡ map (λ output. (recorded_of old.files output).prints) done;
-      observed : IsTrue g.F.Folder.faithful → AllZip (IsOutputObserved old.files) done l.readings.items;
-      fit : IsTrue g.F.Folder.faithful → flat_map (print_faults old) done ≡ [];
+      answered : (first : _) → Requests g.F.Folder.failures g.F.Folder.may_leave g.F.Folder.allowed no_change first l.fn.folder
+          → AreSeen g.F.Folder.failures g.F.Folder.may_leave g.F.Folder.allowed first l.fn.folder l.seen
+          → AllZip (IsOutputAnswered g.F.Folder.failures g.F.Folder.may_leave g.F.Folder.allowed first l.folder) done l.readings.items;
+      prints : IsTrue g.F.Folder.faithful → AreSeenIn old.files l.seen → prints_read l.readings.items ≡ map (λ output. (recorded_of old.files output).prints) done;
+      observed : IsTrue g.F.Folder.faithful → AreSeenIn old.files l.seen → AllZip (IsOutputObserved old.files) done l.readings.items;
+      fit : IsTrue g.F.Folder.faithful → AreSeenIn old.files l.seen → flat_map (print_faults old) done ≡ [];
     }

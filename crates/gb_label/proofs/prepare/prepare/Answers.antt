@@ -5,7 +5,7 @@ use Rattle.gb_label.specs.Reading.{Read}
 use Rattle.gb_label.specs.Answered.{WasDecided, IsEarlyCaseRead}
 use Rattle.gb_label.specs.Looking.{MayBe}
 use Rattle.gb_label.specs.declared.early_outcomes.EarlyCase.{EarlyCase}
-use Rattle.gb_label.proofs.Answering.{decided_longer}
+use Rattle.gb_tree.proofs.Remembering.{seen_longer}
 use Rattle.gb_label.proofs.prepare.prepare.Goals as goal
 
 pub returns-in_ok-found-in-Open-clause-answered : goal.returns-in_ok-found-in-Open-clause-answered
@@ -20,7 +20,7 @@ returns-in_ok-found-in-Open-clause-answered g c = λ first before known.
       (subst (MayBe task) c.in-Open.is c.in_ok-early_case_of.ensures.may_be).2,
       inputs_longer (requests_nothing first) c.decided.ensures.requests task inputs
           (subst (λ (look : EarlyCase). IsEarlyCaseRead F.failures F.may_leave F.allowed first mid task look) c.in-Open.is (c.in_ok-early_case_of.ensures.answered first before known)),
-      decided_longer (requests_then before c.early_case_of.ensures.requests) (requests_nothing new) c.args.options task last inputs found.decision found.outputs.items
-          (subst (λ (observed : List Read). WasDecided F.failures F.may_leave F.allowed mid new c.args.options task last observed found.decision found.outputs.items)
-          c.as_slice-in-Open.ensures.value c.in_ok-found-in-Open.ensures.answered),
+      subst (λ (observed : List Read). WasDecided F.failures F.may_leave F.allowed first new c.args.options task last observed found.decision found.outputs.items)
+          c.as_slice-in-Open.ensures.value
+          (c.in_ok-found-in-Open.ensures.answered first (requests_then before c.early_case_of.ensures.requests) (seen_longer (requests_nothing first) c.early_case_of.ensures.requests c.args.seen.now known)),
     )

@@ -60,16 +60,15 @@ returns-clause-remembers g c =
     let found = c.prepare_by_seen-prepared in
     let start = c.args.folder.now in
     let now = found.new.folder in
-    let kept = c.settled_by.ensures.seen in
     subst (λ (s : Settled). Remembers F.failures F.may_leave F.allowed start now c.args.seen.now c.settled_by.new.seen s) (sym c.settled_by.ensures.settled)
-    (remembers F.failures F.may_leave F.allowed start now c.args.options c.args.task.now (option_copied c.args.last) kept.0 c.settled_by.new.seen c.args.seen.now found.ensures.requests
-    c.args.path c.args.has_executed_need found.result kept.1 found.ensures.answered)
+    (remembers F.failures F.may_leave F.allowed start now c.args.options c.args.task.now (option_copied c.args.last) c.settled_by.new.seen found.new.seen c.args.seen.now found.ensures.seen
+    c.args.path c.args.has_executed_need found.result c.settled_by.ensures.seen found.ensures.answered)
 
 pub returns-clause-seen_in : goal.returns-clause-seen_in
 returns-clause-seen_in g c = λ faithful there.
     let F = g.F.Folder in
     let found = c.prepare_by_seen-prepared in
     let start = c.args.folder.now in
-    let kept = c.settled_by.ensures.seen in
     subst (λ (contents : Contents). AreSeenIn contents.files c.settled_by.new.seen) (sym (found.ensures.same faithful))
-    (remembers_in c.args.task.now (F.contents start).files kept.0 c.settled_by.new.seen c.args.seen.now c.args.has_executed_need found.result kept.1 (found.ensures.observed faithful there) there)
+    (remembers_in c.args.task.now (F.contents start).files c.settled_by.new.seen found.new.seen c.args.has_executed_need found.result c.settled_by.ensures.seen (found.ensures.observed faithful there)
+    (found.ensures.seen_in faithful there))

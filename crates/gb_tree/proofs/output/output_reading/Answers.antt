@@ -1,10 +1,11 @@
-use Rattle.std.proofs.Common.{IsTrue, ℕ, List}
+use Rattle.std.proofs.Common.{IsTrue}
 use Rattle.gb_core.specs.Place.{is_under}
-use Rattle.gb_folder.proofs.Asked.{requests_nothing}
+use Rattle.gb_folder.proofs.Asked.{requests_nothing, requests_then}
 use Rattle.gb_folder.specs.Files.{Place}
 use Rattle.gb_tree.specs.Reading.{entries_observed}
 use Rattle.gb_tree.proofs.Again.{blames_longer, ok_as}
-use Rattle.gb_tree.proofs.Answering.{all_observed_longer, output_entries_longer}
+use Rattle.gb_tree.proofs.Answering.{output_entries_longer}
+use Rattle.gb_tree.proofs.Remembering.{seen_longer}
 use Rattle.gb_tree.proofs.output.output_reading.Goals as goal
 
 pub returns-clause-blame : goal.returns-clause-blame
@@ -18,6 +19,6 @@ returns-clause-listed g c =
     (λ reading were. output_entries_longer c.read_output_once-first.ensures.requests (requests_nothing c.read_output_once.new.folder) c.args.place.now (entries_observed reading.1) were)
 
 pub returns-clause-answered : goal.returns-clause-answered
-returns-clause-answered g c =
-    ok_as c.read_output_once.result c.read_output_once.ensures.answered
-    (λ reading were. all_observed_longer c.read_output_once-first.ensures.requests (requests_nothing c.read_output_once.new.folder) reading.1 were)
+returns-clause-answered g c = λ first before known.
+    let asked = c.read_output_once-first.ensures.requests in
+    c.read_output_once.ensures.answered first (requests_then before asked) (seen_longer (requests_nothing first) asked c.args.seen.now known)

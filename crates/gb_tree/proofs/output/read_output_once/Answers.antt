@@ -2,22 +2,23 @@ use Rattle.std.proofs.Common.{arith, IsTrue, ◌++◌, IfErr, ℕ, List, sym, su
 use Rattle.std.proofs.lemmas.Result.{err_from_is_err_and}
 use Rattle.std.specs.List.{AllByRecursion}
 use Rattle.gb_core.specs.Place.{is_under}
-use Rattle.gb_folder.proofs.Asked.{requests_nothing}
+use Rattle.gb_folder.proofs.Asked.{requests_nothing, requests_then}
 use Rattle.gb_folder.specs.Files.{Contents, Place}
 use Rattle.gb_tree.specs.Answered.{AreOutputEntriesListed, WereObserved}
 use Rattle.gb_tree.specs.Reading.{IsObservedIn, digests_observed, entries_observed}
+use Rattle.gb_tree.specs.Seen.{AreSeenIn}
 use Rattle.gb_tree.specs.Tree.{Entries, IsRefused, is_among, output_entries, output_faults, output_listing_faults, too_large}
 use Rattle.gb_tree.specs.declared.kept.ScannedFile.{ScannedFile}
-use Rattle.gb_tree.proofs.Answering.{all_observed_longer, output_entries_longer}
+use Rattle.gb_tree.proofs.Answering.{output_entries_longer}
 use Rattle.gb_tree.proofs.Blame.{among_read, blamed_before}
 use Rattle.gb_tree.proofs.Refused.{at_err}
 use Rattle.gb_tree.proofs.Observed.{at_entries, observed_digests}
-use Rattle.gb_tree.proofs.Remembering.{none_seen, none_seen_in}
+use Rattle.gb_tree.proofs.Remembering.{seen_longer}
 use Rattle.gb_tree.proofs.Reported.{outputs_exist, refused_listing, refused_reading}
 use Rattle.gb_tree.proofs.output.read_output_once.Goals as goal
 
 pub returns-in_err-observed-clause-err : goal.returns-in_err-observed-clause-err
-returns-in_err-observed-clause-err g c = λ faithful.
+returns-in_err-observed-clause-err g c = λ faithful known.
     let p = err_from_is_err_and c.from_residual-in_err-observed.result c.from_residual-in_err-observed.ensures.1 in
     let failures = g.F.Folder.failures in
     let old = g.F.Folder.contents c.args.folder.now in
@@ -27,7 +28,7 @@ returns-in_err-observed-clause-err g c = λ faithful.
     let listing = output_listing_faults name root old in
     at_err (λ r. IfErr r (λ fault. IsRefused (failures c.args.folder.now) (failures c.scan_all.new.folder) (listing ++ too_large old.files entries) fault)) c.from_residual-in_err-observed.result p.0 c.in_err-observed.field-0.0 p.1 p.2
     (refused_reading (failures c.args.folder.now) _ _ old _ listing entries c.as_slice.result.now c.in_err-observed.field-0.0 (c.in_ok-entries.ensures.same faithful) (c.as_slice.ensures.value ∙ c.in_ok-entries.ensures.entries faithful)
-    c.in_ok-entries.ensures.requests.count c.in_err-observed.ensures.requests.count (c.in_ok-entries.ensures.fit faithful) (outputs_exist old.files root) (c.in_err-observed.ensures.err faithful (none_seen_in _ _ c.new-seen.ensures)))
+    c.in_ok-entries.ensures.requests.count c.in_err-observed.ensures.requests.count (c.in_ok-entries.ensures.fit faithful) (outputs_exist old.files root) (c.in_err-observed.ensures.err faithful (subst (λ (now : Contents). AreSeenIn now.files c.args.seen.now) (sym (c.in_ok-entries.ensures.same faithful)) known)))
 
 pub returns-in_err-entries-clause-blame : goal.returns-in_err-entries-clause-blame
 returns-in_err-entries-clause-blame g c =
@@ -36,7 +37,7 @@ returns-in_err-entries-clause-blame g c =
     blamed_before IsSuch IsSuch _ _ _ _ c.in_err-entries.field-0.0 p.0 (omega arith) c.in_err-entries.ensures.requests.count p.1 p.2 (λ at h. h) c.in_err-entries.ensures.blame
 
 pub returns-in_err-entries-clause-err : goal.returns-in_err-entries-clause-err
-returns-in_err-entries-clause-err g c = λ faithful.
+returns-in_err-entries-clause-err g c = λ faithful known.
     let p = err_from_is_err_and c.from_residual.result c.from_residual.ensures.1 in
     let failures = g.F.Folder.failures in
     let old = g.F.Folder.contents c.args.folder.now in
@@ -60,11 +61,11 @@ returns-clause-listed g c =
     (output_entries_longer (requests_nothing c.args.folder.now) c.in_ok-observed.ensures.requests place c.in_ok-entries.entries.items c.in_ok-entries.ensures.listed)
 
 pub returns-clause-answered : goal.returns-clause-answered
-returns-clause-answered g c =
+returns-clause-answered g c = λ first before known.
     let F = g.F.Folder in
-    subst (λ (reading : List ℕ × List ScannedFile). WereObserved F.failures F.may_leave F.allowed c.args.folder.now c.scan_all.new.folder reading.1) (sym c.new.ensures)
-    (all_observed_longer c.in_ok-entries.ensures.requests (requests_nothing c.scan_all.new.folder) c.in_ok-observed.observed.items
-    (c.in_ok-observed.ensures.answered c.entries_at.new.folder (requests_nothing c.entries_at.new.folder) (none_seen F.failures F.may_leave F.allowed c.entries_at.new.folder c.entries_at.new.folder _ c.new-seen.ensures)))
+    let asked = c.in_ok-entries.ensures.requests in
+    subst (λ (reading : List ℕ × List ScannedFile). WereObserved F.failures F.may_leave F.allowed first c.scan_all.new.folder reading.1) (sym c.new.ensures)
+    (c.in_ok-observed.ensures.answered first (requests_then before asked) (seen_longer (requests_nothing first) asked c.args.seen.now known))
 
 pub returns-clause-under : goal.returns-clause-under
 returns-clause-under g c =
@@ -73,11 +74,11 @@ returns-clause-under g c =
     (at_entries IsSuch c.in_ok-entries.entries.items c.in_ok-observed.observed.items (c.in_ok-observed.ensures.placed ∙ c.as_slice.ensures.value) c.in_ok-entries.ensures.under)
 
 pub returns-clause-digests : goal.returns-clause-digests
-returns-clause-digests g c = λ faithful.
+returns-clause-digests g c = λ faithful known.
     let files = (g.F.Folder.contents c.args.folder.now).files in
     let observed = c.in_ok-observed.observed.items in
     ap (λ (reading : List ℕ × List ScannedFile). digests_observed reading.1) c.new.ensures
     ∙ observed_digests files (output_entries files c.args.place.now) observed (record {
       placed = c.in_ok-observed.ensures.placed ∙ c.as_slice.ensures.value ∙ c.in_ok-entries.ensures.entries faithful;
-      each = subst (λ (now : Contents). AllByRecursion (IsObservedIn now.files) observed) (c.in_ok-entries.ensures.same faithful) (c.in_ok-observed.ensures.observed faithful (none_seen_in _ _ c.new-seen.ensures));
+      each = subst (λ (now : Contents). AllByRecursion (IsObservedIn now.files) observed) (c.in_ok-entries.ensures.same faithful) (c.in_ok-observed.ensures.observed faithful (subst (λ (now : Contents). AreSeenIn now.files c.args.seen.now) (sym (c.in_ok-entries.ensures.same faithful)) known));
     })

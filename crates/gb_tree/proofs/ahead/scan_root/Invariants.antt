@@ -1,0 +1,21 @@
+use Rattle.std.proofs.Common.{◌≡◌, ◌++◌, IsTrue}
+use Rattle.std.specs.List.{AllByRecursion}
+use Rattle.gb_folder.specs.Calls.{Requests, no_change}
+use Rattle.gb_tree.specs.Answered.{WereObserved}
+use Rattle.gb_tree.specs.Reading.{IsObservedIn}
+use Rattle.gb_tree.specs.Waiting.{waiting_files}
+use Rattle.gb_tree.proofs.ahead.scan_root.Given as goal
+
+abbrev pub invariant-loop-place : goal.invariant-loop-place
+invariant-loop-place g l =
+    let F = g.F.Folder in
+    let old = (F.contents l.fn.folder).files in
+    let before = l.fn.files.items ++ waiting_files l.fn.waiting in
+    let read = l.files.items ++ waiting_files l.waiting in
+    record {
+      requests : Requests F.failures F.may_leave F.allowed no_change l.fn.folder l.folder;
+      same : IsTrue F.faithful → F.contents l.folder ≡ F.contents l.fn.folder;
+      answered : (first : _) → Requests F.failures F.may_leave F.allowed no_change first l.fn.folder
+          → WereObserved F.failures F.may_leave F.allowed first l.fn.folder before → WereObserved F.failures F.may_leave F.allowed first l.folder read;
+      each : IsTrue F.faithful → AllByRecursion (IsObservedIn old) before → AllByRecursion (IsObservedIn old) read;
+    }

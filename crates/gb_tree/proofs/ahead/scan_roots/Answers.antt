@@ -1,0 +1,23 @@
+use Rattle.std.proofs.Common.{◌++◌, sym, subst, ◌∙◌}
+use Rattle.std.specs.List.{AllByRecursion}
+use Rattle.gb_folder.proofs.Asked.{requests_then}
+use Rattle.gb_folder.specs.Files.{Contents}
+use Rattle.gb_tree.specs.Reading.{IsObservedIn}
+use Rattle.gb_tree.specs.Waiting.{waiting_files}
+use Rattle.gb_tree.proofs.ahead.scan_roots.Goals as goal
+
+pub loop-root-preserved : goal.loop-root-preserved
+loop-root-preserved g c =
+    let F = g.F.Folder in
+    let so_far = c.loop-root.invariant in
+    let read = c.loop-root.files.items ++ waiting_files c.loop-root.waiting in
+    let after = c.scan_root.new.files.items ++ waiting_files c.in_ok-waiting.waiting in
+    record {
+      requests = requests_then so_far.requests c.scan_root.ensures.requests;
+      same = λ faithful. c.scan_root.ensures.same faithful ∙ so_far.same faithful;
+      answered = c.in_ok-waiting.ensures.answered c.args.folder.now so_far.requests so_far.answered;
+      each = λ faithful.
+          let same = so_far.same faithful in
+          subst (λ (contents : Contents). AllByRecursion (IsObservedIn contents.files) after) same
+          (c.in_ok-waiting.ensures.observed faithful (subst (λ (contents : Contents). AllByRecursion (IsObservedIn contents.files) read) (sym same) (so_far.each faithful)));
+    }

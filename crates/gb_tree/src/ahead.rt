@@ -1,0 +1,131 @@
+//! Reads files before it is their turn, so that files of different tasks are digested four at a
+//! time.
+ghost use Rattle.std.specs.Prelude.{◌≡◌, ◌++◌, IsTrue, IfOk, IfSome};
+ghost use Rattle.std.specs.List.{AllByRecursion};
+ghost use Rattle.gb_folder.specs.Calls.{Requests, no_change};
+ghost use Rattle.gb_tree.specs.Answered.{WasObserved, WereObserved};
+ghost use Rattle.gb_tree.specs.Reading.{IsObservedIn};
+ghost use Rattle.gb_tree.specs.Seen.{AreSeen, AreSeenIn};
+ghost use Rattle.gb_tree.specs.Waiting.{file_in, waiting_files};
+
+use crate::kept::ScannedFile;
+use crate::reading::listed;
+use crate::scanning::scan_file;
+use crate::seen::Seen;
+use crate::waiting::{Found, Waiting, add, digest_waiting};
+use gb_core::place::{Place, RelPath};
+use gb_folder::folder::Folder;
+use std::alloc::{AllocError, Global};
+
+/// A root with more files is passed over.
+const FEW: usize = 16;
+
+/// Lists these roots, reads the files there, and remembers their digests. A root with more than 16
+/// files is passed over, and so is what cannot be listed or read. Where memory lacks, nothing more
+/// is remembered. If the files of all roots are not in their order, some may not be found later.
+pub fn read_ahead<F: Folder>(alloc: Global, folder: &mut F, roots: &[Place], seen: &mut Seen)
+    ensures requests { Requests F.failures F.may_leave F.allowed no_change folder.old folder.new }
+    ensures same { IsTrue F.faithful → F.contents folder.new ≡ F.contents folder.old }
+    ensures seen { (since : _) → Requests F.failures F.may_leave F.allowed no_change since folder.old
+        → AreSeen F.failures F.may_leave F.allowed since folder.old seen.old
+        → AreSeen F.failures F.may_leave F.allowed since folder.new seen.new }
+    ensures seen_in { IsTrue F.faithful → AreSeenIn (F.contents folder.old).files seen.old
+        → AreSeenIn (F.contents folder.old).files seen.new }
+{
+    if roots.is_empty() {
+        return;
+    }
+    match scan_roots(alloc, folder, roots) {
+        Ok(files) => seen.add(alloc, files),
+        Err(_) => {}
+    }
+}
+
+/// The files at these roots.
+fn scan_roots<F: Folder>(
+    alloc: Global,
+    folder: &mut F,
+    roots: &[Place],
+) -> Result<Vec<ScannedFile>, AllocError>
+    ensures requests { Requests F.failures F.may_leave F.allowed no_change folder.old folder.new }
+    ensures same { IsTrue F.faithful → F.contents folder.new ≡ F.contents folder.old }
+    ensures answered { IfOk result
+        (λ files. WereObserved F.failures F.may_leave F.allowed folder.old folder.new files.items) }
+    ensures observed { IsTrue F.faithful → IfOk result
+        (λ files. AllByRecursion (IsObservedIn (F.contents folder.old).files) files.items) }
+{
+    let mut files = Vec::with_capacity(alloc, roots.len())?;
+    let mut waiting = Waiting::Nothing;
+    for root in roots.iter() {
+        waiting = scan_root(alloc, folder, root, &mut files, waiting)?;
+    }
+    digest_waiting(&mut files, waiting)?;
+    Ok(files)
+}
+
+/// Adds the files at one root, after those read before and those that wait.
+fn scan_root<F: Folder>(
+    alloc: Global,
+    folder: &mut F,
+    root: &Place,
+    files: &mut Vec<ScannedFile>,
+    waiting: Waiting,
+) -> Result<Waiting, AllocError>
+    ensures requests { Requests F.failures F.may_leave F.allowed no_change folder.old folder.new }
+    ensures same { IsTrue F.faithful → F.contents folder.new ≡ F.contents folder.old }
+    ensures answered { (first : _) → Requests F.failures F.may_leave F.allowed no_change first folder.old
+        → WereObserved F.failures F.may_leave F.allowed first folder.old
+        (files.old.items ++ waiting_files waiting)
+        → IfOk result (λ left. WereObserved F.failures F.may_leave F.allowed first folder.new
+        (files.new.items ++ waiting_files left)) }
+    ensures observed { IsTrue F.faithful
+        → AllByRecursion (IsObservedIn (F.contents folder.old).files) (files.old.items ++ waiting_files waiting)
+        → IfOk result (λ left. AllByRecursion (IsObservedIn (F.contents folder.old).files)
+        (files.new.items ++ waiting_files left)) }
+{
+    let places = few_at(alloc, folder, root);
+    let mut waiting = waiting;
+    for place in places.iter() {
+        match scan_place(alloc, folder, place) {
+            Some(found) => waiting = add(files, waiting, found)?,
+            None => {}
+        }
+    }
+    Ok(waiting)
+}
+
+/// The places of the files at the root; none if they are many or it cannot be listed.
+fn few_at<F: Folder>(alloc: Global, folder: &mut F, root: &Place) -> Vec<Place>
+    ensures requests { Requests F.failures F.may_leave F.allowed no_change folder.old folder.new }
+    ensures same { IsTrue F.faithful → F.contents folder.new ≡ F.contents folder.old }
+{
+    match listed(alloc, folder, root) {
+        Ok(places) => few(alloc, places),
+        Err(fault) => {
+            drop(fault);
+            Vec::new(alloc)
+        }
+    }
+}
+
+/// These places, if they are few.
+fn few(alloc: Global, places: Vec<Place>) -> Vec<Place> {
+    if places.len() <= FEW {
+        places
+    } else {
+        Vec::new(alloc)
+    }
+}
+
+/// The file at the place, if it can be read.
+fn scan_place<F: Folder>(alloc: Global, folder: &mut F, place: &Place) -> Option<Found>
+    ensures requests { Requests F.failures F.may_leave F.allowed no_change folder.old folder.new }
+    ensures same { IsTrue F.faithful → F.contents folder.new ≡ F.contents folder.old }
+    ensures answered { IfSome result
+        (λ found. WasObserved F.failures F.may_leave F.allowed folder.old folder.new (file_in found)) }
+    ensures observed { IsTrue F.faithful → IfSome result
+        (λ found. IsObservedIn (F.contents folder.old).files (file_in found)) }
+{
+    let path = RelPath::read(alloc, "").ok()?;
+    scan_file(alloc, folder, &path, place, &mut 0).ok()
+}
