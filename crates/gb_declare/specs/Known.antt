@@ -1,9 +1,10 @@
 -- The tasks that a realised task names are registered, and sorted by their paths, each once. Its values, its
 -- file properties and its outputs are sorted by their names, each once.
-use Rattle.std.specs.Prelude.{◌≡◌, true, [], map, Ok}
+use Rattle.std.specs.Prelude.{◌≡◌, true, [], map, Some, Ok}
 use Rattle.std.specs.List.{AllByRecursion}
 use Rattle.std.specs.List.Sorted.{IsStrictlySortedBy}
 use Rattle.gb_core.specs.Lists.{byte_order}
+use Rattle.gb_plan.specs.Graph.{declaration_at}
 use Rattle.gb_plan.specs.declared.task.TaskDeclaration.{TaskDeclaration}
 use Rattle.gb_registry.specs.Configure.{configure_faults}
 use Rattle.gb_registry.specs.Projects.{Path, is_among}
@@ -11,6 +12,7 @@ use Rattle.gb_registry.specs.Said.{paths_of}
 use Rattle.gb_registry.specs.Source.{Source}
 use Rattle.gb_registry.specs.Tables.{Tables}
 use Rattle.gb_declare.specs.Realised.{realised}
+use Rattle.gb_declare.specs.Registered.{registry_said}
 
 abbrev pub IsRegistered : Source → Path → Type 0
 IsRegistered source path = is_among source.names.tasks path ≡ true
@@ -52,3 +54,9 @@ pub record HasRisingNames (task : TaskDeclaration) : Type 0 where
 abbrev pub RealisedNamesRise : {M F Z S A : Type 0} → Tables M F Z S A → Source → Type 0
 RealisedNamesRise tables source =
     (path : Path) (task : TaskDeclaration) → realised tables source path ≡ Ok task → HasRisingNames task
+
+-- the same of each declaration of the registry
+abbrev pub DeclaredNamesRise : {M F Z S A : Type 0} → Tables M F Z S A → Source → Type 0
+DeclaredNamesRise tables source =
+    (path : Path) (task : TaskDeclaration) → declaration_at (registry_said tables source) path ≡ Some (Ok task)
+    → HasRisingNames task

@@ -1,6 +1,6 @@
 -- The tasks that scripts register, each with its result.
-use Rattle.std.specs.Prelude.{◌≡◌, map, Some, Result, Ok, Err}
-use Rattle.gb_plan.specs.Graph.{Registry, declaration_at}
+use Rattle.std.specs.Prelude.{map, Result, Ok, Err}
+use Rattle.gb_plan.specs.Graph.{Registry}
 use Rattle.gb_plan.specs.Task.{Path}
 use Rattle.gb_plan.specs.declared.task.TaskDeclaration.{TaskDeclaration}
 use Rattle.gb_report.specs.declared.fault.Fault.{Fault}
@@ -8,7 +8,6 @@ use Rattle.gb_registry.specs.Said.{paths_of}
 use Rattle.gb_registry.specs.Select.{default_tasks}
 use Rattle.gb_registry.specs.Source.{Source}
 use Rattle.gb_registry.specs.Tables.{Tables}
-use Rattle.gb_declare.specs.Known.{HasRisingNames}
 use Rattle.gb_declare.specs.Realised.{Trouble, Plain, Endless, realised}
 use Rattle.gb_declare.specs.Reported.{reported_circle}
 
@@ -30,9 +29,3 @@ module _ {M F Z S A : Type 0} (tables : Tables M F Z S A) (source : Source) wher
     tasks = map (λ path. (path, declaration_of path)) (paths_of source.said);
     default_tasks = default_tasks source.said;
   }
-
-  -- A declaration has its values, its file properties and its outputs in the order of their names.
-  abbrev pub DeclaredNamesRise : Type 0
-  DeclaredNamesRise =
-      (path : Path) (task : TaskDeclaration) → declaration_at registry_said path ≡ Some (Ok task)
-      → HasRisingNames task

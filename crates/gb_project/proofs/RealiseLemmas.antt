@@ -16,7 +16,8 @@ use Rattle.gb_project.proofs.FindLemmas.{find_made, found_made}
 use Rattle.gb_declare.proofs.CircleNamesLemmas.{reported_by_names}
 use Rattle.gb_declare.proofs.RisingLemmas.{realised_names_rise}
 use Rattle.gb_project.proofs.SoundLemmas.{paths_said}
-use Rattle.gb_declare.specs.Registered.{DeclaredNamesRise, declaration_of, registry_said, settled}
+use Rattle.gb_declare.specs.Registered.{declaration_of, registry_said, settled}
+use Rattle.gb_declare.specs.Known.{DeclaredNamesRise}
 
 module _ {M F Z S A : Type 0} (tables : Tables M F Z S A) (source : Source) where
   -- a trouble is reported by the fault that `settled` gives

@@ -1,5 +1,5 @@
 //! Facts that follow from the definitions alone.
-ghost use Rattle.gb_declare.specs.Registered.{DeclaredNamesRise};
+ghost use Rattle.gb_declare.specs.Known.{DeclaredNamesRise};
 ghost use Rattle.gb_registry.specs.Source.{Source};
 ghost use Rattle.gb_registry.specs.Tables.{Tables};
 

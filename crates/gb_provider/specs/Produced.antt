@@ -22,10 +22,7 @@ use Rattle.gb_provider.specs.Called.{Called}
 use Rattle.gb_provider.specs.Circle.{IsCircle}
 use Rattle.gb_provider.specs.Meanings.{Meanings, meaning_of}
 use Rattle.gb_provider.specs.Names.{IsLeastRound, names_on}
-use Rattle.gb_provider.specs.Remembered.{AreWithin, IsRemembered}
 use Rattle.gb_provider.specs.Rounds.{Rule, Answers, Reads, answer}
-use Rattle.gb_provider.specs.Rules.{rules}
-use Rattle.gb_provider.specs.declared.evaluation.State.{State}
 use Rattle.gb_core.specs.Tasks.{with_tasks}
 
 -- a value that is a task has itself as its task, and another value has none
@@ -134,10 +131,3 @@ IsEndlessReported meanings nodes chooser (providers.Step fault) = ⊥
 IsEndlessReported meanings nodes chooser providers.NoValue = ⊥
 IsEndlessReported meanings nodes chooser (providers.Value fault) = ⊥
 IsEndlessReported meanings nodes chooser providers.OutOfMemory = Unit {0}
-
--- the invariant of providers: operands are expressions of the table, and cached answers are right
-pub record AreKept {M F Z S : Type 0} (meanings : Meanings M F Z S) (nodes : List (Expression M F Z))
-    (known_values : List (State Outcome)) (known_producers : List (State Produced)) : Type 0 where
-  pub within : AreWithin nodes
-  pub values : IsRemembered (rules meanings nodes) known_values
-  pub producers : IsRemembered (carriers meanings nodes) known_producers

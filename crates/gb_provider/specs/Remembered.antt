@@ -7,8 +7,11 @@ use Rattle.gb_provider.specs.declared.expression.Expression.{Expression}
 use Rattle.gb_provider.specs.declared.expression.Outcome.{Outcome}
 use Rattle.gb_provider.specs.declared.expression.Outcome.TheVariants.{Given, Absent, Refused}
 use Rattle.gb_provider.specs.declared.evaluation.State.{State}
+use Rattle.gb_provider.specs.declared.produced.Produced.{Produced}
+use Rattle.gb_provider.specs.Meanings.{Meanings}
+use Rattle.gb_provider.specs.Produced.{carriers}
 use Rattle.gb_provider.specs.Rounds.{Rule}
-use Rattle.gb_provider.specs.Rules.{OperandsWithin}
+use Rattle.gb_provider.specs.Rules.{OperandsWithin, rules}
 use Rattle.gb_provider.specs.Search.{IsSound, known}
 
 -- each operand is an expression of the table
@@ -32,3 +35,10 @@ IsReported answer (Err (faults.Step fault)) = ⊥
 IsReported answer (Err faults.NoValue) = ⊥
 IsReported answer (Err (faults.Value fault)) = answer ≡ Some (Refused fault)
 IsReported answer (Err faults.OutOfMemory) = Unit {0}
+
+-- the invariant of providers: operands are expressions of the table, and cached answers are right
+pub record AreKept {M F Z S : Type 0} (meanings : Meanings M F Z S) (nodes : List (Expression M F Z))
+    (known_values : List (State Outcome)) (known_producers : List (State Produced)) : Type 0 where
+  pub within : AreWithin nodes
+  pub values : IsRemembered (rules meanings nodes) known_values
+  pub producers : IsRemembered (carriers meanings nodes) known_producers

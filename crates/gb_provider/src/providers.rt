@@ -42,7 +42,7 @@ pub struct Providers<'a, T: Transforms> {
 
 impl<'a, T: Transforms> Model for Providers<'a, T> {
     ghost use Rattle.gb_provider.specs.Answers.{Held};
-    ghost use Rattle.gb_provider.specs.Produced.{AreKept};
+    ghost use Rattle.gb_provider.specs.Remembered.{AreKept};
 
     ghost Value = { Held T.Map T.FlatMap T.Zip T.Test };
 

@@ -1,5 +1,6 @@
 //! The functions of a build by name.
-ghost use Rattle.std.specs.Prelude.{◌≡◌, [], ◌∷◌, ◌++◌, ◌↔◌, None, OnOk, OnErr, IsErrOf, IsSome};
+ghost use Rattle.std.specs.Prelude.{◌≡◌, [], ◌∷◌, ◌++◌, ◌↔◌, None, OnOk, OnErr, IfOk, IsErrOf, IsSome};
+ghost use Rattle.std.specs.Prelude.{map, string_bytes};
 ghost use Rattle.std.specs.FinMap.Entries.{find};
 ghost use Rattle.std.specs.Option.{option_copied};
 ghost use Rattle.gb_core.specs.Lists.{byte_order};
@@ -8,7 +9,7 @@ ghost use Rattle.gb_provider.specs.Table.{map_named, flat_map_named, zip_named, 
 use crate::fault::TableFault;
 use gb_core::name::Name;
 use gb_table::table::NamedTable;
-use std::alloc::Global;
+use std::alloc::{AllocError, Global};
 use std::marker::Model;
 
 /// A stored function, by the step that uses it.
@@ -57,7 +58,7 @@ impl<M: Drop, F: Drop, Z: Drop, S: Drop> TransformTable<M, F, Z, S> {
             ↔ IsSome (find byte_order name.now self.old) }
         ensures err { OnErr result (self.new ≡ self.old) }
     {
-        self.add(name, Transform::Map(stored))
+        self.add_under(name.as_str(), Transform::Map(stored))
     }
 
     /// Adds a function of `flatMap` under a name that no other has.
@@ -68,7 +69,7 @@ impl<M: Drop, F: Drop, Z: Drop, S: Drop> TransformTable<M, F, Z, S> {
             ↔ IsSome (find byte_order name.now self.old) }
         ensures err { OnErr result (self.new ≡ self.old) }
     {
-        self.add(name, Transform::FlatMap(stored))
+        self.add_under(name.as_str(), Transform::FlatMap(stored))
     }
 
     /// Adds a function of `zip` under a name that no other has.
@@ -79,7 +80,7 @@ impl<M: Drop, F: Drop, Z: Drop, S: Drop> TransformTable<M, F, Z, S> {
             ↔ IsSome (find byte_order name.now self.old) }
         ensures err { OnErr result (self.new ≡ self.old) }
     {
-        self.add(name, Transform::Zip(stored))
+        self.add_under(name.as_str(), Transform::Zip(stored))
     }
 
     /// Adds a test under a name that no other function has.
@@ -90,18 +91,27 @@ impl<M: Drop, F: Drop, Z: Drop, S: Drop> TransformTable<M, F, Z, S> {
             ↔ IsSome (find byte_order name.now self.old) }
         ensures err { OnErr result (self.new ≡ self.old) }
     {
-        self.add(name, Transform::Test(stored))
+        self.add_under(name.as_str(), Transform::Test(stored))
     }
 
-    fn add(&mut self, name: &Name, stored: Transform<M, F, Z, S>) -> Result<(), TableFault>
+    /// Adds a function under the text of a name that no other has, as
+    /// [`TransformTable::into_entries`] returns it.
+    pub fn add_under(&mut self, name: &str, stored: Transform<M, F, Z, S>) -> Result<(), TableFault>
         ensures ok { OnOk result (self.new ≡ self.old ++ (name.now, stored) ∷ []) }
         ensures absent { OnOk result (find byte_order name.now self.old ≡ None) }
         ensures duplicate { IsErrOf result TableFault.DuplicateTransform
             ↔ IsSome (find byte_order name.now self.old) }
         ensures err { OnErr result (self.new ≡ self.old) }
     {
-        self.entries.add(name, stored)?;
+        self.entries.add_under(name, stored)?;
         Ok(())
+    }
+
+    /// The functions with the texts of their names, in order.
+    pub fn into_entries(self) -> Result<Vec<(String, Transform<M, F, Z, S>)>, AllocError>
+        ensures { IfOk result (λ entries. map (λ e. (string_bytes e.0, e.1)) entries.items ≡ self) }
+    {
+        self.entries.into_entries()
     }
 
     /// The `map` function with this name. Allocates nothing.
