@@ -11,9 +11,9 @@
 //!
 //! `Actions` names a type of stored actions and their `meanings`, with one law (`own_output`): a
 //! kind writes files of its own output only, and none if its shape has no output. `run_action`: if
-//! the call `IsAsked`, the reply `Answers`. No call has a premise. Laws: `full_replies_put_over` (a
-//! full reply leaves the same files over any old ones) and `changes_are_exact` (a list of changes
-//! has each change of a tree, and no other).
+//! the call `IsAsked`, the reply `Answers`. No other call has a premise. Laws:
+//! `full_replies_put_over` (a full reply leaves the same files over any old ones) and
+//! `changes_are_exact` (a list of changes has each change of a tree, and no other).
 #![tactic(auto)]
 
 pub mod actions;

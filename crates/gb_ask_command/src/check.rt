@@ -212,7 +212,11 @@ fn check_asked<A: Actions, T: Transforms, F: Folder>(
     let copied = invocation.properties.copy(alloc)?;
     let given = copied.into_vec();
     match read_registry(alloc, folder, tables, given) {
-        Ok(configured) => check_configured(alloc, folder, &configured),
+        Ok(configured) => {
+            let found = check_configured(alloc, folder, &configured);
+            drop(configured);
+            found
+        }
         Err(fault) => check_statements(alloc, folder, tables, fault),
     }
 }
@@ -407,7 +411,7 @@ fn check_tasks<A: Actions, T: Transforms, F: Folder>(
     };
     let paths = registry.names(alloc)?;
     let mut tasks = ScriptTasks::declare(alloc, configured)?;
-    find(
+    let found = find(
         alloc,
         folder,
         configured.tables,
@@ -415,5 +419,8 @@ fn check_tasks<A: Actions, T: Transforms, F: Folder>(
         &mut tasks,
         paths.as_slice(),
         scripts,
-    )
+    );
+    drop(tasks);
+    drop(paths);
+    found
 }

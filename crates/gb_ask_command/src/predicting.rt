@@ -48,7 +48,9 @@ pub(crate) fn predict_build<A: Actions, T: Transforms, F: Folder>(
     let copied = invocation.properties.copy(alloc)?;
     let given = copied.into_vec();
     let configured = read_registry(alloc, folder, tables, given)?;
-    predict_registered(alloc, folder, &configured, invocation)
+    let answer = predict_registered(alloc, folder, &configured, invocation);
+    drop(configured);
+    answer
 }
 
 /// Predicts the request for the tasks of these scripts.

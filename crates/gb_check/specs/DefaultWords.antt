@@ -49,7 +49,12 @@ abbrev pub fault_at : Spot → Fault → Finding
 fault_at spot fault = record { spot = spot; cause = problems.Fault fault }
 
 -- these faults, each at the `defaultTasks` that counts
+abbrev pub AreAtDefaults : Bool → Files → List (Path × List Statement) → List Fault → List Finding → Type 0
+AreAtDefaults faithful files scripts faults found =
+    (spot : Spot) × (found ≢ [] → IsDefaultsSpot faithful files scripts spot)
+    × (found ≡ map (fault_at spot) faults)
+
+-- the faults of the words of `defaultTasks` are
 abbrev pub AreDefaultsFound : Bool → Files → List (Path × List Statement) → Registry → List Finding → Type 0
 AreDefaultsFound faithful files scripts registry found =
-    (spot : Spot) × (found ≢ [] → IsDefaultsSpot faithful files scripts spot)
-    × (found ≡ map (fault_at spot) (default_faults registry))
+    AreAtDefaults faithful files scripts (default_faults registry) found

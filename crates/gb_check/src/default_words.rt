@@ -6,7 +6,7 @@ ghost use Rattle.gb_folder.specs.Calls.{Requests, no_change};
 ghost use Rattle.gb_plan.specs.Refusal.{word_faults};
 ghost use Rattle.gb_registry.specs.SoFar.{scripts_in};
 ghost use Rattle.gb_store.specs.Faults.{IsOfMachine};
-ghost use Rattle.gb_check.specs.DefaultWords.{AreDefaultsFound, IsDefaultsSpot};
+ghost use Rattle.gb_check.specs.DefaultWords.{AreAtDefaults, AreDefaultsFound, IsDefaultsSpot};
 ghost use Rattle.gb_check.specs.DefaultWords.{defaults_line, fault_at, is_root, line_after};
 ghost use Rattle.gb_check.specs.Sites.{AreLinesAt, HasTextFault, IsUnread, script_of_project};
 ghost use Rattle.gb_check.specs.Marks.{Lines};
@@ -40,11 +40,31 @@ pub(crate) fn check_default_words<Ts: Tasks, F: Folder>(
         ⊎ IsUnread (F.contents folder.old).files (scripts_in scripts.now) fault) }
 {
     let faults = faults_of(alloc, tasks, tasks.default_tasks())?;
-    if faults.as_slice().is_empty() {
+    let found = find_words(alloc, folder, scripts, faults.as_slice());
+    drop(faults);
+    found
+}
+
+/// These faults of words, each at the last `defaultTasks` of the root's script.
+fn find_words<F: Folder>(
+    alloc: Global,
+    folder: &mut F,
+    scripts: &[Scripted],
+    faults: &[Fault],
+) -> Result<Vec<Finding>, Fault>
+    ensures requests { Requests F.failures F.may_leave F.allowed no_change folder.old folder.new }
+    ensures same { IsTrue F.faithful → F.contents folder.new ≡ F.contents folder.old }
+    ensures found { IfOk result (λ found. AreAtDefaults F.faithful (F.contents folder.old).files
+        (scripts_in scripts.now) faults.now found.items) }
+    ensures err { IsTrue F.faithful → IfErr result (λ fault.
+        IsOfMachine (F.failures folder.old) (F.failures folder.new) fault
+        ⊎ IsUnread (F.contents folder.old).files (scripts_in scripts.now) fault) }
+{
+    if faults.is_empty() {
         return Ok(Vec::new(alloc));
     }
     let spot = defaults_spot(alloc, folder, scripts)?;
-    Ok(found_at(alloc, &spot, faults.as_slice())?)
+    Ok(found_at(alloc, &spot, faults)?)
 }
 
 /// The faults of some words.

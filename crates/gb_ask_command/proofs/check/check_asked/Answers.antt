@@ -28,18 +28,18 @@ returns-in-Ok-clause-reply g c =
     let mid : Contents = F.contents c.read_registry.new.folder in
     let before = F.failures c.args.folder.now in
     let between = F.failures c.read_registry.new.folder in
-    let after = F.failures c.check_configured.new.folder in
+    let after = F.failures c.check_configured-found.new.folder in
     let tables = tables_of g.T.Transforms.meanings M c.args.tables.now in
     let given = c.args.invocation.now.properties in
     let said : IsTrue F.faithful → FolderSays tables old.files given (Ok source) =
     λ faithful. subst (λ values. FolderSays tables old.files values (Ok source)) (c.into_vec-given.ensures ∙ c.in_ok-copied.ensures) (c.in-Ok.ensures.said faithful) in
-    let found : IfOk c.check_configured.result (AreFindingsOf tables F.faithful source mid) =
-    subst (λ (handed_in : tables_of_code.Tables _ _ _ _ _ _ _). IfOk c.check_configured.result (AreFindingsOf (tables_of g.T.Transforms.meanings M handed_in) F.faithful source mid)) c.in-Ok.ensures.tables c.check_configured.ensures.found in
+    let found : IfOk c.check_configured-found.result (AreFindingsOf tables F.faithful source mid) =
+    subst (λ (handed_in : tables_of_code.Tables _ _ _ _ _ _ _). IfOk c.check_configured-found.result (AreFindingsOf (tables_of g.T.Transforms.meanings M handed_in) F.faithful source mid)) c.in-Ok.ensures.tables c.check_configured-found.ensures.found in
     let Unread : Contents → Fault → Type 0 = λ contents fault. (scripts : List (Path × List Statement)) × IsRead source scripts × IsUnread contents.files scripts fault in
     let Bad : Fault → Type 0 = λ fault. IsOfMachine between after fault ⊎ Unread mid fault in
     let Worse : Fault → Type 0 = λ fault. IsOfMachine before after fault ⊎ IsTextFault old.files fault in
     let Replied : Findings → Type 0 = λ found. IsChecked tables F.faithful c.args.invocation.now old found ⊎ IsFoundAt tables F.faithful old.files found in
-    match_of c.check_configured.result (AreFindingsOf tables F.faithful source mid) Replied F.faithful Bad Worse
+    match_of c.check_configured-found.result (AreFindingsOf tables F.faithful source mid) Replied F.faithful Bad Worse
     (λ findings are.
     let here : AreFindingsOf tables F.faithful source old findings = found_in_same tables F.faithful old mid c.read_registry.ensures.same source findings are in
     inl (record {
@@ -50,11 +50,11 @@ returns-in-Ok-clause-reply g c =
     }))
     (λ fault faithful bad.
     elim bad as (λ _. Worse fault) [
-      | inl machine ↦ inl (machine_before before between after fault c.read_registry.ensures.requests.count c.check_configured.ensures.requests.count machine)
+      | inl machine ↦ inl (machine_before before between after fault c.read_registry.ensures.requests.count c.check_configured-found.ensures.requests.count machine)
       | inr unread ↦ absurd (none_again tables old.files given source unread.0 fault (said faithful) unread.1 (subst (λ (contents : Contents). IsUnread contents.files unread.0 fault) (c.read_registry.ensures.same faithful) unread.2))
     ])
     found
-    c.check_configured.ensures.err
+    c.check_configured-found.ensures.err
 
 pub returns-in-Err-clause-reply : goal.returns-in-Err-clause-reply
 returns-in-Err-clause-reply g c =

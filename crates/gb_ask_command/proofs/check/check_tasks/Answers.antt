@@ -12,8 +12,8 @@ use Rattle.gb_project.proofs.SoundLemmas.{paths_said}
 use Rattle.gb_project.specs.Scripts.{registry_in}
 use Rattle.gb_ask_command.proofs.check.check_tasks.Goals as goal
 
-pub find-requires : goal.find-requires
-find-requires g c =
+pub find-found-requires : goal.find-found-requires
+find-found-requires g c =
     let tasks = c.in_ok-tasks.tasks in
     let source : Source = c.args.configured.now.registry in
     let tables = tables_of g.T.Transforms.meanings g.A.Actions.meanings c.args.configured.now.tables.now in
@@ -27,9 +27,9 @@ returns-clause-found g c =
     let tables = tables_of g.T.Transforms.meanings g.A.Actions.meanings c.args.configured.now.tables.now in
     let declared = registry_in g.T.Transforms.meanings g.A.Actions.meanings c.in_ok-tasks.tasks.workspace in
     let same : declared ≡ registry_said tables source = c.in_ok-tasks.ensures.registry in
-    let Found : Names → Registry → Type 0 = λ names registry. IfOk c.find.result (AreFindings tables names F.faithful (F.contents c.args.folder.now) registry (scripts_in c.args.scripts.now)) in
+    let Found : Names → Registry → Type 0 = λ names registry. IfOk c.find-found.result (AreFindings tables names F.faithful (F.contents c.args.folder.now) registry (scripts_in c.args.scripts.now)) in
     let named : (projects tasks : List Path) → Names = λ projects tasks. record { projects = projects; tasks = tasks } in
     subst (λ (registry : Registry). Found source.names registry) same
     (subst (λ (tasks : List Path). Found (named source.names.projects tasks) declared) (c.paths.ensures ∙ c.tasks.ensures.tasks)
     (subst (λ (projects : List Path). Found (named projects c.paths.result.now) declared) c.projects.ensures
-    c.find.ensures.findings))
+    c.find-found.ensures.findings))

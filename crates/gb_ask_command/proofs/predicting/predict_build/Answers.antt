@@ -41,16 +41,16 @@ returns-clause-answer g c =
     let old : Contents = F.contents c.args.folder.now in
     let mid : Contents = F.contents c.read_registry.new.folder in
     let later = F.failures c.read_registry.new.folder in
-    let after = F.failures c.predict_registered.new.folder in
-    let result : Answer = c.predict_registered.result in
+    let after = F.failures c.predict_registered-answer.new.folder in
+    let result : Answer = c.predict_registered-answer.result in
     let same = c.in_ok-configured.ensures.tables in
     let registry_by : handed.Tables _ _ _ _ _ _ _ → Registry = λ given. registry_said (tables_of g.T.Transforms.meanings M given) source in
     let tables = tables_of g.T.Transforms.meanings M c.args.tables.now in
     answers_it tables F.faithful invocation old mid (F.failures c.args.folder.now) later after
-    c.read_registry.ensures.same c.read_registry.ensures.requests.count c.predict_registered.ensures.requests.count (registry_said tables source)
+    c.read_registry.ensures.same c.read_registry.ensures.requests.count c.predict_registered-answer.ensures.requests.count (registry_said tables source)
     (λ faithful. registered tables old c.into_vec-given.result.items invocation.properties (c.into_vec-given.ensures ∙ c.in_ok-copied.ensures) source (c.in_ok-configured.ensures.said faithful))
     result
-    (subst (λ given. IfOk result (λ reported. IsRegistry (registry_by given))) same c.predict_registered.ensures.sound)
+    (subst (λ given. IfOk result (λ reported. IsRegistry (registry_by given))) same c.predict_registered-answer.ensures.sound)
     (subst (λ (given : handed.Tables _ _ _ _ _ _ _). IfOk result (λ reported. AreReportedOf F.faithful M given.actions (registry_by given) invocation.requested invocation.excluded invocation.options (shows mid later) after reported.items))
-    same c.predict_registered.ensures.reported)
-    (subst (λ given. IfErr result (IsNotReported (registry_by given) invocation.requested invocation.excluded later after)) same c.predict_registered.ensures.not_reported)
+    same c.predict_registered-answer.ensures.reported)
+    (subst (λ given. IfErr result (IsNotReported (registry_by given) invocation.requested invocation.excluded later after)) same c.predict_registered-answer.ensures.not_reported)
