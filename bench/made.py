@@ -305,8 +305,11 @@ class Reader:
         """What users see of a type: the variants of an enum, the public fields of a struct, with comments."""
         line = self.lines[self.at]
         if kind in ("type", "const"):
-            return [line] if line.endswith(";") else []
-        if kind == "trait" or not line.endswith("{"):
+            end = next(at for at in range(self.at, len(self.lines)) if self.lines[at].endswith(";"))
+            return self.lines[self.at : end + 1]
+        if kind == "trait":
+            return [line[: -len(" {")] + ";"] if ":" in line else []  # what a type that has it has to be
+        if not line.endswith("{"):
             return []
         end = self.lines.index("}", self.at)
         inner = [row for row in self.lines[self.at + 1 : end] if not row.strip().startswith("#[")]
