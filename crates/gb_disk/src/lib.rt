@@ -23,12 +23,12 @@
 //! A folder for one build ([`for_one_build`](disk::DiskFolder::for_one_build)) also remembers the
 //! last 32 listings, of which eight may have more than 16 places, and none more than 65,536: a
 //! hundred tasks that each take their part of one folder list it once, and where files are read
-//! ahead of their tasks, these list nothing again. A write or a removal forgets the listings of its place, of roots above
-//! and under it and of `.gb`; a failure forgets all. So the build finds each change of its own.
-//! What others add or remove meanwhile it may not find, as if the folder had been listed earlier. A
-//! record has what was worked on, so the next build finds the difference. It has to ask the system
-//! again, so it needs a new folder; one that serves many builds ([`new`](disk::DiskFolder::new))
-//! remembers no listing.
+//! ahead of their tasks, these list nothing again. A write or a removal forgets the listings of its
+//! place, of roots above and under it and of `.gb`; a failure forgets all. So the build finds each
+//! change of its own. What others add or remove meanwhile it may not find, as if the folder had been
+//! listed earlier. A record has what was worked on, so the next build finds the difference. It has
+//! to ask the system again, so it needs a new folder; one that serves many builds
+//! ([`new`](disk::DiskFolder::new)) remembers no listing.
 //!
 //! All bytes that a read returns come from one open file. A small file is complete if it has
 //! exactly the listed length. For a larger file and for a part, length and time of the open file

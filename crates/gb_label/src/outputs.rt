@@ -70,8 +70,8 @@ fn read_one<F: Folder>(
 }
 
 /// The files at the outputs of a task, in the order of their names. A file whose digest is in `seen`
-/// is not read. The bytes of the others are kept while there is `room` for them, and reduce it. Nothing is changed, even if it fails. The error is the
-/// first fault in reading them.
+/// is not read. The bytes of the others are kept while there is `room` for them, and reduce it. Nothing
+/// is changed, even if it fails. The error is the first fault in reading them.
 pub fn read_outputs<F: Folder>(
     alloc: Global,
     folder: &mut F,

@@ -79,7 +79,8 @@ fn scan_root<F: Folder>(
         → IfOk result (λ left. WereObserved F.failures F.may_leave F.allowed first folder.new
         (files.new.items ++ waiting_files left)) }
     ensures observed { IsTrue F.faithful
-        → AllByRecursion (IsObservedIn (F.contents folder.old).files) (files.old.items ++ waiting_files waiting)
+        → AllByRecursion (IsObservedIn (F.contents folder.old).files)
+        (files.old.items ++ waiting_files waiting)
         → IfOk result (λ left. AllByRecursion (IsObservedIn (F.contents folder.old).files)
         (files.new.items ++ waiting_files left)) }
 {
