@@ -1,5 +1,6 @@
 -- The text of a history, and of one record: its JSON, a line feed, the digest of the JSON, a line feed.
-use Rattle.std.specs.Prelude.{ℕ, ◌≡◌, ⊤, List, [], ◌∷◌, ◌++◌, map, codes}
+use Rattle.std.specs.Prelude.{ℕ, ◌≡◌, ◌-◌, ⊤, List, [], ◌∷◌, ◌++◌, map, codes, length, take}
+use Rattle.std.specs.Prelude.{Result, IfOk, MatchResult, OnOk}
 use Rattle.std.specs.List.{AllByRecursion}
 use Rattle.std.specs.Str.{IsUtf8}
 use Rattle.hex.specs.Hex.{encode_lower}
@@ -13,6 +14,8 @@ use Rattle.gb_action.specs.declared.output.Form.{Form}
 use Rattle.gb_action.specs.declared.output.Form.TheVariants as forms
 use Rattle.gb_plan.specs.declared.task.Action.{Action}
 use Rattle.gb_history.specs.declared.record.OutputRecord.{OutputRecord}
+use Rattle.gb_history.specs.declared.fault.RecordFault.{RecordFault}
+use Rattle.gb_history.specs.declared.fault.RecordFault.TheVariants as faults
 use Rattle.gb_history.specs.declared.record.Edition.{Edition}
 use Rattle.gb_history.specs.declared.record.Edition.TheVariants as editions
 use Rattle.gb_history.specs.Record.{Record, Prints, IsAction, IsWellFormed, IsHeld, AreHeld}
@@ -100,9 +103,17 @@ history_json edition records = object
 abbrev pub record_json : Edition → List ℕ → Record → Data
 record_json edition path run = history_json edition ((path, run) ∷ [])
 
+-- the seal that a digest gives: 66 bytes
+abbrev pub seal : List ℕ → List ℕ
+seal digest = 10 ∷ (encode_lower digest ++ 10 ∷ [])
+
 -- a text and its seal
 abbrev pub sealed : List ℕ → List ℕ
-sealed json = json ++ 10 ∷ (encode_lower (sha256 json) ++ 10 ∷ [])
+sealed json = json ++ seal (sha256 json)
+
+-- a text without the 66 bytes of its seal
+abbrev pub unsealed : List ℕ → List ℕ
+unsealed text = take (length text - 66) text
 
 unfoldable pub history_text_in : Edition → List (List ℕ × Record) → List ℕ
 history_text_in edition records = sealed (compact_text (history_json edition records))
@@ -137,6 +148,15 @@ pub record IsTextOf (path : List ℕ) (run : Record) (text : List ℕ) : Type 0 
   pub edition : Edition
   pub fits : AllByRecursion (FitsEdition edition) run.actions
   pub same : text ≡ text_in edition path run
+
+-- What reading a text as the record of a task returns: a record that has the text. If there is one, it is
+-- returned, unless memory is insufficient.
+pub record IsRecordRead (path : List ℕ) (text : List ℕ) (result : Result Record RecordFault) : Type 0 where
+  pub exact : IfOk result (λ run. IsTextOf path run text)
+  pub utf8 : OnOk result (IsUtf8 path)
+  pub held : IfOk result IsWellFormed
+  pub back : (run : Record) → IsUtf8 path → IsWellFormed run → IsTextOf path run text
+      → MatchResult result (λ got. got ≡ run) (λ e. e ≡ faults.OutOfMemory)
 
 abbrev pub TextsSayOneRecord : Type 0
 TextsSayOneRecord =

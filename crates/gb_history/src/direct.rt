@@ -324,9 +324,8 @@ fn take_first_run(alloc: Global, reader: &mut Reader<'_>) -> Option<Record> {
 }
 
 /// The first record of a JSON text.
-pub fn record_in(alloc: Global, json: &[u8]) -> Option<Record> {
+pub fn record_in(alloc: Global, json: &[u8], scratch: &mut Scratch) -> Option<Record> {
     let text = std::str::from_utf8(json).ok()?;
-    let mut scratch = Scratch::new(alloc);
-    let mut reader = Reader::new(text, &mut scratch).ok()?;
+    let mut reader = Reader::new(text, scratch).ok()?;
     take_first_run(alloc, &mut reader)
 }

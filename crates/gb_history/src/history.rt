@@ -15,7 +15,7 @@ ghost use Rattle.gb_history.specs.declared.fault.RecordFault.TheVariants.{OutOfM
 use crate::fault::RecordFault;
 use crate::from_json::history_from;
 use crate::record::{Edition, Record};
-use crate::record_text::{before_seal, is_same, json_in, sealed_json};
+use crate::record_text::{is_same, json_in, sealed_json, unsealed};
 use crate::to_json::write_history;
 use gb_core::path::TaskPath;
 use json::Writer;
@@ -98,10 +98,7 @@ impl History {
             → IsHistoryText records bytes.now
             → MatchResult result (λ got. got ≡ records) (λ e. e ≡ OutOfMemory) }
     {
-        let Some(json) = before_seal(bytes) else {
-            return Err(RecordFault::NotARecord);
-        };
-        let (edition, found) = parsed(alloc, json)?;
+        let (edition, found) = parsed(alloc, unsealed(bytes))?;
         let text = found.text_in(alloc, edition)?;
         if !is_same(text.as_slice(), bytes) {
             return Err(RecordFault::NotARecord);

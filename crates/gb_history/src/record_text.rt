@@ -1,13 +1,15 @@
 //! The text of a record, the record with a text, and what these share with a whole history.
-ghost use Rattle.std.specs.Prelude.{◌≡◌, [], List, ℕ, IfOk, OnOk, IsTrue, IsSomeAnd, IfSome};
+ghost use Rattle.std.specs.Prelude.{◌≡◌, ◌++◌, [], List, ℕ, IfOk, OnOk, IsTrue, IfSome};
 ghost use Rattle.std.specs.Prelude.{OnSome, MatchResult, ◌↔◌};
 ghost use Rattle.std.specs.List.{AllByRecursion};
 ghost use Rattle.std.specs.Str.{IsUtf8};
 ghost use Rattle.serde_json.specs.View.{view};
 ghost use Rattle.serde_json.specs.Written.{compact_text};
+ghost use Rattle.sha2.specs.Sha256.{sha256};
 ghost use Rattle.gb_history.specs.Record.{Record as Recorded, IsWellFormed, IsSaid};
 ghost use Rattle.gb_history.specs.Text.{history_json, record_json, record_text, text_in, history_text_in};
-ghost use Rattle.gb_history.specs.Text.{sealed, FitsEdition, IsTextOf, TextsSayOneRecord, TextsSayOneHistory};
+ghost use Rattle.gb_history.specs.Text.{seal, sealed, unsealed, FitsEdition, IsRecordRead, IsTextOf};
+ghost use Rattle.gb_history.specs.Text.{TextsSayOneRecord, TextsSayOneHistory};
 ghost use Rattle.gb_history.specs.Tokens.{data_tokens};
 ghost use Rattle.gb_history.specs.declared.record.Edition.{Edition as Written};
 ghost use Rattle.gb_history.specs.declared.fault.RecordFault.TheVariants.{OutOfMemory};
@@ -18,7 +20,7 @@ use crate::from_json::{edition_from, json_from, record_from};
 use crate::record::{Edition, Record};
 use crate::to_json::{digits_of, write_record};
 use gb_core::path::TaskPath;
-use json::Writer;
+use json::{Scratch, Writer};
 use serde_json::Value as Json;
 use sha2::{Digest, Sha256};
 use std::alloc::{AllocError, Global};
@@ -38,13 +40,40 @@ fn sealed_text(json: Vec<u8>) -> Result<Vec<u8>, AllocError>
     Ok(text)
 }
 
+/// The JSON of records.
+fn written(writer: Writer) -> Vec<u8>
+    ensures { (edition : Written) (records : List (List ℕ × Recorded)) → writer.before ≡ []
+        → writer.tokens ≡ data_tokens (history_json edition records)
+        → result.items ≡ compact_text (history_json edition records) }
+{
+    writer.into_inner()
+}
+
 /// The sealed text of records as JSON.
 pub(crate) fn sealed_json(writer: Writer) -> Result<Vec<u8>, AllocError>
     ensures { (edition : Written) (records : List (List ℕ × Recorded)) → writer.before ≡ []
         → writer.tokens ≡ data_tokens (history_json edition records)
         → IfOk result (λ text. text.items ≡ history_text_in edition records) }
 {
-    sealed_text(writer.into_inner())
+    sealed_text(written(writer))
+}
+
+/// The JSON of the record of a task in an edition, with room for so many bytes from the start.
+fn json_of(
+    alloc: Global,
+    edition: Edition,
+    path: &TaskPath,
+    run: &Record,
+    room: usize,
+) -> Result<Vec<u8>, AllocError>
+    ensures json { IfOk result
+        (λ json. json.items ≡ compact_text (record_json edition path.now run.now)) }
+    ensures held { OnOk result (IsWellFormed run.now) }
+    ensures utf8 { OnOk result (IsUtf8 path.now) }
+{
+    let mut writer = Writer::new(Vec::with_capacity(alloc, room)?);
+    write_record(&mut writer, edition, path, run)?;
+    Ok(written(writer))
 }
 
 /// The text of the record of a task in an edition, with room for so many bytes from the start.
@@ -59,9 +88,7 @@ fn text_in(
     ensures held { OnOk result (IsWellFormed run.now) }
     ensures utf8 { OnOk result (IsUtf8 path.now) }
 {
-    let mut writer = Writer::new(Vec::with_capacity(alloc, room)?);
-    write_record(&mut writer, edition, path, run)?;
-    sealed_json(writer)
+    sealed_text(json_of(alloc, edition, path, run, room)?)
 }
 
 /// The text of the record of a task.
@@ -80,14 +107,11 @@ pub fn is_same(left: &[u8], right: &[u8]) -> bool
     left == right
 }
 
-/// The bytes before the seal, where there is room for one.
-pub(crate) fn before_seal(bytes: &[u8]) -> Option<&[u8]>
-    ensures { (json : List ℕ) → bytes.now ≡ sealed json → IsSomeAnd result (λ text. text.now ≡ json) }
+/// The bytes of a text that its seal is of: those before its last 66.
+pub fn unsealed(bytes: &[u8]) -> &[u8]
+    ensures { result.now ≡ unsealed bytes.now }
 {
-    if bytes.len() < 66 {
-        return None;
-    }
-    Some(&bytes[..bytes.len() - 66])
+    &bytes[..bytes.len().saturating_sub(66)]
 }
 
 /// A JSON text, and the edition that it declares.
@@ -117,18 +141,15 @@ fn parsed(alloc: Global, json: &[u8]) -> Result<(Edition, Record), RecordFault>
     Ok((said.0, found))
 }
 
-/// The record that is read without a tree, where this is its text in today's form.
-fn read_directly(alloc: Global, path: &TaskPath, bytes: &[u8]) -> Option<Record>
-    ensures exact { IfSome result (λ run. bytes.now ≡ record_text path.now run) }
-    ensures utf8 { OnSome result (IsUtf8 path.now) }
-    ensures held { IfSome result IsWellFormed }
+/// Whether a text ends with the seal that a digest gives.
+fn has_seal(bytes: &[u8], digest: [u8; 32]) -> bool
+    ensures { IsTrue result → bytes.now ≡ unsealed bytes.now ++ seal digest }
 {
-    let found = record_in(alloc, before_seal(bytes)?)?;
-    let text = text_in(alloc, Edition::Second, path, &found, bytes.len()).ok()?;
-    if is_same(text.as_slice(), bytes) {
-        Some(found)
-    } else {
-        None
+    let (_, end) = bytes.split_at(bytes.len().saturating_sub(66));
+    let digits = digits_of(digest);
+    match end {
+        [b'\n', middle @ .., b'\n'] => is_same(middle, &digits),
+        _ => false,
     }
 }
 
@@ -140,10 +161,7 @@ fn read_by_tree(alloc: Global, path: &TaskPath, bytes: &[u8]) -> Result<Record, 
     ensures back { (run : Recorded) → IsUtf8 path.now → IsWellFormed run → IsTextOf path.now run bytes.now
         → MatchResult result (λ got. got ≡ run) (λ e. e ≡ OutOfMemory) }
 {
-    let Some(json) = before_seal(bytes) else {
-        return Err(RecordFault::NotARecord);
-    };
-    let (edition, found) = parsed(alloc, json)?;
+    let (edition, found) = parsed(alloc, unsealed(bytes))?;
     let text = text_in(alloc, edition, path, &found, bytes.len())?;
     if !is_same(text.as_slice(), bytes) {
         return Err(RecordFault::NotARecord);
@@ -151,20 +169,68 @@ fn read_by_tree(alloc: Global, path: &TaskPath, bytes: &[u8]) -> Result<Record, 
     Ok(found)
 }
 
-/// The record of a task with this text, in either edition; any other text gives 80.
-pub fn read_record(alloc: Global, path: &TaskPath, bytes: &[u8]) -> Result<Record, RecordFault>
-    // The record that is read has the text.
-    ensures exact { IfOk result (λ run. IsTextOf path.now run bytes.now) }
-    ensures utf8 { OnOk result (IsUtf8 path.now) }
-    ensures held { IfOk result IsWellFormed }
-    // The text of a record of the task is read as that record.
-    ensures back { (run : Recorded) → IsUtf8 path.now → IsWellFormed run → IsTextOf path.now run bytes.now
-        → MatchResult result (λ got. got ≡ run) (λ e. e ≡ OutOfMemory) }
-{
-    match read_directly(alloc, path, bytes) {
-        Some(found) => Ok(found),
-        None => read_by_tree(alloc, path, bytes),
+/// Reads records, one after another, with the same working memory.
+#[derive(Drop)]
+pub struct RecordReader {
+    alloc: Global,
+    scratch: Scratch,
+}
+
+impl RecordReader {
+    /// A reader.
+    pub fn new(alloc: Global) -> RecordReader {
+        RecordReader {
+            alloc,
+            scratch: Scratch::new(alloc),
+        }
     }
+
+    /// The record of a task with this text, in either edition; any other text gives 80. The digest
+    /// is of what the text's seal is of.
+    pub fn read(
+        &mut self,
+        path: &TaskPath,
+        bytes: &[u8],
+        digest: [u8; 32],
+    ) -> Result<Record, RecordFault>
+        requires { digest ≡ sha256 (unsealed bytes.now) }
+        ensures { IsRecordRead path.now bytes.now result }
+    {
+        match self.read_directly(path, bytes, digest) {
+            Some(found) => Ok(found),
+            None => read_by_tree(self.alloc, path, bytes),
+        }
+    }
+
+    /// The record that is read without a tree, where this is its text in today's form.
+    fn read_directly(&mut self, path: &TaskPath, bytes: &[u8], digest: [u8; 32]) -> Option<Record>
+        requires { digest ≡ sha256 (unsealed bytes.now) }
+        ensures exact { IfSome result (λ run. bytes.now ≡ record_text path.now run) }
+        ensures utf8 { OnSome result (IsUtf8 path.now) }
+        ensures held { IfSome result IsWellFormed }
+    {
+        if !has_seal(bytes, digest) {
+            return None;
+        }
+        let json = unsealed(bytes);
+        let found = record_in(self.alloc, json, &mut self.scratch)?;
+        let Ok(text) = json_of(self.alloc, Edition::Second, path, &found, json.len()) else {
+            return None;
+        };
+        if is_same(text.as_slice(), json) {
+            Some(found)
+        } else {
+            None
+        }
+    }
+}
+
+/// The record of a task with this text, as a [`RecordReader`] reads it.
+pub fn read_record(alloc: Global, path: &TaskPath, bytes: &[u8]) -> Result<Record, RecordFault>
+    ensures { IsRecordRead path.now bytes.now result }
+{
+    let digest = Sha256::digest(unsealed(bytes));
+    RecordReader::new(alloc).read(path, bytes, digest)
 }
 
 /// Writes a record as its text and reads it back; the result is the same record.

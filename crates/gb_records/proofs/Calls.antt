@@ -1,10 +1,10 @@
 -- What follows from a folder's answer at a record's place.
-use Rattle.std.proofs.Common.{◌≡◌, ◌≢◌, ◌⊎◌, ◌≤◌, ◌<◌, ◌||◌, ℕ, Bool, true, false, not, cond, IsTrue, List, [], ◌∷◌, ◌++◌, ◌+◌, get_or, take, length, Option, Some, None, Result, Ok, Err, refl, sym, ap, subst, inl, inr, true≢false, arith, ◌∙◌}
+use Rattle.std.proofs.Common.{◌≡◌, ◌≢◌, ◌⊎◌, ◌≤◌, ◌<◌, ◌||◌, ℕ, Bool, true, false, not, cond, IsTrue, List, [], ◌∷◌, ◌++◌, ◌+◌, get_or, take, drop, length, Option, Some, None, Result, Ok, Err, refl, sym, ap, subst, inl, inr, true≢false, arith, ◌∙◌}
 use Rattle.std.specs.Prelude.{IfOk, IfErr, IsSomeAnd, OnOk}
 use Rattle.std.specs.Ordering.{eq_by_cmp}
 use Rattle.std.specs.List.{AllZip, list_all}
 use Rattle.std.proofs.lemmas.Bool.{and_parts}
-use Rattle.std.proofs.lemmas.List.{take_more}
+use Rattle.std.proofs.lemmas.List.{take-append-drop, take_more}
 use Rattle.std.specs.Str.{IsUtf8}
 use Rattle.gb_core.specs.Path.{is_task_path}
 use Rattle.gb_core.specs.Place.{is_place}
@@ -30,10 +30,11 @@ use Rattle.gb_meaning.specs.TrueRecord.{SaysNoRecord}
 use Rattle.gb_meaning.proofs.Lemmas.Files.{same_place}
 use Rattle.gb_records.specs.Faults.{none_for, removed_by, unwritten_for}
 use Rattle.gb_records.specs.Said.{IsText, IsSaidOf, IsReadAt}
+use Rattle.gb_records.specs.Texts.{IsTextAt}
 use Rattle.gb_records.specs.Holding.{ComesToNothing, HoldsRecords, HoldsWithout, HoldsWith, taken_out, written_in}
 use Rattle.gb_records.proofs.Holding.{at_left, elsewhere_left, forgotten, remembered, torn_in, torn_out}
 
-or_true : (b : Bool) → (b || true) ≡ true
+pub or_true : (b : Bool) → (b || true) ≡ true
 or_true true = refl
 or_true false = refl
 
@@ -156,7 +157,7 @@ large_read files path large = by (file_at files (record_place path)) large
 pub read_of : (files : Files) (path : Path) (place : Place) (fault : FolderFault) → IsFolder files
     → (fault ≡ folders.Missing → file_at files (record_place path) ≡ None) → (fault ≡ folders.Blocked → is_blocked files (record_place path) ≡ true)
     → (fault ≡ folders.TooLarge → IsSomeAnd (file_at files (record_place path)) (λ bytes. max_record < length bytes)) → fault ≢ folders.BadFileName
-    → IfOk (none_for place fault) (IsReadAt files path)
+    → IfOk (none_for place fault) (IsTextAt files path)
 read_of files path place folders.OutOfMemory sound missing blocked large named = tt
 read_of files path place folders.Device sound missing blocked large named = tt
 read_of files path place folders.Missing sound missing blocked large named = none_read files path (missing refl)
@@ -171,14 +172,36 @@ all_zip_push R [] (b ∷ ys) x y all here = absurd all
 all_zip_push R (a ∷ xs) [] x y all here = absurd all
 all_zip_push R (a ∷ xs) (b ∷ ys) x y all here = (all.0, all_zip_push R xs ys x y all.1 here)
 
+-- a list is its first items and the others
+pub parted : {X : Type 0} (n : ℕ) (xs ys zs : List X) → ys ≡ take n xs → zs ≡ drop n xs → ys ++ zs ≡ xs
+parted n xs ys zs first others = ap (λ vs. vs ++ zs) first ∙ ap (λ vs. take n xs ++ vs) others ∙ take-append-drop n xs
+
+-- two lists of related pairs, one after the other
+pub zip_append : {X Y : Type 0} (R : X → Y → Type 0) (xs vs : List X) (ys ws : List Y) → AllZip R xs ys → AllZip R vs ws → AllZip R (xs ++ vs) (ys ++ ws)
+zip_append R [] vs [] ws all more = more
+zip_append R [] vs (b ∷ ys) ws all more = absurd all
+zip_append R (a ∷ xs) vs [] ws all more = absurd all
+zip_append R (a ∷ xs) vs (b ∷ ys) ws all more = (all.0, zip_append R xs vs ys ws all.1 more)
+
+-- what is related by way of a third list
+pub zip_through : {X Y Z : Type 0} (R : X → Y → Type 0) (S : Y → Z → Type 0) (T : X → Z → Type 0) → ((x : X) (y : Y) (z : Z) → R x y → S y z → T x z)
+    → (xs : List X) (ys : List Y) (zs : List Z) → AllZip R xs ys → AllZip S ys zs → AllZip T xs zs
+zip_through R S T step [] [] [] one other = tt
+zip_through R S T step [] [] (z ∷ zs) one other = absurd other
+zip_through R S T step [] (y ∷ ys) zs one other = absurd one
+zip_through R S T step (x ∷ xs) [] zs one other = absurd one
+zip_through R S T step (x ∷ xs) (y ∷ ys) [] one other = absurd other
+zip_through R S T step (x ∷ xs) (y ∷ ys) (z ∷ zs) one other =
+    (step x y z one.0 other.0, zip_through R S T step xs ys zs one.1 other.1)
+
 -- one more task's record is read
 pub read_more : {X Y : Type 0} (R : X → Y → Type 0) (xs : List X) (i : ℕ) (x : X) (out more : List Y) (y : Y) → i < length xs → x ≡ get_or xs i x
     → AllZip R (take i xs) out → R x y → more ≡ out ++ y ∷ [] → AllZip R (take (i + 1) xs) more
 read_more R xs i x out more y low at all here is = rw (take_more xs i x low, ← at, is) (all_zip_push R (take i xs) out x y all here)
 
-pub placeless_read : (files : Files) (path : Path) (fault : PlaceFault) (result : Result (Option Record) Fault) → are_placed files ≡ true
+pub placeless_read : (files : Files) (path : Path) (fault : PlaceFault) (result : Result (Option Bytes) Fault) → are_placed files ≡ true
     → (fault ≡ places.BadPlace → is_place (record_place path) ≡ false) → (fault ≡ places.BadPlace → result ≡ Ok None)
-    → (fault ≡ places.OutOfMemory → result ≡ Err faults.OutOfMemory) → IfOk result (IsReadAt files path)
+    → (fault ≡ places.OutOfMemory → result ≡ Err faults.OutOfMemory) → IfOk result (IsTextAt files path)
 placeless_read files path places.BadPlace result all bad none out =
-    subst (λ r. IfOk r (IsReadAt files path)) (sym (none refl)) (none_read files path (unplaced files (record_place path) all (bad refl)))
-placeless_read files path places.OutOfMemory result all bad none out = subst (λ r. IfOk r (IsReadAt files path)) (sym (out refl)) tt
+    subst (λ r. IfOk r (IsTextAt files path)) (sym (none refl)) (none_read files path (unplaced files (record_place path) all (bad refl)))
+placeless_read files path places.OutOfMemory result all bad none out = subst (λ r. IfOk r (IsTextAt files path)) (sym (out refl)) tt

@@ -1,9 +1,8 @@
 -- The faults of records, and how they are reported.
 use Rattle.std.specs.Prelude.{ℕ, Option, None, Result, Ok, Err}
-use Rattle.gb_folder.specs.Files.{Place}
+use Rattle.gb_folder.specs.Files.{Bytes, Place}
 use Rattle.gb_folder.specs.declared.folder.FolderFault.{FolderFault}
 use Rattle.gb_folder.specs.declared.folder.FolderFault.TheVariants as folders
-use Rattle.gb_history.specs.Record.{Record}
 use Rattle.gb_report.specs.declared.fault.Fault.{Fault}
 use Rattle.gb_report.specs.declared.fault.Fault.TheVariants as faults
 use Rattle.gb_records.specs.declared.fault.Unwritten.{Unwritten}
@@ -27,8 +26,8 @@ unwritten_for folders.Blocked = unwritten.NotWritten
 unwritten_for folders.TooLarge = unwritten.NotWritten
 unwritten_for folders.BadFileName = unwritten.NotWritten
 
--- the result for a read: no record, unless memory or the device failed
-abbrev pub none_for : Place → FolderFault → Result (Option Record) Fault
+-- the result for a read: no text, unless memory or the device failed
+abbrev pub none_for : Place → FolderFault → Result (Option Bytes) Fault
 none_for place folders.OutOfMemory = Err faults.OutOfMemory
 none_for place folders.Device = Err (faults.Device place)
 none_for place folders.Missing = Ok None

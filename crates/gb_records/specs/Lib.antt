@@ -6,4 +6,5 @@ pub mod Holding
 pub mod Laws
 pub mod Digests
 pub mod Answered
+pub mod Texts
 pub mod Called

@@ -1,14 +1,8 @@
-use Rattle.std.proofs.Common.{[], ◌∷◌, ◌++◌, List, ap, ◌∙◌}
-use Rattle.json.specs.Token.{Token}
-use Rattle.gb_history.specs.Text.{record_json}
-use Rattle.gb_history.specs.Tokens.{data_tokens}
+use Rattle.std.proofs.Common.{◌≡◌, subst, IfOk}
+use Rattle.gb_history.specs.Text.{history_text_in, sealed}
 use Rattle.gb_history.proofs.record_text.text_in.Goals as goal
 
 pub returns-clause-text : goal.returns-clause-text
+unfolding history_text_in
 returns-clause-text c =
-    c.sealed_json.ensures c.args.edition ((c.args.path.now, c.args.run.now) ∷ [])
-    (c.in_ok-write_record.ensures.before ∙ c.new-writer.ensures.before ∙ c.in_ok-with_capacity.ensures.items)
-    (
-    c.in_ok-write_record.ensures.json
-    ∙ ap (λ (ts : List Token). ts ++ data_tokens (record_json c.args.edition c.args.path.now c.args.run.now)) c.new-writer.ensures.tokens
-    )
+    subst (λ l. IfOk c.sealed_text.result (λ text. text.items ≡ sealed l)) c.in_ok-json_of.ensures.json c.sealed_text.ensures

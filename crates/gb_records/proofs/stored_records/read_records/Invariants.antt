@@ -1,16 +1,22 @@
-use Rattle.std.proofs.Common.{◌≡◌, IsTrue, take}
+use Rattle.std.proofs.Common.{◌≡◌, ◌++◌, IsTrue, List, length}
 use Rattle.std.specs.List.{AllZip}
 use Rattle.gb_folder.specs.Calls.{Requests, no_change}
+use Rattle.gb_plan.specs.Task.{Path}
 use Rattle.gb_records.specs.Answered.{WasAnswered}
 use Rattle.gb_records.specs.Said.{IsReadAt}
 use Rattle.gb_records.proofs.stored_records.read_records.Given as goal
 
-abbrev pub invariant-loop-path : goal.invariant-loop-path
-invariant-loop-path g l =
-    let contents = g.F.Folder.contents in
+-- the records so far are those of the tasks before the rest
+abbrev pub invariant-fours : goal.invariant-fours
+invariant-fours g l =
+    let F = g.F.Folder in
     record {
-      requests : Requests g.F.Folder.failures g.F.Folder.may_leave g.F.Folder.allowed no_change l.fn.folder l.folder;
-      same : IsTrue g.F.Folder.faithful → contents l.folder ≡ contents l.fn.folder;
-      answered : AllZip (WasAnswered g.F.Folder.failures g.F.Folder.may_leave g.F.Folder.allowed l.fn.folder l.folder) (take l.path-index l.paths) l.records.items;
-      read : IsTrue g.F.Folder.faithful → AllZip (IsReadAt (contents l.fn.folder).files) (take l.path-index l.paths) l.records.items;
+      requests : Requests F.failures F.may_leave F.allowed no_change l.fn.folder l.folder;
+      same : IsTrue F.faithful → F.contents l.folder ≡ F.contents l.fn.folder;
+      done : (done : List Path) × (done ++ l.rest ≡ l.paths)
+          × AllZip (WasAnswered F.failures F.may_leave F.allowed l.fn.folder l.folder) done l.records.items
+          × (IsTrue F.faithful → AllZip (IsReadAt (F.contents l.fn.folder).files) done l.records.items);
     }
+
+abbrev pub decreases-fours : goal.decreases-fours
+decreases-fours g l = length l.rest

@@ -1,14 +1,15 @@
-use Rattle.std.proofs.Common.{◌≡◌, ◌<◌, ℕ, List, true, Err, None, IfOk, length, ap, subst, sym, ◌∙◌}
+use Rattle.std.proofs.Common.{◌≡◌, ◌<◌, ◌≤◌, ℕ, List, true, Err, None, IfOk, length, ap, subst, sym, ◌∙◌}
 use Rattle.std.specs.Prelude.{IsSomeAnd, Ok}
 use Rattle.gb_folder.specs.Files.{file_at, is_blocked}
 use Rattle.gb_history.specs.Places.{record_place}
 use Rattle.gb_meaning.specs.Events.{max_record}
-use Rattle.gb_records.specs.Said.{IsReadAt}
+use Rattle.gb_records.specs.Texts.{IsTextAt, WasTextAnswered}
 use Rattle.gb_records.proofs.Calls.{read_of, placeless_read}
-use Rattle.gb_records.specs.Answered.{WasAnswered}
-use Rattle.gb_records.proofs.Answering.{answered_here, none_placed, none_existed}
+use Rattle.gb_records.proofs.Answering.{none_placed, none_existed}
+use Rattle.gb_folder.proofs.Answering.{on_way_here}
+use Rattle.gb_folder.specs.Answers.{IsOnWay}
 use Rattle.gb_folder.specs.Calls.{Reads, answered}
-use Rattle.gb_records.proofs.stored_records.read_at.Goals as goal
+use Rattle.gb_records.proofs.stored_records.read_text.Goals as goal
 
 pub returns-in-Err-clause-read : goal.returns-in-Err-clause-read
 returns-in-Err-clause-read g c = λ faithful.
@@ -21,7 +22,7 @@ returns-in-Err-read-clause-read g c = λ faithful.
     let path = c.args.path.now in
     let at : c.in-Ok.place ≡ record_place path = c.in-Ok.ensures.place in
     let allowed = c.read.ensures in
-    subst (λ r. IfOk r (IsReadAt files path)) (sym c.none_if_missing.ensures)
+    subst (λ r. IfOk r (IsTextAt files path)) (sym c.none_if_missing.ensures)
     (read_of files path c.in-Ok.place c.in-Err-read.fault (g.met.F.Folder.sound c.args.folder.now)
     (λ e. subst (λ p. file_at files p ≡ None) at (allowed.missing faithful (c.in-Err-read.is ∙ ap Err e)))
     (λ e. subst (λ p. is_blocked files p ≡ true) at (allowed.blocked faithful (c.in-Err-read.is ∙ ap Err e)))
@@ -36,17 +37,17 @@ returns-in-Err-clause-answered g c =
 pub returns-in-Err-read-clause-answered : goal.returns-in-Err-read-clause-answered
 returns-in-Err-read-clause-answered g c =
     let F = g.F.Folder in
-    subst (λ r. IfOk r (WasAnswered F.failures F.may_leave F.allowed c.args.folder.now c.read.new.self c.args.path.now)) (sym c.none_if_missing.ensures)
+    subst (λ r. IfOk r (WasTextAnswered F.failures F.may_leave F.allowed c.args.folder.now c.read.new.self c.args.path.now)) (sym c.none_if_missing.ensures)
     (none_existed F.failures F.may_leave F.allowed c.args.folder.now c.read.new.self c.args.path.now c.in-Ok.place c.in-Err-read.fault)
 
 pub returns-in-Ok-read-clause-answered : goal.returns-in-Ok-read-clause-answered
 returns-in-Ok-read-clause-answered g c =
     let F = g.F.Folder in
-    let path = c.args.path.now in
     let old = c.args.folder.now in
     let new = c.read.new.self in
-    let call : F.allowed old (Reads (record_place path) max_record (Ok c.as_slice.result.now)) new =
-    subst (λ (bytes : List ℕ). F.allowed old (Reads (record_place path) max_record (Ok bytes)) new) (sym c.as_slice.ensures.value)
-    (subst (λ (place : List ℕ). F.allowed old (Reads place max_record (Ok c.in-Ok-read.bytes.items)) new) c.in-Ok.ensures.place
-    (subst (λ r. F.allowed old (Reads c.in-Ok.place max_record (answered r)) new) c.in-Ok-read.is c.read.ensures.call)) in
-    answered_here c.args.folder.now c.read.new.self c.args.path.now c.as_slice.result.now c.record_in.result c.read.ensures.requests call c.record_in.ensures.read
+    let bytes = c.in-Ok-read.bytes.items in
+    let call : F.allowed old (Reads (record_place c.args.path.now) max_record (Ok bytes)) new =
+    subst (λ (place : List ℕ). F.allowed old (Reads place max_record (Ok bytes)) new) c.in-Ok.ensures.place
+    (subst (λ r. F.allowed old (Reads c.in-Ok.place max_record (answered r)) new) c.in-Ok-read.is c.read.ensures.call) in
+    subst (λ (made : List ℕ). (length made ≤ max_record) × IsOnWay F.failures F.may_leave F.allowed (Reads (record_place c.args.path.now) max_record (Ok made)) old new)
+    (sym c.new.ensures) (c.in-Ok-read.ensures.within, on_way_here call)
