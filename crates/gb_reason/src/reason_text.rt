@@ -21,21 +21,21 @@ pub fn push_reason(text: &mut String, reason: &Reason) -> Result<(), AllocError>
     ensures { OnOk result (string_bytes text.new ≡ string_bytes text.old ++ reason_text reason.now) }
 {
     match reason {
-        Reason::NoRecord => write!(text, "no record"),
-        Reason::Rerun => write!(text, "--rerun-tasks"),
-        Reason::Stale => write!(text, "upToDateWhen is false"),
-        Reason::NoOutputs => write!(text, "it has no outputs"),
+        Reason::NoRecord => text.push_str("no record"),
+        Reason::Rerun => text.push_str("--rerun-tasks"),
+        Reason::Stale => text.push_str("upToDateWhen is false"),
+        Reason::NoOutputs => text.push_str("it has no outputs"),
         Reason::ActionAdded(kind) => write!(text, "action {kind} was added"),
         Reason::ActionRemoved(kind) => write!(text, "action {kind} was removed"),
-        Reason::ActionOrder => write!(text, "actions are in another order or number"),
+        Reason::ActionOrder => text.push_str("actions are in another order or number"),
         Reason::ActionVersion(kind) => write!(text, "action {kind} has another version"),
         Reason::ArgumentCount(kind) => write!(text, "action {kind} has more or fewer arguments"),
         Reason::Argument(kind, number, was, is) => push_argument(text, kind, *number, was, is),
-        Reason::ValueNames => write!(text, "input values are declared otherwise"),
+        Reason::ValueNames => text.push_str("input values are declared otherwise"),
         Reason::Value(name, was, is) => push_other(text, name, was, is),
-        Reason::OutputNames => write!(text, "outputs are declared otherwise"),
+        Reason::OutputNames => text.push_str("outputs are declared otherwise"),
         Reason::Output(place, change) => push_output(text, place, change),
-        Reason::FileNames => write!(text, "input files are declared otherwise"),
+        Reason::FileNames => text.push_str("input files are declared otherwise"),
         Reason::File(name, change) => push_file(text, name, change),
     }
 }
@@ -79,8 +79,8 @@ fn push_value(text: &mut String, value: &Value) -> Result<(), AllocError>
 {
     match value {
         Value::Text(reported) => push_quoted(text, reported),
-        Value::Flag(true) => write!(text, "true"),
-        Value::Flag(false) => write!(text, "false"),
+        Value::Flag(true) => text.push_str("true"),
+        Value::Flag(false) => text.push_str("false"),
         Value::List(texts) => push_list(text, texts.as_slice()),
         Value::Place(place) => write!(text, "file {place}"),
         Value::Task(path) => write!(text, "task {path}"),
