@@ -8,7 +8,8 @@
 
 An example is a block ```replay and the block ```output after it; `status N` after `output` is a status other
 than 0. Lines that begin with four spaces are the text of the `put` above them. The gate runs them by
-what bench/replays.py writes.
+what bench/replays.py writes. The numbers in names leave out those of bench/replays, as GUIDE-07 of
+bench/replays/GUIDE-07-a-default.in: an example that is only run, at its place among those that are shown.
 """
 import os
 import re
@@ -49,6 +50,16 @@ def replay_text(lines, at):
     return "".join(line + "\n" for line in told)
 
 
+def only_run():
+    """The names of the examples that no document shows, each with its file without its ending."""
+    found = {}
+    for file in sorted(os.listdir(os.path.join(ROOT, "bench", "replays"))):
+        name = re.match(r"[A-Z_]+-\d\d(?=-)", file)
+        if name is not None:
+            found[name[0]] = os.path.splitext(file)[0]
+    return found
+
+
 def examples():
     return [example for path in DOCS for example in examples_in(path)]
 
@@ -58,6 +69,8 @@ def examples_in(path):
         lines = file.read().split("\n")
     title = os.path.splitext(os.path.basename(path))[0]
     found = []
+    taken = only_run()
+    count = 0
     waiting = None
     fence = None
     for number, line in enumerate(lines, 1):
@@ -78,7 +91,9 @@ def examples_in(path):
             if waiting is None:
                 fail(f"{path}:{start}: an output without an example")
             text = "".join(line + "\n" for line in block)
-            name = f"{title}-{len(found) + 1:02}"
+            count += 1
+            while (name := f"{title}-{count:02}") in taken:
+                count += 1
             found.append(Example(name, waiting[0], waiting[1], text, int(told.group(2) or 0)))
             waiting = None
         elif line.startswith("```"):

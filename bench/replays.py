@@ -1,6 +1,7 @@
 #!/usr/bin/env python3
 """The replays that the gate runs by gb_replay, all in one run: the worked ones, bench/replays/NAME.in with
-the output in NAME.out, and after them the examples of the documents.
+the output in NAME.out, and after them the examples of the documents. Where NAME begins like that of an
+example, as GUIDE-07, the replay is run among these.
 
     bench/replays.py PROGRAM  runs each alone by a built gb_replay and fails where one differs; else writes
                               crates/gb_replay/stdin and crates/gb_replay/stdout, and runs them all in one
@@ -43,12 +44,17 @@ def write(path, text):
 
 def rows():
     """The worked replays by name, then the examples."""
-    names = sorted({os.path.splitext(name)[0] for name in os.listdir(ROWS)})
-    found = [Row(name, *(read(os.path.join(ROWS, name + end)) for end in (".in", ".out"))) for name in names]
-    for example in guide.examples():
-        if example.status == 0:
-            found.append(Row(example.name, example.input, example.output))
-    return found
+    only_run = guide.only_run()
+    names = sorted({os.path.splitext(name)[0] for name in os.listdir(ROWS)} - set(only_run.values()))
+    shown = [
+        Row(example.name, example.input, example.output) for example in guide.examples() if example.status == 0
+    ]
+    shown += [row_of(name, file) for name, file in only_run.items()]
+    return [row_of(name, name) for name in names] + sorted(shown, key=lambda row: row.name)
+
+
+def row_of(name, file):
+    return Row(name, *(read(os.path.join(ROWS, file + end)) for end in (".in", ".out")))
 
 
 def lines_of(row):
