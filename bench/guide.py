@@ -8,8 +8,8 @@
 
 An example is a block ```replay and the block ```output after it; `status N` after `output` is a status other
 than 0. Lines that begin with four spaces are the text of the `put` above them. The gate runs them by
-what bench/replays.py writes. The numbers in names leave out those of bench/replays, as GUIDE-07 of
-bench/replays/GUIDE-07-a-default.in: an example that is only run, at its place among those that are shown.
+what bench/replays.py writes. The numbers in names leave out those of bench/replays, as GUIDE-08 of
+bench/replays/GUIDE-08-a-default-for-a-value.in: no document shows it, and the gate still runs it at its place.
 """
 import os
 import re
