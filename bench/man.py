@@ -18,7 +18,7 @@ PAGES = {
     "gb_ask": ("ask what a build would do", "docs/REFERENCE.md",
                [("`gb_ask` answers questions", "## On a disk")]),
     "gb_site": ("build the site of the current folder", "docs/SITE.md",
-                [("`gb_site` is `gb` with", "[From nothing]"), ("## The kinds", "## Front matter")]),
+                [("`gb_site` is `gb` with", "## From nothing"), ("## The kinds", "## Front matter")]),
 }
 FOOT = {
     "gb": "gb_ask(1), gb_site(1)",
