@@ -318,7 +318,7 @@ class Reader:
 
     def of_type(self, name):
         for owner in self.owners:
-            if owner.title.split()[-1] == name:
+            if owner.title and owner.title.split()[-1] == name:
                 return owner
         return self.owner(f"struct {name}")
 
