@@ -23,6 +23,8 @@ mod ending;
 #[cfg(test)]
 mod executing;
 #[cfg(test)]
+mod functions;
+#[cfg(test)]
 mod granting;
 #[cfg(test)]
 mod hearing;
