@@ -31,9 +31,9 @@
 //!
 //! `invoke` and `run_events` ask nothing of their caller. What they promise is of three sorts:
 //!
-//! - **Where contents are known and `IsAssumed` of `gb_records` holds** (kinds agree, and no torn
-//!   write reads as a record): each event is a step by the definitions (`holds`, `continues`), and
-//!   `promise` is the theorem.
+//! - **Where contents are known and `IsAssumed` of `gb_records` holds** (kinds agree, and a stopped
+//!   write leaves the old record, the new one, or none): each event is a step by the definitions
+//!   (`holds`, `continues`), and `promise` is the theorem.
 //! - **Where contents are known**, whatever the kinds and the device do: a refusal changes nothing
 //!   and has its reason, a dry run changes nothing, and a build changes only `.gb` and the build
 //!   folders of its projects. With the above, this is `KeepsPromise` of `invoke`.
