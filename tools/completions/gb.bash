@@ -1,4 +1,18 @@
 # The words of gb and gb_ask in bash. In ~/.bashrc: source FOLDER/tools/completions/gb.bash
+# Adds the registered tasks that begin with the text before the cursor. It may name a task with the first colon or
+# without. Bash parts words at colons: only what follows the last colon is completed.
+_gb_tasks() {
+    local path typed=${COMP_LINE:0:COMP_POINT}
+    typed=${typed##*[[:space:]]}
+    for path in $(gb_ask tasks 2>/dev/null | grep -o '^:[^ ]*'); do
+        path=${path%:}
+        [[ $typed == :* ]] || path=${path#:}
+        [[ $path == "$typed"* ]] || continue
+        [[ $COMP_WORDBREAKS == *:* ]] && path=${path#"${typed%"${typed##*:}"}"}
+        COMPREPLY+=("$path")
+    done
+}
+
 _gb() {
     local word=${COMP_WORDS[COMP_CWORD]} before=${COMP_WORDS[*]:1:COMP_CWORD-1}
     COMPREPLY=()
@@ -24,11 +38,16 @@ _gb() {
     gb_ask:help) return ;;
     esac
     case " $before " in
-    *" -- "* | *" -x " | *" --exclude-task " | *" -P " | *" --project-prop ") return ;;
+    *" -P " | *" --project-prop ") return ;;
+    *" -- "* | *" -x " | *" --exclude-task ") _gb_tasks; return ;;
     esac
     if [[ $word == -* ]]; then
         local options='-x --exclude-task -P --project-prop --continue --rerun-tasks -m --dry-run'
         COMPREPLY+=($(compgen -W "$options" -- "$word"))
+    else
+        case ${COMP_WORDS[0]##*/}:${COMP_WORDS[1]} in
+        gb:* | gb_ask:why | gb_ask:graph) _gb_tasks ;;
+        esac
     fi
 }
 complete -F _gb gb gb_ask
