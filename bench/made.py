@@ -462,6 +462,7 @@ def contract_lines(clauses):
         elif text:
             if known and clause.sentence:
                 text = text.replace(": ", ", where contents are known: ", 1)
+                text = re.sub(r": Where contents are known\b", "", text, count=1)
             lines += filled(text, "- ", "  ")
     for (asks, known), names in alone.items():
         begin = "*Asks* " if asks else ""
@@ -541,7 +542,7 @@ def module_lines(crate, module, heads):
     if not body:
         return []
     head = plain(paragraph(head_of(path, "//!")))
-    return ["", f"### `{crate}::{module}`", ""] + filled(head) + body
+    return ["", f"### `{crate}::{module}`", ""] + filled(f"{head} ([code](../{path}))") + body
 
 
 def calls_page():
