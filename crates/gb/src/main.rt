@@ -1,7 +1,7 @@
 //! Builds the current folder: `gb [WORD..]`, with the built-in kinds and functions.
 //!
-//! Proved: that it never panics and that it ends. Tested: that builds of a real folder do what
-//! those in memory do.
+//! Proved: that it never panics, and that it ends if its system calls end. Tested: that builds of a
+//! real folder do what those in memory do.
 #![tactic(auto)]
 
 use gb_action::table::ActionTable;

@@ -3,8 +3,9 @@
 //! --write`, which alone takes the locks of a build; `status` tries one for a moment.
 //!
 //! The shared lock that `status` tries keeps no other `gb_ask status` from its answer. Proved: that
-//! the program never panics and that it ends. `data` is a folder with records: the gate runs
-//! `gb_ask why` over it, and `docs/GUIDE.md#why-did-it-run` shows what is printed.
+//! the program never panics, and that it ends if its system calls end. `data` is a folder with
+//! records: the gate runs `gb_ask why` over it, and `docs/GUIDE.md#why-did-it-run` shows what is
+//! printed.
 #![tactic(auto)]
 
 use gb_action::actions::Actions;

@@ -42,15 +42,15 @@ pub fn run_events<A: Actions, T: Transforms, F: Folder, L: TaskListener>(
     ensures unnotified { OnErr result (listeners.new ≡ listeners.old) }
     ensures tearing { SameTearing (F.may_leave folder.old) (F.may_leave folder.new) }
     // Over any folder: an edit makes at most one call, at its own place, and a loss removes files in
-    // `.gb` alone. A build requests a write
-    // or a removal only at or under an output of a task of its plan or at the record of one, and
-    // the text of such a record is that of a run of the task. A refused build and a dry run request
-    // none.
+    // `.gb` alone. A build requests a write or a removal only at or under an output of a task of its
+    // plan or at the record of one, and the text of such a record is that of a run of the task. A
+    // refused build and a dry run request none.
     ensures requests { IfOk result (λ answers. EventsRequest F.failures F.may_leave F.allowed
         (tables_of T.meanings A.meanings tables.now) events.now answers.items folder.old folder.new) }
     // One answer for each event.
     ensures each { IfOk result (λ answers. length answers.items ≡ length events.now) }
-    // Faults are attributed to the device no more often than it failed.
+    // Faults are attributed to the device no more often than it failed, while the folder's count of
+    // failures is below 2^64 - 1.
     ensures device { IfOk result (λ answers.
         HasFailed (times_blamed_in_all answers.items) (F.failures folder.old) (F.failures folder.new)) }
     // Each listener was notified of the builds, one after another.

@@ -38,8 +38,9 @@
 //!   and has its reason, a dry run changes nothing, and a build changes only `.gb` and the build
 //!   folders of its projects. With the above, this is `KeepsPromise` of `invoke`.
 //! - **Over any folder**: what is asked for, which tasks start and what each may answer
-//!   (`IsInvocation`), what listeners hear and what is printed. The device is blamed no more often
-//!   than it failed, and by no fault of a script or a task.
+//!   (`IsInvocation`), what listeners hear and what is printed. While the folder's count of failures
+//!   is below 2^64 - 1, no more faults are attributed to the device than it had, and never one of a
+//!   script or a task.
 //!
 //! Laws: `folders_say_one_thing` (a folder declares one thing, or has one fault),
 //! `own_files_say_nothing` (the files of `.gb` do not count for that), `scripts_give_one_plan` (so

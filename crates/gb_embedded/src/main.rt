@@ -3,7 +3,7 @@
 //! An example for programs that embed builds: it names `gb_build`, `gb_kinds` and the crate of
 //! their macros alone.
 //!
-//! Proved: that the program never panics and that it ends.
+//! Proved: that the program never panics, and that it ends if its system calls end.
 #![tactic(auto)]
 
 use gb_answer::{builtin_actions, builtin_functions};

@@ -3,9 +3,9 @@
 //! It reads its whole standard input, processes the lines in their order and prints their results,
 //! all of it by `gb_lines`.
 //!
-//! Proved: that the program never panics and that it ends. `stdin` and `stdout` are one run of it:
-//! `bench/replays.py` makes them of the worked replays in `bench/replays` and of all examples of
-//! the documents.
+//! Proved: that the program never panics, and that it ends if its system calls end. `stdin` and
+//! `stdout` are one run of it: `bench/replays.py` makes them of the worked replays in
+//! `bench/replays` and of all examples of the documents.
 #![tactic(auto)]
 
 use gb_action::table::ActionTable;

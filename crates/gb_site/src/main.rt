@@ -2,7 +2,7 @@
 //! built-in ones.
 //!
 //! The kinds are those of `gb_pages` and `gb_feed`. `data` has a site that the gate builds. Proved:
-//! that the program never panics and that it ends.
+//! that the program never panics, and that it ends if its system calls end.
 #![tactic(auto)]
 
 use gb_action::actions::Actions;

@@ -3,7 +3,7 @@
 //! end.
 //!
 //! An example of `docs/EMBEDDING.md`. Proved: that each kind makes what its definition says, that
-//! the program never panics and that it ends.
+//! the program never panics, and that it ends if its system calls end.
 #![tactic(auto)]
 
 mod headed;
