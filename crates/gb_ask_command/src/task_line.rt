@@ -26,12 +26,12 @@ fn push_coming(text: &mut String, coming: &PredictedOutcome) -> Result<(), Alloc
     ensures { OnOk result (string_bytes text.new ≡ string_bytes text.old ++ coming_text coming.now) }
 {
     match coming {
-        PredictedOutcome::Skips => text.push_str(" SKIPPED: onlyIf is false"),
-        PredictedOutcome::HasNoActions => text.push_str(" has no actions"),
-        PredictedOutcome::HasNoSource(_) => text.push_str(" NO-SOURCE"),
+        PredictedOutcome::Skips => write!(text, " SKIPPED: onlyIf is false"),
+        PredictedOutcome::HasNoActions => write!(text, " has no actions"),
+        PredictedOutcome::HasNoSource(_) => write!(text, " NO-SOURCE"),
         PredictedOutcome::CannotRead(fault) => write!(text, " cannot be read: {fault}"),
-        PredictedOutcome::UpToDate => text.push_str(" UP-TO-DATE"),
-        PredictedOutcome::HasGrown => text.push_str(" runs: outputs are too large or too many"),
+        PredictedOutcome::UpToDate => write!(text, " UP-TO-DATE"),
+        PredictedOutcome::HasGrown => write!(text, " runs: outputs are too large or too many"),
         PredictedOutcome::Runs(by_changes, reasons) => push_runs(
             text,
             *by_changes,

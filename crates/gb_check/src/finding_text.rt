@@ -62,7 +62,7 @@ pub fn push_cause(text: &mut String, cause: &Problem) -> Result<(), AllocError>
             )
         }
         Problem::Bare(root) => write!(text, "no file is at {root}"),
-        Problem::Unread => text.push_str("nothing reads it"),
+        Problem::Unread => write!(text, "nothing reads it"),
         Problem::Unregistered(path) => {
             write!(
                 text,
