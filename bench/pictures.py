@@ -110,9 +110,9 @@ def layers():
 TURN = [
     ("`enabled` or a test of `onlyIf` is false?", "SKIPPED", "outputs and record stay"),
     ("no actions?", "UP-TO-DATE", "or executed, if a task that it needs was"),
-    ("inputs or outputs cannot be read?", "FAILED", "outputs and record stay"),
-    ("all `skipWhenEmpty` files are none?", "NO-SOURCE", "outputs and record are removed"),
-    ("the record is what it has now?", "UP-TO-DATE", "an output, no --rerun-tasks, no false upToDateWhen"),
+    ("inputs not read, or outputs not listed?", "FAILED", "outputs and record stay"),
+    ("its `skipWhenEmpty` inputs have no files?", "NO-SOURCE", "outputs and record are removed"),
+    ("does the record fit the task and its files?", "UP-TO-DATE", "an output, no --rerun-tasks, no false upToDateWhen"),
 ]
 
 
