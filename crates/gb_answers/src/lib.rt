@@ -1,9 +1,9 @@
 //! What follows from the calls of builds and their answers, whatever the folder is.
 //!
 //! No contract says what a disk holds, so the theorem about known contents says nothing of it. But
-//! the contracts over any folder say which calls a build made, and with which bytes, given their
-//! answers. This crate has what follows for a folder that keeps its calls (`LogsCalls`), in two
-//! laws over what `invoke` does (`requests` of its clause `does`). No body is changed for them.
+//! of a folder that keeps its calls (`LogsCalls`), whatever is beneath it, the contracts say which
+//! calls a build made, and with which bytes, given their answers. This crate has what follows, in
+//! two laws over what `invoke` does (`requests` of its clause `does`). No body is changed for them.
 //!
 //! - `answered_success_is_from_scratch`: if contents that hold true records answer all calls that
 //!   the folder keeps of a build, no two contents share a digest, and no task failed, then in these

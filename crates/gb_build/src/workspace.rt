@@ -45,6 +45,7 @@ pub fn read_registry<'a, A: Actions, T: Transforms, F: Folder>(
     ensures blamed { BlamesOnly is_script_place result }
     ensures same { IsTrue F.faithful → F.contents folder.new ≡ F.contents folder.old }
     ensures tables { IfOk result (λ configured. configured.tables.now ≡ tables.now) }
+    // Where contents are known, the result is what the scripts in them say, or a fault of the machine.
     ensures said { IsTrue F.faithful → MatchResult result
         (λ configured. FolderSays (tables_of T.meanings A.meanings tables.now)
         (F.contents folder.old).files given.items (Ok configured.registry))
@@ -68,6 +69,7 @@ pub fn read_settings_of<F: Folder>(alloc: Global, folder: &mut F) -> Result<Sett
     ensures blame { Blames result (F.failures folder.old) (F.failures folder.new) }
     ensures blamed { BlamesOnly (is_at settings_place) result }
     ensures same { IsTrue F.faithful → F.contents folder.new ≡ F.contents folder.old }
+    // Where contents are known, the result is what the file says, or a fault of the machine.
     ensures said { IsTrue F.faithful
         → Reports (TextSays SaysAsSettings (F.contents folder.old).files settings_place)
         (F.failures folder.old) (F.failures folder.new) result }

@@ -11,9 +11,9 @@
 //! - Silence (`IsSilent`): where no fault is found, nothing that is requested and excluded is
 //!   refused for a task. What is left is want of memory, the fault of one of these words, and that
 //!   of a plan (60 to 63).
-//! - The warnings are exactly those of four sorts (`docs/GUIDE.md#what-is-wrong`), over the tasks
-//!   without a fault (`AreWarnings`). Those of roots at which nothing is are exact where contents
-//!   are known.
+//! - The warnings are exactly those of four of the six sorts (`docs/GUIDE.md#what-is-wrong`), over
+//!   the tasks without a fault (`AreWarnings`); `gb_ask_command` adds those of given values and of
+//!   records. Those of roots at which nothing is are exact where contents are known.
 //!
 //! The clauses of a task are checked once more, each by itself, with their lines: a fault has the
 //! line of the first clause that has one. A fault of a value is of no clause by itself: it has the

@@ -1,11 +1,13 @@
 //! The only way in which the build accesses files.
 //!
 //! [`Folder`](folder::Folder) is five calls over places. Code over a folder is proved once, for
-//! every type of folder. Its contracts say over any folder which calls were made, with which bytes,
-//! and what they returned; that holds on a disk too. If the type of the folder is `faithful`, its
-//! contents are known, and each result is exact: a refused call changes nothing, and only a device
-//! fault in a write or a removal may leave something else, at the place of the call.
-//! `proofs/Changes.antt` has lemmas for callers.
+//! every type of folder. Its contracts say which calls were made, with which bytes, and what they
+//! returned, by the relation `allowed` of the type: which call may lead from which state to which.
+//! That of `DiskFolder` always holds, so that a disk gets the same calls is an argument
+//! (`docs/PROOF.md#over-a-disk`). If the type of the folder is `faithful`, its contents are known,
+//! and each result is exact: a refused call changes nothing, and only a device fault in a write or
+//! a removal may leave something else, at the place of the call. `proofs/Changes.antt` has lemmas
+//! for callers.
 //!
 //! A list of calls with their answers is a value too. `specs/Device.antt` defines when such a list
 //! leads from one folder to another, over any folder. `specs/Semantics.antt` defines the answer of

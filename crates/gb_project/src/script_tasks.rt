@@ -38,6 +38,7 @@ impl<'a, A: Actions, T: Transforms> ScriptTasks<'a, A, T> {
     /// All tasks that scripts without a fault register, each declared or at fault. Nothing is
     /// evaluated yet.
     pub fn declare(alloc: Global, configured: &'a Configured<'a, A, T>) -> Result<Self, AllocError>
+        // The tasks, and the default tasks, are those that the scripts register.
         ensures registry { IfOk result (λ tasks. ⟦<ScriptTasks<'a, A, T> as Tasks>⟧.registry tasks
             ≡ registry_said (tables_of T.meanings A.meanings configured.now.tables.now)
             configured.now.registry) }

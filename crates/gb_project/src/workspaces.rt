@@ -244,6 +244,7 @@ impl<'a, A: Actions, T: Transforms> Workspace<'a, A, T> {
     /// of the script, then of its values. A path under which no task is registered is 50 or 52.
     /// Values that were read are cached; the workspace as contracts see it is unchanged.
     pub fn realise(&mut self, alloc: Global, path: &TaskPath) -> Result<TaskDeclaration, Fault>
+        // The result is what the scripts say of the task at this path, or memory ran out.
         ensures reported { let tables = tables_of T.meanings A.meanings self.old.tables in
             Reports tables self.old.source (realised tables self.old.source path.now) result }
         ensures kept { self.new ≡ self.old }

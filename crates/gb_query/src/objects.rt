@@ -1,5 +1,8 @@
 //! Answers as JSON.
 ghost use Rattle.std.specs.Prelude.{◌≡◌, ◌≤◌, IfOk, codes, map, string_bytes};
+ghost use Rattle.std.specs.Cmp.Lexicographic.{slice_cmp};
+ghost use Rattle.std.specs.Ordering.{nat_cmp};
+ghost use Rattle.std.specs.declared.cmp.Ordering.TheVariants.{Greater};
 ghost use Rattle.serde_json.specs.Data.{array, depth, member, no_members, object, string};
 ghost use Rattle.serde_json.specs.Read.{max_depth};
 ghost use Rattle.serde_json.specs.View.{items_of, view};
@@ -70,8 +73,8 @@ fn related(alloc: Global, relation: Relation, name: &str, task: &str) -> Result<
         view value ≡ pair (relation_key relation) name.now (codes "task") task.now) }
 {
     match relation {
-        Relation::Reads => json!(in alloc; {"property": name, "task": task}),
-        Relation::Makes => json!(in alloc; {"output": name, "task": task}),
+        Relation::Reads => pair(alloc, "property", name, "task", task),
+        Relation::Makes => pair(alloc, "output", name, "task", task),
     }
 }
 
@@ -81,14 +84,22 @@ fn unreadable(alloc: Global, fault: &Fault, task: &str) -> Result<Value, AllocEr
 {
     let mut text = String::new(alloc);
     write!(text, "{fault}")?;
-    fault_object(alloc, text.as_str(), task)
+    pair(alloc, "fault", text.as_str(), "task", task)
 }
 
-fn fault_object(alloc: Global, fault: &str, task: &str) -> Result<Value, AllocError>
+/// An object of two texts, the first key before the second.
+fn pair(
+    alloc: Global,
+    key: &str,
+    text: &str,
+    other_key: &str,
+    other_text: &str,
+) -> Result<Value, AllocError>
+    requires { slice_cmp nat_cmp other_key.now key.now ≡ Greater }
     ensures { IfOk result (λ value.
-        view value ≡ pair (codes "fault") fault.now (codes "task") task.now) }
+        view value ≡ pair key.now text.now other_key.now other_text.now) }
 {
-    json!(in alloc; {"fault": fault, "task": task})
+    json!(in alloc; {key: text, other_key: other_text})
 }
 
 /// A line of JSON: whether a build runs, and an array with an object for each file of `.gb`.
@@ -136,22 +147,9 @@ fn entry_object(alloc: Global, entry: &Entry) -> Result<Value, AllocError>
     ensures { IfOk result (λ value. view value ≡ entry_object entry.now) }
 {
     match entry {
-        Entry::Record(path) => task_object(alloc, "record", path.as_str()),
-        Entry::Damaged(path) => task_object(alloc, "damaged", path.as_str()),
-        Entry::Unregistered(path) => task_object(alloc, "unregistered", path.as_str()),
-        Entry::Foreign(place) => foreign_object(alloc, place.as_str()),
+        Entry::Record(path) => pair(alloc, "kind", "record", "task", path.as_str()),
+        Entry::Damaged(path) => pair(alloc, "kind", "damaged", "task", path.as_str()),
+        Entry::Unregistered(path) => pair(alloc, "kind", "unregistered", "task", path.as_str()),
+        Entry::Foreign(place) => pair(alloc, "kind", "foreign", "place", place.as_str()),
     }
-}
-
-fn task_object(alloc: Global, kind: &str, task: &str) -> Result<Value, AllocError>
-    ensures { IfOk result (λ value. view value ≡ pair (codes "kind") kind.now (codes "task") task.now) }
-{
-    json!(in alloc; {"kind": kind, "task": task})
-}
-
-fn foreign_object(alloc: Global, place: &str) -> Result<Value, AllocError>
-    ensures { IfOk result (λ value.
-        view value ≡ pair (codes "kind") (codes "foreign") (codes "place") place.now) }
-{
-    json!(in alloc; {"kind": "foreign", "place": place})
 }

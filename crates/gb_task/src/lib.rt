@@ -29,8 +29,8 @@
 //!
 //! | Laws (`laws.rt`) | What they say |
 //! |---|---|
-//! | `unread_executions_keep` | an execution that ends before it has read changes nothing: record and |
-//! | | outputs stay |
+//! | `unread_executions_keep` | an execution that ends before it has read asks for no change of its |
+//! | | record and outputs |
 //! | `full_runs_are_true` | the record that a full run stores is true (`IsTextOfTrue`) |
 //! | `runs_by_changes_stay_true` | so is that of an incremental run, if the record that it was based on |
 //! | | is true, and no two contents share a digest |
