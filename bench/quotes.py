@@ -2,11 +2,13 @@
 """Checks that documents agree with the repository.
 
     bench/quotes.py            fails if one of these does not hold
-    bench/quotes.py --theorem  prints the files of definitions that the theorem's clause reaches
+    bench/quotes.py --theorem  prints the files of definitions that the theorem's clause reaches, and then
+                               the files of code whose types these name
 
 - A block ```quote FILE is in FILE, line by line and in one piece.
 - A link to a file of the repository leads to one, and one with `#` to a heading of it.
-- The block ```theorem of docs/PROOF.md has the files that the theorem's clause reaches, import by import.
+- The block ```theorem of docs/PROOF.md has the files that the theorem's clause reaches, import by import, and
+  the block ```types the files of code whose types these name.
 - docs/CRATES.md has a section for each crate, in the order of crates.txt.
 - That page has a table for each group of crates.txt with its crates, and the table of README.md a row for
   each group, in the order of crates.txt.
@@ -98,23 +100,37 @@ def check_counts():
             faults.append(f"{path}: it does not say: {words}")
 
 
-def theorem():
-    """The files of definitions that the theorem's clause reaches, a line for each crate."""
-    reached, ahead = set(), list(ROOTS)
+def by_crates(found):
+    """A line for each crate, in the order of crates.txt, with its names."""
+    rows = {crate: sorted(name for other, name in found if other == crate) for crate, _ in found}
+    return [f"{crate}: {' '.join(rows[crate])}" for crate in crates() if crate in rows]
+
+
+def reached():
+    """The files of definitions that the theorem's clause reaches, and the files of code whose types they name."""
+    found, code, ahead = set(), set(), list(ROOTS)
     while ahead:
         crate, name = ahead.pop()
         path = f"crates/{crate}/specs/{name}.antt"
-        if (crate, name) not in reached and os.path.isfile(os.path.join(ROOT, path)):
-            reached.add((crate, name))
-            ahead += re.findall(r"Rattle\.(gb\w*)\.specs\.(\w+)", "\n".join(lines_of(path)))
-    by_crate = {crate: sorted(name for other, name in reached if other == crate) for crate, _ in reached}
-    return [f"{crate}: {' '.join(by_crate[crate])}" for crate in crates() if crate in by_crate]
+        if (crate, name) not in found and os.path.isfile(os.path.join(ROOT, path)):
+            found.add((crate, name))
+            text = "\n".join(lines_of(path))
+            ahead += re.findall(r"Rattle\.(gb\w*)\.specs\.(\w+)", text)
+            code |= set(re.findall(r"Rattle\.(gb\w*)\.specs\.declared\.(\w+)", text))
+    return found, code
+
+
+def theorem():
+    """A line for each crate: the files of the theorem, and then those of the types that they name."""
+    found, code = reached()
+    return by_crates(found), by_crates(code)
 
 
 def check_theorem():
-    told = [block for _, kind, block in blocks("docs/PROOF.md") if kind == "theorem"]
-    if told != [folded(theorem())]:
-        faults.append("docs/PROOF.md: the files of the theorem are those of bench/quotes.py --theorem")
+    for kind, lines in zip(["theorem", "types"], theorem()):
+        told = [block for _, other, block in blocks("docs/PROOF.md") if other == kind]
+        if told != [folded(lines)]:
+            faults.append(f"docs/PROOF.md: the block {kind} is that of bench/quotes.py --theorem")
 
 
 def folded(lines):
@@ -233,7 +249,8 @@ def check_columns(path):
 
 def main(words):
     if words == ["--theorem"]:
-        print("\n".join(folded(theorem())))
+        for lines in theorem():
+            print("\n".join(folded(lines)))
         return 0
     for path in DOCS:
         check_quotes(path)
