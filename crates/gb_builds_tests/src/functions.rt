@@ -1,4 +1,4 @@
-//! The functions of a table, taken out of it and added to another.
+//! The functions of a table, removed from it and added to another.
 use gb_provider::table::{Transform, TransformTable};
 use std::test::Fail;
 

@@ -1,2 +1,3 @@
 mod Descends
 mod Segments
+mod Walks

@@ -1,1 +1,3 @@
 pub mod Disk
+pub mod Noted
+pub mod Called

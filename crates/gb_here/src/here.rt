@@ -2,11 +2,12 @@
 ghost use Rattle.std.specs.Prelude.{◌≤◌, IfOk};
 
 use crate::lock::locks_for;
+use crate::on_disk::run_on_disk;
 use crate::refused::print_refusal;
 use crate::words::command_words;
 use gb_action::actions::Actions;
 use gb_action::table::{ActionTable, TableFault};
-use gb_command::run::{UNPRINTED, run};
+use gb_command::run::UNPRINTED;
 use gb_disk::disk::DiskFolder;
 use gb_printer::last::Last;
 use gb_printer::page::Page;
@@ -78,7 +79,7 @@ fn built_alone<A: Actions, T: Transforms, R: Files + Env + Print + AllocGlobal>(
     };
     let mut page = Last::new(Page::new(writer));
     let words = command_words(rt);
-    let status = run(alloc, &mut folder, words, &mut page, tables);
+    let status = run_on_disk(alloc, &mut folder, words, &mut page, tables);
     Ok(status.unwrap_or(UNPRINTED))
 }
 

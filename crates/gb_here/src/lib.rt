@@ -5,6 +5,12 @@
 //! exit status. `gb` is such a program with only the built-in kinds, and prints no more than this
 //! crate does.
 //!
+//! [`on_disk::run_on_disk`] says what such a build does, whatever the disk returns
+//! (`IsBuiltOnDisk`): its calls are those of a build by the rules, given what they returned; and in
+//! any contents that answer these calls and hold true records, a build in which no task failed
+//! leaves what a build from scratch makes, if no two contents share a digest. That `build_here`
+//! calls it with a new folder, the program's arguments and its tables is to be read in `here.rt`.
+//!
 //! One build at a time works in a folder. No contract says so: it is tested. A build holds the
 //! system's locks on the folder itself and on the folders of its projects, in the order of
 //! projects, from before it reads a script until its output is printed. It waits where another
@@ -18,5 +24,6 @@
 
 pub mod here;
 pub mod lock;
+pub mod on_disk;
 pub mod refused;
 pub mod words;

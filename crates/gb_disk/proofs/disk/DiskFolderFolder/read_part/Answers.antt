@@ -4,4 +4,4 @@ use Rattle.gb_folder.proofs.Asked.{one_call}
 use Rattle.gb_disk.proofs.disk.DiskFolderFolder.read_part.Goals as goal
 
 pub returns-clause-requests : goal.returns-clause-requests
-returns-clause-requests g c = one_call (ReadsPart c.args.place.now c.args.at c.args.len (answered c.counted.result)) tt (search rules) (search rules) tt
+returns-clause-requests g c = one_call (ReadsPart c.args.place.now c.args.at c.args.len (answered c.counted-outcome.result)) tt (search rules) (search rules) (search rules)

@@ -1,0 +1,21 @@
+-- The calls of a folder on a disk, which it keeps for proofs alone.
+use Rattle.std.specs.Prelude.{ℕ, ◌≡◌, List, [], ◌∷◌, ◌++◌, ⊤}
+use Rattle.gb_folder.specs.Calls.{Call}
+use Rattle.gb_folder.specs.Files.{Tearing}
+use Rattle.gb_disk.specs.declared.disk.DiskFolder.{DiskFolder}
+
+-- the calls that it was asked for, with their answers, in order
+abbrev pub calls_of : {R : Type 0} → DiskFolder R → List Call
+calls_of folder = folder.log.calls
+
+-- The second state is the one after this call, with its answer, in the first one.
+abbrev pub is_next : {R : Type 0} → DiskFolder R → Call → DiskFolder R → Type 0
+is_next old call new = calls_of new ≡ calls_of old ++ call ∷ []
+
+-- how often the device failed in them
+abbrev pub failures_of : {R : Type 0} → DiskFolder R → ℕ
+failures_of folder = folder.failures
+
+-- a torn write may leave anything
+abbrev pub leaves_anything : {R : Type 0} → DiskFolder R → Tearing
+leaves_anything folder place old next left = ⊤
