@@ -37,8 +37,3 @@ pub bounded : {Shown : Type 0} (answer : Result Report Fault) (status : Option �
     → IfSome status (λ s. s ≤ 2)
 bounded answer None is = tt
 bounded answer (Some s) is = subst (λ n. n ≤ 2) (sym is.1) (status_low answer)
-
-pub is_its_own : {Shown : Type 0} (answer : Result Report Fault) (status : Option ℕ) → IfSome status (λ s. Shown × (s ≡ status_of answer))
-    → IfSome status (λ s. s ≡ status_of answer)
-is_its_own answer None is = tt
-is_its_own answer (Some s) is = is.1

@@ -1,6 +1,5 @@
 -- What a build of a folder on a disk does, whatever the disk returns.
-use Rattle.std.specs.Prelude.{ℕ, ◌≡◌, ◌⊎◌, inl, inr, List, Option, Result, IfOk, IfSome, ⊤}
-use Rattle.gb_answer.specs.Answer.{status_of}
+use Rattle.std.specs.Prelude.{ℕ, inl, inr, List, Result, IfOk, ⊤}
 use Rattle.gb_answers.specs.Scratch.{LeavesFromScratch}
 use Rattle.gb_command.specs.Answered.{DoesFor, Given}
 use Rattle.gb_disk.specs.Called.{calls_of, failures_of, is_next, leaves_anything}
@@ -21,13 +20,10 @@ LeavesAsRequested tables leaves calls (inl refused) = ⊤
 LeavesAsRequested tables leaves calls {answer = answer} (inr requested) =
     IfOk answer (λ report. LeavesFromScratch tables leaves requested.0 report calls)
 
--- A build of a folder on a disk that was asked for no call before, with what the disk returned.
+-- A build of a folder on a disk that was asked for no call before, with this answer.
 pub record IsBuiltOnDisk {R M N Z S A : Type 0} (tables : Tables M N Z S A) (given : Given)
-    (status : Option ℕ) (old new : DiskFolder R) : Type 0 where
-  pub answer : Result Report Fault
+    (answer : Result Report Fault) (old new : DiskFolder R) : Type 0 where
   -- The calls that it made, and what its answer may be, by what they returned. A call leads from one state of
   -- the folder to the next one, in which the log has it, with what it returned (`is_next`).
   pub does : DoesFor failures_of leaves_anything is_next tables given answer old new
   pub leaves : LeavesAsRequested tables (leaves_anything old) (calls_of new) does
-  -- without a status, something could not be printed
-  pub status : IfSome status (λ status. status ≡ status_of answer)
