@@ -34,8 +34,8 @@ pub fn run_on_disk<A: Actions, T: Transforms, R: Files + Drop, W: Printer>(
     // There is an answer to these arguments. The calls of the disk are those of a build by the
     // rules, given what they returned. In any contents that answer them and hold true records, a
     // build in which no task failed leaves what a build from scratch makes, if kinds agree and no
-    // two contents share a digest. With a status, the text of the answer and nothing else is
-    // printed, and the status is its own; without one, a beginning of its text is printed.
+    // two contents share a digest. With a status, the status is that of the answer, and on a page
+    // whose contents are known its text and nothing else is printed; without one, a beginning of it.
     ensures built { calls_of folder.old ≡ [] → (answer : Result Report Fault)
         × IsBuiltOnDisk (tables_of T.meanings A.meanings tables.now)
         (given_of (λ words. map string_bytes words.items) words) answer folder.old folder.new
