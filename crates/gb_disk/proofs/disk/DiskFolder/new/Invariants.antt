@@ -1,4 +1,4 @@
 use Rattle.gb_disk.proofs.disk.DiskFolder.new.Given as goal
 
-abbrev pub ghost-new-log : goal.ghost-new-log
-ghost-new-log g a = g.states
+abbrev pub ghost-new : goal.ghost-new-log
+ghost-new g a = g.states
