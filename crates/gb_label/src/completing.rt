@@ -1,5 +1,5 @@
 //! Completes one reading for a run.
-ghost use Rattle.std.specs.Prelude.{◌≡◌, IsTrue, IfOk, IfErr};
+ghost use Rattle.std.specs.Prelude.{◌≡◌, IfOk, IfErr};
 ghost use Rattle.std.specs.List.{AllByRecursion};
 ghost use Rattle.gb_folder.specs.Calls.{Requests, no_change};
 ghost use Rattle.gb_store.specs.Faults.{Blames, BlamesOnly, IsOfMachine};
@@ -34,10 +34,12 @@ pub(crate) fn complete<F: Folder>(
         → WereObserved F.failures F.may_leave F.allowed first folder.old reading.1
         → IfOk result (λ made. IsTreeRead F.failures F.may_leave F.allowed first folder.new
         (entries_observed reading.1) made.0.1) }
-    ensures tree { F.faithful folder.new → AllByRecursion (IsObservedIn (F.contents folder.old).files) reading.1
+    ensures tree { F.faithful folder.new
+        → AllByRecursion (IsObservedIn (F.contents folder.old).files) reading.1
         → IfOk result
         (λ made. made.0.1 ≡ contents_at (F.contents folder.old).files (entries_observed reading.1)) }
-    ensures err { F.faithful folder.new → AllByRecursion (IsObservedIn (F.contents folder.old).files) reading.1
+    ensures err { F.faithful folder.new
+        → AllByRecursion (IsObservedIn (F.contents folder.old).files) reading.1
         → IfErr result (IsOfMachine (F.failures folder.old) (F.failures folder.new)) }
 {
     match reading.completed(alloc, folder) {

@@ -1,5 +1,5 @@
 //! The decision on a task by its record.
-ghost use Rattle.std.specs.Prelude.{◌≡◌, ◌⊎◌, [], false, map, Some, IsTrue, IfOk, IfErr, OnOk, option_copied};
+ghost use Rattle.std.specs.Prelude.{◌≡◌, ◌⊎◌, [], false, map, Some, IfOk, IfErr, OnOk, option_copied};
 ghost use Rattle.std.specs.List.{flat_map, list_any};
 ghost use Rattle.gb_folder.specs.Calls.{Requests, no_change};
 ghost use Rattle.gb_folder.specs.Files.{is_empty, is_own};
@@ -140,7 +140,8 @@ fn in_full<F: Folder>(
         (found.decision ≡ Decision.Full) × (found.basis ≡ Basis.Forced cause)) }
     ensures none_special { F.faithful folder.new → OnOk result
         (listing_faults task.now (F.contents folder.old) ≡ []) }
-    ensures err { F.faithful folder.new → IfErr result (CannotRead (F.failures folder.old) (F.failures folder.new)
+    ensures err { F.faithful folder.new
+        → IfErr result (CannotRead (F.failures folder.old) (F.failures folder.new)
         (listing_faults task.now (F.contents folder.old))) }
 {
     check_outputs(alloc, folder, task)?;

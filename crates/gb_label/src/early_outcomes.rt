@@ -1,5 +1,5 @@
 //! The cases that are decided before any record is considered.
-ghost use Rattle.std.specs.Prelude.{◌≡◌, ◌||◌, true, false, length, IsTrue, IfOk, IfErr, OnErr};
+ghost use Rattle.std.specs.Prelude.{◌≡◌, ◌||◌, true, false, length, IfOk, IfErr, OnErr};
 ghost use Rattle.std.specs.List.{list_all, list_any, zip};
 ghost use Rattle.gb_folder.specs.Calls.{Requests, no_change};
 ghost use Rattle.gb_folder.specs.Files.{is_empty};

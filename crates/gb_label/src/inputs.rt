@@ -151,7 +151,8 @@ pub fn complete_inputs<F: Folder>(
     ensures trees { F.faithful folder.new → AreInputsObserved task.now (F.contents folder.old).files
         readings.items
         → IfOk result (λ inputs. inputs.trees ≡ trees_of task.now (F.contents folder.old).files) }
-    ensures err { F.faithful folder.new → AreInputsObserved task.now (F.contents folder.old).files readings.items
+    ensures err { F.faithful folder.new
+        → AreInputsObserved task.now (F.contents folder.old).files readings.items
         → IfErr result (IsOfMachine (F.failures folder.old) (F.failures folder.new)) }
 {
     let mut trees = Snapshots::new(alloc);

@@ -1,5 +1,5 @@
 //! Checks that everything at a task's outputs can be listed.
-ghost use Rattle.std.specs.Prelude.{◌≡◌, [], IsTrue, IfErr, OnOk};
+ghost use Rattle.std.specs.Prelude.{◌≡◌, [], IfErr, OnOk};
 ghost use Rattle.gb_folder.specs.Calls.{Requests, no_change};
 ghost use Rattle.gb_meaning.specs.Tree.{listing_faults};
 ghost use Rattle.gb_plan.specs.Task.{is_output_of};
@@ -26,7 +26,8 @@ pub fn check_outputs<F: Folder>(
     ensures same { F.faithful folder.new → F.contents folder.new ≡ F.contents folder.old }
     ensures none_special { F.faithful folder.new → OnOk result
         (listing_faults task.now (F.contents folder.old) ≡ []) }
-    ensures err { F.faithful folder.new → IfErr result (CannotRead (F.failures folder.old) (F.failures folder.new)
+    ensures err { F.faithful folder.new
+        → IfErr result (CannotRead (F.failures folder.old) (F.failures folder.new)
         (listing_faults task.now (F.contents folder.old))) }
 {
     listed_outputs(alloc, folder, task.outputs.as_slice())?;

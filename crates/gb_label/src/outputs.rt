@@ -141,10 +141,12 @@ fn complete_one<F: Folder>(
         → WereObserved F.failures F.may_leave F.allowed first folder.old reading.1
         → IfOk result (λ made. IsTreeRead F.failures F.may_leave F.allowed first folder.new
         (entries_observed reading.1) made.0.files) }
-    ensures files { F.faithful folder.new → AllByRecursion (IsObservedIn (F.contents folder.old).files) reading.1
+    ensures files { F.faithful folder.new
+        → AllByRecursion (IsObservedIn (F.contents folder.old).files) reading.1
         → IfOk result
         (λ made. made.0.files ≡ contents_at (F.contents folder.old).files (entries_observed reading.1)) }
-    ensures err { F.faithful folder.new → AllByRecursion (IsObservedIn (F.contents folder.old).files) reading.1
+    ensures err { F.faithful folder.new
+        → AllByRecursion (IsObservedIn (F.contents folder.old).files) reading.1
         → IfErr result (IsOfMachine (F.failures folder.old) (F.failures folder.new)) }
 {
     let (tree, prints) = complete(alloc, folder, reading)?;
@@ -184,7 +186,8 @@ pub fn complete_outputs<F: Folder>(
         readings.items
         → IfOk result
         (λ outputs. outputs.observed ≡ map (observed_of (F.contents folder.old).files) task.now.outputs) }
-    ensures err { F.faithful folder.new → AreOutputsObserved task.now (F.contents folder.old).files readings.items
+    ensures err { F.faithful folder.new
+        → AreOutputsObserved task.now (F.contents folder.old).files readings.items
         → IfErr result (IsOfMachine (F.failures folder.old) (F.failures folder.new)) }
 {
     let mut observed = OutputSnapshots::new(alloc);

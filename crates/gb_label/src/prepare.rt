@@ -1,5 +1,5 @@
 //! The outcome of a task that starts, before anything is changed.
-ghost use Rattle.std.specs.Prelude.{◌≡◌, ◌||◌, true, false, IsTrue, IfOk, IfErr, OnErr, option_copied};
+ghost use Rattle.std.specs.Prelude.{◌≡◌, ◌||◌, true, false, IfOk, IfErr, OnErr, option_copied};
 ghost use Rattle.gb_folder.specs.Calls.{Requests, no_change};
 ghost use Rattle.gb_folder.specs.Files.{is_empty};
 ghost use Rattle.gb_plan.specs.Task.{is_output_of};

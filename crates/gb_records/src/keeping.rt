@@ -45,7 +45,8 @@ pub fn delete_record<F: Folder>(
         path.now None (F.failures folder.old) (F.failures folder.new) (F.contents folder.old) fault
         (F.contents folder.new)) }
     // Which records exist then.
-    ensures exists { F.faithful folder.new → TornWritesAreDetected IsText record_place (F.may_leave folder.old)
+    ensures exists { F.faithful folder.new
+        → TornWritesAreDetected IsText record_place (F.may_leave folder.old)
         → (memory : Memory) → HoldsRecords (F.contents folder.old).files memory
         → (was_read ≡ false → recalled memory path.now ≡ None)
         → HoldsWithout path.now memory result (F.contents folder.new).files }
@@ -89,11 +90,13 @@ pub fn store_record<F: Folder>(
     ensures written { F.faithful folder.new → OnOk result
         (F.contents folder.new ≡ written_in path.now run.now (F.contents folder.old)) }
     ensures said { OnOk result (IsText path.now run.now (record_text path.now run.now)) }
-    ensures err { F.faithful folder.new → IfErr result (λ fault. ComesToNothing (F.may_leave folder.old) path.now
+    ensures err { F.faithful folder.new
+        → IfErr result (λ fault. ComesToNothing (F.may_leave folder.old) path.now
         (Some (record_text path.now run.now)) (F.failures folder.old) (F.failures folder.new)
         (F.contents folder.old) fault (F.contents folder.new)) }
     // Which records exist then.
-    ensures exists { F.faithful folder.new → TornWritesAreDetected IsText record_place (F.may_leave folder.old)
+    ensures exists { F.faithful folder.new
+        → TornWritesAreDetected IsText record_place (F.may_leave folder.old)
         → (memory : Memory) (entry : Entry) → HoldsRecords (F.contents folder.old).files memory
         → IsSaidOf run.now entry
         → HoldsWith path.now entry memory result (F.contents folder.new).files }

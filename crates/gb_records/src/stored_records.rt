@@ -1,6 +1,6 @@
 //! Reads records.
 ghost use Rattle.std.specs.Prelude.{◌≡◌, ◌≤◌, ◌++◌, ◌∷◌, [], Option, Some, None, Ok, Err, length};
-ghost use Rattle.std.specs.Prelude.{IsTrue, IfOk, IfErr, OnOk};
+ghost use Rattle.std.specs.Prelude.{IfOk, IfErr, OnOk};
 ghost use Rattle.std.specs.List.{AllZip, list_any};
 ghost use Rattle.sha2.specs.Sha256.{sha256};
 ghost use Rattle.gb_folder.specs.Calls.{Requests, no_change};
