@@ -1,5 +1,5 @@
 //! A full execution: computed as a value first, then done in the folder.
-ghost use Rattle.std.specs.Prelude.{◌≡◌, ◌++◌, [], Ok, IsTrue, IfOk, IfErr, OnOk, List, map};
+ghost use Rattle.std.specs.Prelude.{◌≡◌, ◌++◌, [], Ok, IfOk, IfErr, OnOk, List, map};
 ghost use Rattle.gb_folder.specs.Calls.{Requests, Call, changes_at};
 ghost use Rattle.gb_folder.specs.Device.{Leads};
 ghost use Rattle.gb_folder.specs.Files.{Files};

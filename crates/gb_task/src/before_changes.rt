@@ -1,5 +1,5 @@
 //! The part of a task's execution that is decided before anything is changed.
-ghost use Rattle.std.specs.Prelude.{◌≡◌, false, IsTrue, option_copied};
+ghost use Rattle.std.specs.Prelude.{◌≡◌, false, option_copied};
 ghost use Rattle.std.specs.List.{list_any};
 ghost use Rattle.gb_folder.specs.Calls.{Requests, no_change};
 ghost use Rattle.gb_folder.specs.Files.{is_empty, is_own};

@@ -1,5 +1,5 @@
 //! An incremental run of a task, by changes that were decided on what it works on.
-ghost use Rattle.std.specs.Prelude.{◌≡◌, ◌≤◌, [], ℕ, List, false, true, map, IsTrue, IfOk, IfErr, OnOk};
+ghost use Rattle.std.specs.Prelude.{◌≡◌, ◌≤◌, [], ℕ, List, false, true, map, IfOk, IfErr, OnOk};
 ghost use Rattle.std.specs.List.{AllByRecursion};
 ghost use Rattle.gb_action.specs.Files.{Trees};
 ghost use Rattle.gb_folder.specs.Calls.{Requests, Call, changes_at};

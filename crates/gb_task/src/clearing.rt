@@ -1,5 +1,5 @@
 //! Deletes the record and the outputs of a task's previous execution.
-ghost use Rattle.std.specs.Prelude.{◌≡◌, [], List, None, false, IsTrue};
+ghost use Rattle.std.specs.Prelude.{◌≡◌, [], List, None, false};
 ghost use Rattle.std.specs.List.{list_any};
 ghost use Rattle.gb_folder.specs.Calls.{Requests, Call, takes_at};
 ghost use Rattle.gb_folder.specs.Device.{Leads};

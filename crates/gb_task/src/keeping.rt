@@ -1,5 +1,5 @@
 //! The record of a task: deleted as its run begins, and stored as it ends.
-ghost use Rattle.std.specs.Prelude.{◌≡◌, ◌≢◌, ℕ, List, None, Some, Err, false, true, IsTrue, IfErr, OnErr};
+ghost use Rattle.std.specs.Prelude.{◌≡◌, ◌≢◌, ℕ, List, None, Some, Err, false, true, IfErr, OnErr};
 ghost use Rattle.std.specs.Prelude.{OnOk};
 ghost use Rattle.gb_folder.specs.Calls.{Requests, Call, put_at, taken_at};
 ghost use Rattle.gb_folder.specs.Device.{Leads};

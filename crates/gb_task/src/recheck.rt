@@ -4,7 +4,7 @@
 //! keep. Then it decides once more, on the digests of exactly these contents: a file that somebody
 //! saved in between is a change like any other, and where outputs or other properties were changed
 //! the run is a full one.
-ghost use Rattle.std.specs.Prelude.{◌≡◌, ◌||◌, false, map, IsTrue, IfOk, IfErr, OnOk};
+ghost use Rattle.std.specs.Prelude.{◌≡◌, ◌||◌, false, map, IfOk, IfErr, OnOk};
 ghost use Rattle.std.specs.List.{list_any};
 ghost use Rattle.gb_folder.specs.Calls.{Requests, no_change};
 ghost use Rattle.gb_folder.specs.Files.{is_own};
