@@ -9,6 +9,7 @@
 - A link to a file of the repository leads to one, and one with `#` to a heading of it.
 - The block ```theorem of docs/PROOF.md has the files that the theorem's clause reaches, import by import, and
   the block ```types the files of code whose types these name.
+- The definitions that docs/DEFINITIONS.md names for each crate are there.
 - docs/CRATES.md has a section for each crate, in the order of crates.txt.
 - That page has a table for each group of crates.txt with its crates, and the table of README.md a row for
   each group, in the order of crates.txt.
@@ -247,6 +248,17 @@ def check_columns(path):
             faults.append(f"{path}:{number}: more than {MOST_COLUMNS} columns")
 
 
+def check_definitions():
+    """The names of the second table of docs/DEFINITIONS.md: `File.name` of a crate is defined in that file."""
+    for line in lines_of("docs/DEFINITIONS.md"):
+        row = re.match(r"\| `(gb_\w+)` \|(.*)", line)
+        for file, name in re.findall(r"`(\w+)\.(\w+)`", row[2]) if row else []:
+            path = f"crates/{row[1]}/specs/{file}.antt"
+            text = "\n".join(lines_of(path)) if os.path.isfile(os.path.join(ROOT, path)) else ""
+            if not re.search(rf"(?m)^ *(abbrev |unfoldable )?(pub )?(record |data )?{name}\b", text):
+                faults.append(f"docs/DEFINITIONS.md: no {file}.{name} in {row[1]}")
+
+
 def main(words):
     if words == ["--theorem"]:
         for lines in theorem():
@@ -259,6 +271,7 @@ def main(words):
     check_crates()
     check_rules()
     check_theorem()
+    check_definitions()
     check_tools()
     check_wrong_bodies()
     check_counts()

@@ -64,7 +64,8 @@ pub fn run_events<A: Actions, T: Transforms, F: Folder, L: TaskListener>(
     ensures elsewhere { F.faithful folder.new → IfOk result (λ answers.
         AllKeepElsewhere (registers_in (tables_of T.meanings A.meanings tables.now)) events.now answers.items
         (F.contents folder.old) (F.contents folder.new)) }
-    // This is a run of the events by its definition.
+    // If kinds agree and a stopped write leaves no false record (`IsAssumed`), this is a run of the
+    // events by its definition.
     ensures holds { F.faithful folder.new → IfOk result (λ answers. (kinds : Kinds)
         → IsAssumed A.meanings tables.now.actions kinds (F.may_leave folder.old)
         → EventsHold
@@ -72,9 +73,9 @@ pub fn run_events<A: Actions, T: Transforms, F: Folder, L: TaskListener>(
         (record { contents = F.contents folder.old; failures = F.failures folder.old })
         events.now answers.items
         (record { contents = F.contents folder.new; failures = F.failures folder.new })) }
-    // So, if no two contents share a digest, each event is a step of the definition, and each build
-    // in which no task failed leaves what a build from scratch makes, whichever true records the
-    // first event starts from.
+    // So, if also no two contents share a digest, each event is a step of the definition, and each
+    // build in which no task failed leaves what a build from scratch makes, whichever true records
+    // the first event starts from.
     ensures promise { F.faithful folder.new → IfOk result (λ answers. (kinds : Kinds)
         → IsAssumed A.meanings tables.now.actions kinds (F.may_leave folder.old)
         → PromiseHolds

@@ -1,5 +1,5 @@
 -- The answer of the program.
-use Rattle.std.specs.Prelude.{ℕ, ◌≡◌, ◌⊎◌, List, Result, Ok, Err}
+use Rattle.std.specs.Prelude.{ℕ, ◌≡◌, ◌⊎◌, List, [], Result, Ok, Err}
 use Rattle.std.specs.Result.{result_map_both}
 use Rattle.gb_folder.specs.Calls.{Requests, Call, no_change}
 use Rattle.gb_folder.specs.Files.{Tearing}
@@ -20,9 +20,9 @@ Given = Result (List (List ℕ)) Fault
 abbrev pub given_of : {V : Type 0} → (V → List (List ℕ)) → Result V Fault → Given
 given_of bytes words = result_map_both bytes (λ fault. fault) words
 
--- the arguments request this
+-- the arguments have no fault, and request this
 abbrev pub AskFor : Given → Invocation → Type 0
-AskFor (Ok words) invocation = IsAsked words invocation
+AskFor (Ok words) invocation = (words_faults words ≡ []) × IsAsked words invocation
 AskFor (Err fault) invocation = ⊥
 
 -- the arguments are refused for this: they cannot be read, or it is the first fault of them, or 3 (no memory)

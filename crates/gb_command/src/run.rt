@@ -43,8 +43,8 @@ pub fn run<A: Actions, T: Transforms, F: Folder, W: Printer>(
     ensures count { F.failures folder.old ≤ F.failures folder.new }
     ensures back { F.faithful folder.new → F.faithful folder.old }
     // There is an answer to these arguments: where contents are known, as `Answers` says, and over
-    // any folder as `DoesFor` says. With a status, its text and nothing else is printed, and the
-    // status is its own; without one, a beginning of its text is printed.
+    // any folder as `DoesFor` says. With a status, the status is its own, and on a page whose
+    // contents are known its text and nothing else is printed; without one, a beginning of its text.
     ensures reported { (answer : Result Report Fault)
         × (F.faithful folder.new → Answers (tables_of T.meanings A.meanings tables.now) (F.may_leave folder.old)
         (given_of (λ words. map string_bytes words.items) words)

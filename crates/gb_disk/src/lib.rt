@@ -49,9 +49,9 @@
 //! look-up and open, the open waits for it.
 //!
 //! `DiskFolder` keeps the calls that it was asked for, with what it returned, in a log that exists
-//! only in proofs (`calls_of`): it takes no memory, and nothing is done for it. So what contracts
-//! say of calls over any folder, they say of a disk. What a call does there is not in them: a body
-//! that only notes its call would be proved too.
+//! only in proofs (`calls_of`): no call and no byte is kept when it runs. So what contracts say of
+//! calls over any folder, they say of a disk. What a call does there is not in them: a body that
+//! only notes its call would be proved too.
 //!
 //! It also keeps the clauses of `Folder` that need no known contents. After a read, a write or a
 //! removal that succeeded, the path in use is that of the place (`at`, by `path_in`). A listing is

@@ -1,8 +1,13 @@
 //! The program over a folder on a disk.
-ghost use Rattle.std.specs.Prelude.{◌≡◌, ◌≤◌, [], IfSome, map, string_bytes};
+ghost use Rattle.std.specs.Prelude.{◌≡◌, ◌≤◌, [], IfSome, Result, map, string_bytes};
+ghost use Rattle.std.specs.Io.KnownBytes.{Appends};
+ghost use Rattle.gb_answer.specs.Answer.{answer_text, status_of};
 ghost use Rattle.gb_command.specs.Answered.{given_of};
 ghost use Rattle.gb_disk.specs.Called.{calls_of};
+ghost use Rattle.gb_printer.specs.Printing.{Prints};
 ghost use Rattle.gb_registry.specs.Tables.{tables_of};
+ghost use Rattle.gb_report.specs.declared.fault.Fault.{Fault};
+ghost use Rattle.gb_report.specs.declared.report.Report.{Report};
 ghost use Rattle.gb_here.specs.OnDisk.{IsBuiltOnDisk};
 
 use gb_action::actions::Actions;
@@ -26,11 +31,18 @@ pub fn run_on_disk<A: Actions, T: Transforms, R: Files + Drop, W: Printer>(
     tables: &Tables<A, T>,
 ) -> Option<u8>
     ensures bounded { IfSome result (λ status. status ≤ 2) }
-    // The calls of the disk are those of a build by the rules, given what they returned. In any
-    // contents that answer them and hold true records, a build in which no task failed leaves what
-    // a build from scratch makes, if kinds agree and no two contents share a digest.
-    ensures built { calls_of folder.old ≡ [] → IsBuiltOnDisk (tables_of T.meanings A.meanings tables.now)
-        (given_of (λ words. map string_bytes words.items) words) result folder.old folder.new }
+    // There is an answer to these arguments. The calls of the disk are those of a build by the
+    // rules, given what they returned. In any contents that answer them and hold true records, a
+    // build in which no task failed leaves what a build from scratch makes, if kinds agree and no
+    // two contents share a digest. With a status, the status is that of the answer, and on a page
+    // whose contents are known its text and nothing else is printed; without one, a beginning of it.
+    ensures built { calls_of folder.old ≡ [] → (answer : Result Report Fault)
+        × IsBuiltOnDisk (tables_of T.meanings A.meanings tables.now)
+        (given_of (λ words. map string_bytes words.items) words) answer folder.old folder.new
+        × Prints W.contents W.whole (answer_text answer) writer.old writer.new
+        × IfSome result (λ status.
+        Appends (W.contents writer.old) (W.contents writer.new) (answer_text answer)
+        × (status ≡ status_of answer)) }
 {
     let status = run(alloc, folder, words, writer, tables);
     answered_success_is_from_scratch::<A, T, DiskFolder<R>>(tables);

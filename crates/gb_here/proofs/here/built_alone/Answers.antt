@@ -1,4 +1,4 @@
-use Rattle.std.proofs.Common.{ℕ, ◌≡◌, ◌≤◌, arith, Option, None, Some, subst, sym}
+use Rattle.std.proofs.Common.{ℕ, ◌≤◌, arith, Option, None, Some, subst, sym}
 use Rattle.std.specs.Prelude.{IfSome, unwrap_or}
 use Rattle.gb_here.proofs.here.built_alone.Goals as goal
 
