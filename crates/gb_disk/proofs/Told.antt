@@ -2,7 +2,7 @@
 use Rattle.std.specs.Prelude.{ℕ, ◌≡◌, ◌≢◌, ◌<◌, false, List, Option, Some, None, Result, Ok, Err, IfErr, IfOk, IsSome, IsSomeAnd, OnOk, length, take, drop}
 use Rattle.std.specs.Global.{Global}
 use Rattle.std.specs.declared.vec.Vec.{Vec}
-use Rattle.std.proofs.Common.{refl, subst}
+use Rattle.std.proofs.Common.{refl, subst, sym}
 use Rattle.gb_folder.specs.Calls.{answered}
 use Rattle.gb_folder.specs.Files.{Bytes, Contents, IsTorn, Place, Tearing, file_at, is_blocked, is_special_under, places_under, with_file, without}
 use Rattle.gb_folder.specs.Semantics.{Answer, Listed, Read, ReadPart, Removed, Wrote}
@@ -24,11 +24,11 @@ module _ (old : Contents) (place : Place) where
   found limit (Err fault) is = tt
 
   pub is_larger : (limit : ℕ) (file : Option Bytes) → (bytes : Bytes) × (file ≡ Some bytes) × (limit < length bytes) → IsSomeAnd file (λ bytes. limit < length bytes)
-  is_larger limit file is = subst (λ (f : Option Bytes). IsSomeAnd f (λ bytes. limit < length bytes)) (let e = is.1 in (cc)) is.2
+  is_larger limit file is = subst (λ (f : Option Bytes). IsSomeAnd f (λ bytes. limit < length bytes)) (sym is.1) is.2
 
   pub part_found : (at len : ℕ) (row : Result (Vec ℕ Global) FolderFault) → ReadPart old place at len (answered row)
       → IfOk row (λ part. IsSomeAnd (file_at old.files place) (λ bytes. part.items ≡ take len (drop at bytes)))
-  part_found at len (Ok part) is = subst (λ (f : Option Bytes). IsSomeAnd f (λ bytes. part.items ≡ take len (drop at bytes))) (let e = is.1 in (cc)) is.2
+  part_found at len (Ok part) is = subst (λ (f : Option Bytes). IsSomeAnd f (λ bytes. part.items ≡ take len (drop at bytes))) (sym is.1) is.2
   part_found at len (Err fault) is = tt
 
 module _ (may_leave : Tearing) (old : Contents) (place : Place) (new : Contents) where
