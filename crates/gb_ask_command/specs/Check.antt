@@ -76,9 +76,9 @@ unregistered_of path = record { spot = spots.Unknown; cause = problems.Unregiste
 
 -- A warning for each of some tasks: if the contents of the folder are known, for exactly those that have
 -- records in it and are not registered.
-abbrev pub AreLeft : Bool → Contents → List Path → List Finding → Type 0
-AreLeft faithful contents registered found =
-    (left : List Path) × (IsTrue faithful → AreUnregistered contents registered left)
+abbrev pub AreLeft : Type 0 → Contents → List Path → List Finding → Type 0
+AreLeft known contents registered found =
+    (left : List Path) × (known → AreUnregistered contents registered left)
     × (found ≡ map unregistered_of left)
 
 -- ---- Silence
@@ -104,25 +104,25 @@ module _ {M F Z S A : Type 0} (tables : Tables M F Z S A) where
 -- ---- A statement at fault
 
 -- one fault at this statement, with its line, and no warnings
-abbrev pub IsFindingAt : Bool → Files → FaultAt → Findings → Type 0
-IsFindingAt faithful files at found =
-    (spot : Spot) × IsStatementSpot faithful files at.project at.statement spot
+abbrev pub IsFindingAt : Type 0 → Files → FaultAt → Findings → Type 0
+IsFindingAt known files at found =
+    (spot : Spot) × IsStatementSpot known files at.project at.statement spot
     × (found.faults.items ≡ record { spot = spot; cause = problems.Fault at.fault } ∷ [])
     × (found.warnings.items ≡ [])
 
 -- ---- The reply
 
-module _ {M F Z S A : Type 0} (tables : Tables M F Z S A) (faithful : Bool) where
+module _ {M F Z S A : Type 0} (tables : Tables M F Z S A) (known : Type 0) where
   -- The findings for the statements of scripts, one script for each project. Warnings for values that nothing
   -- reads precede those for tasks, and warnings for records of tasks that are not registered follow.
   pub record AreFindingsOf (source : Source) (contents : Contents) (found : Findings) : Type 0 where
     pub scripts : List (Path × List Statement)
     pub are_scripts : IsRead source scripts
     pub in_tasks : Findings
-    pub findings : AreFindings tables source.names faithful contents (registry_said tables source) scripts
+    pub findings : AreFindings tables source.names known contents (registry_said tables source) scripts
         in_tasks
     pub left : List Finding
-    pub are_left : AreLeft faithful contents (paths_of (registry_said tables source)) left
+    pub are_left : AreLeft known contents (paths_of (registry_said tables source)) left
     pub faults : found.faults.items ≡ in_tasks.faults.items
     pub warnings : found.warnings.items
         ≡ unread_values scripts source.given ++ in_tasks.warnings.items ++ left
@@ -131,13 +131,13 @@ module _ {M F Z S A : Type 0} (tables : Tables M F Z S A) (faithful : Bool) wher
   -- at the statement at which it arises.
   abbrev pub IsFoundAt : Files → Findings → Type 0
   IsFoundAt files found =
-      (at : FaultAt) × (IsTrue faithful → IsFaulty tables files at) × IsFindingAt faithful files at found
+      (at : FaultAt) × (known → IsFaulty tables files at) × IsFindingAt known files at found
 
   pub record IsChecked (invocation : Invocation) (contents : Contents) (found : Findings) : Type 0 where
     pub source : Source
-    pub said : IsTrue faithful → FolderSays tables contents.files invocation.properties (Ok source)
+    pub said : known → FolderSays tables contents.files invocation.properties (Ok source)
     pub found_of : AreFindingsOf source contents found
-    pub quiet : IsTrue faithful → found.faults.items ≡ []
+    pub quiet : known → found.faults.items ≡ []
         → IsQuiet tables source contents invocation.properties
 
   -- The findings, for tasks or for a statement; or if the contents of the folder are known, a fault of the
@@ -146,7 +146,7 @@ module _ {M F Z S A : Type 0} (tables : Tables M F Z S A) (faithful : Bool) wher
   abbrev pub IsCheckReply : Invocation → Contents → ℕ → ℕ → CheckReply → Type 0
   IsCheckReply invocation contents before after reply =
       MatchResult reply (λ found. IsChecked invocation contents found ⊎ IsFoundAt contents.files found)
-      (λ fault. IsTrue faithful
+      (λ fault. known
       → IsOfMachine before after fault ⊎ IsTextFault contents.files fault)
 
   -- the arguments are refused, or they make a request, and this is the reply to it

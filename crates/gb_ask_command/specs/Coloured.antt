@@ -16,22 +16,22 @@ abbrev pub found_in : Answer → List Prediction
 found_in (Ok reported) = reported.items
 found_in (Err fault) = []
 
-module _ {M F Z S A : Type 0} (tables : Tables M F Z S A) (faithful : Bool) (old : Shown) (after : ℕ) where
+module _ {M F Z S A : Type 0} (tables : Tables M F Z S A) (known : Type 0) (old : Shown) (after : ℕ) where
   -- The predictions that colours show: none if no colours are requested, or else those of the answer of `why`
   -- to the request. The folder is `old` at first, and its device has failed `after` times at the end.
   abbrev pub ArePredicted : Colouring → Invocation → List Prediction → Type 0
   ArePredicted colourings.Plain invocation predicted = predicted ≡ []
   ArePredicted colourings.Outcomes invocation predicted =
-      (answer : Answer) × IsAnswerTo tables faithful invocation old answer after
+      (answer : Answer) × IsAnswerTo tables known invocation old answer after
       × (predicted ≡ found_in answer)
 
-module _ {M F Z S A : Type 0} (tables : Tables M F Z S A) (faithful : Bool) (old : Shown) (after : ℕ)
+module _ {M F Z S A : Type 0} (tables : Tables M F Z S A) (known : Type 0) (old : Shown) (after : ℕ)
     (style : Style) (colouring : Colouring) where
   -- First the request is predicted, which does not change the folder. Then this is the reply, with the
   -- colours of these predictions.
   pub record IsGraphAnswer (invocation : Invocation) (reply : Reply) : Type 0 where
     pub shown : Shown
-    pub same : IsTrue faithful → shown.contents ≡ old.contents
+    pub same : known → shown.contents ≡ old.contents
     pub predicted : List Prediction
-    pub are_predicted : ArePredicted tables faithful old shown.failures colouring invocation predicted
-    pub reply_is : IsGraphReply tables faithful shown after style predicted invocation reply
+    pub are_predicted : ArePredicted tables known old shown.failures colouring invocation predicted
+    pub reply_is : IsGraphReply tables known shown after style predicted invocation reply

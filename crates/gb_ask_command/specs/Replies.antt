@@ -32,16 +32,16 @@ Replies IsReplyTo given reply =
     ⊎ ((invocation : Invocation) × AskFor given invocation × IsReplyTo invocation reply)
 
 -- the folder is `old` at first, and its device has failed `after` times at the end
-module _ {M F Z S A : Type 0} (tables : Tables M F Z S A) (faithful : Bool) (old : Shown) (after : ℕ) where
+module _ {M F Z S A : Type 0} (tables : Tables M F Z S A) (known : Type 0) (old : Shown) (after : ℕ) where
   -- ---- The scripts
 
   -- These are the scripts with the given values, or the fault for which they cannot be read. If contents are
   -- known, this is the result for the folder's own scripts, or a fault of the machine.
   abbrev pub AreRead : Invocation → Result Source Fault → Type 0
   AreRead invocation (Ok source) =
-      IsTrue faithful → FolderSays tables old.contents.files invocation.properties (Ok source)
+      known → FolderSays tables old.contents.files invocation.properties (Ok source)
   AreRead invocation (Err fault) =
-      IsTrue faithful → IsOfMachine old.failures after fault
+      known → IsOfMachine old.failures after fault
       ⊎ FolderSays tables old.contents.files invocation.properties (Err fault)
 
   -- scripts are read, and this holds of the tasks that they register
@@ -89,6 +89,6 @@ module _ {M F Z S A : Type 0} (tables : Tables M F Z S A) (faithful : Bool) (old
   abbrev pub IsStatusReply : Notation → Activity → Invocation → Reply → Type 0
   IsStatusReply notation activity invocation (Ok text) =
       IsOfScripts invocation (λ registry.
-      IsStatusOf faithful notation activity old.contents.files (paths_of registry) (string_bytes text))
+      IsStatusOf known notation activity old.contents.files (paths_of registry) (string_bytes text))
   IsStatusReply notation activity invocation (Err fault) =
-      AreRead invocation (Err fault) ⊎ (IsTrue faithful → IsUnlisted old.contents old.failures after fault)
+      AreRead invocation (Err fault) ⊎ (known → IsUnlisted old.contents old.failures after fault)

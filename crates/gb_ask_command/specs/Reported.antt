@@ -73,21 +73,21 @@ pub record AreReportedOn {S : Type 0} (meanings : Meanings S) (rows : Rows S) (o
 -- Over any folder: the tasks of the plan are reported in its order; a task that is executed for reasons has a
 -- reason; and each task is marked with the first one that may change what it reads. If contents are known,
 -- the reports are right.
-pub record AreReported {S : Type 0} (faithful : Bool) (meanings : Meanings S) (rows : Rows S)
+pub record AreReported {S : Type 0} (known : Type 0) (meanings : Meanings S) (rows : Rows S)
     (options : Options)
     (old : Shown) (after : ℕ) (plan : Plan) (reported : List Prediction) : Type 0 where
   pub paths : map (λ one. one.path) reported ≡ order plan
   pub reasoned : AllByRecursion (λ one. IsReasoned one.coming) reported
   pub marked : AreMarked plan reported
-  pub prediction : IsTrue faithful → AreReportedOn meanings rows options old after plan reported
+  pub prediction : known → AreReportedOn meanings rows options old after plan reported
 
 -- the reports of the plan of a request for a registry
-abbrev pub AreReportedOf : {S : Type 0} → Bool → Meanings S → Rows S → Registry → List Text → List Text
+abbrev pub AreReportedOf : {S : Type 0} → Type 0 → Meanings S → Rows S → Registry → List Text → List Text
     → Options
     → Shown → ℕ → List Prediction → Type 0
-AreReportedOf faithful meanings rows registry requested excluded options old after reported =
+AreReportedOf known meanings rows registry requested excluded options old after reported =
     (plan : Plan) × IsPlanOf registry requested excluded plan
-    × AreReported faithful meanings rows options old after plan reported
+    × AreReported known meanings rows options old after plan reported
 
 -- ---- The answer
 
@@ -109,16 +109,16 @@ in_earnest invocation = record {
   };
 }
 
-module _ {M F Z S A : Type 0} (tables : Tables M F Z S A) (faithful : Bool) where
+module _ {M F Z S A : Type 0} (tables : Tables M F Z S A) (known : Type 0) where
   -- The tasks of the plan of the request for some registry are reported. If contents are known, it is the
   -- registry of the folder's scripts.
   pub record IsReported (invocation : Invocation) (old : Shown) (after : ℕ) (reported : List Prediction)
       : Type 0 where
     pub registry : Registry
     pub is_registry : IsRegistry registry
-    pub scripts : IsTrue faithful
+    pub scripts : known
         → registers_in tables (outside old.contents).files invocation.properties (Ok registry)
-    pub reported_of : AreReportedOf faithful tables.shapes tables.kinds registry invocation.requested
+    pub reported_of : AreReportedOf known tables.shapes tables.kinds registry invocation.requested
         invocation.excluded
         invocation.options old after reported
 
@@ -126,7 +126,7 @@ module _ {M F Z S A : Type 0} (tables : Tables M F Z S A) (faithful : Bool) wher
   abbrev pub IsAnswerTo : Invocation → Shown → Answer → ℕ → Type 0
   IsAnswerTo invocation old (Ok reported) after = IsReported invocation old after reported.items
   IsAnswerTo invocation old (Err fault) after =
-      IsTrue faithful → IsNotBuilt (registers_in tables) old (in_earnest invocation) fault after
+      known → IsNotBuilt (registers_in tables) old (in_earnest invocation) fault after
 
   -- the arguments are refused, or they make a request, and this is the answer to it
   abbrev pub Answers : Given → Shown → Answer → ℕ → Type 0

@@ -67,9 +67,10 @@ pub fn run<A: Actions, T: Transforms, F: Folder, W: Printer>(
 ) -> Option<u8>
     // Over any folder: no change is requested.
     ensures requests { Requests F.failures F.may_leave F.allowed no_change folder.old folder.new }
-    ensures same { IsTrue F.faithful → F.contents folder.new ≡ F.contents folder.old }
+    ensures back { F.faithful folder.new → (F.faithful folder.new) folder.old }
+    ensures same { F.faithful folder.new → F.contents folder.new ≡ F.contents folder.old }
     ensures reported { (reply : CheckReply)
-        × RepliesCheck (tables_of T.meanings A.meanings tables.now) F.faithful
+        × RepliesCheck (tables_of T.meanings A.meanings tables.now) (F.faithful folder.new)
         (given_of (λ words. map string_bytes words.items) words) (F.contents folder.old)
         (F.failures folder.old) (F.failures folder.new) reply
         × (written : Replied) × IsCheckWritten notation reply written
@@ -186,8 +187,9 @@ fn replied<A: Actions, T: Transforms, F: Folder>(
     tables: &Tables<A, T>,
 ) -> Result<Findings, Fault>
     ensures requests { Requests F.failures F.may_leave F.allowed no_change folder.old folder.new }
-    ensures same { IsTrue F.faithful → F.contents folder.new ≡ F.contents folder.old }
-    ensures replies { RepliesCheck (tables_of T.meanings A.meanings tables.now) F.faithful
+    ensures back { F.faithful folder.new → (F.faithful folder.new) folder.old }
+    ensures same { F.faithful folder.new → F.contents folder.new ≡ F.contents folder.old }
+    ensures replies { RepliesCheck (tables_of T.meanings A.meanings tables.now) (F.faithful folder.new)
         (given_of (λ words. map string_bytes words.items) words) (F.contents folder.old)
         (F.failures folder.old) (F.failures folder.new) result }
 {
@@ -205,8 +207,9 @@ fn check_asked<A: Actions, T: Transforms, F: Folder>(
     invocation: &Invocation,
 ) -> Result<Findings, Fault>
     ensures requests { Requests F.failures F.may_leave F.allowed no_change folder.old folder.new }
-    ensures same { IsTrue F.faithful → F.contents folder.new ≡ F.contents folder.old }
-    ensures reply { IsCheckReply (tables_of T.meanings A.meanings tables.now) F.faithful invocation.now
+    ensures back { F.faithful folder.new → (F.faithful folder.new) folder.old }
+    ensures same { F.faithful folder.new → F.contents folder.new ≡ F.contents folder.old }
+    ensures reply { IsCheckReply (tables_of T.meanings A.meanings tables.now) (F.faithful folder.new) invocation.now
         (F.contents folder.old) (F.failures folder.old) (F.failures folder.new) result }
 {
     let copied = invocation.properties.copy(alloc)?;
@@ -231,10 +234,11 @@ fn check_statements<A: Actions, T: Transforms, F: Folder>(
     fault: Fault,
 ) -> Result<Findings, Fault>
     ensures requests { Requests F.failures F.may_leave F.allowed no_change folder.old folder.new }
-    ensures same { IsTrue F.faithful → F.contents folder.new ≡ F.contents folder.old }
-    ensures found { IfOk result (IsFoundAt (tables_of T.meanings A.meanings tables.now) F.faithful
+    ensures back { F.faithful folder.new → (F.faithful folder.new) folder.old }
+    ensures same { F.faithful folder.new → F.contents folder.new ≡ F.contents folder.old }
+    ensures found { IfOk result (IsFoundAt (tables_of T.meanings A.meanings tables.now) (F.faithful folder.new)
         (F.contents folder.old).files) }
-    ensures err { IsTrue F.faithful → IfErr result (λ other.
+    ensures err { F.faithful folder.new → IfErr result (λ other.
         IsOfMachine (F.failures folder.old) (F.failures folder.new) other
         ⊎ (IsTextFault (F.contents folder.old).files other
         ⊎ ((other ≡ fault) × IsFaultless (tables_of T.meanings A.meanings tables.now)
@@ -260,13 +264,14 @@ fn statement_found<A: Actions, T: Transforms, F: Folder>(
     tables: &Tables<A, T>,
 ) -> Result<Option<Findings>, Fault>
     ensures requests { Requests F.failures F.may_leave F.allowed no_change folder.old folder.new }
-    ensures same { IsTrue F.faithful → F.contents folder.new ≡ F.contents folder.old }
+    ensures back { F.faithful folder.new → (F.faithful folder.new) folder.old }
+    ensures same { F.faithful folder.new → F.contents folder.new ≡ F.contents folder.old }
     ensures found { IfOk result (λ found. IfSome found
-        (IsFoundAt (tables_of T.meanings A.meanings tables.now) F.faithful
+        (IsFoundAt (tables_of T.meanings A.meanings tables.now) (F.faithful folder.new)
         (F.contents folder.old).files)) }
-    ensures none { IsTrue F.faithful → IfOk result (λ found. found ≡ None
+    ensures none { F.faithful folder.new → IfOk result (λ found. found ≡ None
         → IsFaultless (tables_of T.meanings A.meanings tables.now) (F.contents folder.old).files) }
-    ensures err { IsTrue F.faithful → IfErr result (λ fault.
+    ensures err { F.faithful folder.new → IfErr result (λ fault.
         IsOfMachine (F.failures folder.old) (F.failures folder.new) fault
         ⊎ IsTextFault (F.contents folder.old).files fault) }
 {
@@ -279,9 +284,10 @@ fn statement_found<A: Actions, T: Transforms, F: Folder>(
 /// The finding of a fault at its statement, as the only one.
 fn found_at<F: Folder>(alloc: Global, folder: &mut F, at: FaultAt) -> Result<Findings, Fault>
     ensures requests { Requests F.failures F.may_leave F.allowed no_change folder.old folder.new }
-    ensures same { IsTrue F.faithful → F.contents folder.new ≡ F.contents folder.old }
-    ensures found { IfOk result (IsFindingAt F.faithful (F.contents folder.old).files at) }
-    ensures err { IsTrue F.faithful → IfErr result (λ fault.
+    ensures back { F.faithful folder.new → (F.faithful folder.new) folder.old }
+    ensures same { F.faithful folder.new → F.contents folder.new ≡ F.contents folder.old }
+    ensures found { IfOk result (IsFindingAt (F.faithful folder.new) (F.contents folder.old).files at) }
+    ensures err { F.faithful folder.new → IfErr result (λ fault.
         IsOfMachine (F.failures folder.old) (F.failures folder.new) fault
         ⊎ HasTextFault (F.contents folder.old).files (script_of_project at.project) fault) }
 {
@@ -319,11 +325,12 @@ fn check_configured<A: Actions, T: Transforms, F: Folder>(
     configured: &Configured<'_, A, T>,
 ) -> Result<Findings, Fault>
     ensures requests { Requests F.failures F.may_leave F.allowed no_change folder.old folder.new }
-    ensures same { IsTrue F.faithful → F.contents folder.new ≡ F.contents folder.old }
+    ensures back { F.faithful folder.new → (F.faithful folder.new) folder.old }
+    ensures same { F.faithful folder.new → F.contents folder.new ≡ F.contents folder.old }
     ensures found { IfOk result
-        (AreFindingsOf (tables_of T.meanings A.meanings configured.now.tables.now) F.faithful
+        (AreFindingsOf (tables_of T.meanings A.meanings configured.now.tables.now) (F.faithful folder.new)
         configured.now.registry (F.contents folder.old)) }
-    ensures err { IsTrue F.faithful → IfErr result (λ fault.
+    ensures err { F.faithful folder.new → IfErr result (λ fault.
         IsOfMachine (F.failures folder.old) (F.failures folder.new) fault
         ⊎ ((scripts : List (Path × List Statement)) × IsRead configured.now.registry scripts
         × IsUnread (F.contents folder.old).files scripts fault)) }
@@ -363,11 +370,12 @@ fn warn_unregistered<A: Actions, T: Transforms, F: Folder>(
     configured: &Configured<'_, A, T>,
 ) -> Result<Vec<Finding>, Fault>
     ensures requests { Requests F.failures F.may_leave F.allowed no_change folder.old folder.new }
-    ensures same { IsTrue F.faithful → F.contents folder.new ≡ F.contents folder.old }
+    ensures back { F.faithful folder.new → (F.faithful folder.new) folder.old }
+    ensures same { F.faithful folder.new → F.contents folder.new ≡ F.contents folder.old }
     ensures found { let tables = tables_of T.meanings A.meanings configured.now.tables.now in
-        IfOk result (λ found. AreLeft F.faithful (F.contents folder.old)
+        IfOk result (λ found. AreLeft (F.faithful folder.new) (F.contents folder.old)
         (paths_of (registry_said tables configured.now.registry)) found.items) }
-    ensures err { IsTrue F.faithful
+    ensures err { F.faithful folder.new
         → IfErr result (IsOfMachine (F.failures folder.old) (F.failures folder.new)) }
 {
     let _registered = configured.registry.tasks();
@@ -396,11 +404,12 @@ fn check_tasks<A: Actions, T: Transforms, F: Folder>(
     scripts: &[Scripted],
 ) -> Result<Findings, Fault>
     ensures requests { Requests F.failures F.may_leave F.allowed no_change folder.old folder.new }
-    ensures same { IsTrue F.faithful → F.contents folder.new ≡ F.contents folder.old }
+    ensures back { F.faithful folder.new → (F.faithful folder.new) folder.old }
+    ensures same { F.faithful folder.new → F.contents folder.new ≡ F.contents folder.old }
     ensures found { let tables = tables_of T.meanings A.meanings configured.now.tables.now in
-        IfOk result (AreFindings tables configured.now.registry.names F.faithful (F.contents folder.old)
+        IfOk result (AreFindings tables configured.now.registry.names (F.faithful folder.new) (F.contents folder.old)
         (registry_said tables configured.now.registry) (scripts_in scripts.now)) }
-    ensures err { IsTrue F.faithful → IfErr result (λ fault.
+    ensures err { F.faithful folder.new → IfErr result (λ fault.
         IsOfMachine (F.failures folder.old) (F.failures folder.new) fault
         ⊎ IsUnread (F.contents folder.old).files (scripts_in scripts.now) fault) }
 {

@@ -24,12 +24,13 @@ pub fn read_fault<A: Actions, T: Transforms, F: Folder>(
     tables: &Tables<A, T>,
 ) -> Result<Option<FaultAt>, Fault>
     ensures requests { Requests F.failures F.may_leave F.allowed no_change folder.old folder.new }
-    ensures same { IsTrue F.faithful → F.contents folder.new ≡ F.contents folder.old }
+    ensures back { F.faithful folder.new → (F.faithful folder.new) folder.old }
+    ensures same { F.faithful folder.new → F.contents folder.new ≡ F.contents folder.old }
     ensures found { let tables = tables_of T.meanings A.meanings tables.now in
-        IsTrue F.faithful → IfOk result (λ found.
+        F.faithful folder.new → IfOk result (λ found.
         MatchOption found (IsFaultless tables (F.contents folder.old).files)
         (IsFaulty tables (F.contents folder.old).files)) }
-    ensures err { IsTrue F.faithful → IfErr result (λ fault.
+    ensures err { F.faithful folder.new → IfErr result (λ fault.
         IsOfMachine (F.failures folder.old) (F.failures folder.new) fault
         ⊎ IsTextFault (F.contents folder.old).files fault) }
 {

@@ -46,9 +46,10 @@ pub fn run<A: Actions, T: Transforms, F: Folder, W: Printer>(
 ) -> Option<u8>
     // Over any folder: no change is requested.
     ensures requests { Requests F.failures F.may_leave F.allowed no_change folder.old folder.new }
-    ensures same { IsTrue F.faithful → F.contents folder.new ≡ F.contents folder.old }
+    ensures back { F.faithful folder.new → (F.faithful folder.new) folder.old }
+    ensures same { F.faithful folder.new → F.contents folder.new ≡ F.contents folder.old }
     ensures reported { (reply : Replied)
-        × Replies (IsGraphAnswer (tables_of T.meanings A.meanings tables.now) F.faithful
+        × Replies (IsGraphAnswer (tables_of T.meanings A.meanings tables.now) (F.faithful folder.new)
         (record { contents = F.contents folder.old; failures = F.failures folder.old })
         (F.failures folder.new) style colouring)
         (given_of (λ words. map string_bytes words.items) words) reply
@@ -72,8 +73,9 @@ fn replied<A: Actions, T: Transforms, F: Folder>(
     tables: &Tables<A, T>,
 ) -> Reply
     ensures requests { Requests F.failures F.may_leave F.allowed no_change folder.old folder.new }
-    ensures same { IsTrue F.faithful → F.contents folder.new ≡ F.contents folder.old }
-    ensures replies { Replies (IsGraphAnswer (tables_of T.meanings A.meanings tables.now) F.faithful
+    ensures back { F.faithful folder.new → (F.faithful folder.new) folder.old }
+    ensures same { F.faithful folder.new → F.contents folder.new ≡ F.contents folder.old }
+    ensures replies { Replies (IsGraphAnswer (tables_of T.meanings A.meanings tables.now) (F.faithful folder.new)
         (record { contents = F.contents folder.old; failures = F.failures folder.old })
         (F.failures folder.new) style colouring)
         (given_of (λ words. map string_bytes words.items) words) result }
@@ -94,8 +96,9 @@ fn draw_coloured<A: Actions, T: Transforms, F: Folder>(
     invocation: &Invocation,
 ) -> Reply
     ensures requests { Requests F.failures F.may_leave F.allowed no_change folder.old folder.new }
-    ensures same { IsTrue F.faithful → F.contents folder.new ≡ F.contents folder.old }
-    ensures reply { IsGraphAnswer (tables_of T.meanings A.meanings tables.now) F.faithful
+    ensures back { F.faithful folder.new → (F.faithful folder.new) folder.old }
+    ensures same { F.faithful folder.new → F.contents folder.new ≡ F.contents folder.old }
+    ensures reply { IsGraphAnswer (tables_of T.meanings A.meanings tables.now) (F.faithful folder.new)
         (record { contents = F.contents folder.old; failures = F.failures folder.old })
         (F.failures folder.new) style colouring invocation.now result }
 {
@@ -120,8 +123,9 @@ fn predicted<A: Actions, T: Transforms, F: Folder>(
     invocation: &Invocation,
 ) -> Vec<Prediction>
     ensures requests { Requests F.failures F.may_leave F.allowed no_change folder.old folder.new }
-    ensures same { IsTrue F.faithful → F.contents folder.new ≡ F.contents folder.old }
-    ensures predicted { ArePredicted (tables_of T.meanings A.meanings tables.now) F.faithful
+    ensures back { F.faithful folder.new → (F.faithful folder.new) folder.old }
+    ensures same { F.faithful folder.new → F.contents folder.new ≡ F.contents folder.old }
+    ensures predicted { ArePredicted (tables_of T.meanings A.meanings tables.now) (F.faithful folder.new)
         (record { contents = F.contents folder.old; failures = F.failures folder.old })
         (F.failures folder.new) colouring invocation.now result.items }
 {
@@ -157,8 +161,9 @@ fn draw<A: Actions, T: Transforms, F: Folder>(
     invocation: &Invocation,
 ) -> Reply
     ensures requests { Requests F.failures F.may_leave F.allowed no_change folder.old folder.new }
-    ensures same { IsTrue F.faithful → F.contents folder.new ≡ F.contents folder.old }
-    ensures reply { IsGraphReply (tables_of T.meanings A.meanings tables.now) F.faithful
+    ensures back { F.faithful folder.new → (F.faithful folder.new) folder.old }
+    ensures same { F.faithful folder.new → F.contents folder.new ≡ F.contents folder.old }
+    ensures reply { IsGraphReply (tables_of T.meanings A.meanings tables.now) (F.faithful folder.new)
         (record { contents = F.contents folder.old; failures = F.failures folder.old })
         (F.failures folder.new) style predicted.now invocation.now result }
 {

@@ -46,9 +46,10 @@ pub fn run<A: Actions, T: Transforms, F: Folder, W: Printer>(
 ) -> Option<u8>
     // Over any folder: no change is requested.
     ensures requests { Requests F.failures F.may_leave F.allowed no_change folder.old folder.new }
-    ensures same { IsTrue F.faithful → F.contents folder.new ≡ F.contents folder.old }
+    ensures back { F.faithful folder.new → (F.faithful folder.new) folder.old }
+    ensures same { F.faithful folder.new → F.contents folder.new ≡ F.contents folder.old }
     ensures reported { (reply : Replied)
-        × Replies (IsPlaceReply (tables_of T.meanings A.meanings tables.now) F.faithful
+        × Replies (IsPlaceReply (tables_of T.meanings A.meanings tables.now) (F.faithful folder.new)
         (record { contents = F.contents folder.old; failures = F.failures folder.old })
         (F.failures folder.new) notation relation)
         (given_of (λ words. map string_bytes words.items) words) reply
@@ -72,8 +73,9 @@ fn replied<A: Actions, T: Transforms, F: Folder>(
     tables: &Tables<A, T>,
 ) -> Reply
     ensures requests { Requests F.failures F.may_leave F.allowed no_change folder.old folder.new }
-    ensures same { IsTrue F.faithful → F.contents folder.new ≡ F.contents folder.old }
-    ensures replies { Replies (IsPlaceReply (tables_of T.meanings A.meanings tables.now) F.faithful
+    ensures back { F.faithful folder.new → (F.faithful folder.new) folder.old }
+    ensures same { F.faithful folder.new → F.contents folder.new ≡ F.contents folder.old }
+    ensures replies { Replies (IsPlaceReply (tables_of T.meanings A.meanings tables.now) (F.faithful folder.new)
         (record { contents = F.contents folder.old; failures = F.failures folder.old })
         (F.failures folder.new) notation relation)
         (given_of (λ words. map string_bytes words.items) words) result }
@@ -94,8 +96,9 @@ fn answer<A: Actions, T: Transforms, F: Folder>(
     invocation: &Invocation,
 ) -> Reply
     ensures requests { Requests F.failures F.may_leave F.allowed no_change folder.old folder.new }
-    ensures same { IsTrue F.faithful → F.contents folder.new ≡ F.contents folder.old }
-    ensures reply { IsPlaceReply (tables_of T.meanings A.meanings tables.now) F.faithful
+    ensures back { F.faithful folder.new → (F.faithful folder.new) folder.old }
+    ensures same { F.faithful folder.new → F.contents folder.new ≡ F.contents folder.old }
+    ensures reply { IsPlaceReply (tables_of T.meanings A.meanings tables.now) (F.faithful folder.new)
         (record { contents = F.contents folder.old; failures = F.failures folder.old })
         (F.failures folder.new) notation relation invocation.now result }
 {
@@ -118,8 +121,9 @@ fn search_folder<A: Actions, T: Transforms, F: Folder>(
     place: &Place,
 ) -> Reply
     ensures requests { Requests F.failures F.may_leave F.allowed no_change folder.old folder.new }
-    ensures same { IsTrue F.faithful → F.contents folder.new ≡ F.contents folder.old }
-    ensures reply { IsReplyAbout (tables_of T.meanings A.meanings tables.now) F.faithful
+    ensures back { F.faithful folder.new → (F.faithful folder.new) folder.old }
+    ensures same { F.faithful folder.new → F.contents folder.new ≡ F.contents folder.old }
+    ensures reply { IsReplyAbout (tables_of T.meanings A.meanings tables.now) (F.faithful folder.new)
         (record { contents = F.contents folder.old; failures = F.failures folder.old })
         (F.failures folder.new) notation relation (Ok place.now) invocation.now result }
 {

@@ -23,13 +23,14 @@ pub(crate) fn read_asked<'a, A: Actions, T: Transforms, F: Folder>(
     invocation: &Invocation,
 ) -> Result<Configured<'a, A, T>, Fault>
     ensures requests { Requests F.failures F.may_leave F.allowed no_change folder.old folder.new }
-    ensures same { IsTrue F.faithful → F.contents folder.new ≡ F.contents folder.old }
+    ensures back { F.faithful folder.new → (F.faithful folder.new) folder.old }
+    ensures same { F.faithful folder.new → F.contents folder.new ≡ F.contents folder.old }
     ensures tables { IfOk result (λ configured. configured.tables.now ≡ tables.now) }
     ensures read { let handed = tables_of T.meanings A.meanings tables.now in MatchResult result
-        (λ configured. AreRead handed F.faithful
+        (λ configured. AreRead handed (F.faithful folder.new)
         (record { contents = F.contents folder.old; failures = F.failures folder.old })
         (F.failures folder.new) invocation.now (Ok configured.registry))
-        (λ fault. AreRead handed F.faithful
+        (λ fault. AreRead handed (F.faithful folder.new)
         (record { contents = F.contents folder.old; failures = F.failures folder.old })
         (F.failures folder.new) invocation.now (Err fault)) }
 {

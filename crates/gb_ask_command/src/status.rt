@@ -43,9 +43,10 @@ pub fn run<A: Actions, T: Transforms, F: Folder, W: Printer>(
 ) -> Option<u8>
     // Over any folder: no change is requested.
     ensures requests { Requests F.failures F.may_leave F.allowed no_change folder.old folder.new }
-    ensures same { IsTrue F.faithful → F.contents folder.new ≡ F.contents folder.old }
+    ensures back { F.faithful folder.new → (F.faithful folder.new) folder.old }
+    ensures same { F.faithful folder.new → F.contents folder.new ≡ F.contents folder.old }
     ensures reported { (reply : Replied)
-        × Replies (IsStatusReply (tables_of T.meanings A.meanings tables.now) F.faithful
+        × Replies (IsStatusReply (tables_of T.meanings A.meanings tables.now) (F.faithful folder.new)
         (record { contents = F.contents folder.old; failures = F.failures folder.old })
         (F.failures folder.new) notation activity)
         (given_of (λ words. map string_bytes words.items) words) reply
@@ -69,8 +70,9 @@ fn replied<A: Actions, T: Transforms, F: Folder>(
     tables: &Tables<A, T>,
 ) -> Reply
     ensures requests { Requests F.failures F.may_leave F.allowed no_change folder.old folder.new }
-    ensures same { IsTrue F.faithful → F.contents folder.new ≡ F.contents folder.old }
-    ensures replies { Replies (IsStatusReply (tables_of T.meanings A.meanings tables.now) F.faithful
+    ensures back { F.faithful folder.new → (F.faithful folder.new) folder.old }
+    ensures same { F.faithful folder.new → F.contents folder.new ≡ F.contents folder.old }
+    ensures replies { Replies (IsStatusReply (tables_of T.meanings A.meanings tables.now) (F.faithful folder.new)
         (record { contents = F.contents folder.old; failures = F.failures folder.old })
         (F.failures folder.new) notation activity)
         (given_of (λ words. map string_bytes words.items) words) result }
@@ -92,8 +94,9 @@ fn look<A: Actions, T: Transforms, F: Folder>(
     invocation: &Invocation,
 ) -> Reply
     ensures requests { Requests F.failures F.may_leave F.allowed no_change folder.old folder.new }
-    ensures same { IsTrue F.faithful → F.contents folder.new ≡ F.contents folder.old }
-    ensures reply { IsStatusReply (tables_of T.meanings A.meanings tables.now) F.faithful
+    ensures back { F.faithful folder.new → (F.faithful folder.new) folder.old }
+    ensures same { F.faithful folder.new → F.contents folder.new ≡ F.contents folder.old }
+    ensures reply { IsStatusReply (tables_of T.meanings A.meanings tables.now) (F.faithful folder.new)
         (record { contents = F.contents folder.old; failures = F.failures folder.old })
         (F.failures folder.new) notation activity invocation.now result }
 {
@@ -112,11 +115,12 @@ fn look_beside<A: Actions, T: Transforms, F: Folder>(
     configured: &Configured<'_, A, T>,
 ) -> Reply
     ensures requests { Requests F.failures F.may_leave F.allowed no_change folder.old folder.new }
-    ensures same { IsTrue F.faithful → F.contents folder.new ≡ F.contents folder.old }
+    ensures back { F.faithful folder.new → (F.faithful folder.new) folder.old }
+    ensures same { F.faithful folder.new → F.contents folder.new ≡ F.contents folder.old }
     ensures text { let tables = tables_of T.meanings A.meanings configured.now.tables.now in
-        IfOk result (λ text. IsStatusOf F.faithful notation activity (F.contents folder.old).files
+        IfOk result (λ text. IsStatusOf (F.faithful folder.new) notation activity (F.contents folder.old).files
         (paths_of (registry_said tables configured.now.registry)) (string_bytes text)) }
-    ensures refused { IsTrue F.faithful → IfErr result
+    ensures refused { F.faithful folder.new → IfErr result
         (IsUnlisted (F.contents folder.old) (F.failures folder.old) (F.failures folder.new)) }
 {
     let _registered = configured.registry.tasks();

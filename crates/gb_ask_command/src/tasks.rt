@@ -40,9 +40,10 @@ pub fn run<A: Actions, T: Transforms, F: Folder, W: Printer>(
 ) -> Option<u8>
     // Over any folder: no change is requested.
     ensures requests { Requests F.failures F.may_leave F.allowed no_change folder.old folder.new }
-    ensures same { IsTrue F.faithful → F.contents folder.new ≡ F.contents folder.old }
+    ensures back { F.faithful folder.new → (F.faithful folder.new) folder.old }
+    ensures same { F.faithful folder.new → F.contents folder.new ≡ F.contents folder.old }
     ensures reported { (reply : Replied)
-        × Replies (IsTasksReply (tables_of T.meanings A.meanings tables.now) F.faithful
+        × Replies (IsTasksReply (tables_of T.meanings A.meanings tables.now) (F.faithful folder.new)
         (record { contents = F.contents folder.old; failures = F.failures folder.old })
         (F.failures folder.new) notation)
         (given_of (λ words. map string_bytes words.items) words) reply
@@ -65,8 +66,9 @@ fn replied<A: Actions, T: Transforms, F: Folder>(
     tables: &Tables<A, T>,
 ) -> Reply
     ensures requests { Requests F.failures F.may_leave F.allowed no_change folder.old folder.new }
-    ensures same { IsTrue F.faithful → F.contents folder.new ≡ F.contents folder.old }
-    ensures replies { Replies (IsTasksReply (tables_of T.meanings A.meanings tables.now) F.faithful
+    ensures back { F.faithful folder.new → (F.faithful folder.new) folder.old }
+    ensures same { F.faithful folder.new → F.contents folder.new ≡ F.contents folder.old }
+    ensures replies { Replies (IsTasksReply (tables_of T.meanings A.meanings tables.now) (F.faithful folder.new)
         (record { contents = F.contents folder.old; failures = F.failures folder.old })
         (F.failures folder.new) notation)
         (given_of (λ words. map string_bytes words.items) words) result }
@@ -86,8 +88,9 @@ fn list<A: Actions, T: Transforms, F: Folder>(
     invocation: &Invocation,
 ) -> Reply
     ensures requests { Requests F.failures F.may_leave F.allowed no_change folder.old folder.new }
-    ensures same { IsTrue F.faithful → F.contents folder.new ≡ F.contents folder.old }
-    ensures reply { IsTasksReply (tables_of T.meanings A.meanings tables.now) F.faithful
+    ensures back { F.faithful folder.new → (F.faithful folder.new) folder.old }
+    ensures same { F.faithful folder.new → F.contents folder.new ≡ F.contents folder.old }
+    ensures reply { IsTasksReply (tables_of T.meanings A.meanings tables.now) (F.faithful folder.new)
         (record { contents = F.contents folder.old; failures = F.failures folder.old })
         (F.failures folder.new) notation invocation.now result }
 {

@@ -24,14 +24,15 @@ pub fn records_for<F: Folder>(
     dry_run: bool,
 ) -> Result<Vec<Option<Record>>, Fault>
     ensures each { IfOk result (λ records. length records.items ≡ length tasks.now) }
+    ensures back { F.faithful folder.new → F.faithful folder.old }
     ensures requests { Requests F.failures F.may_leave F.allowed no_change folder.old folder.new }
     // Over any folder: each record is what a call at its place returned.
     ensures answered { dry_run ≡ false → IfOk result (λ records. AllZip
         (WasAnswered F.failures F.may_leave F.allowed folder.old folder.new) (order tasks.now)
         records.items) }
-    ensures same { IsTrue F.faithful → F.contents folder.new ≡ F.contents folder.old }
+    ensures same { F.faithful folder.new → F.contents folder.new ≡ F.contents folder.old }
     ensures dry { dry_run ≡ true → folder.new ≡ folder.old }
-    ensures read { IsTrue F.faithful → dry_run ≡ false → IfOk result
+    ensures read { F.faithful folder.new → dry_run ≡ false → IfOk result
         (λ records. AllZip (IsReadAt (F.contents folder.old).files) (order tasks.now) records.items) }
     ensures unread { IfErr result
         (IsUnread dry_run (F.failures folder.old) (F.failures folder.new)) }

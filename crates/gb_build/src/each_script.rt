@@ -26,11 +26,12 @@ pub fn read_scripts<F: Folder>(
 ) -> Result<Vec<Script>, Fault>
     requires places { IsTrue (list_all (λ place. is_place place) (script_places projects.now)) }
     ensures requests { Requests F.failures F.may_leave F.allowed no_change folder.old folder.new }
+    ensures back { F.faithful folder.new → F.faithful folder.old }
     ensures blame { Blames result (F.failures folder.old) (F.failures folder.new) }
     ensures blamed { BlamesOnly is_script_place result }
-    ensures same { IsTrue F.faithful → F.contents folder.new ≡ F.contents folder.old }
+    ensures same { F.faithful folder.new → F.contents folder.new ≡ F.contents folder.old }
     ensures one_each { IfOk result (λ scripts. length scripts.items ≡ length projects.now) }
-    ensures said { IsTrue F.faithful → MatchResult result
+    ensures said { F.faithful folder.new → MatchResult result
         (λ scripts. ScriptsSay (F.contents folder.old).files (script_places projects.now) (Ok scripts.items))
         (λ fault. IsOfMachine (F.failures folder.old) (F.failures folder.new) fault
         ⊎ ScriptsSay (F.contents folder.old).files (script_places projects.now) (Err fault)) }
@@ -53,10 +54,11 @@ fn read_script_of<F: Folder>(
 ) -> Result<Script, Fault>
     requires place { IsTrue (is_place (script_place project.now.1)) }
     ensures requests { Requests F.failures F.may_leave F.allowed no_change folder.old folder.new }
+    ensures back { F.faithful folder.new → F.faithful folder.old }
     ensures blame { Blames result (F.failures folder.old) (F.failures folder.new) }
     ensures blamed { BlamesOnly is_script_place result }
-    ensures same { IsTrue F.faithful → F.contents folder.new ≡ F.contents folder.old }
-    ensures said { IsTrue F.faithful
+    ensures same { F.faithful folder.new → F.contents folder.new ≡ F.contents folder.old }
+    ensures said { F.faithful folder.new
         → Reports (TextSays Says (F.contents folder.old).files (script_place project.now.1))
         (F.failures folder.old) (F.failures folder.new) result }
     ensures parsed { IfOk result (WasParsed F.failures F.may_leave F.allowed Says folder.old folder.new

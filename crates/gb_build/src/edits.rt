@@ -24,10 +24,11 @@ use std::alloc::Global;
 /// 13).
 pub fn put<F: Folder>(folder: &mut F, place: &Place, bytes: &Bytes) -> Result<(), Fault>
     ensures count { F.failures folder.old ≤ F.failures folder.new }
+    ensures back { F.faithful folder.new → F.faithful folder.old }
     ensures blame { Blames result (F.failures folder.old) (F.failures folder.new) }
     ensures requests { RequestsOnce F.allowed (Writes place.now bytes.now max_file) folder.old folder.new }
     ensures tearing { SameTearing (F.may_leave folder.old) (F.may_leave folder.new) }
-    ensures step { IsTrue F.faithful → PutStep (F.may_leave folder.old) place.now bytes.now
+    ensures step { F.faithful folder.new → PutStep (F.may_leave folder.old) place.now bytes.now
         (record { contents = F.contents folder.old; failures = F.failures folder.old })
         (edit_answer result)
         (record { contents = F.contents folder.new; failures = F.failures folder.new }) }
@@ -46,10 +47,11 @@ pub fn put<F: Folder>(folder: &mut F, place: &Place, bytes: &Bytes) -> Result<()
 /// Removes a file (fault 94 at or under `.gb`; faults 11 and 12).
 pub fn remove<F: Folder>(folder: &mut F, place: &Place) -> Result<(), Fault>
     ensures count { F.failures folder.old ≤ F.failures folder.new }
+    ensures back { F.faithful folder.new → F.faithful folder.old }
     ensures blame { Blames result (F.failures folder.old) (F.failures folder.new) }
     ensures requests { RequestsOnce F.allowed (Removes place.now) folder.old folder.new }
     ensures tearing { SameTearing (F.may_leave folder.old) (F.may_leave folder.new) }
-    ensures step { IsTrue F.faithful → RemoveStep (F.may_leave folder.old) place.now
+    ensures step { F.faithful folder.new → RemoveStep (F.may_leave folder.old) place.now
         (record { contents = F.contents folder.old; failures = F.failures folder.old })
         (edit_answer result)
         (record { contents = F.contents folder.new; failures = F.failures folder.new }) }
@@ -67,10 +69,11 @@ pub fn remove<F: Folder>(folder: &mut F, place: &Place) -> Result<(), Fault>
 /// Removes everything at or under `.gb`.
 pub fn lose<F: Folder>(alloc: Global, folder: &mut F) -> Result<(), Fault>
     ensures requests { Requests F.failures F.may_leave F.allowed (takes_at is_own) folder.old folder.new }
+    ensures back { F.faithful folder.new → F.faithful folder.old }
     ensures blame { Blames result (F.failures folder.old) (F.failures folder.new) }
-    ensures elsewhere { IsTrue F.faithful
+    ensures elsewhere { F.faithful folder.new
         → ChangesOnly is_own (F.contents folder.old) (F.contents folder.new) }
-    ensures step { IsTrue F.faithful → LossStep (F.may_leave folder.old)
+    ensures step { F.faithful folder.new → LossStep (F.may_leave folder.old)
         (record { contents = F.contents folder.old; failures = F.failures folder.old })
         (edit_answer result)
         (record { contents = F.contents folder.new; failures = F.failures folder.new }) }

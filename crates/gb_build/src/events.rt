@@ -38,6 +38,7 @@ pub fn run_events<A: Actions, T: Transforms, F: Folder, L: TaskListener>(
     listeners: &mut Vec<L>,
 ) -> Result<Vec<Answer>, AllocError>
     ensures count { F.failures folder.old ≤ F.failures folder.new }
+    ensures back { F.faithful folder.new → F.faithful folder.old }
     ensures unbegun { OnErr result (folder.new ≡ folder.old) }
     ensures unnotified { OnErr result (listeners.new ≡ listeners.old) }
     ensures tearing { SameTearing (F.may_leave folder.old) (F.may_leave folder.new) }
@@ -60,12 +61,12 @@ pub fn run_events<A: Actions, T: Transforms, F: Folder, L: TaskListener>(
     // task of this plan starts, and has an outcome, as the outline permits.
     ensures outlined { IfOk result (λ answers. AllZip AnswerIsOutlined events.now answers.items) }
     // Whatever fails, a build changes nothing but `.gb` and the build folders of its projects.
-    ensures elsewhere { IsTrue F.faithful → IfOk result (λ answers.
+    ensures elsewhere { F.faithful folder.new → IfOk result (λ answers.
         AllKeepElsewhere (registers_in (tables_of T.meanings A.meanings tables.now)) events.now answers.items
         (F.contents folder.old) (F.contents folder.new)) }
     // If kinds agree and a stopped write leaves no false record (`IsAssumed`), this is a run of the
     // events by its definition.
-    ensures holds { IsTrue F.faithful → IfOk result (λ answers. (kinds : Kinds)
+    ensures holds { F.faithful folder.new → IfOk result (λ answers. (kinds : Kinds)
         → IsAssumed A.meanings tables.now.actions kinds (F.may_leave folder.old)
         → EventsHold
         (setting_of (tables_of T.meanings A.meanings tables.now) kinds (F.may_leave folder.old))
@@ -75,7 +76,7 @@ pub fn run_events<A: Actions, T: Transforms, F: Folder, L: TaskListener>(
     // So, if also no two contents share a digest, each event is a step of the definition, and each
     // build in which no task failed leaves what a build from scratch makes, whichever true records
     // the first event starts from.
-    ensures promise { IsTrue F.faithful → IfOk result (λ answers. (kinds : Kinds)
+    ensures promise { F.faithful folder.new → IfOk result (λ answers. (kinds : Kinds)
         → IsAssumed A.meanings tables.now.actions kinds (F.may_leave folder.old)
         → PromiseHolds
         (setting_of (tables_of T.meanings A.meanings tables.now) kinds (F.may_leave folder.old))
@@ -99,6 +100,7 @@ fn take<A: Actions, T: Transforms, F: Folder, L: TaskListener>(
     listeners: &mut Vec<L>,
 ) -> Answer
     ensures count { F.failures folder.old ≤ F.failures folder.new }
+    ensures back { F.faithful folder.new → F.faithful folder.old }
     ensures tearing { SameTearing (F.may_leave folder.old) (F.may_leave folder.new) }
     ensures requests { EventRequests F.failures F.may_leave F.allowed
         (tables_of T.meanings A.meanings tables.now) event.now result folder.old folder.new }
@@ -106,10 +108,10 @@ fn take<A: Actions, T: Transforms, F: Folder, L: TaskListener>(
     ensures heard { HaveHeardAll (result ∷ []) (map L.ear listeners.old.items)
         (map L.ear listeners.new.items) }
     ensures outlined { AnswerIsOutlined event.now result }
-    ensures keeps { IsTrue F.faithful
+    ensures keeps { F.faithful folder.new
         → EventKeeps (registers_in (tables_of T.meanings A.meanings tables.now)) event.now result
         (F.contents folder.old) (F.contents folder.new) }
-    ensures leads { IsTrue F.faithful → (kinds : Kinds)
+    ensures leads { F.faithful folder.new → (kinds : Kinds)
         → IsAssumed A.meanings tables.now.actions kinds (F.may_leave folder.old)
         → IsTransition
         (setting_of (tables_of T.meanings A.meanings tables.now) kinds (F.may_leave folder.old))

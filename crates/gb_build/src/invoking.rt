@@ -53,9 +53,10 @@ pub fn invoke<A: Actions, T: Transforms, F: Folder, L: TaskListener, P: Printer>
     // Over any folder: the calls of the invocation, and what its answer may be.
     ensures does { IsInvocation F.failures F.may_leave F.allowed
         (tables_of T.meanings A.meanings tables.now) invocation.now result folder.old folder.new }
+    ensures back { F.faithful folder.new → F.faithful folder.old }
     // Where contents are known: the promise. Success is as from scratch if kinds agree, a stopped
     // write leaves no false record, and no two contents share a digest.
-    ensures promise { IsTrue F.faithful → KeepsPromise (tables_of T.meanings A.meanings tables.now)
+    ensures promise { F.faithful folder.new → KeepsPromise (tables_of T.meanings A.meanings tables.now)
         (F.may_leave folder.old) invocation.now
         (record { contents = F.contents folder.old; failures = F.failures folder.old }) result
         (record { contents = F.contents folder.new; failures = F.failures folder.new }) }
@@ -87,6 +88,7 @@ fn build_registered<A: Actions, T: Transforms, F: Folder, L: TaskListener, P: Pr
     printer: &mut P,
 ) -> Result<Report, Fault>
     ensures dry_run { IfOk result (λ report. report.dry_run ≡ invocation.now.options.dry_run) }
+    ensures back { F.faithful folder.new → F.faithful folder.old }
     ensures heard { IfOk result (λ report.
         HaveHeard report (map L.ear listeners.old.items) (map L.ear listeners.new.items)) }
     ensures unnotified { OnErr result (listeners.new ≡ listeners.old) }
@@ -112,12 +114,12 @@ fn build_registered<A: Actions, T: Transforms, F: Folder, L: TaskListener, P: Pr
         IfErr result (IsNotBegun (registry_said tables configured.now.registry) invocation.now
         (F.failures folder.old) (F.failures folder.new)) }
     ensures dry { invocation.now.options.dry_run ≡ true → folder.new ≡ folder.old }
-    ensures refused { IsTrue F.faithful → OnErr result (F.contents folder.new ≡ F.contents folder.old) }
+    ensures refused { F.faithful folder.new → OnErr result (F.contents folder.new ≡ F.contents folder.old) }
     ensures keeps { let tables = tables_of T.meanings A.meanings configured.now.tables.now in
-        IsTrue F.faithful → KeepsElsewhere (registry_said tables configured.now.registry)
+        F.faithful folder.new → KeepsElsewhere (registry_said tables configured.now.registry)
         (F.contents folder.old) (F.contents folder.new) }
     ensures leads { let tables = tables_of T.meanings A.meanings configured.now.tables.now in
-        IsTrue F.faithful → (kinds : Kinds)
+        F.faithful folder.new → (kinds : Kinds)
         → IsAssumed A.meanings configured.now.tables.now.actions kinds (F.may_leave folder.old)
         → IsTransition (setting_with kinds (λ files given. Ok (registry_said tables configured.now.registry))
         (F.may_leave folder.old))

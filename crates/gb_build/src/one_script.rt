@@ -23,10 +23,11 @@ pub fn settings_at<F: Folder>(
     place: Place,
 ) -> Result<Settings, Fault>
     ensures requests { Requests F.failures F.may_leave F.allowed no_change folder.old folder.new }
+    ensures back { F.faithful folder.new → F.faithful folder.old }
     ensures blame { Blames result (F.failures folder.old) (F.failures folder.new) }
     ensures blamed { BlamesOnly (is_at place) result }
-    ensures same { IsTrue F.faithful → F.contents folder.new ≡ F.contents folder.old }
-    ensures said { IsTrue F.faithful
+    ensures same { F.faithful folder.new → F.contents folder.new ≡ F.contents folder.old }
+    ensures said { F.faithful folder.new
         → Reports (TextSays SaysAsSettings (F.contents folder.old).files place)
         (F.failures folder.old) (F.failures folder.new) result }
     // Over any folder: a call returned this text.
@@ -45,10 +46,11 @@ pub fn settings_at<F: Folder>(
 /// Reads the script at a place. Where no file exists, it is empty.
 pub fn script_at<F: Folder>(alloc: Global, folder: &mut F, place: Place) -> Result<Script, Fault>
     ensures requests { Requests F.failures F.may_leave F.allowed no_change folder.old folder.new }
+    ensures back { F.faithful folder.new → F.faithful folder.old }
     ensures blame { Blames result (F.failures folder.old) (F.failures folder.new) }
     ensures blamed { BlamesOnly (is_at place) result }
-    ensures same { IsTrue F.faithful → F.contents folder.new ≡ F.contents folder.old }
-    ensures said { IsTrue F.faithful
+    ensures same { F.faithful folder.new → F.contents folder.new ≡ F.contents folder.old }
+    ensures said { F.faithful folder.new
         → Reports (TextSays Says (F.contents folder.old).files place)
         (F.failures folder.old) (F.failures folder.new) result }
     // Over any folder: a call returned this text.

@@ -47,6 +47,7 @@ pub fn build_requested<A: Actions, F: Folder, L: TaskListener, P: Printer, Ts: T
 ) -> Result<Report, Fault>
     requires { AreBuildable A.meanings table.now (Ts.registry tasks.old) }
     ensures kept { Ts.registry tasks.new ≡ Ts.registry tasks.old }
+    ensures back { F.faithful folder.new → F.faithful folder.old }
     ensures dry_run { IfOk result (λ report. report.dry_run ≡ invocation.now.options.dry_run) }
     ensures of_plan { IfOk result (IsReportOf (Ts.registry tasks.old) invocation.now) }
     // Over any folder: which tasks start, and which outcomes are possible for each.
@@ -71,13 +72,13 @@ pub fn build_requested<A: Actions, F: Folder, L: TaskListener, P: Printer, Ts: T
         (Ts.registry tasks.old)
         invocation.now result folder.old folder.new }
     ensures dry { invocation.now.options.dry_run ≡ true → folder.new ≡ folder.old }
-    ensures refused { IsTrue F.faithful → OnErr result (F.contents folder.new ≡ F.contents folder.old) }
+    ensures refused { F.faithful folder.new → OnErr result (F.contents folder.new ≡ F.contents folder.old) }
     // Nothing changes but `.gb` and the build folders of the registered projects.
-    ensures elsewhere { IsTrue F.faithful → ChangesOnly (is_of_build (Ts.registry tasks.old).projects)
+    ensures elsewhere { F.faithful folder.new → ChangesOnly (is_of_build (Ts.registry tasks.old).projects)
         (F.contents folder.old) (F.contents folder.new) }
     // It may follow any sequence of events: it is a step of the folder's history, if its scripts
     // register the tasks that are registered here.
-    ensures leads { IsTrue F.faithful → (kinds : Kinds) (registry_of : Registering)
+    ensures leads { F.faithful folder.new → (kinds : Kinds) (registry_of : Registering)
         → IsAssumed A.meanings table.now kinds (F.may_leave folder.old)
         → registry_of (outside (F.contents folder.old)).files invocation.now.properties
         ≡ Ok (Ts.registry tasks.old)
@@ -86,7 +87,7 @@ pub fn build_requested<A: Actions, F: Folder, L: TaskListener, P: Printer, Ts: T
         (events.Invoke invocation.now) (answer_of result)
         (record { contents = F.contents folder.new; failures = F.failures folder.new }) }
     // This is one invocation by its definition.
-    ensures holds { IsTrue F.faithful → (kinds : Kinds) (registry_of : Registering)
+    ensures holds { F.faithful folder.new → (kinds : Kinds) (registry_of : Registering)
         → IsAssumed A.meanings table.now kinds (F.may_leave folder.old)
         → registry_of (outside (F.contents folder.old)).files invocation.now.properties
         ≡ Ok (Ts.registry tasks.old)

@@ -41,12 +41,13 @@ pub fn read_registry<'a, A: Actions, T: Transforms, F: Folder>(
     given: Vec<(Name, Text)>,
 ) -> Result<Configured<'a, A, T>, Fault>
     ensures requests { Requests F.failures F.may_leave F.allowed no_change folder.old folder.new }
+    ensures back { F.faithful folder.new → F.faithful folder.old }
     ensures blame { Blames result (F.failures folder.old) (F.failures folder.new) }
     ensures blamed { BlamesOnly is_script_place result }
-    ensures same { IsTrue F.faithful → F.contents folder.new ≡ F.contents folder.old }
+    ensures same { F.faithful folder.new → F.contents folder.new ≡ F.contents folder.old }
     ensures tables { IfOk result (λ configured. configured.tables.now ≡ tables.now) }
     // Where contents are known, the result is what the scripts in them say, or a fault of the machine.
-    ensures said { IsTrue F.faithful → MatchResult result
+    ensures said { F.faithful folder.new → MatchResult result
         (λ configured. FolderSays (tables_of T.meanings A.meanings tables.now)
         (F.contents folder.old).files given.items (Ok configured.registry))
         (λ fault. IsOfMachine (F.failures folder.old) (F.failures folder.new) fault
@@ -66,11 +67,12 @@ pub fn read_registry<'a, A: Actions, T: Transforms, F: Folder>(
 /// The settings of a folder.
 pub fn read_settings_of<F: Folder>(alloc: Global, folder: &mut F) -> Result<Settings, Fault>
     ensures requests { Requests F.failures F.may_leave F.allowed no_change folder.old folder.new }
+    ensures back { F.faithful folder.new → F.faithful folder.old }
     ensures blame { Blames result (F.failures folder.old) (F.failures folder.new) }
     ensures blamed { BlamesOnly (is_at settings_place) result }
-    ensures same { IsTrue F.faithful → F.contents folder.new ≡ F.contents folder.old }
+    ensures same { F.faithful folder.new → F.contents folder.new ≡ F.contents folder.old }
     // Where contents are known, the result is what the file says, or a fault of the machine.
-    ensures said { IsTrue F.faithful
+    ensures said { F.faithful folder.new
         → Reports (TextSays SaysAsSettings (F.contents folder.old).files settings_place)
         (F.failures folder.old) (F.failures folder.new) result }
     ensures parsed { IfOk result (WasParsed F.failures F.may_leave F.allowed SaysAsSettings folder.old

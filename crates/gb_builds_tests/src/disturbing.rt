@@ -31,12 +31,12 @@ impl Disturbed {
 }
 
 impl Folder for Disturbed {
-    ghost use Rattle.std.specs.Prelude.{false, [], refl, ⊤};
+    ghost use Rattle.std.specs.Prelude.{[], refl, ⊤, ⊥};
     ghost use Rattle.gb_folder.specs.Device.{device_of};
 
     ghost failures = { λ _. 0 };
 
-    ghost faithful = { false };
+    ghost faithful = { λ _. ⊥ };
 
     ghost contents = { λ _. record { files = []; special = [] } };
 
@@ -44,7 +44,7 @@ impl Folder for Disturbed {
 
     ghost allowed = { λ _ _ _. ⊤ };
 
-    ghost device = { device_of (λ _. 0) (λ _ _ _ _ _. ⊤) (λ _ _ _. ⊤) false
+    ghost device = { device_of (λ _. 0) (λ _ _ _ _ _. ⊤) (λ _ _ _. ⊤) (λ _. ⊥)
         (λ _. record { files = []; special = [] }) };
 
     ghost sound = { λ _. record { in_order = refl; none_blocked = refl } };

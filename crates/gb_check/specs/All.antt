@@ -17,10 +17,10 @@ use Rattle.gb_check.specs.declared.sites.Site.{Site}
 
 -- The faults of a registry whose tasks these scripts register: first those of the words of `defaultTasks`,
 -- then those of tasks or of their plan.
-pub record AreFaults (faithful : Bool) (files : Files) (sites : List Site) (marks : List ClauseMark)
+pub record AreFaults (known : Type 0) (files : Files) (sites : List Site) (marks : List ClauseMark)
     (registry : Registry) (scripts : List (Path × List Statement)) (found : List Finding) : Type 0 where
   pub in_words : List Finding
-  pub of_words : AreDefaultsFound faithful files scripts registry in_words
+  pub of_words : AreDefaultsFound known files scripts registry in_words
   pub in_tasks : List Finding
   pub of_tasks : IsFound sites marks registry in_tasks
   pub both : found ≡ in_words ++ in_tasks
@@ -28,11 +28,11 @@ pub record AreFaults (faithful : Bool) (files : Files) (sites : List Site) (mark
   pub silent : found ≡ [] → IsSilent registry
 
 -- The findings for a registry whose tasks these scripts register, with the lines in which they do.
-pub record AreFindings {M F Z S A : Type 0} (tables : Tables M F Z S A) (names : Names) (faithful : Bool)
+pub record AreFindings {M F Z S A : Type 0} (tables : Tables M F Z S A) (names : Names) (known : Type 0)
     (contents : Contents) (registry : Registry) (scripts : List (Path × List Statement)) (findings : Findings)
     : Type 0 where
   pub sites : List Site
   pub marks : List ClauseMark
-  pub are_sites : AreSites tables names faithful contents.files scripts sites marks
-  pub faults : AreFaults faithful contents.files sites marks registry scripts findings.faults.items
-  pub warnings : AreWarnings faithful sites scripts contents registry findings.warnings.items
+  pub are_sites : AreSites tables names known contents.files scripts sites marks
+  pub faults : AreFaults known contents.files sites marks registry scripts findings.faults.items
+  pub warnings : AreWarnings known sites scripts contents registry findings.warnings.items

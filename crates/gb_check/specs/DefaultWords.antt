@@ -33,10 +33,10 @@ is_root script = bytes_eq script.0 root_path
 
 -- The words are in the last `defaultTasks` of the root's script (in line 1 if there is none; nowhere without
 -- that script). If the contents of the folder are known, its line is that of the file.
-abbrev pub IsDefaultsSpot : Bool → Files → List (Path × List Statement) → Spot → Type 0
-IsDefaultsSpot faithful files scripts spot =
+abbrev pub IsDefaultsSpot : Type 0 → Files → List (Path × List Statement) → Spot → Type 0
+IsDefaultsSpot known files scripts spot =
     MatchOption (find is_root scripts) (spot ≡ spots.Unknown) (λ script.
-    (lines : List Lines) × (IsTrue faithful → AreLinesAt files (script_of_project script.0) lines)
+    (lines : List Lines) × (known → AreLinesAt files (script_of_project script.0) lines)
     × (spot ≡ spots.Line (script_of_project script.0) (defaults_line 1 script.1 lines)))
 
 -- ---- What they are
@@ -49,12 +49,12 @@ abbrev pub fault_at : Spot → Fault → Finding
 fault_at spot fault = record { spot = spot; cause = problems.Fault fault }
 
 -- these faults, each at the `defaultTasks` that counts
-abbrev pub AreAtDefaults : Bool → Files → List (Path × List Statement) → List Fault → List Finding → Type 0
-AreAtDefaults faithful files scripts faults found =
-    (spot : Spot) × (found ≢ [] → IsDefaultsSpot faithful files scripts spot)
+abbrev pub AreAtDefaults : Type 0 → Files → List (Path × List Statement) → List Fault → List Finding → Type 0
+AreAtDefaults known files scripts faults found =
+    (spot : Spot) × (found ≢ [] → IsDefaultsSpot known files scripts spot)
     × (found ≡ map (fault_at spot) faults)
 
 -- the faults of the words of `defaultTasks` are
-abbrev pub AreDefaultsFound : Bool → Files → List (Path × List Statement) → Registry → List Finding → Type 0
-AreDefaultsFound faithful files scripts registry found =
-    AreAtDefaults faithful files scripts (default_faults registry) found
+abbrev pub AreDefaultsFound : Type 0 → Files → List (Path × List Statement) → Registry → List Finding → Type 0
+AreDefaultsFound known files scripts registry found =
+    AreAtDefaults known files scripts (default_faults registry) found

@@ -49,7 +49,7 @@ abbrev pub AreLinesAt : Files → Place → List Lines → Type 0
 AreLinesAt files place lines =
     MatchOption (file_at files place) (lines ≡ []) (λ bytes. AreLinesOf bytes lines)
 
-module _ {M F Z S A : Type 0} (tables : Tables M F Z S A) (names : Names) (faithful : Bool)
+module _ {M F Z S A : Type 0} (tables : Tables M F Z S A) (names : Names) (known : Type 0)
     (files : Files) where
   -- Where these scripts register tasks, in their order, each with the line in which its statement begins, and
   -- the marks of their clauses. If the contents of the folder are known, the lines are those of the files.
@@ -57,7 +57,7 @@ module _ {M F Z S A : Type 0} (tables : Tables M F Z S A) (names : Names) (faith
   AreSites [] sites marks = (sites ≡ []) × (marks ≡ [])
   AreSites (script ∷ scripts) sites marks =
       (lines : List Lines) × (others : List Site) × (words : List ClauseMark)
-      × (IsTrue faithful → AreLinesAt files (script_of_project script.0) lines)
+      × (known → AreLinesAt files (script_of_project script.0) lines)
       × AreSites scripts others words
       × (sites ≡ sites_of script.0 (script_of_project script.0) script.1 lines ++ others)
       × (marks

@@ -14,7 +14,7 @@ line_of_statement lines number = unwrap_or (option_map (λ (one : Lines). one.0)
 
 -- Where the statement with this number in the script of the project is. If the contents of the folder are
 -- known, its line is that of the file.
-abbrev pub IsStatementSpot : Bool → Files → Path → ℕ → Spot → Type 0
-IsStatementSpot faithful files project number spot =
-    (lines : List Lines) × (IsTrue faithful → AreLinesAt files (script_of_project project) lines)
+abbrev pub IsStatementSpot : Type 0 → Files → Path → ℕ → Spot → Type 0
+IsStatementSpot known files project number spot =
+    (lines : List Lines) × (known → AreLinesAt files (script_of_project project) lines)
     × (spot ≡ spots.Line (script_of_project project) (line_of_statement lines number))

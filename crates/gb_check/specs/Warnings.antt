@@ -150,8 +150,8 @@ declared_warnings sites scripts tasks = shared_in sites tasks ++ between_all sit
 
 -- These, and then those for roots: if the contents of the folder are known, for the roots that have no files
 -- in it.
-pub record AreWarnings (faithful : Bool) (sites : List Site) (scripts : List (Path × List Statement))
+pub record AreWarnings (known : Type 0) (sites : List Site) (scripts : List (Path × List Statement))
     (contents : Contents) (registry : Registry) (found : List Finding) : Type 0 where
   pub bare : List Finding
-  pub are_bare : IsTrue faithful → bare ≡ bare_roots sites contents (declared_in registry)
+  pub are_bare : known → bare ≡ bare_roots sites contents (declared_in registry)
   pub found_is : found ≡ declared_warnings sites scripts (declared_in registry) ++ bare

@@ -27,10 +27,11 @@ pub(crate) fn warn_bare<F: Folder>(
     sites: &[Site],
 ) -> Result<Vec<Finding>, Fault>
     ensures requests { Requests F.failures F.may_leave F.allowed no_change folder.old folder.new }
-    ensures same { IsTrue F.faithful → F.contents folder.new ≡ F.contents folder.old }
-    ensures found { IsTrue F.faithful → IfOk result (λ found. found.items
+    ensures back { F.faithful folder.new → (F.faithful folder.new) folder.old }
+    ensures same { F.faithful folder.new → F.contents folder.new ≡ F.contents folder.old }
+    ensures found { F.faithful folder.new → IfOk result (λ found. found.items
         ≡ bare_roots sites.now (F.contents folder.old) tasks.now) }
-    ensures err { IsTrue F.faithful
+    ensures err { F.faithful folder.new
         → IfErr result (IsOfMachine (F.failures folder.old) (F.failures folder.new)) }
 {
     let outputs = all_outputs(alloc, tasks)?;
@@ -47,10 +48,11 @@ fn warn_each<F: Folder>(
     roots: &[Rooted],
 ) -> Result<Vec<Finding>, Fault>
     ensures requests { Requests F.failures F.may_leave F.allowed no_change folder.old folder.new }
-    ensures same { IsTrue F.faithful → F.contents folder.new ≡ F.contents folder.old }
-    ensures found { IsTrue F.faithful → IfOk result (λ found. found.items
+    ensures back { F.faithful folder.new → (F.faithful folder.new) folder.old }
+    ensures same { F.faithful folder.new → F.contents folder.new ≡ F.contents folder.old }
+    ensures found { F.faithful folder.new → IfOk result (λ found. found.items
         ≡ flat_map (bare_root sites.now (F.contents folder.old) outputs.now) roots.now) }
-    ensures err { IsTrue F.faithful
+    ensures err { F.faithful folder.new
         → IfErr result (IsOfMachine (F.failures folder.old) (F.failures folder.new)) }
 {
     let mut found = Vec::new(alloc);
@@ -69,10 +71,11 @@ fn push_rooted<F: Folder>(
     rooted: &Rooted,
 ) -> Result<(), Fault>
     ensures requests { Requests F.failures F.may_leave F.allowed no_change folder.old folder.new }
-    ensures same { IsTrue F.faithful → F.contents folder.new ≡ F.contents folder.old }
-    ensures found { IsTrue F.faithful → OnOk result (found.new.items
+    ensures back { F.faithful folder.new → (F.faithful folder.new) folder.old }
+    ensures same { F.faithful folder.new → F.contents folder.new ≡ F.contents folder.old }
+    ensures found { F.faithful folder.new → OnOk result (found.new.items
         ≡ found.old.items ++ bare_root sites.now (F.contents folder.old) outputs.now rooted.now) }
-    ensures err { IsTrue F.faithful
+    ensures err { F.faithful folder.new
         → IfErr result (IsOfMachine (F.failures folder.old) (F.failures folder.new)) }
 {
     if is_bare(alloc, folder, outputs, &rooted.root)? {
@@ -101,10 +104,11 @@ fn is_bare<F: Folder>(
     root: &Place,
 ) -> Result<bool, Fault>
     ensures requests { Requests F.failures F.may_leave F.allowed no_change folder.old folder.new }
-    ensures same { IsTrue F.faithful → F.contents folder.new ≡ F.contents folder.old }
-    ensures bare { IsTrue F.faithful → IfOk result (λ is.
+    ensures back { F.faithful folder.new → (F.faithful folder.new) folder.old }
+    ensures same { F.faithful folder.new → F.contents folder.new ≡ F.contents folder.old }
+    ensures bare { F.faithful folder.new → IfOk result (λ is.
         is ≡ is_bare (F.contents folder.old) outputs.now root.now) }
-    ensures err { IsTrue F.faithful
+    ensures err { F.faithful folder.new
         → IfErr result (IsOfMachine (F.failures folder.old) (F.failures folder.new)) }
 {
     if is_made(outputs, root) {
@@ -121,11 +125,12 @@ fn is_made(outputs: &[Place], root: &Place) -> bool
 
 fn has_nothing<F: Folder>(alloc: Global, folder: &mut F, root: &Place) -> Result<bool, Fault>
     ensures requests { Requests F.failures F.may_leave F.allowed no_change folder.old folder.new }
-    ensures same { IsTrue F.faithful → F.contents folder.new ≡ F.contents folder.old }
-    ensures nothing { IsTrue F.faithful → IfOk result (λ is. is
+    ensures back { F.faithful folder.new → (F.faithful folder.new) folder.old }
+    ensures same { F.faithful folder.new → F.contents folder.new ≡ F.contents folder.old }
+    ensures nothing { F.faithful folder.new → IfOk result (λ is. is
         ≡ (is_empty (places_under (F.contents folder.old).files root.now)
         && not (is_special_under (F.contents folder.old) root.now))) }
-    ensures err { IsTrue F.faithful
+    ensures err { F.faithful folder.new
         → IfErr result (IsOfMachine (F.failures folder.old) (F.failures folder.new)) }
 {
     match folder.list(alloc, root) {

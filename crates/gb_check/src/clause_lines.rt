@@ -63,18 +63,17 @@ pub(crate) fn push_marks<A: Actions, T: Transforms>(
 {
     match statement {
         Statement::Register(registration) => {
-            push_registration(alloc, marks, scope, registration, line, lines)
+            let path = task_path(alloc, scope.project.path(), &registration.name)?;
+            let pushed = push_registration(alloc, marks, scope, &path, registration, line, lines);
+            drop(path);
+            pushed
         }
         Statement::Named(configuration) => {
             let path = task_path(alloc, scope.project.path(), &configuration.name)?;
-            push_clauses(
-                alloc,
-                marks,
-                scope,
-                &path,
-                configuration.block.clauses(),
-                lines,
-            )
+            let clauses = configuration.block.clauses();
+            let pushed = push_clauses(alloc, marks, scope, &path, clauses, lines);
+            drop(path);
+            pushed
         }
         _ => Ok(()),
     }
@@ -84,35 +83,22 @@ fn push_registration<A: Actions, T: Transforms>(
     alloc: Global,
     marks: &mut Vec<ClauseMark>,
     scope: &Scope<'_, A, T>,
+    path: &TaskPath,
     registration: &Registration,
     line: u64,
     lines: &[u64],
 ) -> Result<(), Fault>
     ensures marks { let tables = tables_of T.meanings A.meanings scope.now.tables.now in
         let names = scope_in scope.now.project.now scope.now.properties.now (option_copied scope.now.names) in
-        let path = task_in scope.now.project.now registration.now.name in
         OnOk result (marks.new.items ≡ marks.old.items
-        ++ action_marks tables names path line registration.now.action
-        ++ clause_marks tables names path registration.now.block lines.now) }
+        ++ action_marks tables names path.now line registration.now.action
+        ++ clause_marks tables names path.now registration.now.block lines.now) }
     ensures err { IfErr result (λ fault. fault ≡ Fault.OutOfMemory) }
 {
-    let path = task_path(alloc, scope.project.path(), &registration.name)?;
-    push_action(
-        alloc,
-        marks,
-        scope,
-        &path,
-        registration.action.as_ref(),
-        line,
-    )?;
-    push_clauses(
-        alloc,
-        marks,
-        scope,
-        &path,
-        registration.block.clauses(),
-        lines,
-    )
+    let action = registration.action.as_ref();
+    push_action(alloc, marks, scope, path, action, line)?;
+    let clauses = registration.block.clauses();
+    push_clauses(alloc, marks, scope, path, clauses, lines)
 }
 
 fn push_action<A: Actions, T: Transforms>(

@@ -32,10 +32,11 @@ pub(crate) fn check_default_words<Ts: Tasks, F: Folder>(
     scripts: &[Scripted],
 ) -> Result<Vec<Finding>, Fault>
     ensures requests { Requests F.failures F.may_leave F.allowed no_change folder.old folder.new }
-    ensures same { IsTrue F.faithful → F.contents folder.new ≡ F.contents folder.old }
-    ensures found { IfOk result (λ found. AreDefaultsFound F.faithful (F.contents folder.old).files
+    ensures back { F.faithful folder.new → (F.faithful folder.new) folder.old }
+    ensures same { F.faithful folder.new → F.contents folder.new ≡ F.contents folder.old }
+    ensures found { IfOk result (λ found. AreDefaultsFound (F.faithful folder.new) (F.contents folder.old).files
         (scripts_in scripts.now) (Ts.registry tasks.now) found.items) }
-    ensures err { IsTrue F.faithful → IfErr result (λ fault.
+    ensures err { F.faithful folder.new → IfErr result (λ fault.
         IsOfMachine (F.failures folder.old) (F.failures folder.new) fault
         ⊎ IsUnread (F.contents folder.old).files (scripts_in scripts.now) fault) }
 {
@@ -53,10 +54,11 @@ fn find_words<F: Folder>(
     faults: &[Fault],
 ) -> Result<Vec<Finding>, Fault>
     ensures requests { Requests F.failures F.may_leave F.allowed no_change folder.old folder.new }
-    ensures same { IsTrue F.faithful → F.contents folder.new ≡ F.contents folder.old }
-    ensures found { IfOk result (λ found. AreAtDefaults F.faithful (F.contents folder.old).files
+    ensures back { F.faithful folder.new → (F.faithful folder.new) folder.old }
+    ensures same { F.faithful folder.new → F.contents folder.new ≡ F.contents folder.old }
+    ensures found { IfOk result (λ found. AreAtDefaults (F.faithful folder.new) (F.contents folder.old).files
         (scripts_in scripts.now) faults.now found.items) }
-    ensures err { IsTrue F.faithful → IfErr result (λ fault.
+    ensures err { F.faithful folder.new → IfErr result (λ fault.
         IsOfMachine (F.failures folder.old) (F.failures folder.new) fault
         ⊎ IsUnread (F.contents folder.old).files (scripts_in scripts.now) fault) }
 {
@@ -120,10 +122,11 @@ fn defaults_spot<F: Folder>(
     scripts: &[Scripted],
 ) -> Result<Spot, Fault>
     ensures requests { Requests F.failures F.may_leave F.allowed no_change folder.old folder.new }
-    ensures same { IsTrue F.faithful → F.contents folder.new ≡ F.contents folder.old }
+    ensures back { F.faithful folder.new → (F.faithful folder.new) folder.old }
+    ensures same { F.faithful folder.new → F.contents folder.new ≡ F.contents folder.old }
     ensures spot { IfOk result
-        (IsDefaultsSpot F.faithful (F.contents folder.old).files (scripts_in scripts.now)) }
-    ensures err { IsTrue F.faithful → IfErr result (λ fault.
+        (IsDefaultsSpot (F.faithful folder.new) (F.contents folder.old).files (scripts_in scripts.now)) }
+    ensures err { F.faithful folder.new → IfErr result (λ fault.
         IsOfMachine (F.failures folder.old) (F.failures folder.new) fault
         ⊎ IsUnread (F.contents folder.old).files (scripts_in scripts.now) fault) }
 {
@@ -146,12 +149,13 @@ fn root_of(scripts: &[Scripted]) -> Option<&Scripted>
 /// The line of the last `defaultTasks` of a script; 1 if there is none.
 fn line_in<F: Folder>(alloc: Global, folder: &mut F, scripted: &Scripted) -> Result<Spot, Fault>
     ensures requests { Requests F.failures F.may_leave F.allowed no_change folder.old folder.new }
-    ensures same { IsTrue F.faithful → F.contents folder.new ≡ F.contents folder.old }
-    ensures spot { IfOk result (λ spot. (lines : List Lines) × (IsTrue F.faithful
+    ensures back { F.faithful folder.new → (F.faithful folder.new) folder.old }
+    ensures same { F.faithful folder.new → F.contents folder.new ≡ F.contents folder.old }
+    ensures spot { IfOk result (λ spot. (lines : List Lines) × (F.faithful folder.new
         → AreLinesAt (F.contents folder.old).files (script_of_project scripted.now.project) lines)
         × (spot ≡ Spot.Line (script_of_project scripted.now.project)
         (defaults_line 1 scripted.now.script lines))) }
-    ensures err { IsTrue F.faithful → IfErr result (λ fault.
+    ensures err { F.faithful folder.new → IfErr result (λ fault.
         IsOfMachine (F.failures folder.old) (F.failures folder.new) fault
         ⊎ HasTextFault (F.contents folder.old).files (script_of_project scripted.now.project) fault) }
 {

@@ -53,10 +53,11 @@ pub fn find<A: Actions, T: Transforms, Ts: Tasks, F: Folder>(
 ) -> Result<Findings, Fault>
     requires { paths.now ≡ paths_of (Ts.registry tasks.old) }
     ensures requests { Requests F.failures F.may_leave F.allowed no_change folder.old folder.new }
-    ensures same { IsTrue F.faithful → F.contents folder.new ≡ F.contents folder.old }
+    ensures back { F.faithful folder.new → (F.faithful folder.new) folder.old }
+    ensures same { F.faithful folder.new → F.contents folder.new ≡ F.contents folder.old }
     ensures findings { IfOk result (AreFindings (tables_of T.meanings A.meanings tables.now) known.now
-        F.faithful (F.contents folder.old) (Ts.registry tasks.old) (scripts_in scripts.now)) }
-    ensures err { IsTrue F.faithful → IfErr result (λ fault.
+        (F.faithful folder.new) (F.contents folder.old) (Ts.registry tasks.old) (scripts_in scripts.now)) }
+    ensures err { F.faithful folder.new → IfErr result (λ fault.
         IsOfMachine (F.failures folder.old) (F.failures folder.new) fault
         ⊎ IsUnread (F.contents folder.old).files (scripts_in scripts.now) fault) }
 {
@@ -86,11 +87,12 @@ fn find_faults<Ts: Tasks, F: Folder>(
 ) -> Result<Vec<Finding>, Fault>
     requires { paths.now ≡ paths_of (Ts.registry tasks.old) }
     ensures kept { Ts.registry tasks.new ≡ Ts.registry tasks.old }
+    ensures back { F.faithful folder.new → (F.faithful folder.new) folder.old }
     ensures requests { Requests F.failures F.may_leave F.allowed no_change folder.old folder.new }
-    ensures same { IsTrue F.faithful → F.contents folder.new ≡ F.contents folder.old }
-    ensures faults { IfOk result (λ found. AreFaults F.faithful (F.contents folder.old).files sites.now
+    ensures same { F.faithful folder.new → F.contents folder.new ≡ F.contents folder.old }
+    ensures faults { IfOk result (λ found. AreFaults (F.faithful folder.new) (F.contents folder.old).files sites.now
         marks.now (Ts.registry tasks.old) (scripts_in scripts.now) found.items) }
-    ensures err { IsTrue F.faithful → IfErr result (λ fault.
+    ensures err { F.faithful folder.new → IfErr result (λ fault.
         IsOfMachine (F.failures folder.old) (F.failures folder.new) fault
         ⊎ IsUnread (F.contents folder.old).files (scripts_in scripts.now) fault) }
 {

@@ -60,11 +60,12 @@ pub(crate) fn read_sites<A: Actions, T: Transforms, F: Folder>(
     scripts: &[Scripted],
 ) -> Result<(Vec<Site>, Vec<ClauseMark>), Fault>
     ensures requests { Requests F.failures F.may_leave F.allowed no_change folder.old folder.new }
-    ensures same { IsTrue F.faithful → F.contents folder.new ≡ F.contents folder.old }
+    ensures back { F.faithful folder.new → (F.faithful folder.new) folder.old }
+    ensures same { F.faithful folder.new → F.contents folder.new ≡ F.contents folder.old }
     ensures sites { IfOk result (λ read.
-        AreSites (tables_of T.meanings A.meanings tables.now) names.now F.faithful
+        AreSites (tables_of T.meanings A.meanings tables.now) names.now (F.faithful folder.new)
         (F.contents folder.old).files (scripts_in scripts.now) read.0.items read.1.items) }
-    ensures err { IsTrue F.faithful → IfErr result (λ fault.
+    ensures err { F.faithful folder.new → IfErr result (λ fault.
         IsOfMachine (F.failures folder.old) (F.failures folder.new) fault
         ⊎ IsUnread (F.contents folder.old).files (scripts_in scripts.now) fault) }
 {
@@ -89,16 +90,17 @@ fn push_script<A: Actions, T: Transforms, F: Folder>(
     scripted: &Scripted,
 ) -> Result<(), Fault>
     ensures requests { Requests F.failures F.may_leave F.allowed no_change folder.old folder.new }
-    ensures same { IsTrue F.faithful → F.contents folder.new ≡ F.contents folder.old }
+    ensures back { F.faithful folder.new → (F.faithful folder.new) folder.old }
+    ensures same { F.faithful folder.new → F.contents folder.new ≡ F.contents folder.old }
     ensures sites { OnOk result ((lines : List Lines)
-        × (IsTrue F.faithful
+        × (F.faithful folder.new
         → AreLinesAt (F.contents folder.old).files (script_of_project scripted.now.project) lines)
         × (sites.new.items ≡ sites.old.items ++ sites_of scripted.now.project
         (script_of_project scripted.now.project) scripted.now.script lines)
         × (marks.new.items ≡ marks.old.items ++ marks_of (tables_of T.meanings A.meanings tables.now)
         (script_scope names.now scripted.now.project scripted.now.script)
         scripted.now.project scripted.now.script lines)) }
-    ensures err { IsTrue F.faithful → IfErr result (λ fault.
+    ensures err { F.faithful folder.new → IfErr result (λ fault.
         IsOfMachine (F.failures folder.old) (F.failures folder.new) fault
         ⊎ HasTextFault (F.contents folder.old).files (script_of_project scripted.now.project) fault) }
 {
@@ -144,10 +146,11 @@ pub(crate) fn lines_at<F: Folder>(
     place: &Place,
 ) -> Result<Vec<StatementLines>, Fault>
     ensures requests { Requests F.failures F.may_leave F.allowed no_change folder.old folder.new }
-    ensures same { IsTrue F.faithful → F.contents folder.new ≡ F.contents folder.old }
-    ensures lines { IsTrue F.faithful → IfOk result (λ lines.
+    ensures back { F.faithful folder.new → (F.faithful folder.new) folder.old }
+    ensures same { F.faithful folder.new → F.contents folder.new ≡ F.contents folder.old }
+    ensures lines { F.faithful folder.new → IfOk result (λ lines.
         AreLinesAt (F.contents folder.old).files place.now lines.items) }
-    ensures err { IsTrue F.faithful → IfErr result (λ fault.
+    ensures err { F.faithful folder.new → IfErr result (λ fault.
         IsOfMachine (F.failures folder.old) (F.failures folder.new) fault
         ⊎ HasTextFault (F.contents folder.old).files place.now fault) }
 {

@@ -23,10 +23,11 @@ pub fn statement_spot<F: Folder>(
     number: usize,
 ) -> Result<Spot, Fault>
     ensures requests { Requests F.failures F.may_leave F.allowed no_change folder.old folder.new }
-    ensures same { IsTrue F.faithful → F.contents folder.new ≡ F.contents folder.old }
+    ensures back { F.faithful folder.new → (F.faithful folder.new) folder.old }
+    ensures same { F.faithful folder.new → F.contents folder.new ≡ F.contents folder.old }
     ensures spot { IfOk result
-        (IsStatementSpot F.faithful (F.contents folder.old).files project.now number) }
-    ensures err { IsTrue F.faithful → IfErr result (λ fault.
+        (IsStatementSpot (F.faithful folder.new) (F.contents folder.old).files project.now number) }
+    ensures err { F.faithful folder.new → IfErr result (λ fault.
         IsOfMachine (F.failures folder.old) (F.failures folder.new) fault
         ⊎ HasTextFault (F.contents folder.old).files (script_of_project project.now) fault) }
 {

@@ -33,11 +33,12 @@ pub(crate) fn warn<Ts: Tasks, F: Folder>(
 ) -> Result<Vec<Finding>, Fault>
     requires { names.now ≡ paths_of (Ts.registry tasks.old) }
     ensures kept { Ts.registry tasks.new ≡ Ts.registry tasks.old }
+    ensures back { F.faithful folder.new → (F.faithful folder.new) folder.old }
     ensures requests { Requests F.failures F.may_leave F.allowed no_change folder.old folder.new }
-    ensures same { IsTrue F.faithful → F.contents folder.new ≡ F.contents folder.old }
-    ensures warnings { IfOk result (λ found. AreWarnings F.faithful sites.now (scripts_in scripts.now)
+    ensures same { F.faithful folder.new → F.contents folder.new ≡ F.contents folder.old }
+    ensures warnings { IfOk result (λ found. AreWarnings (F.faithful folder.new) sites.now (scripts_in scripts.now)
         (F.contents folder.old) (Ts.registry tasks.old) found.items) }
-    ensures err { IsTrue F.faithful
+    ensures err { F.faithful folder.new
         → IfErr result (IsOfMachine (F.failures folder.old) (F.failures folder.new)) }
 {
     let declared = declarations(alloc, tasks, names)?;

@@ -41,11 +41,12 @@ pub fn run<A: Actions, T: Transforms, F: Folder, W: Printer>(
     tables: &Tables<A, T>,
 ) -> Option<u8>
     ensures count { F.failures folder.old ≤ F.failures folder.new }
+    ensures back { F.faithful folder.new → F.faithful folder.old }
     // There is an answer to these arguments: where contents are known, as `Answers` says, and over
     // any folder as `DoesFor` says. With a status, the status is its own, and on a page whose
     // contents are known its text and nothing else is printed; without one, a beginning of its text.
     ensures reported { (answer : Result Report Fault)
-        × (IsTrue F.faithful → Answers (tables_of T.meanings A.meanings tables.now) (F.may_leave folder.old)
+        × (F.faithful folder.new → Answers (tables_of T.meanings A.meanings tables.now) (F.may_leave folder.old)
         (given_of (λ words. map string_bytes words.items) words)
         (record { contents = F.contents folder.old; failures = F.failures folder.old })
         answer
@@ -77,8 +78,9 @@ fn answered<A: Actions, T: Transforms, F: Folder, W: Printer>(
     writer: &mut W,
 ) -> Result<Report, Fault>
     ensures printed { Prints W.contents W.whole (parts_of result) writer.old writer.new }
+    ensures back { F.faithful folder.new → F.faithful folder.old }
     ensures count { F.failures folder.old ≤ F.failures folder.new }
-    ensures answers { IsTrue F.faithful
+    ensures answers { F.faithful folder.new
         → Answers (tables_of T.meanings A.meanings tables.now) (F.may_leave folder.old)
         (given_of (λ words. map string_bytes words.items) words)
         (record { contents = F.contents folder.old; failures = F.failures folder.old })

@@ -1,3 +1,5 @@
+mod Answered
 mod Descends
 mod Segments
+mod Told
 mod Walks

@@ -1,3 +1,4 @@
 pub mod Disk
 pub mod Noted
+pub mod Shown
 pub mod Called

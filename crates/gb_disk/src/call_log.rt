@@ -2,6 +2,7 @@
 ghost use Rattle.std.specs.Prelude.{◌≡◌, [], ◌∷◌, ◌++◌, List};
 ghost use Rattle.std.specs.Borrow.{ftrue};
 ghost use Rattle.gb_folder.specs.Calls.{Call};
+ghost use Rattle.gb_folder.specs.Files.{Contents};
 ghost use Rattle.gb_disk.specs.Noted.{call_of};
 
 use gb_core::place::Place;
@@ -23,10 +24,12 @@ pub(crate) enum Noted<'a> {
     Removes(&'a Place, &'a Result<(), FolderFault>),
 }
 
-/// The calls so far, in order. It takes no memory, and its methods do nothing when they run.
+/// The calls so far, in order, and contents for each state: before the first call, and after each.
+/// It takes no memory, and its methods do nothing when they run.
 #[derive(Drop)]
 pub(crate) struct CallLog {
     ghost calls: { List Call },
+    ghost states: { List Contents },
 }
 
 impl Model for CallLog {
@@ -34,16 +37,18 @@ impl Model for CallLog {
 }
 
 impl CallLog {
-    /// No call.
+    /// No call, and any contents.
     pub(crate) fn new() -> CallLog
-        ensures { result.calls ≡ [] }
+        ghost states: { List Contents }
+        ensures { (result.calls ≡ []) × (result.states ≡ states) }
     {
         CallLog {}
     }
 
     /// These calls, and then this one.
     pub(crate) fn and(&self, _noted: &Noted<'_>) -> CallLog
-        ensures { result.calls ≡ self.now.calls ++ call_of _noted.now ∷ [] }
+        ensures { (result.calls ≡ self.now.calls ++ call_of _noted.now ∷ [])
+            × (result.states ≡ self.now.states) }
     {
         CallLog {}
     }

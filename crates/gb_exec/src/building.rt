@@ -52,6 +52,7 @@ pub fn execute<A: Actions, F: Folder, L: TaskListener, P: Printer>(
     requires can { CanBuild A.meanings table.now plan.now }
     requires each { length records.now ≡ length plan.now }
     ensures unbegun { OnErr result (folder.new ≡ folder.old) }
+    ensures back { F.faithful folder.new → F.faithful folder.old }
     ensures unnotified { OnErr result (listeners.new ≡ listeners.old) }
     ensures unprinted { OnErr result (printer.new ≡ printer.old) }
     ensures dry_run { IfOk result (λ report. report.dry_run ≡ options.dry_run) }
@@ -75,12 +76,12 @@ pub fn execute<A: Actions, F: Folder, L: TaskListener, P: Printer>(
     ensures device { IfOk result (λ report.
         HasFailed (times_blamed report.tasks) (F.failures folder.old) (F.failures folder.new)) }
     ensures dry { options.dry_run ≡ true → folder.new ≡ folder.old }
-    ensures changes { IsTrue F.faithful
+    ensures changes { F.faithful folder.new
         → ChangesOnly (is_of_executions plan.now) (F.contents folder.old) (F.contents folder.new) }
     // Where contents are known and `IsAssumed` holds: if `AreTrueBefore` holds of the records, this is
     // a build of the plan by the definitions. If also `guard` holds of the contents so far (no two share a
     // digest, or nothing was remembered), the records of what is remembered exist after it.
-    ensures build { IsTrue F.faithful → IfOk result (λ report. (kinds : Kinds) (registry_of : Registering)
+    ensures build { F.faithful folder.new → IfOk result (λ report. (kinds : Kinds) (registry_of : Registering)
         (remembered : Memory) (clear : Bool) (observed : List Bytes)
         → IsAssumed A.meanings table.now kinds (F.may_leave folder.old)
         → (IsTrue clear

@@ -74,6 +74,7 @@ pub(crate) fn execute_tasks<A: Actions, F: Folder, L: TaskListener, P: Printer>(
     requires none { reports.old.items ≡ [] }
     requires room { length build.now.tasks.now ≤ vec_capacity reports.old }
     ensures of_tasks { AllZip IsOf build.now.tasks.now reports.new.items }
+    ensures back { F.faithful folder.new → F.faithful folder.old }
     ensures outline { AreOutlines build.now.options build.now.tasks.now [] build.now.tasks.now
         reports.new.items }
     ensures heard { AllReported (heard_of false reports.new.items) result
@@ -85,9 +86,9 @@ pub(crate) fn execute_tasks<A: Actions, F: Folder, L: TaskListener, P: Printer>(
         folder.new }
     ensures device { HasFailed (times_blamed reports.new.items)
         (F.failures folder.old) (F.failures folder.new) }
-    ensures changes { IsTrue F.faithful
+    ensures changes { F.faithful folder.new
         → ChangesOnly (is_of_executions build.now.tasks.now) (F.contents folder.old) (F.contents folder.new) }
-    ensures build { IsTrue F.faithful → (kinds : Kinds) (registry_of : Registering) (remembered : Memory)
+    ensures build { F.faithful folder.new → (kinds : Kinds) (registry_of : Registering) (remembered : Memory)
         (clear : Bool) (observed : List Bytes)
         → IsAssumed A.meanings build.now.table.now kinds (F.may_leave folder.old)
         → (IsTrue clear → AreTrueBefore kinds build.now.tasks.now build.now.records.now observed

@@ -92,6 +92,7 @@ pub(crate) fn execute_one<A: Actions, F: Folder, L: TaskListener>(
     requires path { (planned : Planned) → slice_get build.now.tasks.now index ≡ Some planned
         → path ≡ planned.task.path }
     ensures starts { starts.new ≡ starts.old }
+    ensures back { F.faithful folder.new → F.faithful folder.old }
     ensures of_task { (planned : Planned) → slice_get build.now.tasks.now index ≡ Some planned
         → IsOf planned result.report }
     ensures heard { AllReported (heard_of false (result.report ∷ [])) result.all_heard
@@ -110,7 +111,7 @@ pub(crate) fn execute_one<A: Actions, F: Folder, L: TaskListener>(
         folder.new seen.new }
     ensures blame { (place : List ℕ) → result.report.outcome ≡ Failed (Fault.Device place)
         → HasRisen (F.failures folder.old) (F.failures folder.new) }
-    ensures changes { IsTrue F.faithful → (planned : Planned)
+    ensures changes { F.faithful folder.new → (planned : Planned)
         → slice_get build.now.tasks.now index ≡ Some planned
         → ChangesOnly (is_of_execution planned.task) (F.contents folder.old) (F.contents folder.new) }
     // Over any folder, at each moment with the outcomes so far, its report is one that the outline
@@ -119,11 +120,11 @@ pub(crate) fn execute_one<A: Actions, F: Folder, L: TaskListener>(
         → slice_get build.now.tasks.now index ≡ Some planned
         → AreEndings build.now.tasks.now moment.outcomes starts.old.endings
         → IsOutline build.now.options build.now.tasks.now moment planned result.report }
-    ensures seen_in { IsTrue F.faithful → AreSeenIn (F.contents folder.old).files seen.old
+    ensures seen_in { F.faithful folder.new → AreSeenIn (F.contents folder.old).files seen.old
         → AreSeenIn (F.contents folder.new).files seen.new }
     // If the record that was read is a true record of the task (`IsKnown`), this is its execution
     // as defined.
-    ensures execution { IsTrue F.faithful → AreSeenIn (F.contents folder.old).files seen.old
+    ensures execution { F.faithful folder.new → AreSeenIn (F.contents folder.old).files seen.old
         → (kinds : Kinds) (registry_of : Registering) (moment : Moment) (planned : Planned)
         → slice_get build.now.tasks.now index ≡ Some planned
         → IsAssumed A.meanings build.now.table.now kinds (F.may_leave folder.old)

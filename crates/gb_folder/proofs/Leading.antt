@@ -60,17 +60,21 @@ answers_before first second same old new (Removes place (Err folders.BadFileName
 
 -- ---- over a folder with known contents
 
-module _ {F : Type 0} (device : Device F) (faithful : IsTrue device.faithful) (sound : (f : F) → IsFolder (device.contents f).files) where
-  answered_from : (first : Tearing) (old new : F) (calls : List Call) → SameTearing first (device.may_leave old) → Leads device old calls new → AnswersAll first (device.contents old) calls (device.contents new)
-  answered_from first old new [] same led = subst (λ (f : F). device.contents f ≡ device.contents old) (sym led) refl
-  answered_from first old new (call ∷ calls) same led = (
+module _ {F : Type 0} (device : Device F) (sound : (f : F) → IsFolder (device.contents f).files) where
+  faithful_before : (old new : F) (calls : List Call) → Leads device old calls new → device.faithful new → device.faithful old
+  faithful_before old new [] same is = subst device.faithful same is
+  faithful_before old new (call ∷ calls) led is = led.1.back (faithful_before led.0 new calls led.2 is)
+
+  answered_from : (first : Tearing) (old new : F) (calls : List Call) → device.faithful new → SameTearing first (device.may_leave old) → Leads device old calls new → AnswersAll first (device.contents old) calls (device.contents new)
+  answered_from first old new [] faithful same led = subst (λ (f : F). device.contents f ≡ device.contents old) (sym led) refl
+  answered_from first old new (call ∷ calls) faithful same led = (
     sound old,
     (
       device.contents led.0,
-      answers_before first (device.may_leave old) same (device.contents old) (device.contents led.0) call (led.1.exact faithful),
-      answered_from first led.0 new calls (SameTearing-chain _ _ _ same led.1.tearing) led.2,
+      answers_before first (device.may_leave old) same (device.contents old) (device.contents led.0) call (led.1.exact (faithful_before led.0 new calls led.2 faithful)),
+      answered_from first led.0 new calls faithful (SameTearing-chain _ _ _ same led.1.tearing) led.2,
     ),
   )
 
-  pub answered_all : (old new : F) (calls : List Call) → Leads device old calls new → AnswersAll (device.may_leave old) (device.contents old) calls (device.contents new)
-  answered_all old new calls led = answered_from (device.may_leave old) old new calls (SameTearing-same _) led
+  pub answered_all : (old new : F) (calls : List Call) → device.faithful new → Leads device old calls new → AnswersAll (device.may_leave old) (device.contents old) calls (device.contents new)
+  answered_all old new calls faithful led = answered_from (device.may_leave old) old new calls faithful (SameTearing-same _) led

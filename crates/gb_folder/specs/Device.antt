@@ -1,5 +1,5 @@
 -- The calls that a folder type declares as valid, and sequences of calls as values.
-use Rattle.std.specs.Prelude.{ℕ, ◌≡◌, ◌≢◌, ◌<◌, ◌≤◌, Bool, List, [], ◌∷◌, Some, Result, Ok, Err, IsTrue}
+use Rattle.std.specs.Prelude.{ℕ, ◌≡◌, ◌≢◌, ◌<◌, ◌≤◌, List, [], ◌∷◌, Some, Result, Ok, Err}
 use Rattle.std.specs.Prelude.{⊤, length}
 use Rattle.std.specs.List.{AllPass}
 use Rattle.std.specs.List.Sorted.{IsStrictlySortedBy}
@@ -16,10 +16,10 @@ pub record Device (F : Type 0) : Type 1 where
   pub failures : F → ℕ
   pub may_leave : F → Tearing
   pub allowed : F → Call → F → Type 0
-  pub faithful : Bool
+  pub faithful : F → Type 0
   pub contents : F → Contents
 
-abbrev pub device_of : {F : Type 0} → (F → ℕ) → (F → Tearing) → (F → Call → F → Type 0) → Bool
+abbrev pub device_of : {F : Type 0} → (F → ℕ) → (F → Tearing) → (F → Call → F → Type 0) → (F → Type 0)
     → (F → Contents) → Device F
 device_of failures may_leave allowed faithful contents = record {
   failures = failures;
@@ -71,7 +71,8 @@ pub record IsCalled {F : Type 0} (device : Device F) (old : F) (call : Call) (ne
   pub count : device.failures old ≤ device.failures new
   pub tearing : SameTearing (device.may_leave old) (device.may_leave new)
   pub risen : fault_of call ≡ Some folders.Device → HasRisen (device.failures old) (device.failures new)
-  pub exact : IsTrue device.faithful
+  pub back : device.faithful new → device.faithful old
+  pub exact : device.faithful new
       → Answers (device.may_leave old) (device.contents old) call (device.contents new)
 
 -- These calls, one after another, lead from the first state of the folder to the second.

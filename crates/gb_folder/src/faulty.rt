@@ -91,7 +91,8 @@ impl<F: Folder + Drop> FaultyFolder<F> {
         ensures whole { tears self.old.plan ≡ false → self.new.inner ≡ self.old.inner }
         ensures count { F.failures self.old.inner ≤ F.failures self.new.inner }
         ensures tearing { SameTearing (F.may_leave self.old.inner) (F.may_leave self.new.inner) }
-        ensures torn { IsTrue F.faithful → (next : List ℕ)
+        ensures back { F.faithful self.new.inner → F.faithful self.old.inner }
+        ensures torn { F.faithful self.new.inner → (next : List ℕ)
             → let files = (F.contents self.old.inner).files in
             (left : Option (List ℕ))
             × may_leave_by self.old.plan.mode (F.may_leave self.old.inner) place.now
@@ -116,7 +117,7 @@ impl<F: Folder + Drop> Folder for FaultyFolder<F> {
 
     ghost failures = { λ f. failures_in_all (F.failures f.inner) f.plan.failed };
 
-    ghost faithful = { F.faithful };
+    ghost faithful = { λ f. F.faithful f.inner };
 
     ghost contents = { λ f. F.contents f.inner };
 
@@ -128,7 +129,7 @@ impl<F: Folder + Drop> Folder for FaultyFolder<F> {
     ghost device = { device_of (λ f. failures_in_all (F.failures f.inner) f.plan.failed)
         (λ f. may_leave_by f.plan.mode (F.may_leave f.inner))
         (λ old call new. CallOf old.plan (fault_of call) new.plan (new.inner ≡ old.inner)
-        (F.allowed old.inner call new.inner)) F.faithful (λ f. F.contents f.inner) };
+        (F.allowed old.inner call new.inner)) (λ f. F.faithful f.inner) (λ f. F.contents f.inner) };
 
     ghost sound = { λ f. F.sound f.inner };
 

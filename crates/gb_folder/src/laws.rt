@@ -1,5 +1,5 @@
 //! Theorems about sequences of folder calls.
-ghost use Rattle.std.specs.Prelude.{Bool, List, IsTrue};
+ghost use Rattle.std.specs.Prelude.{Bool, List};
 ghost use Rattle.std.specs.List.{AllByRecursion};
 ghost use Rattle.gb_folder.specs.Calls.{Requests, Call, IsPermitted, changes_at};
 ghost use Rattle.gb_folder.specs.Device.{Leads};
@@ -10,7 +10,7 @@ use crate::folder::Folder;
 
 /// A folder with known contents answers each call by them, as the calls before it left them.
 pub fn calls_are_exact<F: Folder>()
-    ensures { (old new : F) (calls : List Call) → IsTrue F.faithful → Leads F.device old calls new
+    ensures { (old new : F) (calls : List Call) → F.faithful new → Leads F.device old calls new
         → AnswersAll (F.may_leave old) (F.contents old) calls (F.contents new) }
 {}
 

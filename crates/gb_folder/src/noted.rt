@@ -68,7 +68,7 @@ impl<F: Folder + Drop> Folder for NotedFolder<F> {
 
     ghost failures = { λ f. F.failures f.inner };
 
-    ghost faithful = { F.faithful };
+    ghost faithful = { λ f. F.faithful f.inner };
 
     ghost contents = { λ f. F.contents f.inner };
 
@@ -79,7 +79,7 @@ impl<F: Folder + Drop> Folder for NotedFolder<F> {
 
     ghost device = { device_of (λ f. F.failures f.inner) (λ f. F.may_leave f.inner)
         (λ old call new. IsNoted call old.notes.items new.notes.items (new.inner ≡ old.inner)
-        (F.allowed old.inner call new.inner)) F.faithful (λ f. F.contents f.inner) };
+        (F.allowed old.inner call new.inner)) (λ f. F.faithful f.inner) (λ f. F.contents f.inner) };
 
     ghost sound = { λ f. F.sound f.inner };
 

@@ -1,5 +1,5 @@
 //! The decision on a task by its record.
-ghost use Rattle.std.specs.Prelude.{◌≡◌, ◌⊎◌, [], false, map, Some, IsTrue, IfOk, IfErr, OnOk, option_copied};
+ghost use Rattle.std.specs.Prelude.{◌≡◌, ◌⊎◌, [], false, map, Some, IfOk, IfErr, OnOk, option_copied};
 ghost use Rattle.std.specs.List.{flat_map, list_any};
 ghost use Rattle.gb_folder.specs.Calls.{Requests, no_change};
 ghost use Rattle.gb_folder.specs.Files.{is_empty, is_own};
@@ -83,6 +83,7 @@ pub fn decided<F: Folder>(
     requires in_order { HasNamesInOrder task.now }
     requires named { map (λ found. found.0) inputs.now ≡ map (λ property. property.name) task.now.files }
     ensures requests { Requests F.failures F.may_leave F.allowed no_change folder.old folder.new }
+    ensures back { F.faithful folder.new → F.faithful folder.old }
     ensures blame { Blames result (F.failures folder.old) (F.failures folder.new) }
     ensures blamed { BlamesOnly (is_output_of task.now) result }
     // Over any folder: the decision follows from what it is based on.
@@ -96,18 +97,18 @@ pub fn decided<F: Folder>(
         → AreSeen F.failures F.may_leave F.allowed first folder.old seen.now
         → IfOk result (λ found. WasDecided F.failures F.may_leave F.allowed first folder.new
         options task.now (option_copied old.entry) inputs.now found.decision found.outputs.items) }
-    ensures same { IsTrue F.faithful → F.contents folder.new ≡ F.contents folder.old }
-    ensures based { IsTrue F.faithful → AreSeenIn (F.contents folder.old).files seen.now
+    ensures same { F.faithful folder.new → F.contents folder.new ≡ F.contents folder.old }
+    ensures based { F.faithful folder.new → AreSeenIn (F.contents folder.old).files seen.now
         → prints_read inputs.now ≡ digests_in (trees_of task.now (F.contents folder.old).files)
         → IfOk result (λ found. IsBasisIn options task.now (F.contents folder.old) found.basis) }
-    ensures observed { IsTrue F.faithful → AreSeenIn (F.contents folder.old).files seen.now
+    ensures observed { F.faithful folder.new → AreSeenIn (F.contents folder.old).files seen.now
         → IfOk result
         (λ found. AreOutputsObservedFor task.now (F.contents folder.old).files found.decision
         found.outputs.items) }
-    ensures none_special { IsTrue F.faithful → AreSeenIn (F.contents folder.old).files seen.now
+    ensures none_special { F.faithful folder.new → AreSeenIn (F.contents folder.old).files seen.now
         → OnOk result
         (listing_faults task.now (F.contents folder.old) ≡ []) }
-    ensures err { IsTrue F.faithful → AreSeenIn (F.contents folder.old).files seen.now
+    ensures err { F.faithful folder.new → AreSeenIn (F.contents folder.old).files seen.now
         → IfErr result (CannotRead (F.failures folder.old) (F.failures folder.new)
         (listing_faults task.now (F.contents folder.old))) }
 {
@@ -131,14 +132,16 @@ fn in_full<F: Folder>(
     cause: FullReason,
 ) -> Result<Verdict, Fault>
     ensures requests { Requests F.failures F.may_leave F.allowed no_change folder.old folder.new }
+    ensures back { F.faithful folder.new → F.faithful folder.old }
     ensures blame { Blames result (F.failures folder.old) (F.failures folder.new) }
     ensures blamed { BlamesOnly (is_output_of task.now) result }
-    ensures same { IsTrue F.faithful → F.contents folder.new ≡ F.contents folder.old }
+    ensures same { F.faithful folder.new → F.contents folder.new ≡ F.contents folder.old }
     ensures full { IfOk result (λ found.
         (found.decision ≡ Decision.Full) × (found.basis ≡ Basis.Forced cause)) }
-    ensures none_special { IsTrue F.faithful → OnOk result
+    ensures none_special { F.faithful folder.new → OnOk result
         (listing_faults task.now (F.contents folder.old) ≡ []) }
-    ensures err { IsTrue F.faithful → IfErr result (CannotRead (F.failures folder.old) (F.failures folder.new)
+    ensures err { F.faithful folder.new
+        → IfErr result (CannotRead (F.failures folder.old) (F.failures folder.new)
         (listing_faults task.now (F.contents folder.old))) }
 {
     check_outputs(alloc, folder, task)?;
@@ -164,6 +167,7 @@ fn by_record<F: Folder>(
     requires named { map (λ found. found.0) inputs.now ≡ map (λ property. property.name) task.now.files }
     requires counts { (options.rerun ≡ false) × (task.now.is_stale ≡ false) }
     ensures requests { Requests F.failures F.may_leave F.allowed no_change folder.old folder.new }
+    ensures back { F.faithful folder.new → F.faithful folder.old }
     ensures blame { Blames result (F.failures folder.old) (F.failures folder.new) }
     ensures blamed { BlamesOnly (is_output_of task.now) result }
     ensures goes_by { IfOk result (λ found.
@@ -174,18 +178,18 @@ fn by_record<F: Folder>(
         → AreSeen F.failures F.may_leave F.allowed first folder.old seen.now
         → IfOk result (λ found. WasDecided F.failures F.may_leave F.allowed first folder.new
         options task.now (Some run.now) inputs.now found.decision found.outputs.items) }
-    ensures same { IsTrue F.faithful → F.contents folder.new ≡ F.contents folder.old }
-    ensures based { IsTrue F.faithful → AreSeenIn (F.contents folder.old).files seen.now
+    ensures same { F.faithful folder.new → F.contents folder.new ≡ F.contents folder.old }
+    ensures based { F.faithful folder.new → AreSeenIn (F.contents folder.old).files seen.now
         → prints_read inputs.now ≡ digests_in (trees_of task.now (F.contents folder.old).files)
         → IfOk result (λ found. IsBasisIn options task.now (F.contents folder.old) found.basis) }
-    ensures observed { IsTrue F.faithful → AreSeenIn (F.contents folder.old).files seen.now
+    ensures observed { F.faithful folder.new → AreSeenIn (F.contents folder.old).files seen.now
         → IfOk result
         (λ found. AreOutputsObservedFor task.now (F.contents folder.old).files found.decision
         found.outputs.items) }
-    ensures none_special { IsTrue F.faithful → AreSeenIn (F.contents folder.old).files seen.now
+    ensures none_special { F.faithful folder.new → AreSeenIn (F.contents folder.old).files seen.now
         → OnOk result
         (listing_faults task.now (F.contents folder.old) ≡ []) }
-    ensures err { IsTrue F.faithful → AreSeenIn (F.contents folder.old).files seen.now
+    ensures err { F.faithful folder.new → AreSeenIn (F.contents folder.old).files seen.now
         → IfErr result (CannotRead (F.failures folder.old) (F.failures folder.new)
         (listing_faults task.now (F.contents folder.old))) }
 {
@@ -216,24 +220,25 @@ fn read_outputs_now<F: Folder>(
     mut room: u64,
 ) -> Result<Vec<Reading>, Fault>
     ensures requests { Requests F.failures F.may_leave F.allowed no_change folder.old folder.new }
+    ensures back { F.faithful folder.new → F.faithful folder.old }
     ensures blame { Blames result (F.failures folder.old) (F.failures folder.new) }
     ensures blamed { BlamesOnly (is_output_of task.now) result }
-    ensures same { IsTrue F.faithful → F.contents folder.new ≡ F.contents folder.old }
+    ensures same { F.faithful folder.new → F.contents folder.new ≡ F.contents folder.old }
     ensures read { IfOk result (λ found. AreOutputs task.now found.items) }
     ensures answered { (first : _) → Requests F.failures F.may_leave F.allowed no_change first folder.old
         → AreSeen F.failures F.may_leave F.allowed first folder.old seen.now
         → IfOk result (λ found. AreOutputsAnswered F.failures F.may_leave F.allowed
         first folder.new task.now found.items) }
-    ensures prints { IsTrue F.faithful → AreSeenIn (F.contents folder.old).files seen.now
+    ensures prints { F.faithful folder.new → AreSeenIn (F.contents folder.old).files seen.now
         → IfOk result (λ found. prints_read found.items
         ≡ prints_in (map (recorded_of (F.contents folder.old).files) task.now.outputs)) }
-    ensures observed { IsTrue F.faithful → AreSeenIn (F.contents folder.old).files seen.now
+    ensures observed { F.faithful folder.new → AreSeenIn (F.contents folder.old).files seen.now
         → IfOk result
         (λ found. AreOutputsObserved task.now (F.contents folder.old).files found.items) }
-    ensures none_special { IsTrue F.faithful → AreSeenIn (F.contents folder.old).files seen.now
+    ensures none_special { F.faithful folder.new → AreSeenIn (F.contents folder.old).files seen.now
         → OnOk result
         (listing_faults task.now (F.contents folder.old) ≡ []) }
-    ensures err { IsTrue F.faithful → AreSeenIn (F.contents folder.old).files seen.now
+    ensures err { F.faithful folder.new → AreSeenIn (F.contents folder.old).files seen.now
         → IfErr result (λ fault.
         (IsGrown fault
         × (is_empty (flat_map (print_faults (F.contents folder.old)) task.now.outputs) ≡ false))
@@ -256,24 +261,25 @@ fn list_and_read<F: Folder>(
     mut room: u64,
 ) -> Result<Vec<Reading>, Fault>
     ensures requests { Requests F.failures F.may_leave F.allowed no_change folder.old folder.new }
+    ensures back { F.faithful folder.new → F.faithful folder.old }
     ensures blame { Blames result (F.failures folder.old) (F.failures folder.new) }
     ensures blamed { BlamesOnly (is_output_of task.now) result }
-    ensures same { IsTrue F.faithful → F.contents folder.new ≡ F.contents folder.old }
+    ensures same { F.faithful folder.new → F.contents folder.new ≡ F.contents folder.old }
     ensures read { IfOk result (λ found. AreOutputs task.now found.items) }
     ensures answered { (first : _) → Requests F.failures F.may_leave F.allowed no_change first folder.old
         → AreSeen F.failures F.may_leave F.allowed first folder.old seen.now
         → IfOk result (λ found. AreOutputsAnswered F.failures F.may_leave F.allowed
         first folder.new task.now found.items) }
-    ensures prints { IsTrue F.faithful → AreSeenIn (F.contents folder.old).files seen.now
+    ensures prints { F.faithful folder.new → AreSeenIn (F.contents folder.old).files seen.now
         → IfOk result (λ found. prints_read found.items
         ≡ prints_in (map (recorded_of (F.contents folder.old).files) task.now.outputs)) }
-    ensures observed { IsTrue F.faithful → AreSeenIn (F.contents folder.old).files seen.now
+    ensures observed { F.faithful folder.new → AreSeenIn (F.contents folder.old).files seen.now
         → IfOk result
         (λ found. AreOutputsObserved task.now (F.contents folder.old).files found.items) }
-    ensures none_special { IsTrue F.faithful → AreSeenIn (F.contents folder.old).files seen.now
+    ensures none_special { F.faithful folder.new → AreSeenIn (F.contents folder.old).files seen.now
         → OnOk result
         (listing_faults task.now (F.contents folder.old) ≡ []) }
-    ensures err { IsTrue F.faithful → AreSeenIn (F.contents folder.old).files seen.now
+    ensures err { F.faithful folder.new → AreSeenIn (F.contents folder.old).files seen.now
         → IfErr result (λ fault.
         (IsGrown fault
         × (is_empty (flat_map (print_faults (F.contents folder.old)) task.now.outputs) ≡ false))

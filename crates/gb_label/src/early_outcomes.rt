@@ -1,5 +1,5 @@
 //! The cases that are decided before any record is considered.
-ghost use Rattle.std.specs.Prelude.{◌≡◌, ◌||◌, true, false, length, IsTrue, IfOk, IfErr, OnErr};
+ghost use Rattle.std.specs.Prelude.{◌≡◌, ◌||◌, true, false, length, IfOk, IfErr, OnErr};
 ghost use Rattle.std.specs.List.{list_all, list_any, zip};
 ghost use Rattle.gb_folder.specs.Calls.{Requests, no_change};
 ghost use Rattle.gb_folder.specs.Files.{is_empty};
@@ -78,6 +78,7 @@ fn look_at_files<F: Folder>(
     requires runs { task.now.runs ≡ true }
     requires acts { is_empty task.now.actions ≡ false }
     ensures requests { Requests F.failures F.may_leave F.allowed no_change folder.old folder.new }
+    ensures back { F.faithful folder.new → F.faithful folder.old }
     ensures blame { Blames result (F.failures folder.old) (F.failures folder.new) }
     ensures blamed { BlamesOnly (λ place. is_input_of task.now place || is_output_of task.now place) result }
     ensures may_be { IfOk result (MayBe task.now) }
@@ -85,10 +86,10 @@ fn look_at_files<F: Folder>(
         → AreSeen F.failures F.may_leave F.allowed first folder.old seen.now
         → IfOk result
         (IsEarlyCaseRead F.failures F.may_leave F.allowed first folder.new task.now) }
-    ensures same { IsTrue F.faithful → F.contents folder.new ≡ F.contents folder.old }
-    ensures case { IsTrue F.faithful → AreSeenIn (F.contents folder.old).files seen.now
+    ensures same { F.faithful folder.new → F.contents folder.new ≡ F.contents folder.old }
+    ensures case { F.faithful folder.new → AreSeenIn (F.contents folder.old).files seen.now
         → IfOk result (IsCase task.now (F.contents folder.old)) }
-    ensures err { IsTrue F.faithful → AreSeenIn (F.contents folder.old).files seen.now
+    ensures err { F.faithful folder.new → AreSeenIn (F.contents folder.old).files seen.now
         → IfErr result
         (IsHindered task.now (F.contents folder.old) (F.failures folder.old) (F.failures folder.new)) }
 {
@@ -112,6 +113,7 @@ pub fn early_case_of<F: Folder>(
     room: u64,
 ) -> Result<EarlyCase, Fault>
     ensures requests { Requests F.failures F.may_leave F.allowed no_change folder.old folder.new }
+    ensures back { F.faithful folder.new → F.faithful folder.old }
     ensures blame { Blames result (F.failures folder.old) (F.failures folder.new) }
     ensures blamed { BlamesOnly (λ place. is_input_of task.now place || is_output_of task.now place) result }
     // Over any folder: which of them it may be, and what calls returned for it.
@@ -121,10 +123,10 @@ pub fn early_case_of<F: Folder>(
         → IfOk result
         (IsEarlyCaseRead F.failures F.may_leave F.allowed first folder.new task.now) }
     ensures reads { OnErr result ((task.now.runs ≡ true) × (is_empty task.now.actions ≡ false)) }
-    ensures same { IsTrue F.faithful → F.contents folder.new ≡ F.contents folder.old }
-    ensures case { IsTrue F.faithful → AreSeenIn (F.contents folder.old).files seen.now
+    ensures same { F.faithful folder.new → F.contents folder.new ≡ F.contents folder.old }
+    ensures case { F.faithful folder.new → AreSeenIn (F.contents folder.old).files seen.now
         → IfOk result (IsCase task.now (F.contents folder.old)) }
-    ensures err { IsTrue F.faithful → AreSeenIn (F.contents folder.old).files seen.now
+    ensures err { F.faithful folder.new → AreSeenIn (F.contents folder.old).files seen.now
         → IfErr result
         (IsHindered task.now (F.contents folder.old) (F.failures folder.old) (F.failures folder.new)) }
 {

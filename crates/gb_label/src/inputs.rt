@@ -34,9 +34,10 @@ fn read_one<F: Folder>(
     room: &mut u64,
 ) -> Result<Reading, Fault>
     ensures requests { Requests F.failures F.may_leave F.allowed no_change folder.old folder.new }
+    ensures back { F.faithful folder.new → F.faithful folder.old }
     ensures blame { Blames result (F.failures folder.old) (F.failures folder.new) }
     ensures blamed { BlamesOnly (is_under_any property.now.roots) result }
-    ensures same { IsTrue F.faithful → F.contents folder.new ≡ F.contents folder.old }
+    ensures same { F.faithful folder.new → F.contents folder.new ≡ F.contents folder.old }
     ensures named { IfOk result (λ reading. reading.0 ≡ property.now.name) }
     ensures within { IfOk result
         (λ reading. AllByRecursion (λ observed. IsTrue (is_under_any property.now.roots observed.place))
@@ -45,14 +46,14 @@ fn read_one<F: Folder>(
         → AreSeen F.failures F.may_leave F.allowed first folder.old seen.now
         → IfOk result
         (IsInputAnswered F.failures F.may_leave F.allowed first folder.new property.now) }
-    ensures digests { IsTrue F.faithful → AreSeenIn (F.contents folder.old).files seen.now
+    ensures digests { F.faithful folder.new → AreSeenIn (F.contents folder.old).files seen.now
         → IfOk result (λ reading. digests_observed reading.1
         ≡ digests_of (tree_of property.now (F.contents folder.old).files)) }
-    ensures observed { IsTrue F.faithful → AreSeenIn (F.contents folder.old).files seen.now
+    ensures observed { F.faithful folder.new → AreSeenIn (F.contents folder.old).files seen.now
         → IfOk result (IsPropertyObserved (F.contents folder.old).files property.now) }
-    ensures fit { IsTrue F.faithful → AreSeenIn (F.contents folder.old).files seen.now
+    ensures fit { F.faithful folder.new → AreSeenIn (F.contents folder.old).files seen.now
         → OnOk result (tree_faults property.now (F.contents folder.old) ≡ []) }
-    ensures err { IsTrue F.faithful → AreSeenIn (F.contents folder.old).files seen.now
+    ensures err { F.faithful folder.new → AreSeenIn (F.contents folder.old).files seen.now
         → IfErr result
         (CannotRead (F.failures folder.old) (F.failures folder.new) (tree_faults property.now
         (F.contents folder.old))) }
@@ -84,6 +85,7 @@ pub(crate) fn read_inputs<F: Folder>(
     room: &mut u64,
 ) -> Result<Vec<Reading>, Fault>
     ensures requests { Requests F.failures F.may_leave F.allowed no_change folder.old folder.new }
+    ensures back { F.faithful folder.new → F.faithful folder.old }
     ensures blame { Blames result (F.failures folder.old) (F.failures folder.new) }
     ensures blamed { BlamesOnly (is_input_of task.now) result }
     ensures read { IfOk result (λ readings. AreInputs task.now readings.items) }
@@ -93,16 +95,16 @@ pub(crate) fn read_inputs<F: Folder>(
         → AreSeen F.failures F.may_leave F.allowed first folder.old seen.now
         → IfOk result (λ readings. AreInputsAnswered F.failures F.may_leave F.allowed
         first folder.new task.now readings.items) }
-    ensures same { IsTrue F.faithful → F.contents folder.new ≡ F.contents folder.old }
-    ensures prints { IsTrue F.faithful → AreSeenIn (F.contents folder.old).files seen.now
+    ensures same { F.faithful folder.new → F.contents folder.new ≡ F.contents folder.old }
+    ensures prints { F.faithful folder.new → AreSeenIn (F.contents folder.old).files seen.now
         → IfOk result (λ readings.
         prints_read readings.items ≡ digests_in (trees_of task.now (F.contents folder.old).files)) }
-    ensures observed { IsTrue F.faithful → AreSeenIn (F.contents folder.old).files seen.now
+    ensures observed { F.faithful folder.new → AreSeenIn (F.contents folder.old).files seen.now
         → IfOk result
         (λ readings. AreInputsObserved task.now (F.contents folder.old).files readings.items) }
-    ensures fit { IsTrue F.faithful → AreSeenIn (F.contents folder.old).files seen.now
+    ensures fit { F.faithful folder.new → AreSeenIn (F.contents folder.old).files seen.now
         → OnOk result (input_faults task.now (F.contents folder.old) ≡ []) }
-    ensures err { IsTrue F.faithful → AreSeenIn (F.contents folder.old).files seen.now
+    ensures err { F.faithful folder.new → AreSeenIn (F.contents folder.old).files seen.now
         → IfErr result
         (CannotRead (F.failures folder.old) (F.failures folder.new) (input_faults task.now
         (F.contents folder.old))) }
@@ -134,6 +136,7 @@ pub fn complete_inputs<F: Folder>(
 ) -> Result<Inputs, Fault>
     requires { AreInputs task.now readings.items }
     ensures requests { Requests F.failures F.may_leave F.allowed no_change folder.old folder.new }
+    ensures back { F.faithful folder.new → F.faithful folder.old }
     ensures blame { Blames result (F.failures folder.old) (F.failures folder.new) }
     ensures blamed { BlamesOnly (is_input_of task.now) result }
     // Over any folder: the names of the properties, and the digests of the very trees.
@@ -144,11 +147,12 @@ pub fn complete_inputs<F: Folder>(
         → AreInputsAnswered F.failures F.may_leave F.allowed first folder.old task.now readings.items
         → IfOk result (λ inputs. AreInputsRead F.failures F.may_leave F.allowed first folder.new task.now
         inputs.trees) }
-    ensures same { IsTrue F.faithful → F.contents folder.new ≡ F.contents folder.old }
-    ensures trees { IsTrue F.faithful → AreInputsObserved task.now (F.contents folder.old).files
+    ensures same { F.faithful folder.new → F.contents folder.new ≡ F.contents folder.old }
+    ensures trees { F.faithful folder.new → AreInputsObserved task.now (F.contents folder.old).files
         readings.items
         → IfOk result (λ inputs. inputs.trees ≡ trees_of task.now (F.contents folder.old).files) }
-    ensures err { IsTrue F.faithful → AreInputsObserved task.now (F.contents folder.old).files readings.items
+    ensures err { F.faithful folder.new
+        → AreInputsObserved task.now (F.contents folder.old).files readings.items
         → IfErr result (IsOfMachine (F.failures folder.old) (F.failures folder.new)) }
 {
     let mut trees = Snapshots::new(alloc);

@@ -1,5 +1,5 @@
 //! Checks that everything at a task's outputs can be listed.
-ghost use Rattle.std.specs.Prelude.{◌≡◌, [], IsTrue, IfErr, OnOk};
+ghost use Rattle.std.specs.Prelude.{◌≡◌, [], IfErr, OnOk};
 ghost use Rattle.gb_folder.specs.Calls.{Requests, no_change};
 ghost use Rattle.gb_meaning.specs.Tree.{listing_faults};
 ghost use Rattle.gb_plan.specs.Task.{is_output_of};
@@ -20,12 +20,14 @@ pub fn check_outputs<F: Folder>(
     task: &TaskDeclaration,
 ) -> Result<(), Fault>
     ensures requests { Requests F.failures F.may_leave F.allowed no_change folder.old folder.new }
+    ensures back { F.faithful folder.new → F.faithful folder.old }
     ensures blame { Blames result (F.failures folder.old) (F.failures folder.new) }
     ensures blamed { BlamesOnly (is_output_of task.now) result }
-    ensures same { IsTrue F.faithful → F.contents folder.new ≡ F.contents folder.old }
-    ensures none_special { IsTrue F.faithful → OnOk result
+    ensures same { F.faithful folder.new → F.contents folder.new ≡ F.contents folder.old }
+    ensures none_special { F.faithful folder.new → OnOk result
         (listing_faults task.now (F.contents folder.old) ≡ []) }
-    ensures err { IsTrue F.faithful → IfErr result (CannotRead (F.failures folder.old) (F.failures folder.new)
+    ensures err { F.faithful folder.new
+        → IfErr result (CannotRead (F.failures folder.old) (F.failures folder.new)
         (listing_faults task.now (F.contents folder.old))) }
 {
     listed_outputs(alloc, folder, task.outputs.as_slice())?;

@@ -40,9 +40,10 @@ fn read_one<F: Folder>(
     room: &mut u64,
 ) -> Result<Reading, Fault>
     ensures requests { Requests F.failures F.may_leave F.allowed no_change folder.old folder.new }
+    ensures back { F.faithful folder.new → F.faithful folder.old }
     ensures blame { Blames result (F.failures folder.old) (F.failures folder.new) }
     ensures blamed { BlamesOnly (λ at. is_under at output.now.place) result }
-    ensures same { IsTrue F.faithful → F.contents folder.new ≡ F.contents folder.old }
+    ensures same { F.faithful folder.new → F.contents folder.new ≡ F.contents folder.old }
     ensures named { IfOk result (λ reading. reading.0 ≡ output.now.name) }
     ensures within { IfOk result
         (λ reading. AllByRecursion (λ observed. IsTrue (is_under observed.place output.now.place))
@@ -50,15 +51,15 @@ fn read_one<F: Folder>(
     ensures answered { (first : _) → Requests F.failures F.may_leave F.allowed no_change first folder.old
         → AreSeen F.failures F.may_leave F.allowed first folder.old seen.now
         → IfOk result (IsOutputAnswered F.failures F.may_leave F.allowed first folder.new output.now) }
-    ensures digests { IsTrue F.faithful → AreSeenIn (F.contents folder.old).files seen.now
+    ensures digests { F.faithful folder.new → AreSeenIn (F.contents folder.old).files seen.now
         → IfOk result (λ reading. digests_observed reading.1
         ≡ digests_of (files_from (F.contents folder.old).files output.now.place)) }
-    ensures observed { IsTrue F.faithful → AreSeenIn (F.contents folder.old).files seen.now
+    ensures observed { F.faithful folder.new → AreSeenIn (F.contents folder.old).files seen.now
         → IfOk result
         (IsOutputObserved (F.contents folder.old).files output.now) }
-    ensures fit { IsTrue F.faithful → AreSeenIn (F.contents folder.old).files seen.now
+    ensures fit { F.faithful folder.new → AreSeenIn (F.contents folder.old).files seen.now
         → OnOk result (print_faults (F.contents folder.old) output.now ≡ []) }
-    ensures err { IsTrue F.faithful → AreSeenIn (F.contents folder.old).files seen.now
+    ensures err { F.faithful folder.new → AreSeenIn (F.contents folder.old).files seen.now
         → IfErr result
         (CannotRead (F.failures folder.old) (F.failures folder.new) (print_faults
         (F.contents folder.old) output.now)) }
@@ -80,6 +81,7 @@ pub fn read_outputs<F: Folder>(
     room: &mut u64,
 ) -> Result<Vec<Reading>, Fault>
     ensures requests { Requests F.failures F.may_leave F.allowed no_change folder.old folder.new }
+    ensures back { F.faithful folder.new → F.faithful folder.old }
     ensures blame { Blames result (F.failures folder.old) (F.failures folder.new) }
     ensures blamed { BlamesOnly (is_output_of task.now) result }
     ensures read { IfOk result (λ readings. AreOutputs task.now readings.items) }
@@ -89,17 +91,17 @@ pub fn read_outputs<F: Folder>(
         → AreSeen F.failures F.may_leave F.allowed first folder.old seen.now
         → IfOk result (λ readings. AreOutputsAnswered F.failures F.may_leave F.allowed
         first folder.new task.now readings.items) }
-    ensures same { IsTrue F.faithful → F.contents folder.new ≡ F.contents folder.old }
-    ensures prints { IsTrue F.faithful → AreSeenIn (F.contents folder.old).files seen.now
+    ensures same { F.faithful folder.new → F.contents folder.new ≡ F.contents folder.old }
+    ensures prints { F.faithful folder.new → AreSeenIn (F.contents folder.old).files seen.now
         → IfOk result (λ readings. prints_read readings.items
         ≡ prints_in (map (recorded_of (F.contents folder.old).files) task.now.outputs)) }
-    ensures observed { IsTrue F.faithful → AreSeenIn (F.contents folder.old).files seen.now
+    ensures observed { F.faithful folder.new → AreSeenIn (F.contents folder.old).files seen.now
         → IfOk result
         (λ readings. AreOutputsObserved task.now (F.contents folder.old).files readings.items) }
-    ensures fit { IsTrue F.faithful → AreSeenIn (F.contents folder.old).files seen.now
+    ensures fit { F.faithful folder.new → AreSeenIn (F.contents folder.old).files seen.now
         → OnOk result (flat_map (print_faults
         (F.contents folder.old)) task.now.outputs ≡ []) }
-    ensures err { IsTrue F.faithful → AreSeenIn (F.contents folder.old).files seen.now
+    ensures err { F.faithful folder.new → AreSeenIn (F.contents folder.old).files seen.now
         → IfErr result (CannotRead (F.failures folder.old) (F.failures folder.new)
         (flat_map (print_faults (F.contents folder.old)) task.now.outputs)) }
 {
@@ -127,9 +129,10 @@ fn complete_one<F: Folder>(
     reading: Reading,
 ) -> Result<(OutputFiles, Prints), Fault>
     ensures requests { Requests F.failures F.may_leave F.allowed no_change folder.old folder.new }
+    ensures back { F.faithful folder.new → F.faithful folder.old }
     ensures blame { Blames result (F.failures folder.old) (F.failures folder.new) }
     ensures blamed { BlamesOnly (is_among (entries_observed reading.1)) result }
-    ensures same { IsTrue F.faithful → F.contents folder.new ≡ F.contents folder.old }
+    ensures same { F.faithful folder.new → F.contents folder.new ≡ F.contents folder.old }
     ensures named { IfOk result (λ made. made.0.name ≡ output.now.name) }
     ensures formed { IfOk result (λ made. made.0.form ≡ output.now.form) }
     ensures digests { IfOk result (λ made. made.1 ≡ (reading.0, digests_of made.0.files)) }
@@ -138,10 +141,12 @@ fn complete_one<F: Folder>(
         → WereObserved F.failures F.may_leave F.allowed first folder.old reading.1
         → IfOk result (λ made. IsTreeRead F.failures F.may_leave F.allowed first folder.new
         (entries_observed reading.1) made.0.files) }
-    ensures files { IsTrue F.faithful → AllByRecursion (IsObservedIn (F.contents folder.old).files) reading.1
+    ensures files { F.faithful folder.new
+        → AllByRecursion (IsObservedIn (F.contents folder.old).files) reading.1
         → IfOk result
         (λ made. made.0.files ≡ contents_at (F.contents folder.old).files (entries_observed reading.1)) }
-    ensures err { IsTrue F.faithful → AllByRecursion (IsObservedIn (F.contents folder.old).files) reading.1
+    ensures err { F.faithful folder.new
+        → AllByRecursion (IsObservedIn (F.contents folder.old).files) reading.1
         → IfErr result (IsOfMachine (F.failures folder.old) (F.failures folder.new)) }
 {
     let (tree, prints) = complete(alloc, folder, reading)?;
@@ -164,6 +169,7 @@ pub fn complete_outputs<F: Folder>(
 ) -> Result<Outputs, Fault>
     requires { AreOutputs task.now readings.items }
     ensures requests { Requests F.failures F.may_leave F.allowed no_change folder.old folder.new }
+    ensures back { F.faithful folder.new → F.faithful folder.old }
     ensures blame { Blames result (F.failures folder.old) (F.failures folder.new) }
     ensures blamed { BlamesOnly (is_output_of task.now) result }
     // Over any folder: the names and forms of the outputs, and the digests of the very files.
@@ -175,12 +181,13 @@ pub fn complete_outputs<F: Folder>(
         → AreOutputsAnswered F.failures F.may_leave F.allowed first folder.old task.now readings.items
         → IfOk result (λ outputs. AreOutputsRead F.failures F.may_leave F.allowed first folder.new task.now
         outputs.observed) }
-    ensures same { IsTrue F.faithful → F.contents folder.new ≡ F.contents folder.old }
-    ensures files { IsTrue F.faithful → AreOutputsObserved task.now (F.contents folder.old).files
+    ensures same { F.faithful folder.new → F.contents folder.new ≡ F.contents folder.old }
+    ensures files { F.faithful folder.new → AreOutputsObserved task.now (F.contents folder.old).files
         readings.items
         → IfOk result
         (λ outputs. outputs.observed ≡ map (observed_of (F.contents folder.old).files) task.now.outputs) }
-    ensures err { IsTrue F.faithful → AreOutputsObserved task.now (F.contents folder.old).files readings.items
+    ensures err { F.faithful folder.new
+        → AreOutputsObserved task.now (F.contents folder.old).files readings.items
         → IfErr result (IsOfMachine (F.failures folder.old) (F.failures folder.new)) }
 {
     let mut observed = OutputSnapshots::new(alloc);

@@ -1,5 +1,5 @@
 //! The outcome of a task that starts, before anything is changed.
-ghost use Rattle.std.specs.Prelude.{◌≡◌, ◌||◌, true, false, IsTrue, IfOk, IfErr, OnErr, option_copied};
+ghost use Rattle.std.specs.Prelude.{◌≡◌, ◌||◌, true, false, IfOk, IfErr, OnErr, option_copied};
 ghost use Rattle.gb_folder.specs.Calls.{Requests, no_change};
 ghost use Rattle.gb_folder.specs.Files.{is_empty};
 ghost use Rattle.gb_plan.specs.Task.{is_output_of};
@@ -66,6 +66,7 @@ pub fn prepare<F: Folder>(
 ) -> Result<Prepared, Fault>
     requires in_order { HasNamesInOrder task.now }
     ensures requests { Requests F.failures F.may_leave F.allowed no_change folder.old folder.new }
+    ensures back { F.faithful folder.new → F.faithful folder.old }
     ensures blame { Blames result (F.failures folder.old) (F.failures folder.new) }
     ensures blamed { BlamesOnly (λ place. is_input_of task.now place || is_output_of task.now place) result }
     // Over any folder: which outcomes there may be, when the task may be up to date, what a decision
@@ -74,7 +75,7 @@ pub fn prepare<F: Folder>(
     ensures may_decide { IfOk result (MayDecideAs options task.now) }
     ensures goes_by { IfOk result (FollowsFromAs options task.now (option_copied old.entry)) }
     ensures reads { OnErr result ((task.now.runs ≡ true) × (is_empty task.now.actions ≡ false)) }
-    ensures same { IsTrue F.faithful → F.contents folder.new ≡ F.contents folder.old }
+    ensures same { F.faithful folder.new → F.contents folder.new ≡ F.contents folder.old }
     // What is returned for a full run is readings of the task's inputs, for an incremental run also
     // of its outputs: with their names, and of files at their places.
     ensures read { IfOk result (IsRead task.now) }
@@ -84,14 +85,14 @@ pub fn prepare<F: Folder>(
         → AreSeen F.failures F.may_leave F.allowed first folder.old seen.now
         → IfOk result (WasPrepared F.failures F.may_leave F.allowed first folder.new options
         task.now (option_copied old.entry)) }
-    ensures prepared { IsTrue F.faithful → AreSeenIn (F.contents folder.old).files seen.now
+    ensures prepared { F.faithful folder.new → AreSeenIn (F.contents folder.old).files seen.now
         → IfOk result
         (IsPrepared options task.now (F.contents folder.old) (option_copied old.entry)) }
     // Where contents are known and the seen digests are right: the files that a run is based on, or
     // the outputs of a task that is up to date, are in the folder as they were read.
-    ensures observed { IsTrue F.faithful → AreSeenIn (F.contents folder.old).files seen.now
+    ensures observed { F.faithful folder.new → AreSeenIn (F.contents folder.old).files seen.now
         → IfOk result (IsObserved task.now (F.contents folder.old).files) }
-    ensures err { IsTrue F.faithful → AreSeenIn (F.contents folder.old).files seen.now
+    ensures err { F.faithful folder.new → AreSeenIn (F.contents folder.old).files seen.now
         → IfErr result
         (IsHindered task.now (F.contents folder.old) (F.failures folder.old) (F.failures folder.new)) }
 {

@@ -9,8 +9,9 @@ use std::alloc::{AllocError, Global};
 
 /// The output for the files at and under the place.
 pub fn shown_files<F: Folder>(alloc: Global, folder: &mut F, place: &Place) -> Result<Vec<u8>, Stop>
-    ensures same { IsTrue F.faithful → F.contents folder.new ≡ F.contents folder.old }
-    ensures shown { IsTrue F.faithful → IfOk result (λ text.
+    ensures same { F.faithful folder.new → F.contents folder.new ≡ F.contents folder.old }
+    ensures back { F.faithful folder.new → F.faithful folder.old }
+    ensures shown { F.faithful folder.new → IfOk result (λ text.
         text.items ≡ shown_files (F.contents folder.old).files place.now) }
 {
     let places = folder.list(alloc, place)?;

@@ -162,7 +162,7 @@ impl<F: Folder + Drop> Folder for LoggedFolder<F> {
 
     ghost failures = { λ f. F.failures f.inner };
 
-    ghost faithful = { F.faithful };
+    ghost faithful = { λ f. F.faithful f.inner };
 
     ghost contents = { λ f. F.contents f.inner };
 
@@ -171,8 +171,8 @@ impl<F: Folder + Drop> Folder for LoggedFolder<F> {
     ghost allowed = { λ old call new. allowed_over F.failures F.may_leave F.allowed old call new };
 
     ghost device = { device_of (λ f. F.failures f.inner) (λ f. F.may_leave f.inner)
-        (λ old call new. allowed_over F.failures F.may_leave F.allowed old call new) F.faithful
-        (λ f. F.contents f.inner) };
+        (λ old call new. allowed_over F.failures F.may_leave F.allowed old call new)
+        (λ f. F.faithful f.inner) (λ f. F.contents f.inner) };
 
     ghost sound = { λ f. F.sound f.inner };
 

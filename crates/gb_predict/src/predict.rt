@@ -46,13 +46,14 @@ pub fn predict<A: Actions, F: Folder>(
     requires in_order { AllByRecursion (λ planned. HasNamesInOrder planned.task) plan.now }
     requires each { length records.now ≡ length plan.now }
     ensures requests { Requests F.failures F.may_leave F.allowed no_change folder.old folder.new }
-    ensures same { IsTrue F.faithful → F.contents folder.new ≡ F.contents folder.old }
+    ensures back { F.faithful folder.new → (F.faithful folder.new) folder.old }
+    ensures same { F.faithful folder.new → F.contents folder.new ≡ F.contents folder.old }
     ensures paths { IfOk result (λ reported. map (λ one. one.path) reported.items ≡ order plan.now) }
     // Over any folder there is a reason if a task runs for reasons.
     ensures reasoned { IfOk result
         (λ reported. AllByRecursion (λ one. IsReasoned one.coming) reported.items) }
     ensures marked { IfOk result (λ reported. AreMarked plan.now reported.items) }
-    ensures prediction { IsTrue F.faithful → (kinds : Kinds) → Agrees A.meanings table.now kinds
+    ensures prediction { F.faithful folder.new → (kinds : Kinds) → Agrees A.meanings table.now kinds
         → IfOk result (λ reported. ArePredictedOf kinds options (F.contents folder.old)
         (F.failures folder.old)
         (F.failures folder.new) plan.now records.now reported.items) }
@@ -134,13 +135,14 @@ fn prediction<A: Actions, F: Folder>(
     requires each { length reported.now ≤ length plan.now }
     requires not_starting { AreNotStarting reported.now not_starting.now }
     ensures requests { Requests F.failures F.may_leave F.allowed no_change folder.old folder.new }
-    ensures same { IsTrue F.faithful → F.contents folder.new ≡ F.contents folder.old }
+    ensures back { F.faithful folder.new → (F.faithful folder.new) folder.old }
+    ensures same { F.faithful folder.new → F.contents folder.new ≡ F.contents folder.old }
     ensures path { IfOk result (λ one. one.path ≡ planned.now.task.path) }
     ensures reasoned { IfOk result (λ one. IsReasoned one.coming) }
     ensures marked { IfOk result (λ one.
         one.after ≡ mark (zip plan.now reported.now) planned.now.task one.coming) }
     ensures needs { IfOk result (λ one. one.kept_by ≡ keeper planned.now.task reported.now) }
-    ensures prediction { IsTrue F.faithful → (kinds : Kinds) → Agrees A.meanings table.now kinds
+    ensures prediction { F.faithful folder.new → (kinds : Kinds) → Agrees A.meanings table.now kinds
         → IfOk result (λ one. IsPredictedOf kinds options planned.now.task (F.contents folder.old)
         (option_copied last.entry) (F.failures folder.old) (F.failures folder.new) one.coming) }
 {

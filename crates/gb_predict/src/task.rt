@@ -37,10 +37,11 @@ pub(crate) fn predicted_outcome<A: Actions, F: Folder>(
     requires ready { IsReady A.meanings table.now task.now }
     requires in_order { HasNamesInOrder task.now }
     ensures requests { Requests F.failures F.may_leave F.allowed no_change folder.old folder.new }
-    ensures same { IsTrue F.faithful → F.contents folder.new ≡ F.contents folder.old }
+    ensures back { F.faithful folder.new → (F.faithful folder.new) folder.old }
+    ensures same { F.faithful folder.new → F.contents folder.new ≡ F.contents folder.old }
     // Over any folder there is a reason if it runs for reasons.
     ensures reasoned { IsReasoned result }
-    ensures prediction { IsTrue F.faithful → (kinds : Kinds) → Agrees A.meanings table.now kinds
+    ensures prediction { F.faithful folder.new → (kinds : Kinds) → Agrees A.meanings table.now kinds
         → IsPredictedOf kinds options task.now (F.contents folder.old) (option_copied old.entry)
         (F.failures folder.old) (F.failures folder.new) result }
 {
@@ -64,12 +65,13 @@ fn sourceless<F: Folder>(
     task: &TaskDeclaration,
 ) -> Result<PredictedOutcome, Fault>
     ensures requests { Requests F.failures F.may_leave F.allowed no_change folder.old folder.new }
-    ensures same { IsTrue F.faithful → F.contents folder.new ≡ F.contents folder.old }
+    ensures back { F.faithful folder.new → (F.faithful folder.new) folder.old }
+    ensures same { F.faithful folder.new → F.contents folder.new ≡ F.contents folder.old }
     ensures reasoned { IfOk result IsReasoned }
-    ensures removes { IsTrue F.faithful → IfOk result (λ coming. (removes : Bool)
+    ensures removes { F.faithful folder.new → IfOk result (λ coming. (removes : Bool)
         × (coming ≡ PredictedOutcome.HasNoSource removes)
         × (removes ≡ not (is_empty (output_files task.now (F.contents folder.old).files)))) }
-    ensures err { IsTrue F.faithful → IfErr result (CannotRead (F.failures folder.old) (F.failures folder.new)
+    ensures err { F.faithful folder.new → IfErr result (CannotRead (F.failures folder.old) (F.failures folder.new)
         (listing_faults task.now (F.contents folder.old))) }
 {
     let places = listed_outputs(alloc, folder, task.outputs.as_slice())?;

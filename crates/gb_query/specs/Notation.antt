@@ -30,7 +30,7 @@ IsStatusText notations.Lines activity found text = text ≡ status_text activity
 IsStatusText notations.Json activity found text = IsJsonOf (status_data activity found) text
 
 -- the text of some entries; if contents are known, exactly those of the folder's files
-abbrev pub IsStatusOf : Bool → Notation → Activity → Files → List Path → List ℕ → Type 0
-IsStatusOf faithful notation activity files registered text =
-    (found : List Entry) × (IsTrue faithful → AreEntriesOf files registered found)
+abbrev pub IsStatusOf : Type 0 → Notation → Activity → Files → List Path → List ℕ → Type 0
+IsStatusOf known notation activity files registered text =
+    (found : List Entry) × (known → AreEntriesOf files registered found)
     × IsStatusText notation activity found text

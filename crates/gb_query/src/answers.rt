@@ -66,10 +66,11 @@ pub fn inventory_text<F: Folder>(
     registered: &[TaskPath],
 ) -> Result<String, Fault>
     ensures requests { Requests F.failures F.may_leave F.allowed no_change folder.old folder.new }
-    ensures same { IsTrue F.faithful → F.contents folder.new ≡ F.contents folder.old }
-    ensures text { IfOk result (λ text. IsStatusOf F.faithful notation activity
+    ensures back { F.faithful folder.new → (F.faithful folder.new) folder.old }
+    ensures same { F.faithful folder.new → F.contents folder.new ≡ F.contents folder.old }
+    ensures text { IfOk result (λ text. IsStatusOf (F.faithful folder.new) notation activity
         (F.contents folder.old).files registered.now (string_bytes text)) }
-    ensures refused { IsTrue F.faithful → IfErr result
+    ensures refused { F.faithful folder.new → IfErr result
         (IsUnlisted (F.contents folder.old) (F.failures folder.old) (F.failures folder.new)) }
 {
     let entries = inventory(alloc, folder, registered)?;

@@ -43,10 +43,11 @@ pub fn inventory<F: Folder>(
     registered: &[TaskPath],
 ) -> Result<Vec<Entry>, Fault>
     ensures requests { Requests F.failures F.may_leave F.allowed no_change folder.old folder.new }
-    ensures same { IsTrue F.faithful → F.contents folder.new ≡ F.contents folder.old }
-    ensures entries { IsTrue F.faithful → IfOk result
+    ensures back { F.faithful folder.new → (F.faithful folder.new) folder.old }
+    ensures same { F.faithful folder.new → F.contents folder.new ≡ F.contents folder.old }
+    ensures entries { F.faithful folder.new → IfOk result
         (λ entries. AreEntriesOf (F.contents folder.old).files registered.now entries.items) }
-    ensures refused { IsTrue F.faithful → IfErr result
+    ensures refused { F.faithful folder.new → IfErr result
         (IsUnlisted (F.contents folder.old) (F.failures folder.old) (F.failures folder.new)) }
 {
     let own = own_folder(alloc)?;
@@ -62,10 +63,11 @@ pub fn unregistered<F: Folder>(
     registered: &[TaskPath],
 ) -> Result<Vec<TaskPath>, Fault>
     ensures requests { Requests F.failures F.may_leave F.allowed no_change folder.old folder.new }
-    ensures same { IsTrue F.faithful → F.contents folder.new ≡ F.contents folder.old }
-    ensures left { IsTrue F.faithful → IfOk result
+    ensures back { F.faithful folder.new → (F.faithful folder.new) folder.old }
+    ensures same { F.faithful folder.new → F.contents folder.new ≡ F.contents folder.old }
+    ensures left { F.faithful folder.new → IfOk result
         (λ left. AreUnregistered (F.contents folder.old) registered.now left.items) }
-    ensures err { IsTrue F.faithful
+    ensures err { F.faithful folder.new
         → IfErr result (IsOfMachine (F.failures folder.old) (F.failures folder.new)) }
 {
     let own = own_folder(alloc)?;
@@ -84,8 +86,9 @@ fn left_at<F: Folder>(
     places: &[Place],
 ) -> Result<Vec<TaskPath>, Fault>
     ensures requests { Requests F.failures F.may_leave F.allowed no_change folder.old folder.new }
-    ensures same { IsTrue F.faithful → F.contents folder.new ≡ F.contents folder.old }
-    ensures left { IsTrue F.faithful → IfOk result (λ left.
+    ensures back { F.faithful folder.new → (F.faithful folder.new) folder.old }
+    ensures same { F.faithful folder.new → F.contents folder.new ≡ F.contents folder.old }
+    ensures left { F.faithful folder.new → IfOk result (λ left.
         AreLeftAt (F.contents folder.old).files registered.now places.now left.items) }
     ensures err { IfErr result (IsOfMachine (F.failures folder.old) (F.failures folder.new)) }
 {
@@ -105,8 +108,9 @@ fn push_left<F: Folder>(
     place: &Place,
 ) -> Result<(), Fault>
     ensures requests { Requests F.failures F.may_leave F.allowed no_change folder.old folder.new }
-    ensures same { IsTrue F.faithful → F.contents folder.new ≡ F.contents folder.old }
-    ensures left { IsTrue F.faithful → OnOk result ((row : List Path)
+    ensures back { F.faithful folder.new → (F.faithful folder.new) folder.old }
+    ensures same { F.faithful folder.new → F.contents folder.new ≡ F.contents folder.old }
+    ensures left { F.faithful folder.new → OnOk result ((row : List Path)
         × IsLeftAt (F.contents folder.old).files registered.now place.now row
         × (left.new.items ≡ left.old.items ++ row)) }
     ensures err { IfErr result (IsOfMachine (F.failures folder.old) (F.failures folder.new)) }
@@ -128,8 +132,9 @@ fn push_owner<F: Folder>(
 ) -> Result<(), Fault>
     requires { IsOwner place.now (Some path.now) }
     ensures requests { Requests F.failures F.may_leave F.allowed no_change folder.old folder.new }
-    ensures same { IsTrue F.faithful → F.contents folder.new ≡ F.contents folder.old }
-    ensures left { IsTrue F.faithful → OnOk result ((row : List Path)
+    ensures back { F.faithful folder.new → (F.faithful folder.new) folder.old }
+    ensures same { F.faithful folder.new → F.contents folder.new ≡ F.contents folder.old }
+    ensures left { F.faithful folder.new → OnOk result ((row : List Path)
         × IsLeftAt (F.contents folder.old).files registered.now place.now row
         × (left.new.items ≡ left.old.items ++ row)) }
     ensures err { IfErr result (IsOfMachine (F.failures folder.old) (F.failures folder.new)) }
@@ -147,8 +152,9 @@ fn is_left<F: Folder>(
     path: &TaskPath,
 ) -> Result<bool, Fault>
     ensures requests { Requests F.failures F.may_leave F.allowed no_change folder.old folder.new }
-    ensures same { IsTrue F.faithful → F.contents folder.new ≡ F.contents folder.old }
-    ensures left { IsTrue F.faithful → IfOk result (λ is. (place : PlaceOf) → IsOwner place (Some path.now)
+    ensures back { F.faithful folder.new → (F.faithful folder.new) folder.old }
+    ensures same { F.faithful folder.new → F.contents folder.new ≡ F.contents folder.old }
+    ensures left { F.faithful folder.new → IfOk result (λ is. (place : PlaceOf) → IsOwner place (Some path.now)
         → IsLeftAt (F.contents folder.old).files registered.now place (row_if is path.now)) }
     ensures err { IfErr result (IsOfMachine (F.failures folder.old) (F.failures folder.new)) }
 {
@@ -187,8 +193,9 @@ fn entries_of<F: Folder>(
     places: &[Place],
 ) -> Result<Vec<Entry>, Fault>
     ensures requests { Requests F.failures F.may_leave F.allowed no_change folder.old folder.new }
-    ensures same { IsTrue F.faithful → F.contents folder.new ≡ F.contents folder.old }
-    ensures entries { IsTrue F.faithful → IfOk result (λ entries.
+    ensures back { F.faithful folder.new → (F.faithful folder.new) folder.old }
+    ensures same { F.faithful folder.new → F.contents folder.new ≡ F.contents folder.old }
+    ensures entries { F.faithful folder.new → IfOk result (λ entries.
         AllZip (IsEntryOf (F.contents folder.old).files registered.now) places.now entries.items) }
     ensures err { IfErr result (IsOfMachine (F.failures folder.old) (F.failures folder.new)) }
 {
@@ -207,8 +214,9 @@ fn entry_of<F: Folder>(
     place: &Place,
 ) -> Result<Entry, Fault>
     ensures requests { Requests F.failures F.may_leave F.allowed no_change folder.old folder.new }
-    ensures same { IsTrue F.faithful → F.contents folder.new ≡ F.contents folder.old }
-    ensures entry { IsTrue F.faithful → IfOk result
+    ensures back { F.faithful folder.new → (F.faithful folder.new) folder.old }
+    ensures same { F.faithful folder.new → F.contents folder.new ≡ F.contents folder.old }
+    ensures entry { F.faithful folder.new → IfOk result
         (IsEntryOf (F.contents folder.old).files registered.now place.now) }
     ensures err { IfErr result (IsOfMachine (F.failures folder.old) (F.failures folder.new)) }
 {
@@ -228,8 +236,9 @@ fn record_entry<F: Folder>(
 ) -> Result<Entry, Fault>
     requires { IsOwner place.now (Some path) }
     ensures requests { Requests F.failures F.may_leave F.allowed no_change folder.old folder.new }
-    ensures same { IsTrue F.faithful → F.contents folder.new ≡ F.contents folder.old }
-    ensures entry { IsTrue F.faithful → IfOk result
+    ensures back { F.faithful folder.new → (F.faithful folder.new) folder.old }
+    ensures same { F.faithful folder.new → F.contents folder.new ≡ F.contents folder.old }
+    ensures entry { F.faithful folder.new → IfOk result
         (IsEntryOf (F.contents folder.old).files registered.now place.now) }
     ensures err { IfErr result (IsOfMachine (F.failures folder.old) (F.failures folder.new)) }
 {
@@ -260,8 +269,9 @@ fn is_among(registered: &[TaskPath], path: &TaskPath) -> bool
 /// Whether there is a record of the task.
 fn has_record<F: Folder>(alloc: Global, folder: &mut F, path: &TaskPath) -> Result<bool, Fault>
     ensures requests { Requests F.failures F.may_leave F.allowed no_change folder.old folder.new }
-    ensures same { IsTrue F.faithful → F.contents folder.new ≡ F.contents folder.old }
-    ensures read { IsTrue F.faithful → IfOk result (λ has_record. (read : Option Record)
+    ensures back { F.faithful folder.new → (F.faithful folder.new) folder.old }
+    ensures same { F.faithful folder.new → F.contents folder.new ≡ F.contents folder.old }
+    ensures read { F.faithful folder.new → IfOk result (λ has_record. (read : Option Record)
         × IsReadAt (F.contents folder.old).files path.now read × (has_record ≡ is_some read)) }
     ensures err { IfErr result (IsOfMachine (F.failures folder.old) (F.failures folder.new)) }
 {

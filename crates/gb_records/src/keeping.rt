@@ -35,16 +35,18 @@ pub fn delete_record<F: Folder>(
     // Over any folder: by one call, or by none if no record was read.
     ensures calls { (calls : List Call) × Leads F.device folder.old calls folder.new
         × Deletion path.now was_read calls result }
+    ensures back { F.faithful folder.new → F.faithful folder.old }
     ensures requests { Requests F.failures F.may_leave F.allowed (taken_at (record_place path.now)) folder.old
         folder.new }
     ensures unread { was_read ≡ false → folder.new ≡ folder.old }
-    ensures out { IsTrue F.faithful → OnOk result
+    ensures out { F.faithful folder.new → OnOk result
         (F.contents folder.new ≡ taken_out was_read path.now (F.contents folder.old)) }
-    ensures err { IsTrue F.faithful → IfErr result (λ fault. ComesToNothing (F.may_leave folder.old)
+    ensures err { F.faithful folder.new → IfErr result (λ fault. ComesToNothing (F.may_leave folder.old)
         path.now None (F.failures folder.old) (F.failures folder.new) (F.contents folder.old) fault
         (F.contents folder.new)) }
     // Which records exist then.
-    ensures exists { IsTrue F.faithful → TornWritesAreDetected IsText record_place (F.may_leave folder.old)
+    ensures exists { F.faithful folder.new
+        → TornWritesAreDetected IsText record_place (F.may_leave folder.old)
         → (memory : Memory) → HoldsRecords (F.contents folder.old).files memory
         → (was_read ≡ false → recalled memory path.now ≡ None)
         → HoldsWithout path.now memory result (F.contents folder.new).files }
@@ -81,17 +83,20 @@ pub fn store_record<F: Folder>(
 ) -> Result<(), Unwritten>
     ensures requests { Requests F.failures F.may_leave F.allowed (put_at (record_place path.now) (record_text
         path.now run.now)) folder.old folder.new }
+    ensures back { F.faithful folder.new → F.faithful folder.old }
     // Over any folder: by one call, with its very text.
     ensures calls { (calls : List Call) × Leads F.device folder.old calls folder.new
         × Storing path.now run.now calls result }
-    ensures written { IsTrue F.faithful → OnOk result
+    ensures written { F.faithful folder.new → OnOk result
         (F.contents folder.new ≡ written_in path.now run.now (F.contents folder.old)) }
     ensures said { OnOk result (IsText path.now run.now (record_text path.now run.now)) }
-    ensures err { IsTrue F.faithful → IfErr result (λ fault. ComesToNothing (F.may_leave folder.old) path.now
+    ensures err { F.faithful folder.new
+        → IfErr result (λ fault. ComesToNothing (F.may_leave folder.old) path.now
         (Some (record_text path.now run.now)) (F.failures folder.old) (F.failures folder.new)
         (F.contents folder.old) fault (F.contents folder.new)) }
     // Which records exist then.
-    ensures exists { IsTrue F.faithful → TornWritesAreDetected IsText record_place (F.may_leave folder.old)
+    ensures exists { F.faithful folder.new
+        → TornWritesAreDetected IsText record_place (F.may_leave folder.old)
         → (memory : Memory) (entry : Entry) → HoldsRecords (F.contents folder.old).files memory
         → IsSaidOf run.now entry
         → HoldsWith path.now entry memory result (F.contents folder.new).files }

@@ -1,6 +1,6 @@
 //! Reads records.
 ghost use Rattle.std.specs.Prelude.{◌≡◌, ◌≤◌, ◌++◌, ◌∷◌, [], Option, Some, None, Ok, Err, length};
-ghost use Rattle.std.specs.Prelude.{IsTrue, IfOk, IfErr, OnOk};
+ghost use Rattle.std.specs.Prelude.{IfOk, IfErr, OnOk};
 ghost use Rattle.std.specs.List.{AllZip, list_any};
 ghost use Rattle.sha2.specs.Sha256.{sha256};
 ghost use Rattle.gb_folder.specs.Calls.{Requests, no_change};
@@ -41,11 +41,12 @@ pub fn read_records<F: Folder>(
     paths: &[TaskPath],
 ) -> Result<Vec<Option<Record>>, Fault>
     ensures requests { Requests F.failures F.may_leave F.allowed no_change folder.old folder.new }
+    ensures back { F.faithful folder.new → F.faithful folder.old }
     ensures blame { Blames result (F.failures folder.old) (F.failures folder.new) }
     ensures blamed { BlamesOnly (λ place. list_any (λ path. is_at (record_place path) place) paths.now)
         result }
-    ensures same { IsTrue F.faithful → F.contents folder.new ≡ F.contents folder.old }
-    ensures read { IsTrue F.faithful → IfOk result
+    ensures same { F.faithful folder.new → F.contents folder.new ≡ F.contents folder.old }
+    ensures read { F.faithful folder.new → IfOk result
         (λ records. AllZip (IsReadAt (F.contents folder.old).files) paths.now records.items) }
     // Over any folder: each record is what a call at its place answered.
     ensures answered { IfOk result (λ records. AllZip
@@ -73,11 +74,12 @@ fn read_some<F: Folder>(
     reader: &mut RecordReader,
 ) -> Result<Vec<Option<Record>>, Fault>
     ensures requests { Requests F.failures F.may_leave F.allowed no_change folder.old folder.new }
+    ensures back { F.faithful folder.new → F.faithful folder.old }
     ensures blame { Blames result (F.failures folder.old) (F.failures folder.new) }
     ensures blamed { BlamesOnly (λ place. list_any (λ path. is_at (record_place path) place) paths.now)
         result }
-    ensures same { IsTrue F.faithful → F.contents folder.new ≡ F.contents folder.old }
-    ensures read { IsTrue F.faithful → IfOk result
+    ensures same { F.faithful folder.new → F.contents folder.new ≡ F.contents folder.old }
+    ensures read { F.faithful folder.new → IfOk result
         (λ records. AllZip (IsReadAt (F.contents folder.old).files) paths.now records.items) }
     ensures answered { IfOk result (λ records. AllZip
         (WasAnswered F.failures F.may_leave F.allowed folder.old folder.new) paths.now records.items) }
@@ -96,11 +98,12 @@ fn read_texts<'a, F: Folder>(
     paths: &'a [TaskPath],
 ) -> Result<Vec<StoredText<'a>>, Fault>
     ensures requests { Requests F.failures F.may_leave F.allowed no_change folder.old folder.new }
+    ensures back { F.faithful folder.new → F.faithful folder.old }
     ensures blame { Blames result (F.failures folder.old) (F.failures folder.new) }
     ensures blamed { BlamesOnly (λ place. list_any (λ path. is_at (record_place path) place) paths.now)
         result }
-    ensures same { IsTrue F.faithful → F.contents folder.new ≡ F.contents folder.old }
-    ensures read { IsTrue F.faithful → IfOk result
+    ensures same { F.faithful folder.new → F.contents folder.new ≡ F.contents folder.old }
+    ensures read { F.faithful folder.new → IfOk result
         (λ texts. AllZip (IsStoredAt (F.contents folder.old).files) paths.now texts.items) }
     ensures answered { IfOk result (λ texts. AllZip
         (WasStoredAt F.failures F.may_leave F.allowed folder.old folder.new) paths.now texts.items) }
@@ -121,10 +124,11 @@ fn read_text<F: Folder>(
     path: &TaskPath,
 ) -> Result<Option<Bytes>, Fault>
     ensures requests { Requests F.failures F.may_leave F.allowed no_change folder.old folder.new }
+    ensures back { F.faithful folder.new → F.faithful folder.old }
     ensures blame { Blames result (F.failures folder.old) (F.failures folder.new) }
     ensures blamed { BlamesOnly (is_at (record_place path.now)) result }
-    ensures same { IsTrue F.faithful → F.contents folder.new ≡ F.contents folder.old }
-    ensures read { IsTrue F.faithful → IfOk result (IsTextAt (F.contents folder.old).files path.now) }
+    ensures same { F.faithful folder.new → F.contents folder.new ≡ F.contents folder.old }
+    ensures read { F.faithful folder.new → IfOk result (IsTextAt (F.contents folder.old).files path.now) }
     ensures answered { IfOk result
         (WasTextAnswered F.failures F.may_leave F.allowed folder.old folder.new path.now) }
     ensures err { IfErr result (IsOfMachine (F.failures folder.old) (F.failures folder.new)) }

@@ -69,6 +69,11 @@ module _ {F : Type 0} (device : Device F) where
   leads_then old new [] later led = (old, refl, led)
   leads_then old new (call ∷ first) later led = let rest = leads_then led.0 new first later led.2 in (rest.0, (led.0, led.1, rest.1), rest.2)
 
+  -- what is known of the last state was known before
+  pub known_before : (old new : F) (calls : List Call) → Leads device old calls new → device.faithful new → device.faithful old
+  known_before old new [] led known = subst device.faithful led known
+  known_before old new (call ∷ calls) led known = led.1.back (known_before led.0 new calls led.2 known)
+
   pub blamed_parts_for : (parts : List HeldPart) (calls : List Call) (lines : List Text) (result : Ending) (old new : F) → DoesParts (map part_held parts) calls lines result → Leads device old calls new
       → (place : Place) → result ≡ Err (faults.Device place) → HasRisen (device.failures old) (device.failures new)
   blamed_parts_for [] calls lines result old new does led place is = absurd (let e = sym does.2 ∙ is in (cc))

@@ -63,6 +63,7 @@ pub fn run_by_changes<A: Actions, F: Folder>(
     requires no_lines { lines.old ≡ [] }
     ensures named { IfOk result (λ made.
         map (λ prints. prints.0) made.items ≡ map (λ output. output.name) task.now.outputs) }
+    ensures back { F.faithful folder.new → F.faithful folder.old }
     ensures made { IfOk result (λ made. (kinds : Kinds) → Agrees A.meanings table.now kinds
         → (old : Trees) (existing : Files)
         → IsTrue (is_sorted byte_order existing) → IsTrue (are_placed existing)
@@ -78,13 +79,13 @@ pub fn run_by_changes<A: Actions, F: Folder>(
         folder.new }
     ensures blame { Blames result (F.failures folder.old) (F.failures folder.new) }
     ensures blamed { BlamesOnly (is_output_of task.now) result }
-    ensures changes { IsTrue F.faithful
+    ensures changes { F.faithful folder.new
         → ChangesOnly (is_output_of task.now) (F.contents folder.old) (F.contents folder.new) }
-    ensures ok { IsTrue F.faithful → OnOk result ((kinds : Kinds) → Agrees A.meanings table.now kinds
+    ensures ok { F.faithful folder.new → OnOk result ((kinds : Kinds) → Agrees A.meanings table.now kinds
         → (old : Trees) → GoesOn kinds task.now old files changes outputs (F.contents folder.old).files
         → EndsWell (run_input kinds task.now files changes (rest_of task.now (F.contents folder.old).files))
         lines.new (F.contents folder.new).files) }
-    ensures err { IsTrue F.faithful → IfErr result
+    ensures err { F.faithful folder.new → IfErr result
         (λ fault. (kinds : Kinds) → Agrees A.meanings table.now kinds
         → (old : Trees) → GoesOn kinds task.now old files changes outputs (F.contents folder.old).files
         → Fails (run_input kinds task.now files changes (rest_of task.now (F.contents folder.old).files))

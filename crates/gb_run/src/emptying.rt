@@ -34,17 +34,18 @@ pub fn empty_outputs<F: Folder>(
     // Over any folder: by these calls.
     ensures calls { (calls : List Call) × Leads F.device folder.old calls folder.new
         × Emptying task.now.outputs calls result }
+    ensures back { F.faithful folder.new → F.faithful folder.old }
     ensures requests { Requests F.failures F.may_leave F.allowed (takes_at (is_output_of task.now)) folder.old
         folder.new }
     ensures blame { Blames result (F.failures folder.old) (F.failures folder.new) }
     ensures blamed { BlamesOnly (is_output_of task.now) result }
-    ensures changes { IsTrue F.faithful
+    ensures changes { F.faithful folder.new
         → ChangesOnly (is_output_of task.now) (F.contents folder.old) (F.contents folder.new) }
-    ensures ok { IsTrue F.faithful → OnOk result
+    ensures ok { F.faithful folder.new → OnOk result
         ((F.contents folder.new).files ≡ rest_of task.now (F.contents folder.old).files) }
-    ensures none_special { IsTrue F.faithful → OnOk result
+    ensures none_special { F.faithful folder.new → OnOk result
         (listing_faults task.now (F.contents folder.old) ≡ []) }
-    ensures err { IsTrue F.faithful → IfErr result (λ fault.
+    ensures err { F.faithful folder.new → IfErr result (λ fault.
         CannotEmpty task.now (F.may_leave folder.old) (F.failures folder.old) (F.contents folder.old) fault
         (F.failures folder.new) (F.contents folder.new)) }
 {
@@ -63,16 +64,17 @@ pub fn listed_outputs<F: Folder>(
     ensures calls { (calls : List Call) × (places : List Place) × Leads F.device folder.old calls folder.new
         × Each Listing outputs.now calls places (ending result)
         × IfOk result (λ found. found.items ≡ places) }
+    ensures back { F.faithful folder.new → F.faithful folder.old }
     ensures requests { Requests F.failures F.may_leave F.allowed no_change folder.old folder.new }
     ensures blame { Blames result (F.failures folder.old) (F.failures folder.new) }
     ensures blamed { BlamesOnly (is_at_output outputs.now) result }
     ensures under { IfOk result (λ places. IsTrue (list_all (is_at_output outputs.now) places.items)) }
-    ensures same { IsTrue F.faithful → F.contents folder.new ≡ F.contents folder.old }
-    ensures listed { IsTrue F.faithful → IfOk result
+    ensures same { F.faithful folder.new → F.contents folder.new ≡ F.contents folder.old }
+    ensures listed { F.faithful folder.new → IfOk result
         (λ places. places.items ≡ places_at outputs.now (F.contents folder.old).files) }
-    ensures none_special { IsTrue F.faithful → OnOk result
+    ensures none_special { F.faithful folder.new → OnOk result
         (special_faults outputs.now (F.contents folder.old) ≡ []) }
-    ensures special { IsTrue F.faithful → IfErr result
+    ensures special { F.faithful folder.new → IfErr result
         (λ fault. IsOfMachine (F.failures folder.old) (F.failures folder.new) fault
         ⊎ (first_of (special_faults outputs.now (F.contents folder.old)) ≡ Some fault)) }
 {

@@ -1,5 +1,5 @@
 //! A full execution: computed as a value first, then done in the folder.
-ghost use Rattle.std.specs.Prelude.{◌≡◌, ◌++◌, [], Ok, IsTrue, IfOk, IfErr, OnOk, List, map};
+ghost use Rattle.std.specs.Prelude.{◌≡◌, ◌++◌, [], Ok, IfOk, IfErr, OnOk, List, map};
 ghost use Rattle.gb_folder.specs.Calls.{Requests, Call, changes_at};
 ghost use Rattle.gb_folder.specs.Device.{Leads};
 ghost use Rattle.gb_folder.specs.Files.{Files};
@@ -47,6 +47,7 @@ pub fn run_in_full<A: Actions, F: Folder>(
     requires no_lines { lines.old ≡ [] }
     ensures named { IfOk result (λ made.
         map (λ prints. prints.0) made.items ≡ map (λ output. output.name) task.now.outputs) }
+    ensures back { F.faithful folder.new → F.faithful folder.old }
     ensures made { IfOk result (λ made. (kinds : Kinds) → Agrees A.meanings table.now kinds → (held : Files)
         × (made_of kinds task.now.actions task.now.values files task.now.outputs ≡ Ok held)
         × (made.items ≡ prints_at task.now.outputs held)) }
@@ -60,12 +61,12 @@ pub fn run_in_full<A: Actions, F: Folder>(
         folder.new }
     ensures blame { Blames result (F.failures folder.old) (F.failures folder.new) }
     ensures blamed { BlamesOnly (is_output_of task.now) result }
-    ensures changes { IsTrue F.faithful
+    ensures changes { F.faithful folder.new
         → ChangesOnly (is_output_of task.now) (F.contents folder.old) (F.contents folder.new) }
-    ensures ok { IsTrue F.faithful → OnOk result ((kinds : Kinds) → Agrees A.meanings table.now kinds
+    ensures ok { F.faithful folder.new → OnOk result ((kinds : Kinds) → Agrees A.meanings table.now kinds
         → EndsWell (run_input kinds task.now files changes (F.contents folder.old).files)
         lines.new (F.contents folder.new).files) }
-    ensures err { IsTrue F.faithful → IfErr result
+    ensures err { F.faithful folder.new → IfErr result
         (λ fault. (kinds : Kinds) → Agrees A.meanings table.now kinds
         → Fails (run_input kinds task.now files changes (F.contents folder.old).files) InFull
         (F.may_leave folder.old) (F.failures folder.old) fault

@@ -22,16 +22,17 @@ pub fn listed_at<F: Folder>(
 ) -> Result<Vec<Place>, Fault>
     // Over any folder: by one call.
     ensures call { WasListed F.device place.now folder.old result folder.new }
+    ensures back { F.faithful folder.new → F.faithful folder.old }
     ensures requests { Requests F.failures F.may_leave F.allowed no_change folder.old folder.new }
     ensures blame { Blames result (F.failures folder.old) (F.failures folder.new) }
     ensures blamed { BlamesOnly (is_at place.now) result }
     ensures under { IfOk result (λ places. AllPass (λ at. is_under at place.now) places.items) }
-    ensures same { IsTrue F.faithful → F.contents folder.new ≡ F.contents folder.old }
-    ensures listed { IsTrue F.faithful → IfOk result
+    ensures same { F.faithful folder.new → F.contents folder.new ≡ F.contents folder.old }
+    ensures listed { F.faithful folder.new → IfOk result
         (λ places. places.items ≡ places_under (F.contents folder.old).files place.now) }
-    ensures none_special { IsTrue F.faithful → OnOk result
+    ensures none_special { F.faithful folder.new → OnOk result
         (is_special_under (F.contents folder.old) place.now ≡ false) }
-    ensures special { IsTrue F.faithful → IfErr result
+    ensures special { F.faithful folder.new → IfErr result
         (λ fault. IsOfMachine (F.failures folder.old) (F.failures folder.new) fault
         ⊎ (IsTrue (is_special_under (F.contents folder.old) place.now)
         × (fault ≡ Fault.BadFileName place.now))) }

@@ -1,5 +1,5 @@
 //! Removing files.
-ghost use Rattle.std.specs.Prelude.{◌≡◌, ◌≢◌, ◌⊎◌, Bool, List, ℕ, [], ◌∷◌, None, true, IsTrue, IfErr, OnOk};
+ghost use Rattle.std.specs.Prelude.{◌≡◌, ◌≢◌, ◌⊎◌, Bool, List, ℕ, [], ◌∷◌, None, true, IfErr, OnOk};
 ghost use Rattle.std.specs.List.{AllByRecursion};
 ghost use Rattle.gb_folder.specs.Calls.{Requests, Call, taken_at, takes_at};
 ghost use Rattle.gb_folder.specs.Device.{Leads};
@@ -17,18 +17,19 @@ pub fn remove_all<F: Folder>(folder: &mut F, places: &[Place]) -> Result<(), Fau
     // Over any folder: by these calls.
     ensures calls { (calls : List Call) × Leads F.device folder.old calls folder.new
         × Removals places.now calls result }
+    ensures back { F.faithful folder.new → F.faithful folder.old }
     ensures requests { Requests F.failures F.may_leave F.allowed (takes_at (is_among places.now)) folder.old
         folder.new }
     ensures blame { Blames result (F.failures folder.old) (F.failures folder.new) }
     ensures blamed { BlamesOnly (is_among places.now) result }
-    ensures ok { IsTrue F.faithful
+    ensures ok { F.faithful folder.new
         → OnOk result (F.contents folder.new ≡ without_all (F.contents folder.old) places.now) }
-    ensures err { IsTrue F.faithful
+    ensures err { F.faithful folder.new
         → IfErr result (IsOfMachine (F.failures folder.old) (F.failures folder.new)) }
-    ensures cut { IsTrue F.faithful → IfErr result
+    ensures cut { F.faithful folder.new → IfErr result
         (λ fault. IsCutShort (F.may_leave folder.old) places.now (F.contents folder.old)
         fault (F.contents folder.new)) }
-    ensures changes { IsTrue F.faithful → (test : List ℕ → Bool)
+    ensures changes { F.faithful folder.new → (test : List ℕ → Bool)
         → AllByRecursion (λ place. test place ≡ true) places.now
         → ChangesOnly test (F.contents folder.old) (F.contents folder.new) }
 {
@@ -43,17 +44,18 @@ pub fn remove_all<F: Folder>(folder: &mut F, places: &[Place]) -> Result<(), Fau
 pub fn remove_at<F: Folder>(folder: &mut F, place: &Place) -> Result<(), Fault>
     // Over any folder: by one call.
     ensures call { WasRemoved F.device place.now folder.old result folder.new }
+    ensures back { F.faithful folder.new → F.faithful folder.old }
     ensures requests { Requests F.failures F.may_leave F.allowed (taken_at place.now) folder.old folder.new }
     ensures blame { Blames result (F.failures folder.old) (F.failures folder.new) }
     ensures blamed { BlamesOnly (is_at place.now) result }
-    ensures ok { IsTrue F.faithful
+    ensures ok { F.faithful folder.new
         → OnOk result (F.contents folder.new ≡ without_all (F.contents folder.old) (place.now ∷ [])) }
-    ensures err { IsTrue F.faithful
+    ensures err { F.faithful folder.new
         → IfErr result (IsOfMachine (F.failures folder.old) (F.failures folder.new)) }
-    ensures hindered { IsTrue F.faithful → IfErr result
+    ensures hindered { F.faithful folder.new → IfErr result
         (λ fault. IsHindered (F.may_leave folder.old) place.now None (F.contents folder.old)
         fault (F.contents folder.new)) }
-    ensures changes { IsTrue F.faithful → (test : List ℕ → Bool) → test place.now ≡ true
+    ensures changes { F.faithful folder.new → (test : List ℕ → Bool) → test place.now ≡ true
         → ChangesOnly test (F.contents folder.old) (F.contents folder.new) }
 {
     let at = place.copy()?;

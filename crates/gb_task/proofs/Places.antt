@@ -167,7 +167,7 @@ module _ {F : Type 0} (failures : F → ℕ) (may_leave : F → Tearing) (allowe
       subst At (sym does.5) (all_append (May (is_of_execution task)) does.0 does.1 (one does.0 does.2 does.4 old parts.0 parts.1 does.7) (rest does.4 does.8))
     where
       parts : (mid : F) × AreAnswered failures may_leave allowed old does.0 mid × AreAnswered failures may_leave allowed mid does.1 new
-      parts = leads_split (device_of failures may_leave allowed false (λ folder. record { files = []; special = [] })) does.0 does.1 old new (subst (λ (cs : List Call). AreAnswered failures may_leave allowed old cs new) does.5 led)
+      parts = leads_split (device_of failures may_leave allowed (λ folder. ⊥) (λ folder. record { files = []; special = [] })) does.0 does.1 old new (subst (λ (cs : List Call). AreAnswered failures may_leave allowed old cs new) does.5 led)
 
       rest : (mid : Ending) → OrStops mid (second does.1 does.3 result) does.1 does.3 result → At does.1
       rest (Ok done) h = two does.1 does.3 result parts.0 new parts.2 h
@@ -203,7 +203,7 @@ module _ {F : Type 0} (failures : F → ℕ) (may_leave : F → Tearing) (allowe
       empties = does.1
 
       parts : (mid : F) × AreAnswered failures may_leave allowed old empties.0 mid × AreAnswered failures may_leave allowed mid empties.1 new
-      parts = leads_split (device_of failures may_leave allowed false (λ folder. record { files = []; special = [] })) empties.0 empties.1 old new (subst (λ (cs : List Call). AreAnswered failures may_leave allowed old cs new) empties.4 led)
+      parts = leads_split (device_of failures may_leave allowed (λ folder. ⊥) (λ folder. record { files = []; special = [] })) empties.0 empties.1 old new (subst (λ (cs : List Call). AreAnswered failures may_leave allowed old cs new) empties.4 led)
 
       rest : (mid : Ended Fault) → Each Listing task.outputs empties.0 empties.2 mid → OrEnds mid (Removals empties.2 empties.1 result) empties.1 result → At empties.1
       rest (Ok done) lists h =
@@ -245,4 +245,4 @@ module _ {F : Type 0} (failures : F → ℕ) (may_leave : F → Tearing) (allowe
   pub done_places : (stage : Stage) → StageAt stage → (lines : List Text) (result : Ending) (old new : F) → WasDone failures may_leave allowed stage lines result old new
       → Requests failures may_leave allowed (changes_at (is_of_execution task)) old new
   done_places stage at lines result old new was =
-      requests_of (device_of failures may_leave allowed false (λ folder. record { files = []; special = [] })) (changes_at (is_of_execution task)) old new was.0 (at was.0 lines result old new was.1 was.2) was.1
+      requests_of (device_of failures may_leave allowed (λ folder. ⊥) (λ folder. record { files = []; special = [] })) (changes_at (is_of_execution task)) old new was.0 (at was.0 lines result old new was.1 was.2) was.1

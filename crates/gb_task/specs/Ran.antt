@@ -1,5 +1,5 @@
 -- What an execution did, over any folder: what it read, and the calls of its stages.
-use Rattle.std.specs.Prelude.{ℕ, ◌≡◌, ◌⊎◌, Bool, true, false, List, [], map, Option, Some, Err}
+use Rattle.std.specs.Prelude.{ℕ, ◌≡◌, ◌⊎◌, Bool, true, List, [], map, Option, Some, Err}
 use Rattle.std.specs.Prelude.{IsTrue, is_some}
 use Rattle.gb_action.specs.Changes.{Changes}
 use Rattle.gb_action.specs.Files.{Trees}
@@ -29,7 +29,7 @@ use Rattle.gb_task.specs.Stages.{Clears, FullRun, RunByChanges, Stage}
 abbrev pub AreAnswered : {F : Type 0} → (F → ℕ) → (F → Tearing) → (F → Call → F → Type 0) → F → List Call → F
     → Type 0
 AreAnswered failures may_leave allowed old calls new =
-    Leads (device_of failures may_leave allowed false (λ folder. record { files = []; special = [] })) old
+    Leads (device_of failures may_leave allowed (λ folder. ⊥) (λ folder. record { files = []; special = [] })) old
     calls new
 
 -- Calls returned these trees of the inputs whole since this state of the folder, and nothing was changed. By

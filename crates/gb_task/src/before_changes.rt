@@ -1,5 +1,5 @@
 //! The part of a task's execution that is decided before anything is changed.
-ghost use Rattle.std.specs.Prelude.{◌≡◌, false, IsTrue, option_copied};
+ghost use Rattle.std.specs.Prelude.{◌≡◌, false, option_copied};
 ghost use Rattle.std.specs.List.{list_any};
 ghost use Rattle.gb_folder.specs.Calls.{Requests, no_change};
 ghost use Rattle.gb_folder.specs.Files.{is_empty, is_own};
@@ -67,6 +67,7 @@ pub fn settle<F: Folder>(
     requires not_own { list_any (λ output. is_own output.place) task.now.outputs ≡ false }
     requires path { path ≡ task.now.path }
     ensures requests { Requests F.failures F.may_leave F.allowed no_change folder.old folder.new }
+    ensures back { F.faithful folder.new → F.faithful folder.old }
     // Over any folder: a report is of the task. A task that is skipped or has no actions is
     // reported as such. A task that has actions and runs is reported with no other outcome than
     // those possible for it.
@@ -80,12 +81,12 @@ pub fn settle<F: Folder>(
         (option_copied last.entry) result }
     ensures remembers { Remembers F.failures F.may_leave F.allowed folder.old folder.new seen.old seen.new
         result }
-    ensures same { IsTrue F.faithful → F.contents folder.new ≡ F.contents folder.old }
-    ensures seen_in { IsTrue F.faithful → AreSeenIn (F.contents folder.old).files seen.old
+    ensures same { F.faithful folder.new → F.contents folder.new ≡ F.contents folder.old }
+    ensures seen_in { F.faithful folder.new → AreSeenIn (F.contents folder.old).files seen.old
         → AreSeenIn (F.contents folder.new).files seen.new }
     // If there is a report, it is that of the task's execution. Otherwise the result says which
     // case of the definition applies.
-    ensures settled { IsTrue F.faithful → AreSeenIn (F.contents folder.old).files seen.old
+    ensures settled { F.faithful folder.new → AreSeenIn (F.contents folder.old).files seen.old
         → (kinds : Kinds) (registry_of : Registering) (plan : Plan) (moment : Moment)
         → moment.world.folder ≡ outside (F.contents folder.old)
         → moment.failures ≡ F.failures folder.old

@@ -1,5 +1,5 @@
 //! An incremental run of a task, by changes that were decided on what it works on.
-ghost use Rattle.std.specs.Prelude.{◌≡◌, ◌≤◌, [], ℕ, List, false, true, map, IsTrue, IfOk, IfErr, OnOk};
+ghost use Rattle.std.specs.Prelude.{◌≡◌, ◌≤◌, [], ℕ, List, false, true, map, IfOk, IfErr, OnOk};
 ghost use Rattle.std.specs.List.{AllByRecursion};
 ghost use Rattle.gb_action.specs.Files.{Trees};
 ghost use Rattle.gb_folder.specs.Calls.{Requests, Call, changes_at};
@@ -69,13 +69,14 @@ pub(crate) fn run_by_decided_changes<A: Actions, F: Folder>(
     ensures ran { (calls : List Call) × Leads F.device folder.old calls folder.new
         × RunByChanges A.meanings table.now task.now inputs.trees changes outputs.observed calls lines.new
         result }
+    ensures back { F.faithful folder.new → F.faithful folder.old }
     ensures count { F.failures folder.old ≤ F.failures folder.new }
     ensures blame { Blames result (F.failures folder.old) (F.failures folder.new) }
     ensures blamed { BlamesOnly (is_output_of task.now) result }
-    ensures changes { IsTrue F.faithful
+    ensures changes { F.faithful folder.new
         → ChangesOnly (is_of_execution task.now) (F.contents folder.old) (F.contents folder.new) }
     // Where the incremental run by these changes is due, this is the task's execution.
-    ensures execution { IsTrue F.faithful → (kinds : Kinds) (registry_of : Registering) (options : Options)
+    ensures execution { F.faithful folder.new → (kinds : Kinds) (registry_of : Registering) (options : Options)
         (plan : Plan) (moment : Moment) → IsAssumed A.meanings table.now kinds (F.may_leave folder.old)
         → BeginsAt task.now true (F.contents folder.old) (F.failures folder.old) moment
         → inputs.trees ≡ trees_of task.now (F.contents folder.old).files
@@ -117,6 +118,7 @@ fn make_by_changes<A: Actions, F: Folder>(
     ensures requests { Requests F.failures F.may_leave F.allowed (changes_at (is_output_of task.now))
         folder.old
         folder.new }
+    ensures back { F.faithful folder.new → F.faithful folder.old }
     ensures blame { Blames result (F.failures folder.old) (F.failures folder.new) }
     ensures blamed { BlamesOnly (is_output_of task.now) result }
     // Over any folder: by these calls, with just the bytes and the lines of the actions.
@@ -129,15 +131,15 @@ fn make_by_changes<A: Actions, F: Folder>(
     // run.
     ensures made { IfOk result
         (IsOfRunByChanges A.meanings table.now task.now inputs.trees changes outputs.observed) }
-    ensures changes { IsTrue F.faithful
+    ensures changes { F.faithful folder.new
         → ChangesOnly (is_output_of task.now) (F.contents folder.old) (F.contents folder.new) }
-    ensures ok { IsTrue F.faithful → OnOk result ((kinds : Kinds) → Agrees A.meanings table.now kinds
+    ensures ok { F.faithful folder.new → OnOk result ((kinds : Kinds) → Agrees A.meanings table.now kinds
         → (old : Trees)
         → GoesOn kinds task.now old inputs.trees changes outputs.observed (F.contents folder.old).files
         → EndsWell (run_input kinds task.now inputs.trees changes
         (rest_of task.now (F.contents folder.old).files))
         lines.new (F.contents folder.new).files) }
-    ensures err { IsTrue F.faithful → IfErr result
+    ensures err { F.faithful folder.new → IfErr result
         (λ fault. (kinds : Kinds) → Agrees A.meanings table.now kinds
         → (old : Trees)
         → GoesOn kinds task.now old inputs.trees changes outputs.observed (F.contents folder.old).files

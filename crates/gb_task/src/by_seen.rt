@@ -44,6 +44,7 @@ pub(crate) fn prepare_by_seen<F: Folder>(
 ) -> Result<Prepared, Fault>
     requires in_order { HasNamesInOrder task.now }
     ensures requests { Requests F.failures F.may_leave F.allowed no_change folder.old folder.new }
+    ensures back { F.faithful folder.new → F.faithful folder.old }
     ensures blame { Blames result (F.failures folder.old) (F.failures folder.new) }
     ensures blamed { BlamesOnly (λ place. is_input_of task.now place || is_output_of task.now place) result }
     ensures may_be { IfOk result (MayPrepare task.now) }
@@ -59,14 +60,14 @@ pub(crate) fn prepare_by_seen<F: Folder>(
     ensures seen { (since : _) → Requests F.failures F.may_leave F.allowed no_change since folder.old
         → AreSeen F.failures F.may_leave F.allowed since folder.old seen.old
         → AreSeen F.failures F.may_leave F.allowed since folder.new seen.new }
-    ensures same { IsTrue F.faithful → F.contents folder.new ≡ F.contents folder.old }
-    ensures prepared { IsTrue F.faithful → AreSeenIn (F.contents folder.old).files seen.old
+    ensures same { F.faithful folder.new → F.contents folder.new ≡ F.contents folder.old }
+    ensures prepared { F.faithful folder.new → AreSeenIn (F.contents folder.old).files seen.old
         → IfOk result (IsPrepared options task.now (F.contents folder.old) (option_copied last.entry)) }
-    ensures observed { IsTrue F.faithful → AreSeenIn (F.contents folder.old).files seen.old
+    ensures observed { F.faithful folder.new → AreSeenIn (F.contents folder.old).files seen.old
         → IfOk result (IsObserved task.now (F.contents folder.old).files) }
-    ensures seen_in { IsTrue F.faithful → AreSeenIn (F.contents folder.old).files seen.old
+    ensures seen_in { F.faithful folder.new → AreSeenIn (F.contents folder.old).files seen.old
         → AreSeenIn (F.contents folder.old).files seen.new }
-    ensures err { IsTrue F.faithful → IfErr result
+    ensures err { F.faithful folder.new → IfErr result
         (IsHindered task.now (F.contents folder.old) (F.failures folder.old) (F.failures folder.new)) }
 {
     read_ahead(alloc, folder, next, seen);
@@ -89,6 +90,7 @@ fn current_by_seen<F: Folder>(
 ) -> Option<Prepared>
     requires in_order { HasNamesInOrder task.now }
     ensures requests { Requests F.failures F.may_leave F.allowed no_change folder.old folder.new }
+    ensures back { F.faithful folder.new → F.faithful folder.old }
     ensures may_be { IfSome result (MayPrepare task.now) }
     ensures may_decide { IfSome result (MayDecideAs options task.now) }
     ensures read { IfSome result (IsRead task.now) }
@@ -96,10 +98,10 @@ fn current_by_seen<F: Folder>(
         → AreSeen F.failures F.may_leave F.allowed since folder.old seen.now
         → IfSome result (WasPreparedSince F.failures F.may_leave F.allowed since folder.old folder.new options
         task.now (option_copied last.entry)) }
-    ensures same { IsTrue F.faithful → F.contents folder.new ≡ F.contents folder.old }
-    ensures prepared { IsTrue F.faithful → AreSeenIn (F.contents folder.old).files seen.now
+    ensures same { F.faithful folder.new → F.contents folder.new ≡ F.contents folder.old }
+    ensures prepared { F.faithful folder.new → AreSeenIn (F.contents folder.old).files seen.now
         → IfSome result (IsPrepared options task.now (F.contents folder.old) (option_copied last.entry)) }
-    ensures observed { IsTrue F.faithful → AreSeenIn (F.contents folder.old).files seen.now
+    ensures observed { F.faithful folder.new → AreSeenIn (F.contents folder.old).files seen.now
         → IfSome result (IsObserved task.now (F.contents folder.old).files) }
 {
     if last.is_none() || options.rerun || !was_seen(task, seen) {

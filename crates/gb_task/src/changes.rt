@@ -59,6 +59,7 @@ pub fn execute_by_changes<A: Actions, F: Folder>(
     requires source { lacks_source task.now.files observed.inputs.items ≡ false }
     requires outputs { AreOutputs task.now observed.outputs.items }
     ensures path { result.path ≡ task.now.path }
+    ensures back { F.faithful folder.new → F.faithful folder.old }
     ensures has_actions { result.has_actions ≡ not (is_empty task.now.actions) }
     ensures outcome { IsReportedOf outcome_of result.outcome }
     // Over any folder: where calls returned its inputs and outputs since a state of the folder, without
@@ -74,10 +75,10 @@ pub fn execute_by_changes<A: Actions, F: Folder>(
         → HasRisen (F.failures folder.old) (F.failures folder.new) }
     ensures blamed { (place : List ℕ) → result.outcome ≡ Failed (Fault.Device place)
         → IsTrue (is_input_of task.now place || is_output_of task.now place) }
-    ensures changes { IsTrue F.faithful
+    ensures changes { F.faithful folder.new
         → ChangesOnly (is_of_execution task.now) (F.contents folder.old) (F.contents folder.new) }
     // Where the task runs incrementally, based on its record, this is its execution.
-    ensures execution { IsTrue F.faithful → (kinds : Kinds) (registry_of : Registering)
+    ensures execution { F.faithful folder.new → (kinds : Kinds) (registry_of : Registering)
         (plan : Plan) (moment : Moment) → IsAssumed A.meanings table.now kinds (F.may_leave folder.old)
         → BeginsAt task.now true (F.contents folder.old) (F.failures folder.old) moment
         → AreInputsObserved task.now (F.contents folder.old).files observed.inputs.items
@@ -126,12 +127,13 @@ fn go_on<A: Actions, F: Folder>(
         → OnlyRead F.failures F.may_leave F.allowed lines.new result first folder.new
         ⊎ RanFrom F.failures F.may_leave F.allowed A.meanings table.now task.now options last.now lines.new
         result first folder.new }
+    ensures back { F.faithful folder.new → F.faithful folder.old }
     ensures count { F.failures folder.old ≤ F.failures folder.new }
     ensures blame { Blames result (F.failures folder.old) (F.failures folder.new) }
     ensures blamed { BlamesOnly (λ place. is_input_of task.now place || is_output_of task.now place) result }
-    ensures changes { IsTrue F.faithful
+    ensures changes { F.faithful folder.new
         → ChangesOnly (is_of_execution task.now) (F.contents folder.old) (F.contents folder.new) }
-    ensures execution { IsTrue F.faithful → (kinds : Kinds) (registry_of : Registering)
+    ensures execution { F.faithful folder.new → (kinds : Kinds) (registry_of : Registering)
         (plan : Plan) (moment : Moment) → IsAssumed A.meanings table.now kinds (F.may_leave folder.old)
         → BeginsAt task.now true (F.contents folder.old) (F.failures folder.old) moment
         → AreInputsObserved task.now (F.contents folder.old).files observed.inputs.items

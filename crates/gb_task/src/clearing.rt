@@ -1,5 +1,5 @@
 //! Deletes the record and the outputs of a task's previous execution.
-ghost use Rattle.std.specs.Prelude.{◌≡◌, [], List, None, false, IsTrue};
+ghost use Rattle.std.specs.Prelude.{◌≡◌, [], List, None, false};
 ghost use Rattle.std.specs.List.{list_any};
 ghost use Rattle.gb_folder.specs.Calls.{Requests, Call, takes_at};
 ghost use Rattle.gb_folder.specs.Device.{Leads};
@@ -34,14 +34,15 @@ pub fn clear<F: Folder>(
     // Over any folder: by these calls.
     ensures calls { (calls : List Call) × Leads F.device folder.old calls folder.new
         × Clears task.now was_read calls [] result }
+    ensures back { F.faithful folder.new → F.faithful folder.old }
     ensures requests { Requests F.failures F.may_leave F.allowed (takes_at (is_of_execution task.now))
         folder.old
         folder.new }
     ensures blame { Blames result (F.failures folder.old) (F.failures folder.new) }
     ensures blamed { BlamesOnly (is_output_of task.now) result }
-    ensures changes { IsTrue F.faithful
+    ensures changes { F.faithful folder.new
         → ChangesOnly (is_of_execution task.now) (F.contents folder.old) (F.contents folder.new) }
-    ensures cleared { IsTrue F.faithful → TornWritesAreDetected IsText record_place (F.may_leave folder.old)
+    ensures cleared { F.faithful folder.new → TornWritesAreDetected IsText record_place (F.may_leave folder.old)
         → (memory : Memory) → HoldsRecords (F.contents folder.old).files memory
         → (was_read ≡ false → recalled memory task.now.path ≡ None)
         → HasCleared task.now was_read memory (F.may_leave folder.old) (F.failures folder.old)

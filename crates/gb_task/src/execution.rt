@@ -73,6 +73,7 @@ pub fn execute_task<A: Actions, F: Folder>(
     requires outputs_separate { some_overlap (output_places task.now) ≡ false }
     requires path { path ≡ task.now.path }
     ensures path { result.path ≡ task.now.path }
+    ensures back { F.faithful folder.new → F.faithful folder.old }
     ensures has_actions { result.has_actions ≡ not (is_empty task.now.actions) }
     // Over any folder: which calls were made, stage by stage, up to the first that failed; with which
     // bytes; and what they were based on. A task that is skipped or up to date requests no change, and
@@ -97,14 +98,14 @@ pub fn execute_task<A: Actions, F: Folder>(
     ensures alone { IsAnsweredAlone task.now.runs (is_empty task.now.actions) has_executed_need
         result.outcome }
     ensures answer { IsAnswer options task.now result }
-    ensures changes { IsTrue F.faithful
+    ensures changes { F.faithful folder.new
         → ChangesOnly (is_of_execution task.now) (F.contents folder.old) (F.contents folder.new) }
-    ensures seen_in { IsTrue F.faithful → AreSeenIn (F.contents folder.old).files seen.old
+    ensures seen_in { F.faithful folder.new → AreSeenIn (F.contents folder.old).files seen.old
         → AreSeenIn (F.contents folder.new).files seen.new }
     // Where contents are known and kinds agree: if what was read is the record of what is
     // remembered, or none where nothing is, and that is true and collision-free with what the task
     // has now (`IsKnown`), this is its execution by the definitions.
-    ensures execution { IsTrue F.faithful → AreSeenIn (F.contents folder.old).files seen.old
+    ensures execution { F.faithful folder.new → AreSeenIn (F.contents folder.old).files seen.old
         → (kinds : Kinds) (registry_of : Registering) (plan : Plan) (moment : Moment)
         → IsAssumed A.meanings table.now kinds (F.may_leave folder.old)
         → BeginsAt task.now (is_some (option_copied last.entry)) (F.contents folder.old)
@@ -155,6 +156,7 @@ fn run<A: Actions, F: Folder>(
     requires read { IsReadFor task.now observed decision }
     requires source { lacks_source task.now.files observed.inputs.items ≡ false }
     ensures path { result.path ≡ task.now.path }
+    ensures back { F.faithful folder.new → F.faithful folder.old }
     ensures has_actions { result.has_actions ≡ not (is_empty task.now.actions) }
     ensures outcome { IsReportedOf outcome_of result.outcome }
     // Over any folder: where calls returned what it was decided on since a state of the folder, without
@@ -171,9 +173,9 @@ fn run<A: Actions, F: Folder>(
         → HasRisen (F.failures folder.old) (F.failures folder.new) }
     ensures blamed { (place : List ℕ) → result.outcome ≡ Failed (Fault.Device place)
         → IsTrue (is_input_of task.now place || is_output_of task.now place) }
-    ensures changes { IsTrue F.faithful
+    ensures changes { F.faithful folder.new
         → ChangesOnly (is_of_execution task.now) (F.contents folder.old) (F.contents folder.new) }
-    ensures execution { IsTrue F.faithful → (kinds : Kinds) (registry_of : Registering)
+    ensures execution { F.faithful folder.new → (kinds : Kinds) (registry_of : Registering)
         (plan : Plan) (moment : Moment) → IsAssumed A.meanings table.now kinds (F.may_leave folder.old)
         → BeginsAt task.now (is_some (option_copied last.entry)) (F.contents folder.old)
         (F.failures folder.old) moment

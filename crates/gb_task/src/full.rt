@@ -70,6 +70,7 @@ pub fn execute_in_full<A: Actions, F: Folder>(
     requires inputs { AreInputs task.now inputs.items }
     requires source { lacks_source task.now.files inputs.items ≡ false }
     ensures path { result.path ≡ task.now.path }
+    ensures back { F.faithful folder.new → F.faithful folder.old }
     ensures has_actions { result.has_actions ≡ not (is_empty task.now.actions) }
     ensures outcome { IsReportedOf outcome_of result.outcome }
     // Over any folder: where calls returned its inputs since a state of the folder, without a change,
@@ -84,10 +85,10 @@ pub fn execute_in_full<A: Actions, F: Folder>(
         → HasRisen (F.failures folder.old) (F.failures folder.new) }
     ensures blamed { (place : List ℕ) → result.outcome ≡ Failed (Fault.Device place)
         → IsTrue (is_input_of task.now place || is_output_of task.now place) }
-    ensures changes { IsTrue F.faithful
+    ensures changes { F.faithful folder.new
         → ChangesOnly (is_of_execution task.now) (F.contents folder.old) (F.contents folder.new) }
     // Where the full run is due, this is the task's execution.
-    ensures execution { IsTrue F.faithful → (kinds : Kinds) (registry_of : Registering) (options : Options)
+    ensures execution { F.faithful folder.new → (kinds : Kinds) (registry_of : Registering) (options : Options)
         (plan : Plan) (moment : Moment) → IsAssumed A.meanings table.now kinds (F.may_leave folder.old)
         → BeginsAt task.now was_read (F.contents folder.old) (F.failures folder.old) moment
         → AreInputsObserved task.now (F.contents folder.old).files inputs.items
@@ -138,12 +139,13 @@ fn run_with_record<A: Actions, F: Folder>(
         → OnlyRead F.failures F.may_leave F.allowed lines.new result first folder.new
         ⊎ RanInFull F.failures F.may_leave F.allowed A.meanings table.now task.now was_read lines.new result
         first folder.new }
+    ensures back { F.faithful folder.new → F.faithful folder.old }
     ensures count { F.failures folder.old ≤ F.failures folder.new }
     ensures blame { Blames result (F.failures folder.old) (F.failures folder.new) }
     ensures blamed { BlamesOnly (λ place. is_input_of task.now place || is_output_of task.now place) result }
-    ensures changes { IsTrue F.faithful
+    ensures changes { F.faithful folder.new
         → ChangesOnly (is_of_execution task.now) (F.contents folder.old) (F.contents folder.new) }
-    ensures execution { IsTrue F.faithful → (kinds : Kinds) (registry_of : Registering) (options : Options)
+    ensures execution { F.faithful folder.new → (kinds : Kinds) (registry_of : Registering) (options : Options)
         (plan : Plan) (moment : Moment) → IsAssumed A.meanings table.now kinds (F.may_leave folder.old)
         → BeginsAt task.now was_read (F.contents folder.old) (F.failures folder.old) moment
         → AreInputsObserved task.now (F.contents folder.old).files inputs.items
@@ -175,12 +177,13 @@ pub(crate) fn run_on<A: Actions, F: Folder>(
     // Over any folder: it is a full run on these inputs, by these calls.
     ensures ran { (calls : List Call) × Leads F.device folder.old calls folder.new
         × FullRun A.meanings table.now task.now inputs.trees was_read calls lines.new result }
+    ensures back { F.faithful folder.new → F.faithful folder.old }
     ensures count { F.failures folder.old ≤ F.failures folder.new }
     ensures blame { Blames result (F.failures folder.old) (F.failures folder.new) }
     ensures blamed { BlamesOnly (is_output_of task.now) result }
-    ensures changes { IsTrue F.faithful
+    ensures changes { F.faithful folder.new
         → ChangesOnly (is_of_execution task.now) (F.contents folder.old) (F.contents folder.new) }
-    ensures execution { IsTrue F.faithful → (kinds : Kinds) (registry_of : Registering) (options : Options)
+    ensures execution { F.faithful folder.new → (kinds : Kinds) (registry_of : Registering) (options : Options)
         (plan : Plan) (moment : Moment) → IsAssumed A.meanings table.now kinds (F.may_leave folder.old)
         → BeginsAt task.now was_read (F.contents folder.old) (F.failures folder.old) moment
         → inputs.trees ≡ trees_of task.now (F.contents folder.old).files
@@ -216,6 +219,7 @@ fn make_in_full<A: Actions, F: Folder>(
     ensures requests { Requests F.failures F.may_leave F.allowed (changes_at (is_output_of task.now))
         folder.old
         folder.new }
+    ensures back { F.faithful folder.new → F.faithful folder.old }
     ensures blame { Blames result (F.failures folder.old) (F.failures folder.new) }
     ensures blamed { BlamesOnly (is_output_of task.now) result }
     // Over any folder: by these calls, with just the bytes and the lines of the actions.
@@ -224,12 +228,12 @@ fn make_in_full<A: Actions, F: Folder>(
         × HasMade ran (ending result) }
     // Over any folder, whoever else writes in it: the record is true.
     ensures made { IfOk result (IsOfFullRun A.meanings table.now task.now trees) }
-    ensures changes { IsTrue F.faithful
+    ensures changes { F.faithful folder.new
         → ChangesOnly (is_output_of task.now) (F.contents folder.old) (F.contents folder.new) }
-    ensures ok { IsTrue F.faithful → OnOk result ((kinds : Kinds) → Agrees A.meanings table.now kinds
+    ensures ok { F.faithful folder.new → OnOk result ((kinds : Kinds) → Agrees A.meanings table.now kinds
         → EndsWell (run_input kinds task.now trees changes (F.contents folder.old).files)
         lines.new (F.contents folder.new).files) }
-    ensures err { IsTrue F.faithful → IfErr result
+    ensures err { F.faithful folder.new → IfErr result
         (λ fault. (kinds : Kinds) → Agrees A.meanings table.now kinds
         → Fails (run_input kinds task.now trees changes (F.contents folder.old).files) InFull
         (F.may_leave folder.old) (F.failures folder.old) fault

@@ -1,5 +1,5 @@
 //! The record of a task: deleted as its run begins, and stored as it ends.
-ghost use Rattle.std.specs.Prelude.{◌≡◌, ◌≢◌, ℕ, List, None, Some, Err, false, true, IsTrue, IfErr, OnErr};
+ghost use Rattle.std.specs.Prelude.{◌≡◌, ◌≢◌, ℕ, List, None, Some, Err, false, true, IfErr, OnErr};
 ghost use Rattle.std.specs.Prelude.{OnOk};
 ghost use Rattle.gb_folder.specs.Calls.{Requests, Call, put_at, taken_at};
 ghost use Rattle.gb_folder.specs.Device.{Leads};
@@ -32,16 +32,17 @@ pub fn forget<F: Folder>(
     // Over any folder: by these calls.
     ensures calls { (calls : List Call) × Leads F.device folder.old calls folder.new
         × DeletesRecord path.now was_read calls result }
+    ensures back { F.faithful folder.new → F.faithful folder.old }
     ensures requests { Requests F.failures F.may_leave F.allowed (taken_at (record_place path.now)) folder.old
         folder.new }
     ensures blame { (place : List ℕ) → result ≢ Err (Fault.Device place) }
-    ensures changes { IsTrue F.faithful
+    ensures changes { F.faithful folder.new
         → ChangesOnly (is_at (record_place path.now)) (F.contents folder.old) (F.contents folder.new) }
-    ensures err { IsTrue F.faithful → IfErr result
+    ensures err { F.faithful folder.new → IfErr result
         (IsUnwritten path.now None (F.contents folder.old).files (F.failures folder.old)
         (F.failures folder.new)) }
     ensures read { OnErr result (was_read ≡ true) }
-    ensures exists { IsTrue F.faithful → TornWritesAreDetected IsText record_place (F.may_leave folder.old)
+    ensures exists { F.faithful folder.new → TornWritesAreDetected IsText record_place (F.may_leave folder.old)
         → (memory : Memory) → HoldsRecords (F.contents folder.old).files memory
         → (was_read ≡ false → recalled memory path.now ≡ None)
         → IsForgotten path.now memory result (F.contents folder.new).files }
@@ -67,17 +68,18 @@ pub fn remember<F: Folder>(
 ) -> Result<(), Fault>
     ensures requests { Requests F.failures F.may_leave F.allowed (put_at (record_place task.now.path)
         (record_text task.now.path run.now)) folder.old folder.new }
+    ensures back { F.faithful folder.new → F.faithful folder.old }
     // Over any folder: by these calls.
     ensures calls { (calls : List Call) × Leads F.device folder.old calls folder.new
         × StoresRecord task.now run.now calls result }
     ensures blame { (place : List ℕ) → result ≢ Err (Fault.Device place) }
-    ensures changes { IsTrue F.faithful
+    ensures changes { F.faithful folder.new
         → ChangesOnly (is_at (record_place task.now.path)) (F.contents folder.old) (F.contents folder.new) }
-    ensures err { IsTrue F.faithful → IfErr result
+    ensures err { F.faithful folder.new → IfErr result
         (IsUnwritten task.now.path (Some (record_text task.now.path run.now)) (F.contents folder.old).files
         (F.failures folder.old) (F.failures folder.new)) }
     ensures outputs { OnErr result (is_empty task.now.outputs ≡ false) }
-    ensures exists { IsTrue F.faithful → TornWritesAreDetected IsText record_place (F.may_leave folder.old)
+    ensures exists { F.faithful folder.new → TornWritesAreDetected IsText record_place (F.may_leave folder.old)
         → (memory : Memory) (entry : Entry) → HoldsRecords (F.contents folder.old).files memory
         → IsSaidOf run.now entry → IsRemembered task.now entry memory result (F.contents folder.new).files }
 {

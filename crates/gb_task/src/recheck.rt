@@ -4,7 +4,7 @@
 //! keep. Then it decides once more, on the digests of exactly these contents: a file that somebody
 //! saved in between is a change like any other, and where outputs or other properties were changed
 //! the run is a full one.
-ghost use Rattle.std.specs.Prelude.{◌≡◌, ◌||◌, false, map, IsTrue, IfOk, IfErr, OnOk};
+ghost use Rattle.std.specs.Prelude.{◌≡◌, ◌||◌, false, map, IfOk, IfErr, OnOk};
 ghost use Rattle.std.specs.List.{list_any};
 ghost use Rattle.gb_folder.specs.Calls.{Requests, no_change};
 ghost use Rattle.gb_folder.specs.Files.{is_own};
@@ -60,6 +60,7 @@ pub(crate) fn recheck_task<F: Folder>(
     requires inputs { AreInputs task.now observed.inputs.items }
     requires outputs { AreOutputs task.now observed.outputs.items }
     ensures requests { Requests F.failures F.may_leave F.allowed no_change folder.old folder.new }
+    ensures back { F.faithful folder.new → F.faithful folder.old }
     ensures blame { Blames result (F.failures folder.old) (F.failures folder.new) }
     ensures blamed { BlamesOnly (λ place. is_input_of task.now place || is_output_of task.now place) result }
     // Over any folder: the digests are those of what the run works on, and the changes are decided
@@ -70,15 +71,15 @@ pub(crate) fn recheck_task<F: Folder>(
         → AreInputsAnswered F.failures F.may_leave F.allowed first folder.old task.now observed.inputs.items
         → AreOutputsAnswered F.failures F.may_leave F.allowed first folder.old task.now observed.outputs.items
         → IfOk result (WasReadRecheck F.failures F.may_leave F.allowed first folder.new task.now) }
-    ensures same { IsTrue F.faithful → F.contents folder.new ≡ F.contents folder.old }
+    ensures same { F.faithful folder.new → F.contents folder.new ≡ F.contents folder.old }
     // Where nobody else writes, the result is the earlier decision.
-    ensures as_before { IsTrue F.faithful → (kinds : Kinds) (world : World)
+    ensures as_before { F.faithful folder.new → (kinds : Kinds) (world : World)
         → world.folder ≡ outside (F.contents folder.old)
         → AreInputsObserved task.now (F.contents folder.old).files observed.inputs.items
         → AreOutputsObserved task.now (F.contents folder.old).files observed.outputs.items
         → IsToGoOn kinds options task.now world last.now
         → IfOk result (IsAsBefore kinds options task.now (F.contents folder.old).files world) }
-    ensures err { IsTrue F.faithful → AreInputsObserved task.now (F.contents folder.old).files
+    ensures err { F.faithful folder.new → AreInputsObserved task.now (F.contents folder.old).files
         observed.inputs.items
         → AreOutputsObserved task.now (F.contents folder.old).files observed.outputs.items
         → IfErr result (IsOfMachine (F.failures folder.old) (F.failures folder.new)) }

@@ -41,6 +41,7 @@ pub fn execute_without_source<F: Folder>(
     requires not_own { list_any (λ output. is_own output.place) task.now.outputs ≡ false }
     requires path { path ≡ task.now.path }
     ensures path { result.path ≡ task.now.path }
+    ensures back { F.faithful folder.new → F.faithful folder.old }
     ensures has_actions { result.has_actions ≡ not (is_empty task.now.actions) }
     ensures outcome { IsReportedOf cleared_outcome result.outcome }
     ensures lines { result.lines ≡ [] }
@@ -54,10 +55,10 @@ pub fn execute_without_source<F: Folder>(
         → HasRisen (F.failures folder.old) (F.failures folder.new) }
     ensures blamed { (place : List ℕ) → result.outcome ≡ Failed (Fault.Device place)
         → IsTrue (is_output_of task.now place) }
-    ensures changes { IsTrue F.faithful
+    ensures changes { F.faithful folder.new
         → ChangesOnly (is_of_execution task.now) (F.contents folder.old) (F.contents folder.new) }
     // Where the task has no source, this is its execution.
-    ensures execution { IsTrue F.faithful → (kinds : Kinds) (registry_of : Registering) (options : Options)
+    ensures execution { F.faithful folder.new → (kinds : Kinds) (registry_of : Registering) (options : Options)
         (plan : Plan) (moment : Moment) → TornWritesAreDetected IsText record_place (F.may_leave folder.old)
         → BeginsAt task.now was_read (F.contents folder.old) (F.failures folder.old) moment
         → early_case task.now moment.world.folder ≡ Some HasNoSource

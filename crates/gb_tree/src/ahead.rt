@@ -1,6 +1,6 @@
 //! Reads files before it is their turn, so that files of different tasks are digested four at a
 //! time.
-ghost use Rattle.std.specs.Prelude.{◌≡◌, ◌++◌, IsTrue, IfOk, IfSome};
+ghost use Rattle.std.specs.Prelude.{◌≡◌, ◌++◌, IfOk, IfSome};
 ghost use Rattle.std.specs.List.{AllByRecursion};
 ghost use Rattle.gb_folder.specs.Calls.{Requests, no_change};
 ghost use Rattle.gb_tree.specs.Answered.{WasObserved, WereObserved};
@@ -25,11 +25,12 @@ const FEW: usize = 16;
 /// is remembered. If the files of all roots are not in their order, some may not be found later.
 pub fn read_ahead<F: Folder>(alloc: Global, folder: &mut F, roots: &[Place], seen: &mut Seen)
     ensures requests { Requests F.failures F.may_leave F.allowed no_change folder.old folder.new }
-    ensures same { IsTrue F.faithful → F.contents folder.new ≡ F.contents folder.old }
+    ensures back { F.faithful folder.new → F.faithful folder.old }
+    ensures same { F.faithful folder.new → F.contents folder.new ≡ F.contents folder.old }
     ensures seen { (since : _) → Requests F.failures F.may_leave F.allowed no_change since folder.old
         → AreSeen F.failures F.may_leave F.allowed since folder.old seen.old
         → AreSeen F.failures F.may_leave F.allowed since folder.new seen.new }
-    ensures seen_in { IsTrue F.faithful → AreSeenIn (F.contents folder.old).files seen.old
+    ensures seen_in { F.faithful folder.new → AreSeenIn (F.contents folder.old).files seen.old
         → AreSeenIn (F.contents folder.old).files seen.new }
 {
     if roots.is_empty() {
@@ -48,10 +49,11 @@ fn scan_roots<F: Folder>(
     roots: &[Place],
 ) -> Result<Vec<ScannedFile>, AllocError>
     ensures requests { Requests F.failures F.may_leave F.allowed no_change folder.old folder.new }
-    ensures same { IsTrue F.faithful → F.contents folder.new ≡ F.contents folder.old }
+    ensures back { F.faithful folder.new → F.faithful folder.old }
+    ensures same { F.faithful folder.new → F.contents folder.new ≡ F.contents folder.old }
     ensures answered { IfOk result
         (λ files. WereObserved F.failures F.may_leave F.allowed folder.old folder.new files.items) }
-    ensures observed { IsTrue F.faithful → IfOk result
+    ensures observed { F.faithful folder.new → IfOk result
         (λ files. AllByRecursion (IsObservedIn (F.contents folder.old).files) files.items) }
 {
     let mut files = Vec::with_capacity(alloc, roots.len())?;
@@ -72,13 +74,14 @@ fn scan_root<F: Folder>(
     waiting: Waiting,
 ) -> Result<Waiting, AllocError>
     ensures requests { Requests F.failures F.may_leave F.allowed no_change folder.old folder.new }
-    ensures same { IsTrue F.faithful → F.contents folder.new ≡ F.contents folder.old }
+    ensures back { F.faithful folder.new → F.faithful folder.old }
+    ensures same { F.faithful folder.new → F.contents folder.new ≡ F.contents folder.old }
     ensures answered { (first : _) → Requests F.failures F.may_leave F.allowed no_change first folder.old
         → WereObserved F.failures F.may_leave F.allowed first folder.old
         (files.old.items ++ waiting_files waiting)
         → IfOk result (λ left. WereObserved F.failures F.may_leave F.allowed first folder.new
         (files.new.items ++ waiting_files left)) }
-    ensures observed { IsTrue F.faithful
+    ensures observed { F.faithful folder.new
         → AllByRecursion (IsObservedIn (F.contents folder.old).files)
         (files.old.items ++ waiting_files waiting)
         → IfOk result (λ left. AllByRecursion (IsObservedIn (F.contents folder.old).files)
@@ -98,7 +101,8 @@ fn scan_root<F: Folder>(
 /// The places of the files at the root; none if they are many or it cannot be listed.
 fn few_at<F: Folder>(alloc: Global, folder: &mut F, root: &Place) -> Vec<Place>
     ensures requests { Requests F.failures F.may_leave F.allowed no_change folder.old folder.new }
-    ensures same { IsTrue F.faithful → F.contents folder.new ≡ F.contents folder.old }
+    ensures back { F.faithful folder.new → F.faithful folder.old }
+    ensures same { F.faithful folder.new → F.contents folder.new ≡ F.contents folder.old }
 {
     match listed(alloc, folder, root) {
         Ok(places) => few(alloc, places),
@@ -121,10 +125,11 @@ fn few(alloc: Global, places: Vec<Place>) -> Vec<Place> {
 /// The file at the place, if it can be read.
 fn scan_place<F: Folder>(alloc: Global, folder: &mut F, place: &Place) -> Option<Found>
     ensures requests { Requests F.failures F.may_leave F.allowed no_change folder.old folder.new }
-    ensures same { IsTrue F.faithful → F.contents folder.new ≡ F.contents folder.old }
+    ensures back { F.faithful folder.new → F.faithful folder.old }
+    ensures same { F.faithful folder.new → F.contents folder.new ≡ F.contents folder.old }
     ensures answered { IfSome result
         (λ found. WasObserved F.failures F.may_leave F.allowed folder.old folder.new (file_in found)) }
-    ensures observed { IsTrue F.faithful → IfSome result
+    ensures observed { F.faithful folder.new → IfSome result
         (λ found. IsObservedIn (F.contents folder.old).files (file_in found)) }
 {
     let path = RelPath::read(alloc, "").ok()?;

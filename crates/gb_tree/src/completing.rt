@@ -29,18 +29,19 @@ fn complete<F: Folder>(
 ) -> Result<(RelPath, Bytes, [u8; 32]), TreeFault>
     requires { IsTrue (is_digest_of observed.kept observed.digest) }
     ensures requests { Requests F.failures F.may_leave F.allowed no_change folder.old folder.new }
+    ensures back { F.faithful folder.new → F.faithful folder.old }
     ensures blame { Blames (λ at. at ≡ observed.place)
         (F.failures folder.old) (F.failures folder.new) result }
-    ensures same { IsTrue F.faithful → F.contents folder.new ≡ F.contents folder.old }
+    ensures same { F.faithful folder.new → F.contents folder.new ≡ F.contents folder.old }
     ensures path { IfOk result (λ made. made.0 ≡ observed.path) }
     ensures digest { IfOk result (λ made. made.2 ≡ sha256 made.1) }
     ensures answered { (first : _) → Requests F.failures F.may_leave F.allowed no_change first folder.old
         → WasObserved F.failures F.may_leave F.allowed first folder.old observed
         → IfOk result
         (λ made. WereRead F.failures F.may_leave F.allowed first folder.new observed.place made.1) }
-    ensures read { IsTrue F.faithful → IsObservedIn (F.contents folder.old).files observed
+    ensures read { F.faithful folder.new → IsObservedIn (F.contents folder.old).files observed
         → IfOk result (λ made. made.1 ≡ bytes_at (F.contents folder.old).files observed.place) }
-    ensures err { IsTrue F.faithful → IsObservedIn (F.contents folder.old).files observed
+    ensures err { F.faithful folder.new → IsObservedIn (F.contents folder.old).files observed
         → IfErr result (IsTreeFaultOfMachine (F.failures folder.old) (F.failures folder.new)) }
 {
     let ScannedFile {
@@ -80,9 +81,10 @@ pub(crate) fn complete_all<F: Folder>(
 ) -> Result<(Files, Vec<(RelPath, [u8; 32])>), TreeFault>
     requires { IsReading observed.items }
     ensures requests { Requests F.failures F.may_leave F.allowed no_change folder.old folder.new }
+    ensures back { F.faithful folder.new → F.faithful folder.old }
     ensures blame { Blames (λ at. IsTrue (is_among (entries_observed observed.items) at))
         (F.failures folder.old) (F.failures folder.new) result }
-    ensures same { IsTrue F.faithful → F.contents folder.new ≡ F.contents folder.old }
+    ensures same { F.faithful folder.new → F.contents folder.new ≡ F.contents folder.old }
     ensures digests { IfOk result (λ made. made.1.items ≡ digests_of made.0) }
     ensures ordered { IfOk result (λ made. IsTrue (is_sorted byte_order made.1.items)) }
     ensures paths { IfOk result
@@ -91,11 +93,11 @@ pub(crate) fn complete_all<F: Folder>(
         → WereObserved F.failures F.may_leave F.allowed first folder.old observed.items
         → IfOk result (λ made. IsTreeRead F.failures F.may_leave F.allowed first folder.new
         (entries_observed observed.items) made.0) }
-    ensures read { IsTrue F.faithful → AllByRecursion (IsObservedIn (F.contents folder.old).files)
+    ensures read { F.faithful folder.new → AllByRecursion (IsObservedIn (F.contents folder.old).files)
         observed.items
         → IfOk result (λ made. made.0 ≡ contents_at (F.contents folder.old).files
         (entries_observed observed.items)) }
-    ensures err { IsTrue F.faithful → AllByRecursion (IsObservedIn (F.contents folder.old).files)
+    ensures err { F.faithful folder.new → AllByRecursion (IsObservedIn (F.contents folder.old).files)
         observed.items
         → IfErr result (IsTreeFaultOfMachine (F.failures folder.old) (F.failures folder.new)) }
 {

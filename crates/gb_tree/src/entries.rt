@@ -42,19 +42,20 @@ pub(crate) fn entries_of<F: Folder>(
     exclude: &[Pattern],
 ) -> Result<Vec<(RelPath, Place)>, TreeFault>
     ensures requests { Requests F.failures F.may_leave F.allowed no_change folder.old folder.new }
+    ensures back { F.faithful folder.new → F.faithful folder.old }
     ensures blame { Blames (λ at. IsTrue (is_under_any roots.now at))
         (F.failures folder.old) (F.failures folder.new) result }
     ensures under { IfOk result
         (λ entries. AllByRecursion (λ entry. IsTrue (is_under_any roots.now entry.1)) entries.items) }
     ensures ordered { IfOk result (λ entries. IsTrue (is_sorted byte_order entries.items)) }
-    ensures same { IsTrue F.faithful → F.contents folder.new ≡ F.contents folder.old }
+    ensures same { F.faithful folder.new → F.contents folder.new ≡ F.contents folder.old }
     ensures listed { IfOk result (λ entries. AreEntriesListed F.failures F.may_leave F.allowed naming
         roots.now include.now exclude.now folder.old folder.new entries.items) }
-    ensures entries { IsTrue F.faithful → IfOk result (λ entries.
+    ensures entries { F.faithful folder.new → IfOk result (λ entries.
         entries.items ≡ entries_of naming roots.now include.now exclude.now (F.contents folder.old).files) }
-    ensures fit { IsTrue F.faithful → OnOk result
+    ensures fit { F.faithful folder.new → OnOk result
         (entry_faults name.now naming roots.now include.now exclude.now (F.contents folder.old) ≡ []) }
-    ensures err { IsTrue F.faithful → IfErr result (λ fault.
+    ensures err { F.faithful folder.new → IfErr result (λ fault.
         IsRefused (F.failures folder.old) (F.failures folder.new)
         (entry_faults name.now naming roots.now include.now exclude.now (F.contents folder.old)) fault) }
 {
@@ -84,26 +85,27 @@ fn found_few<F: Folder>(
     roots: &[Place],
 ) -> Result<Vec<(RelPath, Place)>, TreeFault>
     ensures requests { Requests F.failures F.may_leave F.allowed no_change folder.old folder.new }
+    ensures back { F.faithful folder.new → F.faithful folder.old }
     ensures blame { Blames (λ at. IsTrue (is_under_any (places_of (starts_in include.now roots.now)) at))
         (F.failures folder.old) (F.failures folder.new) result }
     ensures under { IfOk result (λ entries.
         AllByRecursion
         (λ entry. IsTrue (is_under_any (places_of (starts_in include.now roots.now)) entry.1))
         entries.items) }
-    ensures same { IsTrue F.faithful → F.contents folder.new ≡ F.contents folder.old }
+    ensures same { F.faithful folder.new → F.contents folder.new ≡ F.contents folder.old }
     ensures answered { IfOk result (λ entries. (listings : List (List (List ℕ)))
         × AllZip (IsStartListed F.failures F.may_leave F.allowed folder.old folder.new)
         (starts_in include.now roots.now) listings
         × (entries.items ≡ listed_in naming include.now exclude.now
         (zip (starts_in include.now roots.now) listings))) }
-    ensures found { IsTrue F.faithful → IfOk result (λ entries.
+    ensures found { F.faithful folder.new → IfOk result (λ entries.
         entries.items
         ≡ found_from naming include.now exclude.now (F.contents folder.old).files
         (starts_in include.now roots.now)) }
-    ensures none_special { IsTrue F.faithful → OnOk result
+    ensures none_special { F.faithful folder.new → OnOk result
         (special_roots (F.contents folder.old) (places_of (starts_in include.now roots.now)) ≡ []) }
     ensures few { IfOk result (λ entries. too_many name.now entries.items ≡ []) }
-    ensures err { IsTrue F.faithful → IfErr result (λ fault.
+    ensures err { F.faithful folder.new → IfErr result (λ fault.
         IsRefused (F.failures folder.old) (F.failures folder.new)
         (special_roots (F.contents folder.old) (places_of (starts_in include.now roots.now))
         ++ too_many name.now
@@ -128,6 +130,7 @@ fn found_at_all<F: Folder>(
     roots: &[Place],
 ) -> Result<Vec<(RelPath, Place)>, TreeFault>
     ensures requests { Requests F.failures F.may_leave F.allowed no_change folder.old folder.new }
+    ensures back { F.faithful folder.new → F.faithful folder.old }
     ensures blame { Blames (λ at. IsTrue (is_under_any (places_of (starts_in include.now roots.now)) at))
         (F.failures folder.old) (F.failures folder.new) result }
     ensures under { IfOk result (λ entries.
@@ -135,19 +138,19 @@ fn found_at_all<F: Folder>(
         (λ entry. IsTrue (is_under_any (places_of (starts_in include.now roots.now)) entry.1))
         entries.items) }
     ensures few { IfOk result (λ entries. length entries.items ≤ max_files + 1) }
-    ensures same { IsTrue F.faithful → F.contents folder.new ≡ F.contents folder.old }
+    ensures same { F.faithful folder.new → F.contents folder.new ≡ F.contents folder.old }
     ensures answered { IfOk result (λ entries. (listings : List (List (List ℕ)))
         × AllZip (IsStartListed F.failures F.may_leave F.allowed folder.old folder.new)
         (starts_in include.now roots.now) listings
         × (entries.items ≡ held (listed_in naming include.now exclude.now
         (zip (starts_in include.now roots.now) listings)))) }
-    ensures found { IsTrue F.faithful → IfOk result (λ entries.
+    ensures found { F.faithful folder.new → IfOk result (λ entries.
         entries.items
         ≡ held (found_from naming include.now exclude.now (F.contents folder.old).files
         (starts_in include.now roots.now))) }
-    ensures none_special { IsTrue F.faithful → OnOk result
+    ensures none_special { F.faithful folder.new → OnOk result
         (special_roots (F.contents folder.old) (places_of (starts_in include.now roots.now)) ≡ []) }
-    ensures special { IsTrue F.faithful → IfErr result (λ fault.
+    ensures special { F.faithful folder.new → IfErr result (λ fault.
         IsRefused (F.failures folder.old) (F.failures folder.new)
         (special_roots (F.contents folder.old) (places_of (starts_in include.now roots.now))) fault) }
 {
@@ -193,21 +196,22 @@ fn found<F: Folder>(
 ) -> Result<Vec<(RelPath, Place)>, TreeFault>
     requires { AllByRecursion (λ start. IsTrue (is_under start.1 start.0)) starts.now }
     ensures requests { Requests F.failures F.may_leave F.allowed no_change folder.old folder.new }
+    ensures back { F.faithful folder.new → F.faithful folder.old }
     ensures blame { Blames (λ at. IsTrue (is_under_any (places_of starts.now) at))
         (F.failures folder.old) (F.failures folder.new) result }
     ensures under { IfOk result (λ entries.
         AllByRecursion (λ entry. IsTrue (is_under_any (places_of starts.now) entry.1)) entries.items) }
     ensures few { IfOk result (λ entries. length entries.items ≤ max_files + 1) }
-    ensures same { IsTrue F.faithful → F.contents folder.new ≡ F.contents folder.old }
+    ensures same { F.faithful folder.new → F.contents folder.new ≡ F.contents folder.old }
     ensures answered { IfOk result (λ entries. (listings : List (List (List ℕ)))
         × AllZip (IsStartListed F.failures F.may_leave F.allowed folder.old folder.new) starts.now listings
         × (entries.items ≡ held (listed_in naming include.now exclude.now (zip starts.now listings)))) }
-    ensures found { IsTrue F.faithful → IfOk result (λ entries.
+    ensures found { F.faithful folder.new → IfOk result (λ entries.
         entries.items
         ≡ held (found_from naming include.now exclude.now (F.contents folder.old).files starts.now)) }
-    ensures none_special { IsTrue F.faithful → OnOk result
+    ensures none_special { F.faithful folder.new → OnOk result
         (special_roots (F.contents folder.old) (places_of starts.now) ≡ []) }
-    ensures special { IsTrue F.faithful → IfErr result (λ fault.
+    ensures special { F.faithful folder.new → IfErr result (λ fault.
         IsRefused (F.failures folder.old) (F.failures folder.new)
         (special_roots (F.contents folder.old) (places_of starts.now)) fault) }
 {

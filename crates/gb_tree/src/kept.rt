@@ -100,9 +100,10 @@ impl Reading {
         folder: &mut F,
     ) -> Result<(Snapshot, Prints), TreeFault>
         ensures requests { Requests F.failures F.may_leave F.allowed no_change folder.old folder.new }
+        ensures back { F.faithful folder.new → F.faithful folder.old }
         ensures blame { Blames (λ at. IsTrue (is_among (entries_observed self.1) at))
             (F.failures folder.old) (F.failures folder.new) result }
-        ensures same { IsTrue F.faithful → F.contents folder.new ≡ F.contents folder.old }
+        ensures same { F.faithful folder.new → F.contents folder.new ≡ F.contents folder.old }
         ensures named { IfOk result (λ made. made.0.0 ≡ self.0) }
         ensures prints { IfOk result (λ made. made.1 ≡ (self.0, digests_of made.0.1)) }
         ensures paths { IfOk result
@@ -112,10 +113,10 @@ impl Reading {
             → WereObserved F.failures F.may_leave F.allowed first folder.old self.1
             → IfOk result (λ made. IsTreeRead F.failures F.may_leave F.allowed first folder.new
             (entries_observed self.1) made.0.1) }
-        ensures tree { IsTrue F.faithful → AllByRecursion (IsObservedIn (F.contents folder.old).files) self.1
+        ensures tree { F.faithful folder.new → AllByRecursion (IsObservedIn (F.contents folder.old).files) self.1
             → IfOk result
             (λ made. made.0.1 ≡ contents_at (F.contents folder.old).files (entries_observed self.1)) }
-        ensures err { IsTrue F.faithful → AllByRecursion (IsObservedIn (F.contents folder.old).files) self.1
+        ensures err { F.faithful folder.new → AllByRecursion (IsObservedIn (F.contents folder.old).files) self.1
             → IfErr result (IsTreeFaultOfMachine (F.failures folder.old) (F.failures folder.new)) }
     {
         let Reading { name, files } = self;

@@ -39,14 +39,15 @@ pub fn outputs<F: Folder>(
     place: &Place,
 ) -> Result<Snapshot, TreeFault>
     ensures requests { Requests F.failures F.may_leave F.allowed no_change folder.old folder.new }
+    ensures back { F.faithful folder.new → F.faithful folder.old }
     ensures blame { Blames (λ at. IsTrue (is_under at place.now))
         (F.failures folder.old) (F.failures folder.new) result }
-    ensures same { IsTrue F.faithful → F.contents folder.new ≡ F.contents folder.old }
-    ensures files { IsTrue F.faithful → IfOk result
+    ensures same { F.faithful folder.new → F.contents folder.new ≡ F.contents folder.old }
+    ensures files { F.faithful folder.new → IfOk result
         (λ snapshot. snapshot ≡ (name.now, files_from (F.contents folder.old).files place.now)) }
-    ensures fit { IsTrue F.faithful → OnOk result
+    ensures fit { F.faithful folder.new → OnOk result
         (output_faults name.now place.now (F.contents folder.old) ≡ []) }
-    ensures err { IsTrue F.faithful → IfErr result (λ fault.
+    ensures err { F.faithful folder.new → IfErr result (λ fault.
         IsRefused (F.failures folder.old) (F.failures folder.new)
         (output_faults name.now place.now (F.contents folder.old)) fault) }
 {
@@ -64,15 +65,16 @@ pub fn output_prints<F: Folder>(
     place: &Place,
 ) -> Result<Prints, TreeFault>
     ensures requests { Requests F.failures F.may_leave F.allowed no_change folder.old folder.new }
+    ensures back { F.faithful folder.new → F.faithful folder.old }
     ensures blame { Blames (λ at. IsTrue (is_under at place.now))
         (F.failures folder.old) (F.failures folder.new) result }
-    ensures same { IsTrue F.faithful → F.contents folder.new ≡ F.contents folder.old }
+    ensures same { F.faithful folder.new → F.contents folder.new ≡ F.contents folder.old }
     ensures named { IfOk result (λ prints. prints.0 ≡ name.now) }
-    ensures prints { IsTrue F.faithful → IfOk result
+    ensures prints { F.faithful folder.new → IfOk result
         (λ prints. prints ≡ (name.now, digests_of (files_from (F.contents folder.old).files place.now))) }
-    ensures fit { IsTrue F.faithful → OnOk result
+    ensures fit { F.faithful folder.new → OnOk result
         (output_faults name.now place.now (F.contents folder.old) ≡ []) }
-    ensures err { IsTrue F.faithful → IfErr result (λ fault.
+    ensures err { F.faithful folder.new → IfErr result (λ fault.
         IsRefused (F.failures folder.old) (F.failures folder.new)
         (output_faults name.now place.now (F.contents folder.old)) fault) }
 {
@@ -94,9 +96,10 @@ pub fn output_reading<F: Folder>(
     room: &mut u64,
 ) -> Result<Reading, TreeFault>
     ensures requests { Requests F.failures F.may_leave F.allowed no_change folder.old folder.new }
+    ensures back { F.faithful folder.new → F.faithful folder.old }
     ensures blame { Blames (λ at. IsTrue (is_under at place.now))
         (F.failures folder.old) (F.failures folder.new) result }
-    ensures same { IsTrue F.faithful → F.contents folder.new ≡ F.contents folder.old }
+    ensures same { F.faithful folder.new → F.contents folder.new ≡ F.contents folder.old }
     ensures named { IfOk result (λ reading. reading.0 ≡ name.now) }
     ensures under { IfOk result
         (λ reading. AllByRecursion (λ observed. IsTrue (is_under observed.place place.now)) reading.1) }
@@ -110,15 +113,15 @@ pub fn output_reading<F: Folder>(
         → IfOk result
         (λ reading. WereObserved F.failures F.may_leave F.allowed first folder.new reading.1) }
     // Where contents are known and the seen digests are those of the files there:
-    ensures digests { IsTrue F.faithful → AreSeenIn (F.contents folder.old).files seen.now
+    ensures digests { F.faithful folder.new → AreSeenIn (F.contents folder.old).files seen.now
         → IfOk result (λ reading.
         digests_observed reading.1 ≡ digests_of (files_from (F.contents folder.old).files place.now)) }
-    ensures observed { IsTrue F.faithful → AreSeenIn (F.contents folder.old).files seen.now
+    ensures observed { F.faithful folder.new → AreSeenIn (F.contents folder.old).files seen.now
         → IfOk result (λ reading. AreObserved (F.contents folder.old).files
         (output_entries (F.contents folder.old).files place.now) reading.1) }
-    ensures fit { IsTrue F.faithful → AreSeenIn (F.contents folder.old).files seen.now → OnOk result
+    ensures fit { F.faithful folder.new → AreSeenIn (F.contents folder.old).files seen.now → OnOk result
         (output_faults name.now place.now (F.contents folder.old) ≡ []) }
-    ensures err { IsTrue F.faithful → AreSeenIn (F.contents folder.old).files seen.now
+    ensures err { F.faithful folder.new → AreSeenIn (F.contents folder.old).files seen.now
         → IfErr result (λ fault.
         IsRefused (F.failures folder.old) (F.failures folder.new)
         (output_faults name.now place.now (F.contents folder.old)) fault) }
@@ -143,9 +146,10 @@ fn read_output_once<F: Folder>(
     room: &mut u64,
 ) -> Result<Reading, TreeFault>
     ensures requests { Requests F.failures F.may_leave F.allowed no_change folder.old folder.new }
+    ensures back { F.faithful folder.new → F.faithful folder.old }
     ensures blame { Blames (λ at. IsTrue (is_under at place.now))
         (F.failures folder.old) (F.failures folder.new) result }
-    ensures same { IsTrue F.faithful → F.contents folder.new ≡ F.contents folder.old }
+    ensures same { F.faithful folder.new → F.contents folder.new ≡ F.contents folder.old }
     ensures named { IfOk result (λ reading. reading.0 ≡ name.now) }
     ensures under { IfOk result
         (λ reading. AllByRecursion (λ observed. IsTrue (is_under observed.place place.now)) reading.1) }
@@ -159,15 +163,15 @@ fn read_output_once<F: Folder>(
         → IfOk result
         (λ reading. WereObserved F.failures F.may_leave F.allowed first folder.new reading.1) }
     // Where contents are known and the seen digests are those of the files there:
-    ensures digests { IsTrue F.faithful → AreSeenIn (F.contents folder.old).files seen.now
+    ensures digests { F.faithful folder.new → AreSeenIn (F.contents folder.old).files seen.now
         → IfOk result (λ reading.
         digests_observed reading.1 ≡ digests_of (files_from (F.contents folder.old).files place.now)) }
-    ensures observed { IsTrue F.faithful → AreSeenIn (F.contents folder.old).files seen.now
+    ensures observed { F.faithful folder.new → AreSeenIn (F.contents folder.old).files seen.now
         → IfOk result (λ reading. AreObserved (F.contents folder.old).files
         (output_entries (F.contents folder.old).files place.now) reading.1) }
-    ensures fit { IsTrue F.faithful → AreSeenIn (F.contents folder.old).files seen.now → OnOk result
+    ensures fit { F.faithful folder.new → AreSeenIn (F.contents folder.old).files seen.now → OnOk result
         (output_faults name.now place.now (F.contents folder.old) ≡ []) }
-    ensures err { IsTrue F.faithful → AreSeenIn (F.contents folder.old).files seen.now
+    ensures err { F.faithful folder.new → AreSeenIn (F.contents folder.old).files seen.now
         → IfErr result (λ fault.
         IsRefused (F.failures folder.old) (F.failures folder.new)
         (output_faults name.now place.now (F.contents folder.old)) fault) }
@@ -185,19 +189,20 @@ fn entries_at<F: Folder>(
     place: &Place,
 ) -> Result<Vec<(RelPath, Place)>, TreeFault>
     ensures requests { Requests F.failures F.may_leave F.allowed no_change folder.old folder.new }
+    ensures back { F.faithful folder.new → F.faithful folder.old }
     ensures blame { Blames (λ at. IsTrue (is_under at place.now))
         (F.failures folder.old) (F.failures folder.new) result }
     ensures under { IfOk result
         (λ entries. AllByRecursion (λ entry. IsTrue (is_under entry.1 place.now)) entries.items) }
     ensures ordered { IfOk result (λ entries. IsTrue (is_sorted byte_order entries.items)) }
-    ensures same { IsTrue F.faithful → F.contents folder.new ≡ F.contents folder.old }
+    ensures same { F.faithful folder.new → F.contents folder.new ≡ F.contents folder.old }
     ensures listed { IfOk result (λ entries. AreOutputEntriesListed F.failures F.may_leave F.allowed
         folder.old folder.new place.now entries.items) }
-    ensures entries { IsTrue F.faithful → IfOk result
+    ensures entries { F.faithful folder.new → IfOk result
         (λ entries. entries.items ≡ output_entries (F.contents folder.old).files place.now) }
-    ensures fit { IsTrue F.faithful → OnOk result
+    ensures fit { F.faithful folder.new → OnOk result
         (output_listing_faults name.now place.now (F.contents folder.old) ≡ []) }
-    ensures err { IsTrue F.faithful → IfErr result (λ fault.
+    ensures err { F.faithful folder.new → IfErr result (λ fault.
         IsRefused (F.failures folder.old) (F.failures folder.new)
         (output_listing_faults name.now place.now (F.contents folder.old)) fault) }
 {
@@ -215,19 +220,20 @@ fn entries_beneath<F: Folder>(
     place: &Place,
 ) -> Result<Vec<(RelPath, Place)>, TreeFault>
     ensures requests { Requests F.failures F.may_leave F.allowed no_change folder.old folder.new }
+    ensures back { F.faithful folder.new → F.faithful folder.old }
     ensures blame { Blames (λ at. IsTrue (is_under at place.now))
         (F.failures folder.old) (F.failures folder.new) result }
     ensures under { IfOk result
         (λ entries. AllByRecursion (λ entry. IsTrue (is_under entry.1 place.now)) entries.items) }
     ensures ordered { IfOk result (λ entries. IsTrue (is_sorted byte_order entries.items)) }
-    ensures same { IsTrue F.faithful → F.contents folder.new ≡ F.contents folder.old }
+    ensures same { F.faithful folder.new → F.contents folder.new ≡ F.contents folder.old }
     ensures listed { IfOk result (λ entries. AreOutputEntriesListed F.failures F.may_leave F.allowed
         folder.old folder.new place.now entries.items) }
-    ensures entries { IsTrue F.faithful → IfOk result (λ entries.
+    ensures entries { F.faithful folder.new → IfOk result (λ entries.
         entries.items ≡ entries_from place.now (places_under (F.contents folder.old).files place.now)) }
-    ensures fit { IsTrue F.faithful → OnOk result
+    ensures fit { F.faithful folder.new → OnOk result
         (listing_faults name.now place.now (F.contents folder.old) ≡ []) }
-    ensures err { IsTrue F.faithful → IfErr result (λ fault.
+    ensures err { F.faithful folder.new → IfErr result (λ fault.
         IsRefused (F.failures folder.old) (F.failures folder.new)
         (listing_faults name.now place.now (F.contents folder.old)) fault) }
 {

@@ -53,15 +53,16 @@ pub fn snapshot<F: Folder>(
     exclude: &[Pattern],
 ) -> Result<Snapshot, TreeFault>
     ensures requests { Requests F.failures F.may_leave F.allowed no_change folder.old folder.new }
+    ensures back { F.faithful folder.new → F.faithful folder.old }
     ensures blame { Blames (λ at. IsTrue (is_under_any roots.now at))
         (F.failures folder.old) (F.failures folder.new) result }
-    ensures same { IsTrue F.faithful → F.contents folder.new ≡ F.contents folder.old }
-    ensures files { IsTrue F.faithful → IfOk result
+    ensures same { F.faithful folder.new → F.contents folder.new ≡ F.contents folder.old }
+    ensures files { F.faithful folder.new → IfOk result
         (λ snapshot. snapshot
         ≡ (name.now, tree_of naming roots.now include.now exclude.now (F.contents folder.old).files)) }
-    ensures fit { IsTrue F.faithful → OnOk result
+    ensures fit { F.faithful folder.new → OnOk result
         (tree_faults name.now naming roots.now include.now exclude.now (F.contents folder.old) ≡ []) }
-    ensures err { IsTrue F.faithful → IfErr result (λ fault.
+    ensures err { F.faithful folder.new → IfErr result (λ fault.
         IsRefused (F.failures folder.old) (F.failures folder.new)
         (tree_faults name.now naming roots.now include.now exclude.now (F.contents folder.old)) fault) }
 {
@@ -82,19 +83,20 @@ pub fn prints_of<F: Folder>(
     exclude: &[Pattern],
 ) -> Result<Prints, TreeFault>
     ensures requests { Requests F.failures F.may_leave F.allowed no_change folder.old folder.new }
+    ensures back { F.faithful folder.new → F.faithful folder.old }
     ensures blame { Blames (λ at. IsTrue (is_under_any roots.now at))
         (F.failures folder.old) (F.failures folder.new) result }
-    ensures same { IsTrue F.faithful → F.contents folder.new ≡ F.contents folder.old }
+    ensures same { F.faithful folder.new → F.contents folder.new ≡ F.contents folder.old }
     ensures named { IfOk result (λ prints. prints.0 ≡ name.now) }
-    ensures prints { IsTrue F.faithful → IfOk result (λ prints. prints
+    ensures prints { F.faithful folder.new → IfOk result (λ prints. prints
         ≡ (
           name.now,
           digests_of
               (tree_of naming roots.now include.now exclude.now (F.contents folder.old).files),
         )) }
-    ensures fit { IsTrue F.faithful → OnOk result
+    ensures fit { F.faithful folder.new → OnOk result
         (tree_faults name.now naming roots.now include.now exclude.now (F.contents folder.old) ≡ []) }
-    ensures err { IsTrue F.faithful → IfErr result (λ fault.
+    ensures err { F.faithful folder.new → IfErr result (λ fault.
         IsRefused (F.failures folder.old) (F.failures folder.new)
         (tree_faults name.now naming roots.now include.now exclude.now (F.contents folder.old)) fault) }
 {
@@ -119,9 +121,10 @@ pub fn reading_of<F: Folder>(
     room: &mut u64,
 ) -> Result<Reading, TreeFault>
     ensures requests { Requests F.failures F.may_leave F.allowed no_change folder.old folder.new }
+    ensures back { F.faithful folder.new → F.faithful folder.old }
     ensures blame { Blames (λ at. IsTrue (is_under_any roots.now at))
         (F.failures folder.old) (F.failures folder.new) result }
-    ensures same { IsTrue F.faithful → F.contents folder.new ≡ F.contents folder.old }
+    ensures same { F.faithful folder.new → F.contents folder.new ≡ F.contents folder.old }
     ensures named { IfOk result (λ reading. reading.0 ≡ name.now) }
     ensures under { IfOk result
         (λ reading. AllByRecursion (λ observed. IsTrue (is_under_any roots.now observed.place)) reading.1) }
@@ -136,15 +139,15 @@ pub fn reading_of<F: Folder>(
         → IfOk result
         (λ reading. WereObserved F.failures F.may_leave F.allowed first folder.new reading.1) }
     // Where contents are known and the seen digests are those of the files there:
-    ensures digests { IsTrue F.faithful → AreSeenIn (F.contents folder.old).files seen.now
+    ensures digests { F.faithful folder.new → AreSeenIn (F.contents folder.old).files seen.now
         → IfOk result (λ reading. digests_observed reading.1
         ≡ digests_of (tree_of naming roots.now include.now exclude.now (F.contents folder.old).files)) }
-    ensures observed { IsTrue F.faithful → AreSeenIn (F.contents folder.old).files seen.now
+    ensures observed { F.faithful folder.new → AreSeenIn (F.contents folder.old).files seen.now
         → IfOk result (λ reading. AreObserved (F.contents folder.old).files
         (entries_of naming roots.now include.now exclude.now (F.contents folder.old).files) reading.1) }
-    ensures fit { IsTrue F.faithful → AreSeenIn (F.contents folder.old).files seen.now → OnOk result
+    ensures fit { F.faithful folder.new → AreSeenIn (F.contents folder.old).files seen.now → OnOk result
         (tree_faults name.now naming roots.now include.now exclude.now (F.contents folder.old) ≡ []) }
-    ensures err { IsTrue F.faithful → AreSeenIn (F.contents folder.old).files seen.now
+    ensures err { F.faithful folder.new → AreSeenIn (F.contents folder.old).files seen.now
         → IfErr result (λ fault.
         IsRefused (F.failures folder.old) (F.failures folder.new)
         (tree_faults name.now naming roots.now include.now exclude.now (F.contents folder.old)) fault) }
@@ -176,9 +179,10 @@ fn read_once<F: Folder>(
     room: &mut u64,
 ) -> Result<Reading, TreeFault>
     ensures requests { Requests F.failures F.may_leave F.allowed no_change folder.old folder.new }
+    ensures back { F.faithful folder.new → F.faithful folder.old }
     ensures blame { Blames (λ at. IsTrue (is_under_any roots.now at))
         (F.failures folder.old) (F.failures folder.new) result }
-    ensures same { IsTrue F.faithful → F.contents folder.new ≡ F.contents folder.old }
+    ensures same { F.faithful folder.new → F.contents folder.new ≡ F.contents folder.old }
     ensures named { IfOk result (λ reading. reading.0 ≡ name.now) }
     ensures under { IfOk result
         (λ reading. AllByRecursion (λ observed. IsTrue (is_under_any roots.now observed.place)) reading.1) }
@@ -193,15 +197,15 @@ fn read_once<F: Folder>(
         → IfOk result
         (λ reading. WereObserved F.failures F.may_leave F.allowed first folder.new reading.1) }
     // Where contents are known and the seen digests are those of the files there:
-    ensures digests { IsTrue F.faithful → AreSeenIn (F.contents folder.old).files seen.now
+    ensures digests { F.faithful folder.new → AreSeenIn (F.contents folder.old).files seen.now
         → IfOk result (λ reading. digests_observed reading.1
         ≡ digests_of (tree_of naming roots.now include.now exclude.now (F.contents folder.old).files)) }
-    ensures observed { IsTrue F.faithful → AreSeenIn (F.contents folder.old).files seen.now
+    ensures observed { F.faithful folder.new → AreSeenIn (F.contents folder.old).files seen.now
         → IfOk result (λ reading. AreObserved (F.contents folder.old).files
         (entries_of naming roots.now include.now exclude.now (F.contents folder.old).files) reading.1) }
-    ensures fit { IsTrue F.faithful → AreSeenIn (F.contents folder.old).files seen.now → OnOk result
+    ensures fit { F.faithful folder.new → AreSeenIn (F.contents folder.old).files seen.now → OnOk result
         (tree_faults name.now naming roots.now include.now exclude.now (F.contents folder.old) ≡ []) }
-    ensures err { IsTrue F.faithful → AreSeenIn (F.contents folder.old).files seen.now
+    ensures err { F.faithful folder.new → AreSeenIn (F.contents folder.old).files seen.now
         → IfErr result (λ fault.
         IsRefused (F.failures folder.old) (F.failures folder.new)
         (tree_faults name.now naming roots.now include.now exclude.now (F.contents folder.old)) fault) }

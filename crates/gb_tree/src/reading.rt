@@ -36,18 +36,19 @@ pub(crate) fn listed<F: Folder>(
     place: &Place,
 ) -> Result<Vec<Place>, TreeFault>
     ensures requests { Requests F.failures F.may_leave F.allowed no_change folder.old folder.new }
+    ensures back { F.faithful folder.new → F.faithful folder.old }
     ensures blame { Blames (λ at. at ≡ place.now)
         (F.failures folder.old) (F.failures folder.new) result }
     ensures under { IfOk result (λ places. AllPass (λ at. is_under at place.now) places.items) }
     ensures ordered { IfOk result (λ places. IsStrictlySortedBy byte_order places.items) }
-    ensures same { IsTrue F.faithful → F.contents folder.new ≡ F.contents folder.old }
+    ensures same { F.faithful folder.new → F.contents folder.new ≡ F.contents folder.old }
     ensures answered { IfOk result (λ places. WereListed F.failures F.may_leave F.allowed
         folder.old folder.new place.now places.items) }
-    ensures listed { IsTrue F.faithful → IfOk result
+    ensures listed { F.faithful folder.new → IfOk result
         (λ places. places.items ≡ places_under (F.contents folder.old).files place.now) }
-    ensures none_special { IsTrue F.faithful → OnOk result
+    ensures none_special { F.faithful folder.new → OnOk result
         (is_special_under (F.contents folder.old) place.now ≡ false) }
-    ensures special { IsTrue F.faithful → IfErr result
+    ensures special { F.faithful folder.new → IfErr result
         (λ fault. IsTreeFaultOfMachine (F.failures folder.old) (F.failures folder.new) fault
         ⊎ (IsTrue (is_special_under (F.contents folder.old) place.now)
         × (fault ≡ TreeFault.BadFileName place.now))) }
@@ -64,18 +65,19 @@ pub(crate) fn read_file<F: Folder>(
     place: &Place,
 ) -> Result<Bytes, TreeFault>
     ensures requests { Requests F.failures F.may_leave F.allowed no_change folder.old folder.new }
+    ensures back { F.faithful folder.new → F.faithful folder.old }
     ensures blame { Blames (λ at. at ≡ place.now)
         (F.failures folder.old) (F.failures folder.new) result }
-    ensures same { IsTrue F.faithful → F.contents folder.new ≡ F.contents folder.old }
+    ensures same { F.faithful folder.new → F.contents folder.new ≡ F.contents folder.old }
     ensures answered { IfOk result (λ bytes. WereRead F.failures F.may_leave F.allowed
         folder.old folder.new place.now bytes) }
-    ensures read { IsTrue F.faithful → IfOk result
+    ensures read { F.faithful folder.new → IfOk result
         (λ bytes. bytes ≡ bytes_at (F.contents folder.old).files place.now) }
-    ensures exists { IsTrue F.faithful → OnOk result
+    ensures exists { F.faithful folder.new → OnOk result
         (IsSome (file_at (F.contents folder.old).files place.now)) }
-    ensures small { IsTrue F.faithful → OnOk result
+    ensures small { F.faithful folder.new → OnOk result
         (is_large (F.contents folder.old).files place.now ≡ false) }
-    ensures err { IsTrue F.faithful → IsSome (file_at (F.contents folder.old).files place.now)
+    ensures err { F.faithful folder.new → IsSome (file_at (F.contents folder.old).files place.now)
         → IfErr result (λ fault. IsTreeFaultOfMachine (F.failures folder.old) (F.failures folder.new) fault
         ⊎ ((is_large (F.contents folder.old).files place.now ≡ true)
         × (fault ≡ TreeFault.TooLarge place.now))) }
@@ -94,14 +96,15 @@ pub(crate) fn read_all<F: Folder>(
 ) -> Result<Files, TreeFault>
     requires { IsTrue (is_sorted byte_order entries.now) }
     ensures requests { Requests F.failures F.may_leave F.allowed no_change folder.old folder.new }
+    ensures back { F.faithful folder.new → F.faithful folder.old }
     ensures blame { Blames (λ at. IsTrue (is_among entries.now at))
         (F.failures folder.old) (F.failures folder.new) result }
-    ensures same { IsTrue F.faithful → F.contents folder.new ≡ F.contents folder.old }
-    ensures read { IsTrue F.faithful → IfOk result
+    ensures same { F.faithful folder.new → F.contents folder.new ≡ F.contents folder.old }
+    ensures read { F.faithful folder.new → IfOk result
         (λ files. files ≡ contents_at (F.contents folder.old).files entries.now) }
-    ensures small { IsTrue F.faithful → OnOk result
+    ensures small { F.faithful folder.new → OnOk result
         (too_large (F.contents folder.old).files entries.now ≡ []) }
-    ensures err { IsTrue F.faithful
+    ensures err { F.faithful folder.new
         → AllByRecursion (λ entry. IsSome (file_at (F.contents folder.old).files entry.1)) entries.now
         → IfErr result (λ fault.
         IsRefused (F.failures folder.old) (F.failures folder.new)
@@ -124,15 +127,16 @@ pub(crate) fn read_piece<F: Folder>(
     len: u64,
 ) -> Result<Vec<u8>, TreeFault>
     ensures requests { Requests F.failures F.may_leave F.allowed no_change folder.old folder.new }
+    ensures back { F.faithful folder.new → F.faithful folder.old }
     ensures blame { Blames (λ at. at ≡ place.now)
         (F.failures folder.old) (F.failures folder.new) result }
-    ensures same { IsTrue F.faithful → F.contents folder.new ≡ F.contents folder.old }
+    ensures same { F.faithful folder.new → F.contents folder.new ≡ F.contents folder.old }
     ensures within { IfOk result (λ piece. length piece.items ≤ len) }
-    ensures read { IsTrue F.faithful → IfOk result
+    ensures read { F.faithful folder.new → IfOk result
         (λ piece. piece.items ≡ take len (drop at (bytes_at (F.contents folder.old).files place.now))) }
-    ensures exists { IsTrue F.faithful → OnOk result
+    ensures exists { F.faithful folder.new → OnOk result
         (IsSome (file_at (F.contents folder.old).files place.now)) }
-    ensures err { IsTrue F.faithful → IsSome (file_at (F.contents folder.old).files place.now)
+    ensures err { F.faithful folder.new → IsSome (file_at (F.contents folder.old).files place.now)
         → IfErr result (λ fault. IsTreeFaultOfMachine (F.failures folder.old) (F.failures folder.new) fault) }
 {
     match folder.read_part(alloc, place, at, len) {
@@ -148,14 +152,15 @@ fn digest_file<F: Folder>(
     place: &Place,
 ) -> Result<[u8; 32], TreeFault>
     ensures requests { Requests F.failures F.may_leave F.allowed no_change folder.old folder.new }
+    ensures back { F.faithful folder.new → F.faithful folder.old }
     ensures blame { Blames (λ at. at ≡ place.now)
         (F.failures folder.old) (F.failures folder.new) result }
-    ensures same { IsTrue F.faithful → F.contents folder.new ≡ F.contents folder.old }
-    ensures digest { IsTrue F.faithful → IfOk result
+    ensures same { F.faithful folder.new → F.contents folder.new ≡ F.contents folder.old }
+    ensures digest { F.faithful folder.new → IfOk result
         (λ digest. digest ≡ sha256 (bytes_at (F.contents folder.old).files place.now)) }
-    ensures small { IsTrue F.faithful → OnOk result
+    ensures small { F.faithful folder.new → OnOk result
         (is_large (F.contents folder.old).files place.now ≡ false) }
-    ensures err { IsTrue F.faithful → IsSome (file_at (F.contents folder.old).files place.now)
+    ensures err { F.faithful folder.new → IsSome (file_at (F.contents folder.old).files place.now)
         → IfErr result (λ fault. IsTreeFaultOfMachine (F.failures folder.old) (F.failures folder.new) fault
         ⊎ ((is_large (F.contents folder.old).files place.now ≡ true)
         × (fault ≡ TreeFault.TooLarge place.now))) }
@@ -184,15 +189,16 @@ pub(crate) fn digest_all<F: Folder>(
 ) -> Result<Vec<(RelPath, [u8; 32])>, TreeFault>
     requires { IsTrue (is_sorted byte_order entries.now) }
     ensures requests { Requests F.failures F.may_leave F.allowed no_change folder.old folder.new }
+    ensures back { F.faithful folder.new → F.faithful folder.old }
     ensures blame { Blames (λ at. IsTrue (is_among entries.now at))
         (F.failures folder.old) (F.failures folder.new) result }
-    ensures same { IsTrue F.faithful → F.contents folder.new ≡ F.contents folder.old }
+    ensures same { F.faithful folder.new → F.contents folder.new ≡ F.contents folder.old }
     ensures ordered { IfOk result (λ digests. IsTrue (is_sorted byte_order digests.items)) }
-    ensures digests { IsTrue F.faithful → IfOk result
+    ensures digests { F.faithful folder.new → IfOk result
         (λ digests. digests.items ≡ digests_of (contents_at (F.contents folder.old).files entries.now)) }
-    ensures small { IsTrue F.faithful → OnOk result
+    ensures small { F.faithful folder.new → OnOk result
         (too_large (F.contents folder.old).files entries.now ≡ []) }
-    ensures err { IsTrue F.faithful
+    ensures err { F.faithful folder.new
         → AllByRecursion (λ entry. IsSome (file_at (F.contents folder.old).files entry.1)) entries.now
         → IfErr result (λ fault.
         IsRefused (F.failures folder.old) (F.failures folder.new)

@@ -69,22 +69,23 @@ fn scan_bytes<F: Folder>(
     room: &mut u64,
 ) -> Result<Content, TreeFault>
     ensures requests { Requests F.failures F.may_leave F.allowed no_change folder.old folder.new }
+    ensures back { F.faithful folder.new → F.faithful folder.old }
     ensures blame { Blames (λ at. at ≡ place.now)
         (F.failures folder.old) (F.failures folder.new) result }
-    ensures same { IsTrue F.faithful → F.contents folder.new ≡ F.contents folder.old }
+    ensures same { F.faithful folder.new → F.contents folder.new ≡ F.contents folder.old }
     ensures digested { IfOk result (λ found. IsTrue (is_digest_of (kept_in found) (digest_in found))) }
     ensures answered { IfOk result (λ found. (bytes : List ℕ)
         × WereRead F.failures F.may_leave F.allowed folder.old folder.new place.now bytes
         × (digest_in found ≡ sha256 bytes) × KeepsOnly bytes (kept_in found)) }
-    ensures digest { IsTrue F.faithful → IfOk result
+    ensures digest { F.faithful folder.new → IfOk result
         (λ found. digest_in found ≡ sha256 (bytes_at (F.contents folder.old).files place.now)) }
-    ensures kept { IsTrue F.faithful → IfOk result
+    ensures kept { F.faithful folder.new → IfOk result
         (λ found. KeepsOnly (bytes_at (F.contents folder.old).files place.now) (kept_in found)) }
-    ensures exists { IsTrue F.faithful → OnOk result
+    ensures exists { F.faithful folder.new → OnOk result
         (IsSome (file_at (F.contents folder.old).files place.now)) }
-    ensures small { IsTrue F.faithful → OnOk result
+    ensures small { F.faithful folder.new → OnOk result
         (is_large (F.contents folder.old).files place.now ≡ false) }
-    ensures err { IsTrue F.faithful → IsSome (file_at (F.contents folder.old).files place.now)
+    ensures err { F.faithful folder.new → IsSome (file_at (F.contents folder.old).files place.now)
         → IfErr result (λ fault. IsTreeFaultOfMachine (F.failures folder.old) (F.failures folder.new) fault
         ⊎ ((is_large (F.contents folder.old).files place.now ≡ true)
         × (fault ≡ TreeFault.TooLarge place.now))) }
@@ -108,18 +109,19 @@ pub(crate) fn scan_file<F: Folder>(
     room: &mut u64,
 ) -> Result<Found, TreeFault>
     ensures requests { Requests F.failures F.may_leave F.allowed no_change folder.old folder.new }
+    ensures back { F.faithful folder.new → F.faithful folder.old }
     ensures blame { Blames (λ at. at ≡ place.now)
         (F.failures folder.old) (F.failures folder.new) result }
-    ensures same { IsTrue F.faithful → F.contents folder.new ≡ F.contents folder.old }
+    ensures same { F.faithful folder.new → F.contents folder.new ≡ F.contents folder.old }
     ensures path { IfOk result (λ found. (file_in found).path ≡ path.now) }
     ensures place { IfOk result (λ found. (file_in found).place ≡ place.now) }
     ensures digested { IfOk result
         (λ found. IsTrue (is_digest_of (file_in found).kept (file_in found).digest)) }
     ensures answered { IfOk result
         (λ found. WasObserved F.failures F.may_leave F.allowed folder.old folder.new (file_in found)) }
-    ensures observed { IsTrue F.faithful → IfOk result
+    ensures observed { F.faithful folder.new → IfOk result
         (λ found. IsObservedIn (F.contents folder.old).files (file_in found)) }
-    ensures err { IsTrue F.faithful → IsSome (file_at (F.contents folder.old).files place.now)
+    ensures err { F.faithful folder.new → IsSome (file_at (F.contents folder.old).files place.now)
         → IfErr result (λ fault. IsTreeFaultOfMachine (F.failures folder.old) (F.failures folder.new) fault
         ⊎ ((is_large (F.contents folder.old).files place.now ≡ true)
         × (fault ≡ TreeFault.TooLarge place.now))) }
@@ -166,9 +168,10 @@ fn find_file<F: Folder>(
     room: &mut u64,
 ) -> Result<Found, TreeFault>
     ensures requests { Requests F.failures F.may_leave F.allowed no_change folder.old folder.new }
+    ensures back { F.faithful folder.new → F.faithful folder.old }
     ensures blame { Blames (λ at. at ≡ place.now)
         (F.failures folder.old) (F.failures folder.new) result }
-    ensures same { IsTrue F.faithful → F.contents folder.new ≡ F.contents folder.old }
+    ensures same { F.faithful folder.new → F.contents folder.new ≡ F.contents folder.old }
     ensures path { IfOk result (λ found. (file_in found).path ≡ path.now) }
     ensures place { IfOk result (λ found. (file_in found).place ≡ place.now) }
     ensures digested { IfOk result
@@ -177,9 +180,9 @@ fn find_file<F: Folder>(
         → AreSeen F.failures F.may_leave F.allowed first folder.old seen.now
         → IfOk result
         (λ found. WasObserved F.failures F.may_leave F.allowed first folder.new (file_in found)) }
-    ensures observed { IsTrue F.faithful → AreSeenIn (F.contents folder.old).files seen.now → IfOk result
+    ensures observed { F.faithful folder.new → AreSeenIn (F.contents folder.old).files seen.now → IfOk result
         (λ found. IsObservedIn (F.contents folder.old).files (file_in found)) }
-    ensures err { IsTrue F.faithful → IsSome (file_at (F.contents folder.old).files place.now)
+    ensures err { F.faithful folder.new → IsSome (file_at (F.contents folder.old).files place.now)
         → IfErr result (λ fault. IsTreeFaultOfMachine (F.failures folder.old) (F.failures folder.new) fault
         ⊎ ((is_large (F.contents folder.old).files place.now ≡ true)
         × (fault ≡ TreeFault.TooLarge place.now))) }
@@ -201,20 +204,21 @@ pub(crate) fn scan_all<F: Folder>(
 ) -> Result<Vec<ScannedFile>, TreeFault>
     requires { IsTrue (is_sorted byte_order entries.now) }
     ensures requests { Requests F.failures F.may_leave F.allowed no_change folder.old folder.new }
+    ensures back { F.faithful folder.new → F.faithful folder.old }
     ensures blame { Blames (λ at. IsTrue (is_among entries.now at))
         (F.failures folder.old) (F.failures folder.new) result }
-    ensures same { IsTrue F.faithful → F.contents folder.new ≡ F.contents folder.old }
+    ensures same { F.faithful folder.new → F.contents folder.new ≡ F.contents folder.old }
     ensures placed { IfOk result (λ observed. entries_observed observed.items ≡ entries.now) }
     ensures reading { IfOk result (λ observed. IsReading observed.items) }
     ensures answered { (first : _) → Requests F.failures F.may_leave F.allowed no_change first folder.old
         → AreSeen F.failures F.may_leave F.allowed first folder.old seen.now
         → IfOk result
         (λ observed. WereObserved F.failures F.may_leave F.allowed first folder.new observed.items) }
-    ensures observed { IsTrue F.faithful → AreSeenIn (F.contents folder.old).files seen.now → IfOk result
+    ensures observed { F.faithful folder.new → AreSeenIn (F.contents folder.old).files seen.now → IfOk result
         (λ observed. AllByRecursion (IsObservedIn (F.contents folder.old).files) observed.items) }
-    ensures small { IsTrue F.faithful → AreSeenIn (F.contents folder.old).files seen.now → OnOk result
+    ensures small { F.faithful folder.new → AreSeenIn (F.contents folder.old).files seen.now → OnOk result
         (too_large (F.contents folder.old).files entries.now ≡ []) }
-    ensures err { IsTrue F.faithful → AreSeenIn (F.contents folder.old).files seen.now
+    ensures err { F.faithful folder.new → AreSeenIn (F.contents folder.old).files seen.now
         → AllByRecursion (λ entry. IsSome (file_at (F.contents folder.old).files entry.1)) entries.now
         → IfErr result (λ fault.
         IsRefused (F.failures folder.old) (F.failures folder.new)

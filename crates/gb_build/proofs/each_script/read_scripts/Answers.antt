@@ -23,7 +23,8 @@ loop-project-preserved g c =
     let project = c.project-item.result in
     record {
       requests = requests_then c.loop-project.invariant.requests c.read_script_of.ensures.requests;
-      same = λ faithful. c.read_script_of.ensures.same faithful ∙ c.loop-project.invariant.same faithful;
+      back = λ known. c.loop-project.invariant.back (c.read_script_of.ensures.back known);
+      same = λ faithful. c.read_script_of.ensures.same faithful ∙ c.loop-project.invariant.same (c.read_script_of.ensures.back faithful);
       one_each = long_more c.loop-project.scripts.items _ c.in_ok-read_script_of.field-0 c.loop-project.project-index c.in_ok-push.ensures.items c.loop-project.invariant.one_each;
       parsed =
           parsed_more c.args.projects.now c.loop-project.project-index project c.loop-project.scripts.items _ c.in_ok-read_script_of.field-0
@@ -33,8 +34,8 @@ loop-project-preserved g c =
           c.in_ok-push.ensures.items;
       texts = λ faithful.
           text_more (F.contents c.args.folder.now).files c.args.projects.now c.loop-project.project-index project c.loop-project.scripts.items _ c.in_ok-read_script_of.field-0
-          c.loop-project-test.true c.project-item.is (c.loop-project.invariant.texts faithful)
-          (subst (λ (folder : Contents). TextSays Says folder.files (script_place project.1) (Ok c.in_ok-read_script_of.field-0)) (c.loop-project.invariant.same faithful) (c.in_ok-read_script_of.ensures.said faithful))
+          c.loop-project-test.true c.project-item.is (c.loop-project.invariant.texts (c.read_script_of.ensures.back faithful))
+          (subst (λ (folder : Contents). TextSays Says folder.files (script_place project.1) (Ok c.in_ok-read_script_of.field-0)) (c.loop-project.invariant.same (c.read_script_of.ensures.back faithful)) (c.in_ok-read_script_of.ensures.said faithful))
           c.in_ok-push.ensures.items;
     }
 
@@ -47,6 +48,6 @@ returns-in_err-read_script_of-clause-said g c = λ faithful.
     (elim (c.in_err-read_script_of.ensures.said faithful) [
       | inl machine ↦ inl (machine_before _ _ _ fault c.loop-project.invariant.requests.count c.read_script_of.ensures.requests.count machine)
       | inr bad ↦ inr (first_fault (F.contents c.args.folder.now).files c.args.projects.now c.loop-project.project-index project c.loop-project.scripts.items fault
-          c.loop-project-test.true c.project-item.is (c.loop-project.invariant.texts faithful)
-          (subst (λ (folder : Contents). TextSays Says folder.files (script_place project.1) (Err fault)) (c.loop-project.invariant.same faithful) bad))
+          c.loop-project-test.true c.project-item.is (c.loop-project.invariant.texts (c.read_script_of.ensures.back faithful))
+          (subst (λ (folder : Contents). TextSays Says folder.files (script_place project.1) (Err fault)) (c.loop-project.invariant.same (c.read_script_of.ensures.back faithful)) bad))
     ])

@@ -1,4 +1,4 @@
-use Rattle.std.proofs.Common.{◌≡◌, ◌≤◌, IsTrue, length, take}
+use Rattle.std.proofs.Common.{◌≡◌, ◌≤◌, length, take}
 use Rattle.gb_folder.specs.Calls.{Requests, no_change}
 use Rattle.gb_build.specs.Found.{WereParsed}
 use Rattle.gb_build.specs.Scripts.{AreTexts, script_places}
@@ -9,8 +9,9 @@ invariant-loop-project g l =
     let contents = g.F.Folder.contents in
     record {
       requests : Requests g.F.Folder.failures g.F.Folder.may_leave g.F.Folder.allowed no_change l.fn.folder l.folder;
-      same : IsTrue g.F.Folder.faithful → contents l.folder ≡ contents l.fn.folder;
+      back : g.F.Folder.faithful l.folder → g.F.Folder.faithful l.fn.folder;
+      same : g.F.Folder.faithful l.folder → contents l.folder ≡ contents l.fn.folder;
       one_each : length l.scripts.items ≡ l.project-index;
       parsed : WereParsed g.F.Folder.failures g.F.Folder.may_leave g.F.Folder.allowed l.fn.folder l.folder (script_places (take l.project-index l.projects)) l.scripts.items;
-      texts : IsTrue g.F.Folder.faithful → AreTexts (contents l.fn.folder).files (script_places (take l.project-index l.projects)) l.scripts.items;
+      texts : g.F.Folder.faithful l.folder → AreTexts (contents l.fn.folder).files (script_places (take l.project-index l.projects)) l.scripts.items;
     }

@@ -27,16 +27,16 @@ pub returns-clause-step : goal.returns-clause-step
 returns-clause-step g c = λ faithful.
     let contents = g.F.Folder.contents in
     let old = contents c.args.folder.now in
-    let listed : c.as_slice.result.now ≡ places_under old.files own_place = c.as_slice.ensures.value ∙ c.in_ok-places.ensures.listed faithful ∙ ap (places_under old.files) c.in_ok-own.ensures in
-    lost_from _ _ c.remove_all.result c.as_slice.result.now _ _ _ old (contents c.listed_at.new.folder) (contents c.remove_all.new.folder) (g.met.F.Folder.sound c.args.folder.now) listed (c.listed_at.ensures.same faithful)
+    let listed : c.as_slice.result.now ≡ places_under old.files own_place = c.as_slice.ensures.value ∙ c.in_ok-places.ensures.listed (c.remove_all.ensures.back faithful) ∙ ap (places_under old.files) c.in_ok-own.ensures in
+    lost_from _ _ c.remove_all.result c.as_slice.result.now _ _ _ old (contents c.listed_at.new.folder) (contents c.remove_all.new.folder) (g.met.F.Folder.sound c.args.folder.now) listed (c.listed_at.ensures.same (c.remove_all.ensures.back faithful))
     c.listed_at.ensures.requests.tearing c.listed_at.ensures.requests.count c.remove_all.ensures.requests.count (c.remove_all.ensures.ok faithful) (c.remove_all.ensures.err faithful) (c.remove_all.ensures.cut faithful)
 
 pub returns-clause-elsewhere : goal.returns-clause-elsewhere
 returns-clause-elsewhere g c = λ faithful.
     let contents = g.F.Folder.contents in
     let old = contents c.args.folder.now in
-    let listed : c.as_slice.result.now ≡ places_under old.files own_place = c.as_slice.ensures.value ∙ c.in_ok-places.ensures.listed faithful ∙ ap (places_under old.files) c.in_ok-own.ensures in
-    changes_chain is_own _ _ _ (changes_none is_own old (contents c.listed_at.new.folder) (c.listed_at.ensures.same faithful))
+    let listed : c.as_slice.result.now ≡ places_under old.files own_place = c.as_slice.ensures.value ∙ c.in_ok-places.ensures.listed (c.remove_all.ensures.back faithful) ∙ ap (places_under old.files) c.in_ok-own.ensures in
+    changes_chain is_own _ _ _ (changes_none is_own old (contents c.listed_at.new.folder) (c.listed_at.ensures.same (c.remove_all.ensures.back faithful)))
     (c.remove_all.ensures.changes faithful is_own (subst (λ (places : List (List ℕ)). AllByRecursion (λ place. is_own place ≡ true) places) (sym listed) (all_under old.files own_place)))
 
 pub returns-in_err-places-clause-requests : goal.returns-in_err-places-clause-requests

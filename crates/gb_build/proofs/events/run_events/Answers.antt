@@ -52,17 +52,18 @@ loop-event-preserved g c =
           (subst (λ (events : List Event). EventsRequest F.failures F.may_leave F.allowed (tables_of g.T.Transforms.meanings g.A.Actions.meanings c.args.tables.now) events (c.loop-event.answers.items ++ c.take.result ∷ []) c.args.folder.now c.take.new.folder) taken_here
           (requests_more_events g.F.Folder.failures g.F.Folder.may_leave g.F.Folder.allowed (tables_of g.T.Transforms.meanings g.A.Actions.meanings c.args.tables.now) (take index c.args.events.now) c.loop-event.answers.items c.event-item.result c.take.result c.args.folder.now c.loop-event.folder c.take.new.folder
           (taken_all index c.args.events.now c.loop-event.answers.items so_far.each c.loop-event-test.true) so_far.requests c.take.ensures.requests));
+      back = λ known. so_far.back (c.take.ensures.back known);
       elsewhere = λ faithful.
           subst (λ (reported : List Answer). AllKeepElsewhere registers (take (index + 1) c.args.events.now) reported start.contents next.contents) (sym items)
           (subst (λ (events : List Event). AllKeepElsewhere registers events (c.loop-event.answers.items ++ c.take.result ∷ []) start.contents next.contents) taken_here
           (keeps_more registers (take index c.args.events.now) c.loop-event.answers.items c.event-item.result c.take.result start.contents here.contents next.contents
-          (taken_all index c.args.events.now c.loop-event.answers.items so_far.each c.loop-event-test.true) (so_far.elsewhere faithful) (c.take.ensures.keeps faithful)));
+          (taken_all index c.args.events.now c.loop-event.answers.items so_far.each c.loop-event-test.true) (so_far.elsewhere (c.take.ensures.back faithful)) (c.take.ensures.keeps faithful)));
       holds = λ faithful kinds assumed rest others end runs.
           let setting = setting_by kinds registers first in
           subst (λ (reported : List Answer). RunsFrom setting start (take (index + 1) c.args.events.now ++ rest) (reported ++ others) end) (sym items)
           (subst (λ (events : List Event). RunsFrom setting start (events ++ rest) (c.loop-event.answers.items ++ c.take.result ∷ [] ++ others) end) taken_here
           (more_ahead setting start end (take index c.args.events.now) c.event-item.result rest c.loop-event.answers.items c.take.result others
-          (so_far.holds faithful kinds assumed (c.event-item.result ∷ rest) (c.take.result ∷ others) end
+          (so_far.holds (c.take.ensures.back faithful) kinds assumed (c.event-item.result ∷ rest) (c.take.result ∷ others) end
           (runs_on setting here next end c.event-item.result c.take.result rest others c.take.ensures.count
           (leads_alike first second so_far.tearing kinds registers here c.event-item.result c.take.result next
           (c.take.ensures.leads faithful kinds (assumed_later first second so_far.tearing assumed))) runs))));

@@ -31,9 +31,10 @@ invariant-loop-event g l =
       device : HasFailed (times_blamed_in_all l.answers.items) (F.failures l.fn.folder) (F.failures l.folder);
       heard : HaveHeardAll l.answers.items (map g.L.TaskListener.ear l.fn.listeners.items) (map g.L.TaskListener.ear l.listeners.items);
       outlined : AllZip AnswerIsOutlined (take l.event-index l.events) l.answers.items;
-      elsewhere : IsTrue F.faithful → AllKeepElsewhere (registers_in tables) (take l.event-index l.events) l.answers.items (F.contents l.fn.folder) (F.contents l.folder);
+      back : F.faithful l.folder → F.faithful l.fn.folder;
+      elsewhere : F.faithful l.folder → AllKeepElsewhere (registers_in tables) (take l.event-index l.events) l.answers.items (F.contents l.fn.folder) (F.contents l.folder);
       -- with any run that continues from here, these events are one run
-      holds : IsTrue F.faithful → (kinds : Kinds) → IsAssumed g.A.Actions.meanings l.tables.actions kinds (F.may_leave l.fn.folder)
+      holds : F.faithful l.folder → (kinds : Kinds) → IsAssumed g.A.Actions.meanings l.tables.actions kinds (F.may_leave l.fn.folder)
           → (rest : List Event) (others : List Answer) (end : Shown)
           → RunsFrom (setting_by kinds (registers_in tables) (F.may_leave l.fn.folder)) (shows (F.contents l.folder) (F.failures l.folder)) rest others end
           → RunsFrom (setting_by kinds (registers_in tables) (F.may_leave l.fn.folder)) (shows (F.contents l.fn.folder) (F.failures l.fn.folder))

@@ -130,27 +130,27 @@ returns-clause-promise g c = λ faithful.
     let after = F.failures c.build_registered-answered.new.folder in
     each_fault (IsNotBegun (registry_said tables source) c.args.invocation.now later after) (λ (fault : Fault). IsNotBuilt (registers_in tables) old c.args.invocation.now fault after)
     (λ fault why. not_built (registers_in tables) (registry_said tables source) old c.args.invocation.now fault after
-    (registered tables old.contents c.into_vec-given.result.items c.args.invocation.now.properties (c.into_vec-given.ensures ∙ c.in_ok-copied.ensures) source (c.in_ok-configured.ensures.said faithful))
+    (registered tables old.contents c.into_vec-given.result.items c.args.invocation.now.properties (c.into_vec-given.ensures ∙ c.in_ok-copied.ensures) source (c.in_ok-configured.ensures.said (c.build_registered-answered.ensures.back faithful)))
     (begun_before (registry_said tables source) c.args.invocation.now old.failures later after c.read_registry.ensures.requests.count c.build_registered-answered.ensures.count fault why))
     c.build_registered-answered.result
     (subst (λ (given : handed.Tables _ _ _ _ _ _ _). IfErr c.build_registered-answered.result
     (IsNotBegun (registry_said (tables_of g.T.Transforms.meanings g.A.Actions.meanings given) source) c.args.invocation.now later after))
     c.in_ok-configured.ensures.tables c.build_registered-answered.ensures.not_begun))
-    (subst (λ (contents : Contents). OnErr answered.result (F.contents answered.new.folder ≡ contents)) (c.read_registry.ensures.same faithful) (answered.ensures.refused faithful))
+    (subst (λ (contents : Contents). OnErr answered.result (F.contents answered.new.folder ≡ contents)) (c.read_registry.ensures.same (c.build_registered-answered.ensures.back faithful)) (answered.ensures.refused faithful))
     (λ dry.
-    ap g.F.Folder.contents (c.build_registered-answered.ensures.dry dry) ∙ c.read_registry.ensures.same faithful)
+    ap g.F.Folder.contents (c.build_registered-answered.ensures.dry dry) ∙ c.read_registry.ensures.same (c.build_registered-answered.ensures.back faithful))
     (
     let F = g.F.Folder in
     let tables = tables_of g.T.Transforms.meanings g.A.Actions.meanings c.args.tables.now in
     let source = c.in_ok-configured.configured.registry in
     let before = F.contents c.args.folder.now in
     invoked_keeps (registers_in tables) c.args.invocation.now c.build_registered-answered.result before (F.contents c.build_registered-answered.new.folder) (registry_said tables source)
-    (registered tables before c.into_vec-given.result.items c.args.invocation.now.properties (c.into_vec-given.ensures ∙ c.in_ok-copied.ensures) source (c.in_ok-configured.ensures.said faithful))
-    (subst (λ (contents : Contents). KeepsElsewhere (registry_said tables source) contents (F.contents c.build_registered-answered.new.folder)) (c.read_registry.ensures.same faithful)
+    (registered tables before c.into_vec-given.result.items c.args.invocation.now.properties (c.into_vec-given.ensures ∙ c.in_ok-copied.ensures) source (c.in_ok-configured.ensures.said (c.build_registered-answered.ensures.back faithful)))
+    (subst (λ (contents : Contents). KeepsElsewhere (registry_said tables source) contents (F.contents c.build_registered-answered.new.folder)) (c.read_registry.ensures.same (c.build_registered-answered.ensures.back faithful))
     (subst (λ (given : handed.Tables _ _ _ _ _ _ _). KeepsElsewhere (registry_said (tables_of g.T.Transforms.meanings g.A.Actions.meanings given) source)
     (F.contents c.read_registry.new.folder) (F.contents c.build_registered-answered.new.folder))
     c.in_ok-configured.ensures.tables (c.build_registered-answered.ensures.keeps faithful)))
-    (subst (λ (contents : Contents). OnErr c.build_registered-answered.result (F.contents c.build_registered-answered.new.folder ≡ contents)) (c.read_registry.ensures.same faithful)
+    (subst (λ (contents : Contents). OnErr c.build_registered-answered.result (F.contents c.build_registered-answered.new.folder ≡ contents)) (c.read_registry.ensures.same (c.build_registered-answered.ensures.back faithful))
     (c.build_registered-answered.ensures.refused faithful)))
     (λ kinds assumed.
     let F = g.F.Folder in
@@ -164,10 +164,10 @@ returns-clause-promise g c = λ faithful.
     let new : Shown = shows (F.contents c.build_registered-answered.new.folder) (F.failures c.build_registered-answered.new.folder) in
     since_read kinds (registry_said tables source) (registers_in tables) first second c.read_registry.ensures.requests.tearing c.args.invocation.now before (F.failures c.args.folder.now) later
     c.read_registry.ensures.requests.count
-    (registered tables before c.into_vec-given.result.items c.args.invocation.now.properties (c.into_vec-given.ensures ∙ c.in_ok-copied.ensures) source (c.in_ok-configured.ensures.said faithful))
+    (registered tables before c.into_vec-given.result.items c.args.invocation.now.properties (c.into_vec-given.ensures ∙ c.in_ok-copied.ensures) source (c.in_ok-configured.ensures.said (c.build_registered-answered.ensures.back faithful)))
     c.build_registered-answered.result new c.build_registered-answered.ensures.count
     (subst (λ (contents : Contents). IsTransition (setting_by kinds (always (registry_said tables source)) second) (shows contents later) (events.Invoke c.args.invocation.now) (answer_of c.build_registered-answered.result) new)
-    (c.read_registry.ensures.same faithful)
+    (c.read_registry.ensures.same (c.build_registered-answered.ensures.back faithful))
     (subst (λ (given : handed.Tables _ _ _ _ _ _ _). IsTransition (setting_by kinds (always (registry_said (tables_of g.T.Transforms.meanings g.A.Actions.meanings given) source)) second)
     (shows (F.contents c.read_registry.new.folder) later) (events.Invoke c.args.invocation.now) (answer_of c.build_registered-answered.result) new)
     same

@@ -29,5 +29,5 @@ returns g c =
       none_exist setting,
       subst (λ (files : Files). PromiseHolds setting (record { contents = held files; failures = 0 }) c.args.events.now c.in_ok-answers.answers.items
           (record { contents = held c.run_events.new.folder.files; failures = 0 })) c.new-folder.ensures
-          (c.in_ok-answers.ensures.promise refl kinds.0 (record { agrees = kinds.1; tears = none_torn })),
+          (c.in_ok-answers.ensures.promise tt kinds.0 (record { agrees = kinds.1; tears = none_torn })),
     )

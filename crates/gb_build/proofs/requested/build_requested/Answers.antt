@@ -87,7 +87,7 @@ returns-in_err-report-clause-leads g c = λ faithful kinds registry_of assumed s
     let p = err_from_is_err_and c.from_residual-in_err-report.result c.from_residual-in_err-report.ensures.1 in
     refused_leads (setting_with kinds registry_of (F.may_leave c.args.folder.now)) (g.Ts.Tasks.registry c.args.tasks.now) old new c.args.invocation.now p.0 scripts
     (inl (inl p.2))
-    (ap F.contents c.in_err-report.ensures.unbegun ∙ c.records_for.ensures.same faithful) c.from_residual-in_err-report.result p.1
+    (ap F.contents c.in_err-report.ensures.unbegun ∙ c.records_for.ensures.same (c.execute.ensures.back faithful)) c.from_residual-in_err-report.result p.1
 
 pub returns-clause-outlined : goal.returns-clause-outlined
 returns-clause-outlined g c =
@@ -108,7 +108,7 @@ returns-clause-elsewhere g c = λ faithful.
     elsewhere (g.Ts.Tasks.registry c.args.tasks.now) c.in_ok-plan.plan
     (all_declared (g.Ts.Tasks.registry c.args.tasks.now) c.as_slice-requested.result.now c.as_slice-excluded.result.now c.in_ok-plan.plan c.in_ok-plan.ensures.plan (g.Ts.Tasks.sound c.args.tasks.now))
     (F.contents c.args.folder.now) (F.contents c.execute.new.folder)
-    (subst (λ (contents : Contents). ChangesOnly (is_of_executions c.in_ok-plan.plan) contents (F.contents c.execute.new.folder)) (c.records_for.ensures.same faithful) (c.execute.ensures.changes faithful))
+    (subst (λ (contents : Contents). ChangesOnly (is_of_executions c.in_ok-plan.plan) contents (F.contents c.execute.new.folder)) (c.records_for.ensures.same (c.execute.ensures.back faithful)) (c.execute.ensures.changes faithful))
 
 pub returns-clause-leads : goal.returns-clause-leads
 returns-clause-leads g c = λ faithful kinds registry_of assumed scripts remembered_now is_clear observed_now exists.
@@ -123,13 +123,13 @@ returns-clause-leads g c = λ faithful kinds registry_of assumed scripts remembe
     let can = can_build registry c.args.invocation.now.requested c.args.invocation.now.excluded plan is_plan g.A.Actions.meanings c.args.table.now c.requires in
     built_leads kinds registry_of (F.may_leave c.args.folder.now) registry (g.Ts.Tasks.sound c.args.tasks.now) c.args.invocation.now plan is_plan
     (own_places g.A.Actions.meanings c.args.table.now plan can) old new c.in_ok-report.report c.in_ok-report.ensures.dry_run (g.met.F.Folder.sound c.execute.new.folder)
-    (subst (λ (contents : Contents). ChangesOnly (is_of_executions plan) contents new.contents) (c.records_for.ensures.same faithful) (c.execute.ensures.changes faithful))
-    (λ dry. ap F.contents (c.execute.ensures.dry dry) ∙ c.records_for.ensures.same faithful)
+    (subst (λ (contents : Contents). ChangesOnly (is_of_executions plan) contents new.contents) (c.records_for.ensures.same (c.execute.ensures.back faithful)) (c.execute.ensures.changes faithful))
+    (λ dry. ap F.contents (c.execute.ensures.dry dry) ∙ c.records_for.ensures.same (c.execute.ensures.back faithful))
     (omega (arith, c.records_for.ensures.requests.count, c.execute.ensures.count)) scripts
-    mid (c.records_for.ensures.same faithful) c.records_for.ensures.requests.count (F.may_leave c.records_for.new.folder) c.records_for.ensures.requests.tearing
+    mid (c.records_for.ensures.same (c.execute.ensures.back faithful)) c.records_for.ensures.requests.count (F.may_leave c.records_for.new.folder) c.records_for.ensures.requests.tearing
     c.as_slice-2.result.now
     (λ not_dry. subst (λ (records : List (Option Record)). AllZip (IsReadAt old.contents.files) (order plan) records) (sym c.as_slice-2.ensures.value)
-    (subst (λ (tasks : List Planned). AllZip (IsReadAt old.contents.files) (order tasks) c.in_ok-records.records.items) c.as_slice.ensures (c.in_ok-records.ensures.read faithful not_dry)))
+    (subst (λ (tasks : List Planned). AllZip (IsReadAt old.contents.files) (order tasks) c.in_ok-records.records.items) c.as_slice.ensures (c.in_ok-records.ensures.read (c.execute.ensures.back faithful) not_dry)))
     (λ remembered clear observed worth. c.in_ok-report.ensures.build faithful kinds registry_of remembered clear observed
     (assumed_later (F.may_leave c.args.folder.now) (F.may_leave c.records_for.new.folder) c.records_for.ensures.requests.tearing assumed) worth)
     remembered_now is_clear observed_now exists

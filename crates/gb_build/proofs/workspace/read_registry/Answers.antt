@@ -51,9 +51,9 @@ returns-in_err-scripts-clause-said g c = λ faithful.
     (elim (c.in_err-scripts.ensures.said faithful) [
       | inl machine ↦ inl (machine_before _ _ _ fault c.read_settings_of.ensures.requests.count c.read_scripts.ensures.requests.count machine)
       | inr bad ↦ inr (scripts_refused (tables_of g.T.Transforms.meanings g.A.Actions.meanings c.args.tables.now) files c.args.given.items settings
-          (c.in_ok-settings.ensures.said faithful) c.in_ok-projects.ensures.faults fault (
+          (c.in_ok-settings.ensures.said (c.read_scripts.ensures.back faithful)) c.in_ok-projects.ensures.faults fault (
           scripts_here (F.contents c.read_settings_of.new.folder) (F.contents c.args.folder.now) c.as_slice.result.now (projects_of settings) (Err fault)
-          (c.read_settings_of.ensures.same faithful) (c.as_slice.ensures ∙ ap with_folders c.in_ok-projects.ensures.projects) bad))
+          (c.read_settings_of.ensures.same (c.read_scripts.ensures.back faithful)) (c.as_slice.ensures ∙ ap with_folders c.in_ok-projects.ensures.projects) bad))
     ])
 
 pub configure_projects-requires : goal.configure_projects-requires
@@ -85,9 +85,9 @@ returns-clause-said g c = λ faithful.
     let texts = c.in_ok-scripts.scripts.items in
     let given = c.args.given.items in
     let projects = c.in_ok-projects.ensures.projects in
-    put_together tables files given settings (c.in_ok-settings.ensures.said faithful) c.in_ok-projects.ensures.faults texts _ _ c.configure_projects.result (λ configured. configured.registry)
+    put_together tables files given settings (c.in_ok-settings.ensures.said (c.read_scripts.ensures.back faithful)) c.in_ok-projects.ensures.faults texts _ _ c.configure_projects.result (λ configured. configured.registry)
     (scripts_here (F.contents c.read_settings_of.new.folder) (F.contents c.args.folder.now) c.as_slice.result.now (projects_of settings) (Ok texts)
-    (c.read_settings_of.ensures.same faithful) (c.as_slice.ensures ∙ ap with_folders projects) (c.in_ok-scripts.ensures.said faithful))
+    (c.read_settings_of.ensures.same (c.read_scripts.ensures.back faithful)) (c.as_slice.ensures ∙ ap with_folders projects) (c.in_ok-scripts.ensures.said faithful))
     (subst (λ (paths : List Path). IfOk c.configure_projects.result (λ configured. configured.registry ≡ source_with paths texts given)) projects c.configure_projects.ensures.registry)
     (subst (λ (paths : List Path). ReportsFirst (configure_faults tables (source_with paths texts given)) c.configure_projects.result) projects c.configure_projects.ensures.faults)
 

@@ -90,6 +90,7 @@ loop-path-init g c =
           (prints_nothing P.contents P.whole c.args.printer.now);
       requests = subst (λ (rs : List TaskReport). AreSoFar F.failures F.may_leave F.allowed g.A.Actions.meanings c.args.build.now.table.now c.args.build.now.options [] [] rs start start c.new-seen.result) (sym none)
           (none_so_far F.failures F.may_leave F.allowed g.A.Actions.meanings c.args.build.now.table.now c.args.build.now.options start c.new-seen.result c.new-seen.ensures);
+      back = λ known. known;
       seen_in = λ faithful. none_seen_in (F.contents start).files c.new-seen.result c.new-seen.ensures;
       device = subst (λ (rs : List TaskReport). HasFailed (times_blamed rs) (F.failures start) (F.failures start)) (sym none) (inl (omega arith));
       changes = λ faithful. changes_none (is_of_executions []) (F.contents start) (F.contents start) refl;
@@ -183,16 +184,17 @@ loop-path-preserved g c =
           (subst (λ (rs : List TaskReport). AreSoFar F.failures F.may_leave F.allowed g.A.Actions.meanings build.table.now build.options (take i tasks ++ planned ∷ []) (take i build.records.now ++ slice_index_or build.records.now i None ∷ []) rs start next remembered_now) (sym items)
           (more_so_far F.failures F.may_leave F.allowed g.A.Actions.meanings build.table.now build.options (take i tasks) (take i build.records.now) reports start now c.loop-path.seen far planned (slice_index_or build.records.now i None) report next remembered_now
           taken (c.execute_one-taken.ensures.seen far.last far.none far.were))));
-      seen_in = λ faithful. c.execute_one-taken.ensures.seen_in faithful (inv.seen_in faithful);
+      back = λ known. inv.back (c.execute_one-taken.ensures.back known);
+      seen_in = λ faithful. c.execute_one-taken.ensures.seen_in faithful (inv.seen_in (c.execute_one-taken.ensures.back faithful));
       device = subst (λ (rs : List TaskReport). HasFailed (times_blamed rs) (F.failures start) (F.failures next)) (sym items)
           (failed_more reports report (F.failures start) (F.failures now) (F.failures next) inv.device count c.execute_one-taken.ensures.blame);
       changes = λ faithful.
           subst (λ (ps : List Planned). ChangesOnly (is_of_executions ps) (F.contents start) (F.contents next)) (sym take_is)
-          (changes_more (take i tasks) planned (F.contents start) (F.contents now) (F.contents next) (inv.changes faithful) (c.execute_one-taken.ensures.changes faithful planned is));
+          (changes_more (take i tasks) planned (F.contents start) (F.contents now) (F.contents next) (inv.changes (c.execute_one-taken.ensures.back faithful)) (c.execute_one-taken.ensures.changes faithful planned is));
       build = λ faithful kinds registry_of remembered clear observed assumed worth.
           let old : State = record { contents = F.contents start; remembered = remembered; failures = F.failures start } in
           let u = subst (λ (ps : List Planned). IsUnderway kinds registry_of (F.may_leave start) clear observed build.options tasks old (take i tasks) ps reports
-          (record { contents = F.contents now; failures = F.failures now })) (drop_at tasks i planned is) (inv.build faithful kinds registry_of remembered clear observed assumed worth) in
+          (record { contents = F.contents now; failures = F.failures now })) (drop_at tasks i planned is) (inv.build (c.execute_one-taken.ensures.back faithful) kinds registry_of remembered clear observed assumed worth) in
           let changes = c.execute_one-taken.ensures.changes faithful planned is in
           subst (λ (ps : List Planned). IsUnderway kinds registry_of (F.may_leave start) clear observed build.options tasks old ps (drop (i + 1) tasks) c.push_reserved.new.reports.items
           (record { contents = F.contents next; failures = F.failures next })) (sym take_is)
@@ -203,13 +205,13 @@ loop-path-preserved g c =
           (g.met.F.Folder.sound next) (differs_outside planned.task (F.contents now).files (F.contents next).files changes.elsewhere) changes.special c.requires.can.sound.outputs_separate
           (F.may_leave now) way.tearing (once_after (take i tasks) (drop (i + 1) tasks) planned (subst (λ (ps : List Planned). no_repeats (order ps) ≡ true) (whole_at tasks i planned is) c.requires.can.once))
           (λ given still.
-          c.execute_one-taken.ensures.execution faithful (inv.seen_in faithful) kinds registry_of u.moment planned is (assumed_later (F.may_leave start) (F.may_leave now) way.tearing assumed) u.folder u.failures still.existing
+          c.execute_one-taken.ensures.execution faithful (inv.seen_in (c.execute_one-taken.ensures.back faithful)) kinds registry_of u.moment planned is (assumed_later (F.may_leave start) (F.may_leave now) way.tearing assumed) u.folder u.failures still.existing
           (subst (λ (os : List (Path × Outcome)). AreEndings tasks os c.loop-path.starts.endings) (sym u.outcomes) inv.endings)
           (knows c.what_is_read_is_known.ensures kinds tasks build.records.now observed u.observed_now (F.contents start) remembered u.moment.world i planned is (worth given.0) is_path still.same.0
           (subst (λ (folder : Contents). IsFolder folder.files) (sym u.folder) (folder_where (λ place. not (is_own place)) (F.contents now).files (g.met.F.Folder.sound now)))
           (subst (λ (folder : Contents). IsTrue (are_placed folder.files)) (sym u.folder) (placed_where (λ place. not (is_own place)) (F.contents now).files (g.met.F.Folder.placed now)))
           can.not_own u.keeps given.1))
-          (inv.places, is_path, inv.changes faithful)));
+          (inv.places, is_path, inv.changes (c.execute_one-taken.ensures.back faithful))));
     }
   where
     on_true : (a b : Bool) → a ≡ true → b ≡ (a && b)

@@ -48,10 +48,11 @@ invariant-loop-path g l =
       heard : AllReported (heard_of false l.reports.items) l.all_heard (map ear l.fn.listeners.items) (map ear l.listeners.items);
       printed : Prints P.contents P.whole (flat_map task_text l.reports.items) l.fn.printer l.printer;
       requests : AreSoFar F.failures F.may_leave F.allowed g.A.Actions.meanings l.build.table.now l.build.options done (take l.index l.build.records.now) l.reports.items start l.folder l.seen;
-      seen_in : IsTrue F.faithful → AreSeenIn (F.contents l.folder).files l.seen;
+      back : F.faithful l.folder → F.faithful start;
+      seen_in : F.faithful l.folder → AreSeenIn (F.contents l.folder).files l.seen;
       device : HasFailed (times_blamed l.reports.items) (F.failures start) (F.failures l.folder);
-      changes : IsTrue F.faithful → ChangesOnly (is_of_executions done) (F.contents start) (F.contents l.folder);
-      build : IsTrue F.faithful → (kinds : Kinds) (registry_of : Registering) (remembered : Memory) (clear : Bool) (observed : List Bytes) → IsAssumed g.A.Actions.meanings l.build.table.now kinds (F.may_leave start)
+      changes : F.faithful l.folder → ChangesOnly (is_of_executions done) (F.contents start) (F.contents l.folder);
+      build : F.faithful l.folder → (kinds : Kinds) (registry_of : Registering) (remembered : Memory) (clear : Bool) (observed : List Bytes) → IsAssumed g.A.Actions.meanings l.build.table.now kinds (F.may_leave start)
           → (IsTrue clear → AreTrueBefore kinds tasks l.build.records.now observed (F.contents start) remembered)
           → IsUnderway kinds registry_of (F.may_leave start) clear observed l.build.options tasks
           (record { contents = F.contents start; remembered = remembered; failures = F.failures start }) done (drop l.index tasks) l.reports.items

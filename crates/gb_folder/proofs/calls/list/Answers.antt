@@ -13,5 +13,6 @@ returns g c =
       count = said.requests.count;
       tearing = said.requests.tearing;
       risen = λ is. said.device (row_failed c.list.result is);
+      back = said.back;
       exact = λ faithful. (listed (F.contents c.args.folder.now) root c.list.result said.not_large (said.not_missing faithful) (said.not_blocked faithful) (said.listed faithful) (said.none_special faithful) (said.bad_name faithful), said.same faithful);
     })

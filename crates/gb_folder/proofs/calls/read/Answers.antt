@@ -13,5 +13,6 @@ returns g c =
       count = said.requests.count;
       tearing = said.requests.tearing;
       risen = λ is. said.device (row_failed c.read.result is);
+      back = said.back;
       exact = λ faithful. (was_read (F.contents c.args.folder.now) place c.args.limit c.read.result said.not_named (said.missing faithful) (said.missing_free faithful) (said.blocked faithful) said.within (said.found faithful) (said.large faithful), said.same faithful);
     })

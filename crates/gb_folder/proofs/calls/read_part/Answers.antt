@@ -13,5 +13,6 @@ returns g c =
       count = said.requests.count;
       tearing = said.requests.tearing;
       risen = λ is. said.device (row_failed c.read_part.result is);
+      back = said.back;
       exact = λ faithful. (part_read (F.contents c.args.folder.now) place c.args.at c.args.len c.read_part.result said.not_large said.not_named (said.missing faithful) (said.missing_free faithful) (said.blocked faithful) (said.found faithful), said.same faithful);
     })

@@ -14,6 +14,7 @@ returns g c =
       count = said.requests.count;
       tearing = said.requests.tearing;
       risen = λ is. said.device (change_failed c.remove.result is);
+      back = said.back;
       exact = λ faithful. removed (F.may_leave old) (F.contents old) place c.remove.result (F.contents c.remove.new.self)
           said.not_large said.not_named (said.removed faithful) (said.existed faithful) (said.missing faithful) (said.missing_free faithful) (said.blocked faithful) (said.same faithful) (said.torn faithful);
     })

@@ -15,6 +15,7 @@ returns g c =
       count = said.requests.count;
       tearing = said.requests.tearing;
       risen = λ is. said.device (change_failed c.write.result is);
+      back = said.back;
       exact = λ faithful. wrote (F.may_leave old) (F.contents old) place bytes c.args.limit c.write.result (F.contents c.write.new.self) said.within
           said.large said.not_missing said.not_named (said.written faithful) (said.free faithful) (said.blocked faithful) (said.same faithful) (said.torn faithful);
     })

@@ -55,7 +55,7 @@ returns-in_ok-check_grown-in-Err-clause-based g c = λ faithful known inputs.
     let old : Contents = g.F.Folder.contents c.args.folder.now in
     ok_as c.in_full.result c.in_full.ensures.full (λ found full.
     subst (λ (b : Basis). IsBasisIn c.args.options task old b) (sym full.1)
-    (has_grown task old _ _ c.in-Err.fault c.in_ok-check_grown-in-Err.ensures.ok (c.in-Err.ensures.err faithful known)))
+    (has_grown task old _ _ c.in-Err.fault c.in_ok-check_grown-in-Err.ensures.ok (c.in-Err.ensures.err (c.in_full.ensures.back faithful) known)))
 
 pub returns-in_ok-check_grown-in-Err-clause-goes_by : goal.returns-in_ok-check_grown-in-Err-clause-goes_by
 returns-in_ok-check_grown-in-Err-clause-goes_by g c =

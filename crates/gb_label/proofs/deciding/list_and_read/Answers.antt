@@ -18,7 +18,7 @@ returns-in_err-check_outputs-clause-err g c = λ faithful known.
     c.from_residual.result p.0 c.in_err-check_outputs.field-0.0 p.1 p.2 (inr (c.in_err-check_outputs.ensures.err faithful))
 
 pub returns-clause-none_special : goal.returns-clause-none_special
-returns-clause-none_special g c = λ faithful known. on_ok_weaker c.read_outputs.result (λ _. c.in_ok-check_outputs.ensures.none_special faithful) (c.read_outputs.ensures.fit faithful (known_still _ _ c.args.seen.now (c.check_outputs.ensures.same faithful) known))
+returns-clause-none_special g c = λ faithful known. on_ok_weaker c.read_outputs.result (λ _. c.in_ok-check_outputs.ensures.none_special (c.read_outputs.ensures.back faithful)) (c.read_outputs.ensures.fit faithful (known_still _ _ c.args.seen.now (c.check_outputs.ensures.same (c.read_outputs.ensures.back faithful)) known))
 
 pub returns-clause-err : goal.returns-clause-err
 returns-clause-err g c = λ faithful known.
@@ -26,9 +26,10 @@ returns-clause-err g c = λ faithful known.
     let task = c.args.task.now in
     let old : Contents = F.contents c.args.folder.now in
     let now : Contents = F.contents c.check_outputs.new.folder in
-    let same : now ≡ old = c.check_outputs.ensures.same faithful in
-    let none : listing_faults task now ≡ [] = ap (listing_faults task) same ∙ c.in_ok-check_outputs.ensures.none_special faithful in
-    err_as c.read_outputs.result (c.read_outputs.ensures.err faithful (known_still _ _ c.args.seen.now (c.check_outputs.ensures.same faithful) known)) (λ fault cannot. elim (cannot_print_listed task now _ _ fault none cannot) [
+    let before = c.read_outputs.ensures.back faithful in
+    let same : now ≡ old = c.check_outputs.ensures.same before in
+    let none : listing_faults task now ≡ [] = ap (listing_faults task) same ∙ c.in_ok-check_outputs.ensures.none_special before in
+    err_as c.read_outputs.result (c.read_outputs.ensures.err faithful (known_still _ _ c.args.seen.now same known)) (λ fault cannot. elim (cannot_print_listed task now _ _ fault none cannot) [
       | inl grown ↦ inl (grown.0, subst (λ (folder : Contents). is_empty (flat_map (print_faults folder) task.outputs) ≡ false) same grown.1)
       | inr read ↦ inr (cannot_before task old now _ _ _ fault same c.check_outputs.ensures.requests.count c.read_outputs.ensures.requests.count read)
     ])

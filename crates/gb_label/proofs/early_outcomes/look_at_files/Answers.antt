@@ -33,12 +33,13 @@ sourced task old properties inputs observed found b is read same reported decide
 
 pub returns-then-is_without_source-clause-case : goal.returns-then-is_without_source-clause-case
 returns-then-is_without_source-clause-case g c = λ faithful known.
+    let before = c.check_outputs.ensures.back faithful in
     let task = c.args.task.now in
     let old : Contents = g.F.Folder.contents c.args.folder.now in
-    by_source task old true c.requires.runs c.requires.acts (c.in_ok-inputs.ensures.fit faithful known)
-    (ap (listing_faults task) (sym (c.in_ok-inputs.ensures.same faithful)) ∙ c.in_ok-check_outputs.ensures.none_special faithful)
+    by_source task old true c.requires.runs c.requires.acts (c.in_ok-inputs.ensures.fit before known)
+    (ap (listing_faults task) (sym (c.in_ok-inputs.ensures.same before)) ∙ c.in_ok-check_outputs.ensures.none_special faithful)
     (sourced task old c.as_slice.result.now c.in_ok-inputs.inputs.items c.as_slice-2.result.now c.is_without_source.result true c.as_slice.ensures
-    (c.in_ok-inputs.ensures.prints faithful known) c.as_slice-2.ensures.value c.is_without_source.ensures c.if-is_without_source.true)
+    (c.in_ok-inputs.ensures.prints before known) c.as_slice-2.ensures.value c.is_without_source.ensures c.if-is_without_source.true)
 
 pub returns-clause-case : goal.returns-clause-case
 returns-clause-case g c = λ faithful known.

@@ -45,12 +45,13 @@ returns-in_err-tree-clause-err g c = λ faithful observed.
     let exists = all_at (Persists old) readings (length c.loop-reading.yielded) x execution.0 execution.1 (inputs_exist old c.args.task.now.files readings observed) in
     at_err (λ r. IfErr r (IsOfMachine (failures c.args.folder.now) (failures c.complete.new.folder))) c.from_residual.result p.0 c.in_err-tree.field-0.0 p.1 p.2
     (machine_before _ _ _ _ c.loop-reading.invariant.requests.count c.complete.ensures.requests.count
-    (c.in_err-tree.ensures.err faithful (subst (λ (now : Contents). Persists now.files x) (sym (c.loop-reading.invariant.same faithful)) exists)))
+    (c.in_err-tree.ensures.err faithful (subst (λ (now : Contents). Persists now.files x) (sym (c.loop-reading.invariant.same (c.complete.ensures.back faithful))) exists)))
 
 pub loop-reading-preserved : goal.loop-reading-preserved
 loop-reading-preserved g c =
     let old = (g.F.Folder.contents c.args.folder.now).files in
     let so_far = c.loop-reading.invariant in
+    let back = c.complete.ensures.back in
     let readings = c.args.readings.items in
     let n = length c.loop-reading.yielded in
     let x : Read = c.in-Some.reading in
@@ -66,7 +67,8 @@ loop-reading-preserved g c =
       can_next = tt;
       is_finite = tt;
       requests = requests_then so_far.requests c.complete.ensures.requests;
-      same = λ faithful. c.complete.ensures.same faithful ∙ so_far.same faithful;
+      back = λ known. so_far.back (back known);
+      same = λ faithful. c.complete.ensures.same faithful ∙ so_far.same (back faithful);
       named =
           name_more (λ (t : List ℕ × Tree). t.0) (λ (reading : Read). reading.0) trees c.push-in-loop-reading.new.self tree readings n x execution.0 execution.1 so_far.named more one.named
           ∙ ap (λ k. map (λ (reading : Read). reading.0) (take k readings)) next;
@@ -88,8 +90,8 @@ loop-reading-preserved g c =
           let exists = all_at (Persists old) readings n x execution.0 execution.1 all in
           gathered_more (tree_made old) trees c.push-in-loop-reading.new.self tree readings n x execution.0 execution.1 more
           (pair_is tree x.0 (contents_at old (entries_observed x.1)) one.named
-          (one.tree faithful (subst (λ (now : Contents). Persists now.files x) (sym (so_far.same faithful)) exists) ∙ ap (λ now. contents_at now.files (entries_observed x.1)) (so_far.same faithful)))
-          (so_far.trees faithful all)
+          (one.tree faithful (subst (λ (now : Contents). Persists now.files x) (sym (so_far.same (back faithful))) exists) ∙ ap (λ now. contents_at now.files (entries_observed x.1)) (so_far.same (back faithful))))
+          (so_far.trees (back faithful) all)
           ∙ ap (λ k. map (tree_made old) (take k readings)) next;
     }
 

@@ -1,4 +1,4 @@
-use Rattle.std.proofs.Common.{◌≡◌, IsTrue, length, map, take}
+use Rattle.std.proofs.Common.{◌≡◌, length, map, take}
 use Rattle.std.specs.List.{AllByRecursion, AllZip}
 use Rattle.gb_folder.specs.Calls.{Requests, no_change}
 use Rattle.gb_label.specs.ReadingAnswered.{IsInputAnswered, IsInputRead}
@@ -15,11 +15,12 @@ invariant-loop-reading g l =
       can_next : (goal.iterator-loop-reading g).can_next l.reading-iterator;
       is_finite : (goal.iterator-loop-reading g).is_finite l.reading-iterator;
       requests : Requests g.F.Folder.failures g.F.Folder.may_leave g.F.Folder.allowed no_change l.fn.folder l.folder;
-      same : IsTrue g.F.Folder.faithful → contents l.folder ≡ contents l.fn.folder;
+      back : g.F.Folder.faithful l.folder → g.F.Folder.faithful l.fn.folder;
+      same : g.F.Folder.faithful l.folder → contents l.folder ≡ contents l.fn.folder;
       named : map (λ tree. tree.0) l.trees ≡ map (λ reading. reading.0) done;
       digests : l.prints.items ≡ digests_in l.trees;
       answered : (first : _) → Requests g.F.Folder.failures g.F.Folder.may_leave g.F.Folder.allowed no_change first l.fn.folder
           → AllZip (IsInputAnswered g.F.Folder.failures g.F.Folder.may_leave g.F.Folder.allowed first l.fn.folder) l.task.files l.fn.readings.items
           → AllZip (IsInputRead g.F.Folder.failures g.F.Folder.may_leave g.F.Folder.allowed first l.folder) (take (length l.yielded) l.task.files) l.trees;
-      trees : IsTrue g.F.Folder.faithful → AllByRecursion (Persists old) l.fn.readings.items → l.trees ≡ map (tree_made old) done;
+      trees : g.F.Folder.faithful l.folder → AllByRecursion (Persists old) l.fn.readings.items → l.trees ≡ map (tree_made old) done;
     }

@@ -48,10 +48,10 @@ returns-in_err-read_one-clause-err g c = λ faithful known.
     let less = subst (λ (fs : List FileProperty). index < length fs) c.as_slice-property-items.ensures c.loop-property-test.true in
     let is = subst (λ (fs : List FileProperty). item ≡ get_or fs index item) c.as_slice-property-items.ensures c.property-item.is in
     let IsFault : Fault → Type 0 = CannotRead (g.F.Folder.failures c.args.folder.now) (g.F.Folder.failures c.read_one.new.folder) (input_faults c.args.task.now old) in
-    at_err (λ r. IfErr r IsFault) c.from_residual.result p.0 c.in_err-read_one.field-0.0 p.1 p.2 (elim (c.in_err-read_one.ensures.err faithful (known_still _ _ c.args.seen.now (c.loop-property.invariant.same faithful) known)) [
+    at_err (λ r. IfErr r IsFault) c.from_residual.result p.0 c.in_err-read_one.field-0.0 p.1 p.2 (elim (c.in_err-read_one.ensures.err faithful (known_still _ _ c.args.seen.now (c.loop-property.invariant.same (c.read_one.ensures.back faithful)) known)) [
       | inl machine ↦ inl (machine_before _ _ _ _ c.loop-property.invariant.requests.count c.read_one.ensures.requests.count machine)
-      | inr first ↦ inr (first_of_all (λ property. tree_faults property old) files index item _ less is (c.loop-property.invariant.fit faithful known)
-          (ap (λ folder. first_of (tree_faults item folder)) (sym (c.loop-property.invariant.same faithful)) ∙ first))
+      | inr first ↦ inr (first_of_all (λ property. tree_faults property old) files index item _ less is (c.loop-property.invariant.fit (c.read_one.ensures.back faithful) known)
+          (ap (λ folder. first_of (tree_faults item folder)) (sym (c.loop-property.invariant.same (c.read_one.ensures.back faithful))) ∙ first))
     ])
 
 pub loop-property-preserved : goal.loop-property-preserved
@@ -64,16 +64,18 @@ loop-property-preserved g c =
     let less = subst (λ (fs : List FileProperty). index < length fs) c.as_slice-property-items.ensures c.loop-property-test.true in
     let is = subst (λ (fs : List FileProperty). item ≡ get_or fs index item) c.as_slice-property-items.ensures c.property-item.is in
     let so_far = c.loop-property.invariant in
+    let back = c.read_one.ensures.back in
     let readings = c.loop-property.readings.items in
     let next = c.push.new.self.items in
     let added = c.in_ok-push.ensures.items in
     let one = c.in_ok-read_one.ensures in
     let x : Read = c.in_ok-read_one.field-0 in
-    let known_now = λ (faithful : IsTrue g.F.Folder.faithful) (known : AreSeenIn old.files c.args.seen.now). known_still _ _ c.args.seen.now (so_far.same faithful) known in
+    let known_now = λ (faithful : g.F.Folder.faithful c.read_one.new.folder) (known : AreSeenIn old.files c.args.seen.now). known_still _ _ c.args.seen.now (so_far.same (back faithful)) known in
     let reported : FileProperty → Prints = λ property. (property.name, digests_of (tree_of property old.files)) in
     record {
       requests = requests_then so_far.requests c.read_one.ensures.requests;
-      same = λ faithful. c.read_one.ensures.same faithful ∙ so_far.same faithful;
+      back = λ known. so_far.back (back known);
+      same = λ faithful. c.read_one.ensures.same faithful ∙ so_far.same (back faithful);
       named = name_more (λ (reading : Read). reading.0) (λ (property : FileProperty). property.name) readings next x files index item less is so_far.named added one.named;
       within =
           each_more (λ (reading : Read). AllByRecursion (λ observed. IsTrue (is_input_of task observed.place)) reading.1) readings next x added so_far.within
@@ -89,13 +91,13 @@ loop-property-preserved g c =
           (one.answered first (requests_then before so_far.requests) (seen_longer (requests_nothing first) so_far.requests c.args.seen.now known));
       prints = λ faithful known.
           prints_more reported readings next x files index item less is added one.named
-          (one.digests faithful (known_now faithful known) ∙ ap (λ folder. digests_of (tree_of item folder.files)) (so_far.same faithful)) (so_far.prints faithful known);
+          (one.digests faithful (known_now faithful known) ∙ ap (λ folder. digests_of (tree_of item folder.files)) (so_far.same (back faithful))) (so_far.prints (back faithful) known);
       observed = λ faithful known.
-          observed_more (IsPropertyObserved old.files) files readings next index item x less is added (so_far.observed faithful known)
-          (subst (λ (now : Contents). IsPropertyObserved now.files item x) (so_far.same faithful) (one.observed faithful (known_now faithful known)));
+          observed_more (IsPropertyObserved old.files) files readings next index item x less is added (so_far.observed (back faithful) known)
+          (subst (λ (now : Contents). IsPropertyObserved now.files item x) (so_far.same (back faithful)) (one.observed faithful (known_now faithful known)));
       fit = λ faithful known.
           one_more (λ property. tree_faults property old) files index item less is
-          ∙ ap (λ xs. xs ++ tree_faults item old) (so_far.fit faithful known) ∙ (ap (tree_faults item) (sym (so_far.same faithful)) ∙ one.fit faithful (known_now faithful known));
+          ∙ ap (λ xs. xs ++ tree_faults item old) (so_far.fit (back faithful) known) ∙ (ap (tree_faults item) (sym (so_far.same (back faithful))) ∙ one.fit faithful (known_now faithful known));
     }
 
 pub returns-clause-read : goal.returns-clause-read

@@ -1,4 +1,4 @@
-use Rattle.std.proofs.Common.{◌≡◌, [], take, map, IsTrue}
+use Rattle.std.proofs.Common.{◌≡◌, [], take, map}
 use Rattle.std.specs.List.{AllZip, flat_map}
 use Rattle.gb_folder.specs.Calls.{Requests, no_change}
 use Rattle.gb_tree.specs.Prints.{digests_of}
@@ -15,13 +15,14 @@ invariant-loop-property g l =
     let done = take l.property-index l.task.files in
     record {
       requests : Requests g.F.Folder.failures g.F.Folder.may_leave g.F.Folder.allowed no_change l.fn.folder l.folder;
-      same : IsTrue g.F.Folder.faithful → contents l.folder ≡ old;
+      back : g.F.Folder.faithful l.folder → g.F.Folder.faithful l.fn.folder;
+      same : g.F.Folder.faithful l.folder → contents l.folder ≡ old;
       named : map (λ reading. reading.0) l.readings.items ≡ map (λ property. property.name) done;
       within : AreWithin (is_input_of l.task) l.readings.items;
       answered : (first : _) → Requests g.F.Folder.failures g.F.Folder.may_leave g.F.Folder.allowed no_change first l.fn.folder
           → AreSeen g.F.Folder.failures g.F.Folder.may_leave g.F.Folder.allowed first l.fn.folder l.seen
           → AllZip (IsInputAnswered g.F.Folder.failures g.F.Folder.may_leave g.F.Folder.allowed first l.folder) done l.readings.items;
-      prints : IsTrue g.F.Folder.faithful → AreSeenIn old.files l.seen → prints_read l.readings.items ≡ map (λ property. (property.name, digests_of (tree_of property old.files))) done;
-      observed : IsTrue g.F.Folder.faithful → AreSeenIn old.files l.seen → AllZip (IsPropertyObserved old.files) done l.readings.items;
-      fit : IsTrue g.F.Folder.faithful → AreSeenIn old.files l.seen → flat_map (λ property. tree_faults property old) done ≡ [];
+      prints : g.F.Folder.faithful l.folder → AreSeenIn old.files l.seen → prints_read l.readings.items ≡ map (λ property. (property.name, digests_of (tree_of property old.files))) done;
+      observed : g.F.Folder.faithful l.folder → AreSeenIn old.files l.seen → AllZip (IsPropertyObserved old.files) done l.readings.items;
+      fit : g.F.Folder.faithful l.folder → AreSeenIn old.files l.seen → flat_map (λ property. tree_faults property old) done ≡ [];
     }

@@ -55,12 +55,13 @@ returns-in_err-files-clause-err g c = λ faithful observed.
     let exists = all_at (λ (pair : Output × Read). Persists old pair.1) pairs (length c.loop-output.yielded) x execution.0 execution.1 (pairs_exist old outputs readings observed) in
     at_err (λ r. IfErr r (IsOfMachine (failures c.args.folder.now) (failures c.complete_one.new.folder))) c.from_residual.result p.0 c.in_err-files.field-0.0 p.1 p.2
     (machine_before _ _ _ _ c.loop-output.invariant.requests.count c.complete_one.ensures.requests.count
-    (c.in_err-files.ensures.err faithful (subst (λ (now : Contents). Persists now.files x.1) (sym (c.loop-output.invariant.same faithful)) exists)))
+    (c.in_err-files.ensures.err faithful (subst (λ (now : Contents). Persists now.files x.1) (sym (c.loop-output.invariant.same (c.complete_one.ensures.back faithful))) exists)))
 
 pub loop-output-preserved : goal.loop-output-preserved
 loop-output-preserved g c =
     let old = (g.F.Folder.contents c.args.folder.now).files in
     let so_far = c.loop-output.invariant in
+    let back = c.complete_one.ensures.back in
     let outputs = c.args.task.now.outputs in
     let readings = c.args.readings.items in
     let pairs = zip outputs readings in
@@ -82,7 +83,8 @@ loop-output-preserved g c =
       can_next = so_far.can_next;
       is_finite = so_far.is_finite;
       requests = requests_then so_far.requests c.complete_one.ensures.requests;
-      same = λ faithful. c.complete_one.ensures.same faithful ∙ so_far.same faithful;
+      back = λ known. so_far.back (back known);
+      same = λ faithful. c.complete_one.ensures.same faithful ∙ so_far.same (back faithful);
       formed =
           gathered_more form_of (map reported observed) (map reported c.push-in-loop-output.new.self) (reported made) pairs n x execution.0 execution.1
           (ap (map reported) more ∙ map-append reported observed (made ∷ []))
@@ -106,8 +108,8 @@ loop-output-preserved g c =
           let exists = all_at (λ (pair : Output × Read). Persists old pair.1) pairs n x execution.0 execution.1 all in
           gathered_more (output_made old) observed c.push-in-loop-output.new.self made pairs n x execution.0 execution.1 more
           (output_is made x.0.name x.0.form (contents_at old (entries_observed x.1.1)) one.named one.formed
-          (one.files faithful (subst (λ (now : Contents). Persists now.files x.1) (sym (so_far.same faithful)) exists) ∙ ap (λ now. contents_at now.files (entries_observed x.1.1)) (so_far.same faithful)))
-          (so_far.files faithful all)
+          (one.files faithful (subst (λ (now : Contents). Persists now.files x.1) (sym (so_far.same (back faithful))) exists) ∙ ap (λ now. contents_at now.files (entries_observed x.1.1)) (so_far.same (back faithful))))
+          (so_far.files (back faithful) all)
           ∙ ap (λ k. map (output_made old) (take k pairs)) next;
     }
 

@@ -1,4 +1,4 @@
-use Rattle.std.proofs.Common.{◌≡◌, IsTrue, length, map, take}
+use Rattle.std.proofs.Common.{◌≡◌, length, map, take}
 use Rattle.std.specs.List.{AllByRecursion, AllZip, zip}
 use Rattle.gb_folder.specs.Calls.{Requests, no_change}
 use Rattle.gb_label.specs.ReadingAnswered.{IsOutputAnswered, IsOutputRead}
@@ -16,11 +16,12 @@ invariant-loop-output g l =
       can_next : (goal.iterator-loop-output g).can_next l.output-iterator;
       is_finite : (goal.iterator-loop-output g).is_finite l.output-iterator;
       requests : Requests g.F.Folder.failures g.F.Folder.may_leave g.F.Folder.allowed no_change l.fn.folder l.folder;
-      same : IsTrue g.F.Folder.faithful → contents l.folder ≡ contents l.fn.folder;
+      back : g.F.Folder.faithful l.folder → g.F.Folder.faithful l.fn.folder;
+      same : g.F.Folder.faithful l.folder → contents l.folder ≡ contents l.fn.folder;
       formed : map (λ output. (output.name, output.form)) l.observed ≡ map form_of done;
       digests : l.prints.items ≡ prints_observed l.observed;
       answered : (first : _) → Requests g.F.Folder.failures g.F.Folder.may_leave g.F.Folder.allowed no_change first l.fn.folder
           → AllZip (IsOutputAnswered g.F.Folder.failures g.F.Folder.may_leave g.F.Folder.allowed first l.fn.folder) l.task.outputs l.fn.readings.items
           → AllZip (λ pair observed. IsOutputRead g.F.Folder.failures g.F.Folder.may_leave g.F.Folder.allowed first l.folder pair.0 observed) done l.observed;
-      files : IsTrue g.F.Folder.faithful → AllByRecursion (λ pair. Persists old pair.1) pairs → l.observed ≡ map (output_made old) done;
+      files : g.F.Folder.faithful l.folder → AllByRecursion (λ pair. Persists old pair.1) pairs → l.observed ≡ map (output_made old) done;
     }

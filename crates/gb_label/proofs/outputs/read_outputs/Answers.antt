@@ -49,10 +49,10 @@ returns-in_err-read_one-clause-err g c = λ faithful known.
     let less = subst (λ (os : List Output). index < length os) c.as_slice-output-items.ensures c.loop-output-test.true in
     let is = subst (λ (os : List Output). item ≡ get_or os index item) c.as_slice-output-items.ensures c.output-item.is in
     let IsFault : Fault → Type 0 = CannotRead (g.F.Folder.failures c.args.folder.now) (g.F.Folder.failures c.read_one.new.folder) (flat_map (print_faults old) c.args.task.now.outputs) in
-    at_err (λ r. IfErr r IsFault) c.from_residual.result p.0 c.in_err-read_one.field-0.0 p.1 p.2 (elim (c.in_err-read_one.ensures.err faithful (known_still _ _ c.args.seen.now (c.loop-output.invariant.same faithful) known)) [
+    at_err (λ r. IfErr r IsFault) c.from_residual.result p.0 c.in_err-read_one.field-0.0 p.1 p.2 (elim (c.in_err-read_one.ensures.err faithful (known_still _ _ c.args.seen.now (c.loop-output.invariant.same (c.read_one.ensures.back faithful)) known)) [
       | inl machine ↦ inl (machine_before _ _ _ _ c.loop-output.invariant.requests.count c.read_one.ensures.requests.count machine)
-      | inr first ↦ inr (first_of_all (print_faults old) outputs index item _ less is (c.loop-output.invariant.fit faithful known)
-          (ap (λ folder. first_of (print_faults folder item)) (sym (c.loop-output.invariant.same faithful)) ∙ first))
+      | inr first ↦ inr (first_of_all (print_faults old) outputs index item _ less is (c.loop-output.invariant.fit (c.read_one.ensures.back faithful) known)
+          (ap (λ folder. first_of (print_faults folder item)) (sym (c.loop-output.invariant.same (c.read_one.ensures.back faithful))) ∙ first))
     ])
 
 pub loop-output-preserved : goal.loop-output-preserved
@@ -65,16 +65,18 @@ loop-output-preserved g c =
     let less = subst (λ (os : List Output). index < length os) c.as_slice-output-items.ensures c.loop-output-test.true in
     let is = subst (λ (os : List Output). item ≡ get_or os index item) c.as_slice-output-items.ensures c.output-item.is in
     let so_far = c.loop-output.invariant in
+    let back = c.read_one.ensures.back in
     let readings = c.loop-output.readings.items in
     let next = c.push.new.self.items in
     let added = c.in_ok-push.ensures.items in
     let one = c.in_ok-read_one.ensures in
     let x : Read = c.in_ok-read_one.field-0 in
-    let known_now = λ (faithful : IsTrue g.F.Folder.faithful) (known : AreSeenIn old.files c.args.seen.now). known_still _ _ c.args.seen.now (so_far.same faithful) known in
+    let known_now = λ (faithful : g.F.Folder.faithful c.read_one.new.folder) (known : AreSeenIn old.files c.args.seen.now). known_still _ _ c.args.seen.now (so_far.same (back faithful)) known in
     let reported : Output → Prints = λ output. (recorded_of old.files output).prints in
     record {
       requests = requests_then so_far.requests c.read_one.ensures.requests;
-      same = λ faithful. c.read_one.ensures.same faithful ∙ so_far.same faithful;
+      back = λ known. so_far.back (back known);
+      same = λ faithful. c.read_one.ensures.same faithful ∙ so_far.same (back faithful);
       named = name_more (λ (reading : Read). reading.0) (λ (output : Output). output.name) readings next x outputs index item less is so_far.named added one.named;
       within =
           each_more (λ (reading : Read). AllByRecursion (λ observed. IsTrue (is_output_of task observed.place)) reading.1) readings next x added so_far.within
@@ -90,14 +92,14 @@ loop-output-preserved g c =
           (one.answered first (requests_then before so_far.requests) (seen_longer (requests_nothing first) so_far.requests c.args.seen.now known));
       prints = λ faithful known.
           prints_more reported readings next x outputs index item less is added one.named
-          (one.digests faithful (known_now faithful known) ∙ ap (λ folder. digests_of (files_from folder.files item.place)) (so_far.same faithful)) (so_far.prints faithful known);
+          (one.digests faithful (known_now faithful known) ∙ ap (λ folder. digests_of (files_from folder.files item.place)) (so_far.same (back faithful))) (so_far.prints (back faithful) known);
       observed = λ faithful known.
-          observed_more (IsOutputObserved old.files) outputs readings next index item x less is added (so_far.observed faithful known)
-          (subst (λ (now : Contents). IsOutputObserved now.files item x) (so_far.same faithful) (one.observed faithful (known_now faithful known)));
+          observed_more (IsOutputObserved old.files) outputs readings next index item x less is added (so_far.observed (back faithful) known)
+          (subst (λ (now : Contents). IsOutputObserved now.files item x) (so_far.same (back faithful)) (one.observed faithful (known_now faithful known)));
       fit = λ faithful known.
           one_more (print_faults old) outputs index item less is
-          ∙ ap (λ xs. xs ++ print_faults old item) (so_far.fit faithful known)
-          ∙ (ap (λ folder. print_faults folder item) (sym (so_far.same faithful)) ∙ one.fit faithful (known_now faithful known));
+          ∙ ap (λ xs. xs ++ print_faults old item) (so_far.fit (back faithful) known)
+          ∙ (ap (λ folder. print_faults folder item) (sym (so_far.same (back faithful))) ∙ one.fit faithful (known_now faithful known));
     }
 
 pub returns-clause-read : goal.returns-clause-read

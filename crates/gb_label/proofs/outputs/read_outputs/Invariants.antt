@@ -1,4 +1,4 @@
-use Rattle.std.proofs.Common.{◌≡◌, [], take, map, IsTrue}
+use Rattle.std.proofs.Common.{◌≡◌, [], take, map}
 use Rattle.std.specs.List.{AllZip, flat_map}
 use Rattle.gb_folder.specs.Calls.{Requests, no_change}
 use Rattle.gb_plan.specs.Task.{is_output_of}
@@ -14,13 +14,14 @@ invariant-loop-output g l =
     let done = take l.output-index l.task.outputs in
     record {
       requests : Requests g.F.Folder.failures g.F.Folder.may_leave g.F.Folder.allowed no_change l.fn.folder l.folder;
-      same : IsTrue g.F.Folder.faithful → contents l.folder ≡ old;
+      back : g.F.Folder.faithful l.folder → g.F.Folder.faithful l.fn.folder;
+      same : g.F.Folder.faithful l.folder → contents l.folder ≡ old;
       named : map (λ reading. reading.0) l.readings.items ≡ map (λ output. output.name) done;
       within : AreWithin (is_output_of l.task) l.readings.items;
       answered : (first : _) → Requests g.F.Folder.failures g.F.Folder.may_leave g.F.Folder.allowed no_change first l.fn.folder
           → AreSeen g.F.Folder.failures g.F.Folder.may_leave g.F.Folder.allowed first l.fn.folder l.seen
           → AllZip (IsOutputAnswered g.F.Folder.failures g.F.Folder.may_leave g.F.Folder.allowed first l.folder) done l.readings.items;
-      prints : IsTrue g.F.Folder.faithful → AreSeenIn old.files l.seen → prints_read l.readings.items ≡ map (λ output. (recorded_of old.files output).prints) done;
-      observed : IsTrue g.F.Folder.faithful → AreSeenIn old.files l.seen → AllZip (IsOutputObserved old.files) done l.readings.items;
-      fit : IsTrue g.F.Folder.faithful → AreSeenIn old.files l.seen → flat_map (print_faults old) done ≡ [];
+      prints : g.F.Folder.faithful l.folder → AreSeenIn old.files l.seen → prints_read l.readings.items ≡ map (λ output. (recorded_of old.files output).prints) done;
+      observed : g.F.Folder.faithful l.folder → AreSeenIn old.files l.seen → AllZip (IsOutputObserved old.files) done l.readings.items;
+      fit : g.F.Folder.faithful l.folder → AreSeenIn old.files l.seen → flat_map (print_faults old) done ≡ [];
     }

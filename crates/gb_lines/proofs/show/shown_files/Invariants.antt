@@ -8,7 +8,8 @@ abbrev pub invariant-loop-place : goal.invariant-loop-place
 invariant-loop-place g l =
     let files = (g.F.Folder.contents l.fn.folder).files in
     record {
-      same : IsTrue g.F.Folder.faithful → g.F.Folder.contents l.folder ≡ g.F.Folder.contents l.fn.folder;
-      shown : IsTrue g.F.Folder.faithful → l.text.items ++ flat_map (λ p. shown_at p (file_at files p)) (drop l.place-index l.place-items)
+      back : g.F.Folder.faithful l.folder → g.F.Folder.faithful l.fn.folder;
+      same : g.F.Folder.faithful l.folder → g.F.Folder.contents l.folder ≡ g.F.Folder.contents l.fn.folder;
+      shown : g.F.Folder.faithful l.folder → l.text.items ++ flat_map (λ p. shown_at p (file_at files p)) (drop l.place-index l.place-items)
           ≡ flat_map (λ p. shown_at p (file_at files p)) l.place-items;
     }

@@ -51,12 +51,14 @@ returns g c =
       count = said.requests.count;
       tearing = said.requests.tearing;
       risen = λ is. said.device (change_failed c.remove.result is);
+      back = said.back;
       exact = λ faithful. removed (F.may_leave c.args.folder.now) (F.contents c.args.folder.now) c.in_ok-place.place c.remove.result (F.contents c.remove.new.self)
           said.not_large said.not_named (said.removed faithful) (said.existed faithful) (said.missing faithful) (said.missing_free faithful) (said.blocked faithful) (said.same faithful) (said.torn faithful);
     }) in
     record {
       calls = deletion_called F.device path c.args.was_read c.in_ok-place.place c.args.folder.now c.remove.new.self c.remove.result c.unless_missing.result c.if-not-was_read.false at called
           (c.unless_missing.ensures ∙ ap deletion_ending (sym c.in-Err.is));
+      back = said.back;
       requests = taken_as c.in_ok-place.place (record_place path) at allowed.requests;
       unread = λ e. absurd (true≢false (sym c.if-not-was_read.false ∙ e));
       out = λ faithful.
@@ -91,6 +93,7 @@ returns-in-Ok-clause-calls g c =
       count = said.requests.count;
       tearing = said.requests.tearing;
       risen = λ is. said.device (change_failed c.remove.result is);
+      back = said.back;
       exact = λ faithful. removed (F.may_leave c.args.folder.now) (F.contents c.args.folder.now) c.in_ok-place.place c.remove.result (F.contents c.remove.new.self)
           said.not_large said.not_named (said.removed faithful) (said.existed faithful) (said.missing faithful) (said.missing_free faithful) (said.blocked faithful) (said.same faithful) (said.torn faithful);
     }) in

@@ -84,6 +84,7 @@ returns-in-Ok-clause-calls g c =
       count = said.requests.count;
       tearing = said.requests.tearing;
       risen = λ is. said.device (change_failed c.write.result is);
+      back = said.back;
       exact = λ faithful. wrote (F.may_leave old) (F.contents old) place bytes max_record c.write.result (F.contents new) said.within
           said.large said.not_missing said.not_named (said.written faithful) (said.free faithful) (said.blocked faithful) (said.same faithful) (said.torn faithful);
     }) in
@@ -108,6 +109,7 @@ returns-clause-calls g c =
       count = said.requests.count;
       tearing = said.requests.tearing;
       risen = λ is. said.device (change_failed c.write.result is);
+      back = said.back;
       exact = λ faithful. wrote (F.may_leave old) (F.contents old) place bytes max_record c.write.result (F.contents new) said.within
           said.large said.not_missing said.not_named (said.written faithful) (said.free faithful) (said.blocked faithful) (said.same faithful) (said.torn faithful);
     }) in

@@ -36,7 +36,8 @@ fours-preserved g c =
     let parts : four ++ others ≡ c.fours.rest.now = parted 4 c.fours.rest.now c.in-Some.four.now c.in-Some.others.now c.in-Some.ensures.cases.0 c.in-Some.ensures.cases.1 in
     record {
       requests = requests_then so_far.requests c.read_some.ensures.requests;
-      same = λ faithful. c.read_some.ensures.same faithful ∙ so_far.same faithful;
+      back = λ known. so_far.back (c.read_some.ensures.back known);
+      same = λ faithful. c.read_some.ensures.same faithful ∙ so_far.same (c.read_some.ensures.back faithful);
       done = (
         done.0 ++ four,
         append_assoc done.0 four others ∙ ap (λ (rest : List Path). done.0 ++ rest) parts ∙ done.1,
@@ -47,8 +48,8 @@ fours-preserved g c =
             (all_zip_more (WasAnswered F.failures F.may_leave F.allowed before now) (WasAnswered F.failures F.may_leave F.allowed start now)
             (answered_longer start before now now so_far.requests (requests_nothing now)) four c.in_ok-found.found.items c.in_ok-found.ensures.answered)),
         λ faithful. subst (AllZip (IsReadAt (F.contents start).files) (done.0 ++ four)) (sym c.in_ok-append.ensures.items)
-            (zip_append (IsReadAt (F.contents start).files) done.0 four c.fours.records.items c.in_ok-found.found.items (done.3 faithful)
-            (subst (λ (at : Contents). AllZip (IsReadAt at.files) four c.in_ok-found.found.items) (so_far.same faithful) (c.in_ok-found.ensures.read faithful))),
+            (zip_append (IsReadAt (F.contents start).files) done.0 four c.fours.records.items c.in_ok-found.found.items (done.3 (c.read_some.ensures.back faithful))
+            (subst (λ (at : Contents). AllZip (IsReadAt at.files) four c.in_ok-found.found.items) (so_far.same (c.read_some.ensures.back faithful)) (c.in_ok-found.ensures.read faithful))),
       );
     }
 
@@ -62,8 +63,8 @@ returns-clause-read g c = λ faithful.
     let found = c.in_ok-found-2.found.items in
     subst (λ (paths : List Path). AllZip (IsReadAt (F.contents start).files) paths c.append-2.new.self.items) done.1
     (subst (AllZip (IsReadAt (F.contents start).files) (done.0 ++ rest)) (sym c.in_ok-append-2.ensures.items)
-    (zip_append (IsReadAt (F.contents start).files) done.0 rest c.fours.records.items found (done.3 faithful)
-    (subst (λ (at : Contents). AllZip (IsReadAt at.files) rest found) (so_far.same faithful) (c.in_ok-found-2.ensures.read faithful))))
+    (zip_append (IsReadAt (F.contents start).files) done.0 rest c.fours.records.items found (done.3 (c.read_some-2.ensures.back faithful))
+    (subst (λ (at : Contents). AllZip (IsReadAt at.files) rest found) (so_far.same (c.read_some-2.ensures.back faithful)) (c.in_ok-found-2.ensures.read faithful))))
 
 pub returns-clause-answered : goal.returns-clause-answered
 returns-clause-answered g c =

@@ -1,4 +1,4 @@
-use Rattle.std.proofs.Common.{◌≡◌, ◌++◌, IsTrue, List, length}
+use Rattle.std.proofs.Common.{◌≡◌, ◌++◌, List, length}
 use Rattle.std.specs.List.{AllZip}
 use Rattle.gb_folder.specs.Calls.{Requests, no_change}
 use Rattle.gb_plan.specs.Task.{Path}
@@ -12,10 +12,11 @@ invariant-fours g l =
     let F = g.F.Folder in
     record {
       requests : Requests F.failures F.may_leave F.allowed no_change l.fn.folder l.folder;
-      same : IsTrue F.faithful → F.contents l.folder ≡ F.contents l.fn.folder;
+      back : F.faithful l.folder → F.faithful l.fn.folder;
+      same : F.faithful l.folder → F.contents l.folder ≡ F.contents l.fn.folder;
       done : (done : List Path) × (done ++ l.rest ≡ l.paths)
           × AllZip (WasAnswered F.failures F.may_leave F.allowed l.fn.folder l.folder) done l.records.items
-          × (IsTrue F.faithful → AllZip (IsReadAt (F.contents l.fn.folder).files) done l.records.items);
+          × (F.faithful l.folder → AllZip (IsReadAt (F.contents l.fn.folder).files) done l.records.items);
     }
 
 abbrev pub decreases-fours : goal.decreases-fours

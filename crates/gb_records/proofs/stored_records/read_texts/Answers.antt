@@ -29,7 +29,8 @@ loop-path-preserved g c =
     let text : Path × Option Bytes = (path, c.in_ok-bytes.bytes) in
     record {
       requests = requests_then c.loop-path.invariant.requests c.read_text.ensures.requests;
-      same = λ faithful. c.read_text.ensures.same faithful ∙ c.loop-path.invariant.same faithful;
+      back = λ known. c.loop-path.invariant.back (c.read_text.ensures.back known);
+      same = λ faithful. c.read_text.ensures.same faithful ∙ c.loop-path.invariant.same (c.read_text.ensures.back faithful);
       answered =
           read_more (WasStoredAt F.failures F.may_leave F.allowed start now) paths i path c.loop-path.texts.items _ text
           c.loop-path-test.true
@@ -42,8 +43,8 @@ loop-path-preserved g c =
           read_more (IsStoredAt (F.contents start).files) paths i path c.loop-path.texts.items _ text
           c.loop-path-test.true
           c.path-item.is
-          (c.loop-path.invariant.read faithful)
-          (refl, subst (λ (folder : Contents). IsTextAt folder.files path c.in_ok-bytes.bytes) (c.loop-path.invariant.same faithful) (c.in_ok-bytes.ensures.read faithful))
+          (c.loop-path.invariant.read (c.read_text.ensures.back faithful))
+          (refl, subst (λ (folder : Contents). IsTextAt folder.files path c.in_ok-bytes.bytes) (c.loop-path.invariant.same (c.read_text.ensures.back faithful)) (c.in_ok-bytes.ensures.read faithful))
           c.in_ok-push.ensures.items;
     }
 

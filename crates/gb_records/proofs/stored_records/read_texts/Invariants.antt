@@ -1,4 +1,4 @@
-use Rattle.std.proofs.Common.{◌≡◌, IsTrue, take}
+use Rattle.std.proofs.Common.{◌≡◌, take}
 use Rattle.std.specs.List.{AllZip}
 use Rattle.gb_folder.specs.Calls.{Requests, no_change}
 use Rattle.gb_records.specs.Texts.{IsStoredAt, WasStoredAt}
@@ -9,7 +9,8 @@ invariant-loop-path g l =
     let contents = g.F.Folder.contents in
     record {
       requests : Requests g.F.Folder.failures g.F.Folder.may_leave g.F.Folder.allowed no_change l.fn.folder l.folder;
-      same : IsTrue g.F.Folder.faithful → contents l.folder ≡ contents l.fn.folder;
+      back : g.F.Folder.faithful l.folder → g.F.Folder.faithful l.fn.folder;
+      same : g.F.Folder.faithful l.folder → contents l.folder ≡ contents l.fn.folder;
       answered : AllZip (WasStoredAt g.F.Folder.failures g.F.Folder.may_leave g.F.Folder.allowed l.fn.folder l.folder) (take l.path-index l.paths) l.texts.items;
-      read : IsTrue g.F.Folder.faithful → AllZip (IsStoredAt (contents l.fn.folder).files) (take l.path-index l.paths) l.texts.items;
+      read : g.F.Folder.faithful l.folder → AllZip (IsStoredAt (contents l.fn.folder).files) (take l.path-index l.paths) l.texts.items;
     }

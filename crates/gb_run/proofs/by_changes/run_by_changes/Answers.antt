@@ -29,7 +29,7 @@ use Rattle.gb_run.specs.Worked.{AreStepsAt, part_held}
 use Rattle.gb_run.specs.declared.work.Part.{Part}
 use Rattle.gb_run.proofs.Changed.{changes_of}
 use Rattle.gb_run.proofs.Composed.{Ends}
-use Rattle.gb_run.proofs.Ran.{blamed_parts_at, blamed_parts_for, device_alone, ended_badly, ended_well, if_made, parts_so, permitted_parts, runs_by}
+use Rattle.gb_run.proofs.Ran.{blamed_parts_at, blamed_parts_for, device_alone, ended_badly, ended_well, if_made, known_before, parts_so, permitted_parts, runs_by}
 use Rattle.gb_run.proofs.Fitting.{all_fitting}
 use Rattle.gb_run.proofs.Going.{fails_early}
 use Rattle.gb_run.proofs.RanBy.{done_work_ends}
@@ -113,6 +113,14 @@ returns-clause-calls g c =
           c.as_slice.ensures.value (c.in_ok-parts.ensures.work kinds agrees) led.3 c.requires.no_lines led.4),
     )
 
+pub returns-clause-back : goal.returns-clause-back
+returns-clause-back g c = λ faithful.
+    let F = g.F.Folder in
+    let device = device_of F.failures F.may_leave F.allowed F.faithful F.contents in
+    let led = c.do_parts-done.ensures in
+    known_before device c.args.folder.now c.do_parts-done.new.folder led.0
+    (leads_as F.device device g.met.F.Folder.said c.args.folder.now c.do_parts-done.new.folder led.0 led.2) faithful
+
 pub returns-clause-requests : goal.returns-clause-requests
 unfolding changes_at
 returns-clause-requests g c =
@@ -150,7 +158,7 @@ returns-clause-changes g c = λ faithful.
     let at = is_output_of c.args.task.now in
     let places = subst (λ (parts : List Part). AllByRecursion (AreStepsAt at) parts) (sym c.as_slice.ensures.value) c.in_ok-parts.ensures.places in
     changes_of at (F.may_leave c.args.folder.now) _ _ led.0 (permitted_parts (changes_at at) c.as_slice.result.now led.0 led.1 c.do_parts-done.result places led.3)
-    (answered_all device faithful g.met.F.Folder.sound c.args.folder.now c.do_parts-done.new.folder led.0
+    (answered_all device g.met.F.Folder.sound c.args.folder.now c.do_parts-done.new.folder led.0 faithful
     (leads_as F.device device g.met.F.Folder.said c.args.folder.now c.do_parts-done.new.folder led.0 led.2))
 
 pub returns-clause-ok : goal.returns-clause-ok
@@ -173,7 +181,7 @@ returns-clause-ok g c = λ faithful.
     (subst (λ (ls : List Text). Ends (run_input kinds task c.args.files c.args.changes (rest_of task start)) (ByChanges start) (F.may_leave old) (F.failures old) (F.failures new) done (result_err made) ls (F.contents new).files) (sym (parts_so c.args.lines.now led.1 lines c.requires.no_lines led.4))
     (done_work_ends kinds task c.args.files c.args.changes c.args.outputs before start goes_on (all_fitting g.A.Actions.meanings kinds c.args.table.now task task.actions g.A.Actions.own_output agrees c.requires.ready)
     (g.met.F.Folder.sound old) (g.met.F.Folder.placed old) (F.may_leave old) (F.failures old) (F.failures new) (count_of device old new led.0 leads) _ led.1 (F.contents old) (F.contents new) led.0 done (c.in_ok-parts.ensures.work kinds agrees) refl
-    (subst (λ (ps : List Part). DoesParts (map part_held ps) led.0 led.1 done) c.as_slice.ensures.value led.3) (answered_all device faithful g.met.F.Folder.sound old new led.0 leads)
+    (subst (λ (ps : List Part). DoesParts (map part_held ps) led.0 led.1 done) c.as_slice.ensures.value led.3) (answered_all device g.met.F.Folder.sound old new led.0 faithful leads)
     (λ place is. blamed_parts_for device c.as_slice.result.now led.0 led.1 done _ _ led.3 leads place is))))))
 
 pub returns-clause-err : goal.returns-clause-err
@@ -198,5 +206,5 @@ returns-clause-err g c = λ faithful.
     (subst (λ (ls : List Text). Ends (run_input kinds task c.args.files c.args.changes (rest_of task start)) (ByChanges start) (F.may_leave old) (F.failures old) (F.failures new) done (result_err made) ls (F.contents new).files) (sym (parts_so c.args.lines.now led.1 lines c.requires.no_lines led.4))
     (done_work_ends kinds task c.args.files c.args.changes c.args.outputs before start goes_on (all_fitting g.A.Actions.meanings kinds c.args.table.now task task.actions g.A.Actions.own_output agrees c.requires.ready)
     (g.met.F.Folder.sound old) (g.met.F.Folder.placed old) (F.may_leave old) (F.failures old) (F.failures new) (count_of device old new led.0 leads) _ led.1 (F.contents old) (F.contents new) led.0 done (c.in_ok-parts.ensures.work kinds agrees) refl
-    (subst (λ (ps : List Part). DoesParts (map part_held ps) led.0 led.1 done) c.as_slice.ensures.value led.3) (answered_all device faithful g.met.F.Folder.sound old new led.0 leads)
+    (subst (λ (ps : List Part). DoesParts (map part_held ps) led.0 led.1 done) c.as_slice.ensures.value led.3) (answered_all device g.met.F.Folder.sound old new led.0 faithful leads)
     (λ place is. blamed_parts_for device c.as_slice.result.now led.0 led.1 done _ _ led.3 leads place is))))))

@@ -42,6 +42,7 @@ special_by output outputs folder is same =
 
 pub returns-in_err-listed-clause-special : goal.returns-in_err-listed-clause-special
 returns-in_err-listed-clause-special g c = λ faithful.
+    let before = c.listed_at.ensures.back faithful in
     let p = err_from_is_err_and c.from_residual.result c.from_residual.ensures.1 in
     let old = g.F.Folder.contents c.args.folder.now in
     let outputs = c.args.outputs.now in
@@ -50,9 +51,9 @@ returns-in_err-listed-clause-special g c = λ faithful.
     at_err (λ r. IfErr r IsFault) c.from_residual.result p.0 c.in_err-listed.field-0.0 p.1 p.2 (elim (c.in_err-listed.ensures.special faithful) [
       | inl machine ↦ inl (machine_before _ _ _ _ c.loop-output.invariant.requests.count c.listed_at.ensures.requests.count machine)
       | inr special ↦ inr (
-          ap first_of (sym (c.loop-output.invariant.special faithful)
+          ap first_of (sym (c.loop-output.invariant.special before)
           ∙ step_here (λ os. special_faults os old) outputs c.loop-output.output-index c.output-item.result c.loop-output-test.true c.output-item.is
-          ∙ special_by c.output-item.result (drop (c.loop-output.output-index + 1) outputs) old true (ap (λ folder. is_special_under folder c.output-item.result.place) (sym (c.loop-output.invariant.same faithful)) ∙ special.0))
+          ∙ special_by c.output-item.result (drop (c.loop-output.output-index + 1) outputs) old true (ap (λ folder. is_special_under folder c.output-item.result.place) (sym (c.loop-output.invariant.same before)) ∙ special.0))
           ∙ ap Some (sym special.1))
     ])
 
@@ -84,19 +85,20 @@ loop-output-preserved g c =
       under =
           ap (list_all (is_at_output outputs)) items ∙ list_all-append (is_at_output outputs) c.loop-output.places.items c.in_ok-listed.listed.items
           ∙ and_from _ _ so_far.under under;
-      same = λ faithful. c.listed_at.ensures.same faithful ∙ so_far.same faithful;
+      back = λ faithful. so_far.back (c.listed_at.ensures.back faithful);
+      same = λ faithful. c.listed_at.ensures.same faithful ∙ so_far.same (c.listed_at.ensures.back faithful);
       listed = λ faithful.
-          let here : c.in_ok-listed.listed.items ≡ places_under old.files output.place = c.in_ok-listed.ensures.listed faithful ∙ ap (λ (folder : Contents). places_under folder.files output.place) (so_far.same faithful) in
+          let here : c.in_ok-listed.listed.items ≡ places_under old.files output.place = c.in_ok-listed.ensures.listed faithful ∙ ap (λ (folder : Contents). places_under folder.files output.place) (so_far.same (c.listed_at.ensures.back faithful)) in
           let rest = places_at (drop (i + 1) outputs) old.files in
           ap (λ (found : List (List ℕ)). found ++ rest) (items ∙ ap (λ (more : List (List ℕ)). c.loop-output.places.items ++ more) here)
           ∙ append_assoc c.loop-output.places.items (places_under old.files output.place) rest
           ∙ ap (λ (more : List (List ℕ)). c.loop-output.places.items ++ more) (sym (step_here (λ os. places_at os old.files) outputs i output c.loop-output-test.true c.output-item.is))
-          ∙ so_far.listed faithful;
+          ∙ so_far.listed (c.listed_at.ensures.back faithful);
       special = λ faithful.
-          let none : is_special_under old output.place ≡ false = ap (λ folder. is_special_under folder output.place) (sym (so_far.same faithful)) ∙ c.in_ok-listed.ensures.none_special faithful in
+          let none : is_special_under old output.place ≡ false = ap (λ folder. is_special_under folder output.place) (sym (so_far.same (c.listed_at.ensures.back faithful))) ∙ c.in_ok-listed.ensures.none_special faithful in
           sym (special_by output (drop (i + 1) outputs) old false none)
           ∙ sym (step_here (λ os. special_faults os old) outputs i output c.loop-output-test.true c.output-item.is)
-          ∙ so_far.special faithful;
+          ∙ so_far.special (c.listed_at.ensures.back faithful);
     }
 
 abbrev ListedBy : {F : Type 0} → Device F → List Output → F → Result (Vec (List ℕ) Global) Fault → F → Type 0

@@ -23,7 +23,7 @@ use Rattle.gb_run.specs.Work.{AreAtOutputs, RunsInFull, ending, or_made}
 use Rattle.gb_run.specs.Worked.{AreStepsAt}
 use Rattle.gb_run.specs.declared.work.Part.{Part}
 use Rattle.gb_run.proofs.Changed.{changes_of}
-use Rattle.gb_run.proofs.Ran.{blamed_parts_at, blamed_parts_for, device_alone, ended_badly, ended_well, if_made, permitted_parts, ran, runs_so}
+use Rattle.gb_run.proofs.Ran.{blamed_parts_at, blamed_parts_for, device_alone, ended_badly, ended_well, if_made, known_before, permitted_parts, ran, runs_so}
 use Rattle.gb_run.proofs.Running.{fails_early}
 use Rattle.gb_run.proofs.run.run_in_full.Goals as goal
 
@@ -94,6 +94,14 @@ returns-clause-calls g c =
           c.as_slice.ensures.value (c.in_ok-parts.ensures.work kinds agrees) led.3 c.requires.no_lines led.4),
     )
 
+pub returns-clause-back : goal.returns-clause-back
+returns-clause-back g c = λ faithful.
+    let F = g.F.Folder in
+    let device = device_of F.failures F.may_leave F.allowed F.faithful F.contents in
+    let led = c.do_parts-done.ensures in
+    known_before device c.args.folder.now c.do_parts-done.new.folder led.0
+    (leads_as F.device device g.met.F.Folder.said c.args.folder.now c.do_parts-done.new.folder led.0 led.2) faithful
+
 pub returns-clause-requests : goal.returns-clause-requests
 unfolding changes_at
 returns-clause-requests g c =
@@ -131,7 +139,7 @@ returns-clause-changes g c = λ faithful.
     let at = is_output_of c.args.task.now in
     let places = subst (λ (parts : List Part). AllByRecursion (AreStepsAt at) parts) (sym c.as_slice.ensures.value) c.in_ok-parts.ensures.places in
     changes_of at (F.may_leave c.args.folder.now) _ _ led.0 (permitted_parts (changes_at at) c.as_slice.result.now led.0 led.1 c.do_parts-done.result places led.3)
-    (answered_all device faithful g.met.F.Folder.sound c.args.folder.now c.do_parts-done.new.folder led.0
+    (answered_all device g.met.F.Folder.sound c.args.folder.now c.do_parts-done.new.folder led.0 faithful
     (leads_as F.device device g.met.F.Folder.said c.args.folder.now c.do_parts-done.new.folder led.0 led.2))
 
 pub returns-clause-ok : goal.returns-clause-ok
@@ -150,7 +158,7 @@ returns-clause-ok g c = λ faithful.
     ended_well (run_input kinds c.args.task.now c.args.files c.args.changes (F.contents old).files) InFull (F.may_leave old) (F.failures old) (F.failures new) lines (F.contents new).files done made
     (ran kinds c.args.task.now c.args.files c.args.changes (F.may_leave old) (F.failures old) (F.failures new) (F.contents old) (F.contents new) led.0 c.in_ok-parts.field-0.parts.items c.as_slice.result.now (result_err made)
     c.args.lines.now led.1 lines done c.as_slice.ensures.value (c.in_ok-parts.ensures.work kinds agrees) (g.met.F.Folder.sound old).in_order (count_of device old new led.0 leads)
-    (λ place is. blamed_parts_for device c.as_slice.result.now led.0 led.1 done _ _ led.3 leads place is) led.3 (answered_all device faithful g.met.F.Folder.sound old new led.0 leads) c.requires.no_lines led.4)))
+    (λ place is. blamed_parts_for device c.as_slice.result.now led.0 led.1 done _ _ led.3 leads place is) led.3 (answered_all device g.met.F.Folder.sound old new led.0 faithful leads) c.requires.no_lines led.4)))
 
 pub returns-clause-err : goal.returns-clause-err
 returns-clause-err g c = λ faithful.
@@ -168,4 +176,4 @@ returns-clause-err g c = λ faithful.
     ended_badly (run_input kinds c.args.task.now c.args.files c.args.changes (F.contents old).files) InFull (F.may_leave old) (F.failures old) (F.failures new) lines (F.contents new).files done made
     (ran kinds c.args.task.now c.args.files c.args.changes (F.may_leave old) (F.failures old) (F.failures new) (F.contents old) (F.contents new) led.0 c.in_ok-parts.field-0.parts.items c.as_slice.result.now (result_err made)
     c.args.lines.now led.1 lines done c.as_slice.ensures.value (c.in_ok-parts.ensures.work kinds agrees) (g.met.F.Folder.sound old).in_order (count_of device old new led.0 leads)
-    (λ place is. blamed_parts_for device c.as_slice.result.now led.0 led.1 done _ _ led.3 leads place is) led.3 (answered_all device faithful g.met.F.Folder.sound old new led.0 leads) c.requires.no_lines led.4)))
+    (λ place is. blamed_parts_for device c.as_slice.result.now led.0 led.1 done _ _ led.3 leads place is) led.3 (answered_all device g.met.F.Folder.sound old new led.0 faithful leads) c.requires.no_lines led.4)))

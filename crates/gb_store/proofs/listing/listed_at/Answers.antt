@@ -17,6 +17,7 @@ returns-in-Ok-clause-call g c =
       count = said.requests.count;
       tearing = said.requests.tearing;
       risen = λ is. said.device (row_failed c.list.result is);
+      back = said.back;
       exact = λ faithful. (listed (F.contents c.args.folder.now) root c.list.result said.not_large (said.not_missing faithful) (said.not_blocked faithful) (said.listed faithful) (said.none_special faithful) (said.bad_name faithful), said.same faithful);
     }) in
     (answered c.list.result, called, listed_well root c.list.result c.in-Ok.places c.in-Ok.is)
@@ -33,6 +34,7 @@ returns-in-Err-clause-call g c =
       count = said.requests.count;
       tearing = said.requests.tearing;
       risen = λ is. said.device (row_failed c.list.result is);
+      back = said.back;
       exact = λ faithful. (listed (F.contents c.args.folder.now) root c.list.result said.not_large (said.not_missing faithful) (said.not_blocked faithful) (said.listed faithful) (said.none_special faithful) (said.bad_name faithful), said.same faithful);
     }) in
     (answered c.list.result, called, listed_badly root c.list.result c.in-Err.fault _ c.in-Err.is c.fault_at.ensures)

@@ -1,4 +1,4 @@
-use Rattle.std.proofs.Common.{◌≡◌, [], IsTrue, Ok, take}
+use Rattle.std.proofs.Common.{◌≡◌, [], Ok, take}
 use Rattle.gb_folder.proofs.EachOf.{EachLed}
 use Rattle.gb_folder.specs.Calls.{Requests, takes_at}
 use Rattle.gb_store.specs.Changes.{is_among, without_all}
@@ -11,5 +11,6 @@ invariant-loop-place g l =
     record {
       led : EachLed Removal g.F.Folder.device (take l.place-index l.places) l.fn.folder [] (Ok tt) l.folder;
       requests : Requests g.F.Folder.failures g.F.Folder.may_leave g.F.Folder.allowed (takes_at (is_among l.places)) l.fn.folder l.folder;
-      removed : IsTrue g.F.Folder.faithful → contents l.folder ≡ without_all (contents l.fn.folder) (take l.place-index l.places);
+      back : g.F.Folder.faithful l.folder → g.F.Folder.faithful l.fn.folder;
+      removed : g.F.Folder.faithful l.folder → contents l.folder ≡ without_all (contents l.fn.folder) (take l.place-index l.places);
     }

@@ -28,6 +28,7 @@ returns-in-Ok-clause-call g c =
       count = said.requests.count;
       tearing = said.requests.tearing;
       risen = λ is. said.device (change_failed c.remove.result is);
+      back = said.back;
       exact = λ faithful. removed (F.may_leave c.args.folder.now) (F.contents c.args.folder.now) place c.remove.result (F.contents c.remove.new.self)
           said.not_large said.not_named (said.removed faithful) (said.existed faithful) (said.missing faithful) (said.missing_free faithful) (said.blocked faithful) (said.same faithful) (said.torn faithful);
     }) in
@@ -67,6 +68,7 @@ returns-in-Err g c =
       count = said.requests.count;
       tearing = said.requests.tearing;
       risen = λ is. said.device (change_failed c.remove.result is);
+      back = said.back;
       exact = λ faithful. removed (F.may_leave c.args.folder.now) (F.contents c.args.folder.now) place c.remove.result (F.contents c.remove.new.self)
           said.not_large said.not_named (said.removed faithful) (said.existed faithful) (said.missing faithful) (said.missing_free faithful) (said.blocked faithful) (said.same faithful) (said.torn faithful);
     }) in
@@ -76,6 +78,7 @@ returns-in-Err g c =
         called,
         c.unless_absent.ensures ∙ ap (λ p. unless_absent p fault) c.in_ok-at.ensures ∙ ap (removal_ending place) (sym c.in-Err.is),
       );
+      back = allowed.back;
       requests = allowed.requests;
       blame = λ at is.
           let reported = IfErr-at_err _ is (at_place c.in_ok-at.at fault c.unless_absent.result c.unless_absent.ensures) in

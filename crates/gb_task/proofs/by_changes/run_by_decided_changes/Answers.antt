@@ -51,21 +51,22 @@ returns-in_err-run-clause-changes g c = λ faithful.
     let F = g.F.Folder in
     let task = c.args.task.now in
     changes_chain (is_of_execution task) (F.contents c.args.folder.now) (F.contents c.forget.new.folder) (F.contents c.make_by_changes.new.folder)
-    (record_in_execution task (F.contents c.args.folder.now) (F.contents c.forget.new.folder) (c.forget.ensures.changes faithful))
+    (record_in_execution task (F.contents c.args.folder.now) (F.contents c.forget.new.folder) (c.forget.ensures.changes (c.make_by_changes.ensures.back faithful)))
     (outputs_in_execution task (F.contents c.forget.new.folder) (F.contents c.make_by_changes.new.folder) (c.make_by_changes.ensures.changes faithful))
 
 pub returns-in_err-run-clause-execution : goal.returns-in_err-run-clause-execution
 returns-in_err-run-clause-execution g c = λ faithful kinds registry_of options plan moment given at are_trees are_outputs due.
+    let then_known = c.make_by_changes.ensures.back faithful in
     let F = g.F.Folder in
     let task = c.args.task.now in
     let start = c.args.folder.now in
     let then = c.forget.new.folder in
     let now = c.make_by_changes.new.folder in
     let memory = moment.world.memory in
-    let records = c.forget.ensures.exists faithful given.tears memory at.records (none_read (recalled memory task.path) true at.read) in
+    let records = c.forget.ensures.exists then_known given.tears memory at.records (none_read (recalled memory task.path) true at.read) in
     let forgotten : HoldsRecords (F.contents then).files (forget memory task.path) =
     subst (λ (r : Result (Unit {0}) Fault). IsForgotten task.path memory r (F.contents then).files) c.in_ok-forget.was records in
-    let gone : ChangesOnly (is_at (record_place task.path)) (F.contents start) (F.contents then) = c.forget.ensures.changes faithful in
+    let gone : ChangesOnly (is_at (record_place task.path)) (F.contents start) (F.contents then) = c.forget.ensures.changes then_known in
     let goes = goes_on kinds registry_of (F.may_leave start) options plan task true moment (F.contents start) (F.failures start) c.args.changes c.requires.buildable.not_own c.requires.separate at due
     c.requires.buildable.in_order c.as_str-path.ensures.path c.requires.outputs_separate (F.contents then) gone c.args.inputs.trees c.args.outputs.observed are_trees are_outputs in
     let p = err_from_is_err_and c.from_residual-in_err-run.result c.from_residual-in_err-run.ensures.1 in
@@ -82,16 +83,19 @@ returns-in_err-run-clause-execution g c = λ faithful kinds registry_of options 
 
 pub returns-clause-changes : goal.returns-clause-changes
 returns-clause-changes g c = λ faithful.
+    let made = c.remember.ensures.back faithful in
     let F = g.F.Folder in
     let task = c.args.task.now in
     changes_chain (is_of_execution task) (F.contents c.args.folder.now) (F.contents c.make_by_changes.new.folder) (F.contents c.remember.new.folder)
     (changes_chain (is_of_execution task) (F.contents c.args.folder.now) (F.contents c.forget.new.folder) (F.contents c.make_by_changes.new.folder)
-    (record_in_execution task (F.contents c.args.folder.now) (F.contents c.forget.new.folder) (c.forget.ensures.changes faithful))
-    (outputs_in_execution task (F.contents c.forget.new.folder) (F.contents c.make_by_changes.new.folder) (c.make_by_changes.ensures.changes faithful)))
+    (record_in_execution task (F.contents c.args.folder.now) (F.contents c.forget.new.folder) (c.forget.ensures.changes (c.make_by_changes.ensures.back made)))
+    (outputs_in_execution task (F.contents c.forget.new.folder) (F.contents c.make_by_changes.new.folder) (c.make_by_changes.ensures.changes made)))
     (record_in_execution task (F.contents c.make_by_changes.new.folder) (F.contents c.remember.new.folder) (c.remember.ensures.changes faithful))
 
 pub returns-clause-execution : goal.returns-clause-execution
 returns-clause-execution g c = λ faithful kinds registry_of options plan moment given at are_trees are_outputs due.
+    let ran_known = c.remember.ensures.back faithful in
+    let then_known = c.make_by_changes.ensures.back ran_known in
     let F = g.F.Folder in
     let task = c.args.task.now in
     let start = c.args.folder.now in
@@ -99,17 +103,17 @@ returns-clause-execution g c = λ faithful kinds registry_of options plan moment
     let ran = c.make_by_changes.new.folder in
     let now = c.remember.new.folder in
     let memory = moment.world.memory in
-    let records = c.forget.ensures.exists faithful given.tears memory at.records (none_read (recalled memory task.path) true at.read) in
+    let records = c.forget.ensures.exists then_known given.tears memory at.records (none_read (recalled memory task.path) true at.read) in
     let forgotten : HoldsRecords (F.contents then).files (forget memory task.path) =
     subst (λ (r : Result (Unit {0}) Fault). IsForgotten task.path memory r (F.contents then).files) c.in_ok-forget.was records in
-    let gone : ChangesOnly (is_at (record_place task.path)) (F.contents start) (F.contents then) = c.forget.ensures.changes faithful in
+    let gone : ChangesOnly (is_at (record_place task.path)) (F.contents start) (F.contents then) = c.forget.ensures.changes then_known in
     let goes = goes_on kinds registry_of (F.may_leave start) options plan task true moment (F.contents start) (F.failures start) c.args.changes c.requires.buildable.not_own c.requires.separate at due
     c.requires.buildable.in_order c.as_str-path.ensures.path c.requires.outputs_separate (F.contents then) gone c.args.inputs.trees c.args.outputs.observed are_trees are_outputs in
     let changed : ChangesOnly (is_of_execution task) (F.contents start) (F.contents ran) =
     changes_chain (is_of_execution task) (F.contents start) (F.contents then) (F.contents ran)
     (record_in_execution task (F.contents start) (F.contents then) gone)
-    (outputs_in_execution task (F.contents then) (F.contents ran) (c.make_by_changes.ensures.changes faithful)) in
-    let ended = c.in_ok-run.ensures.ok faithful kinds given.agrees _ goes in
+    (outputs_in_execution task (F.contents then) (F.contents ran) (c.make_by_changes.ensures.changes ran_known)) in
+    let ended = c.in_ok-run.ensures.ok ran_known kinds given.agrees _ goes in
     let exists : c.in_ok-run.run' ≡ run_now task c.args.inputs.prints.items (F.contents ran).files =
     record_exists kinds task c.args.inputs.trees c.args.inputs.prints.items (F.contents ran).files c.in_ok-run.run'
     (c.in_ok-run.ensures.made kinds given.agrees _ (F.contents then).files (g.met.F.Folder.sound then) (g.met.F.Folder.placed then) goes) c.requires.digests
@@ -118,7 +122,7 @@ returns-clause-execution g c = λ faithful kinds registry_of options plan moment
     remembering kinds registry_of (F.may_leave start) options plan task true moment (F.contents start) (F.failures start) c.args.changes c.requires.buildable.not_own c.requires.separate at due
     (F.may_leave then) c.make_by_changes.new.lines (F.failures then) (F.contents then) (F.contents ran) c.args.inputs.trees
     c.forget.ensures.requests.tearing c.forget.ensures.requests.count gone forgotten
-    are_trees (c.make_by_changes.ensures.changes faithful) changed
+    are_trees (c.make_by_changes.ensures.changes ran_known) changed
     (g.met.F.Folder.sound then).in_order ended c.args.inputs.prints.items (F.failures ran) (F.failures now) (F.contents now)
     (c.requires.digests ∙ ap digests_in are_trees)
     c.make_by_changes.ensures.requests.count c.remember.ensures.requests.count

@@ -33,15 +33,16 @@ returns-in_err-inputs-clause-execution g c = λ faithful kinds registry_of plan 
 
 pub returns-in-ByChanges-clause-execution : goal.returns-in-ByChanges-clause-execution
 returns-in-ByChanges-clause-execution g c = λ faithful kinds registry_of plan moment given at read existed goes.
+    let rechecked = c.run_by_decided_changes.ensures.back faithful in
     let F = g.F.Folder in
     let task = c.args.task.now in
     let start = c.args.folder.now in
     let then = c.recheck_task.new.folder in
     let now = c.run_by_decided_changes.new.folder in
-    let same : F.contents then ≡ F.contents start = c.recheck_task.ensures.same faithful in
+    let same : F.contents then ≡ F.contents start = c.recheck_task.ensures.same rechecked in
     let later : Moment = record { world = moment.world; outcomes = moment.outcomes; failures = F.failures then } in
     let came = comes_later task true (F.contents start) (F.failures start) moment (F.contents then) (F.failures then) same at in
-    let before = subst (IsAsBefore kinds c.args.options task (F.contents start).files moment.world) c.in-ByChanges.is (c.in_ok-inputs.ensures.as_before faithful kinds moment.world at.folder read existed goes) in
+    let before = subst (IsAsBefore kinds c.args.options task (F.contents start).files moment.world) c.in-ByChanges.is (c.in_ok-inputs.ensures.as_before rechecked kinds moment.world at.folder read existed goes) in
     let report = report_of task c.run_by_decided_changes.result c.run_by_decided_changes.new.lines in
     turned_before kinds registry_of (F.may_leave start) (F.may_leave then) c.recheck_task.ensures.requests.tearing c.args.options plan task moment (F.failures then)
     (subst (λ (n : ℕ). n ≤ F.failures then) (sym at.failures) c.recheck_task.ensures.requests.count) report (F.contents start) (F.failures now) (F.contents now) c.run_by_decided_changes.ensures.count
@@ -55,7 +56,7 @@ returns-in-InFull-clause-execution g c = λ faithful kinds registry_of plan mome
     let F = g.F.Folder in
     absurd
     (subst (IsAsBefore kinds c.args.options c.args.task.now (F.contents c.args.folder.now).files moment.world) c.in-InFull.is
-    (c.in_ok-inputs.ensures.as_before faithful kinds moment.world at.folder read existed goes))
+    (c.in_ok-inputs.ensures.as_before (c.run_on.ensures.back faithful) kinds moment.world at.folder read existed goes))
 
 pub returns-in_err-inputs-clause-ran : goal.returns-in_err-inputs-clause-ran
 returns-in_err-inputs-clause-ran g c = λ first before inputs outputs.

@@ -38,11 +38,12 @@ returns-clause-changes g c = λ faithful.
     let F = g.F.Folder in
     let task = c.args.task.now in
     changes_chain (is_of_execution task) (F.contents c.args.folder.now) (F.contents c.forget.new.folder) (F.contents c.empty_outputs.new.folder)
-    (record_in_execution task (F.contents c.args.folder.now) (F.contents c.forget.new.folder) (c.forget.ensures.changes faithful))
+    (record_in_execution task (F.contents c.args.folder.now) (F.contents c.forget.new.folder) (c.forget.ensures.changes (c.empty_outputs.ensures.back faithful)))
     (outputs_in_execution task (F.contents c.forget.new.folder) (F.contents c.empty_outputs.new.folder) (c.empty_outputs.ensures.changes faithful))
 
 pub returns-clause-cleared : goal.returns-clause-cleared
 returns-clause-cleared g c = λ faithful observed memory existed none.
+    let forgotten = c.empty_outputs.ensures.back faithful in
     let F = g.F.Folder in
     let task = c.args.task.now in
     let start = c.args.folder.now in
@@ -50,10 +51,10 @@ returns-clause-cleared g c = λ faithful observed memory existed none.
     let now = c.empty_outputs.new.folder in
     let taken : Contents = F.contents then in
     cleared_by task c.args.was_read memory (F.may_leave start) (F.may_leave then) (F.failures start) (F.failures then) (F.failures now) (F.contents start) (F.contents then) (F.contents now)
-    c.empty_outputs.result c.forget.ensures.requests.tearing c.forget.ensures.requests.count c.empty_outputs.ensures.requests.count (g.met.F.Folder.sound then) (c.forget.ensures.changes faithful)
+    c.empty_outputs.result c.forget.ensures.requests.tearing c.forget.ensures.requests.count c.empty_outputs.ensures.requests.count (g.met.F.Folder.sound then) (c.forget.ensures.changes forgotten)
     (c.empty_outputs.ensures.ok faithful) (c.empty_outputs.ensures.err faithful)
     (records_stay task c.requires.not_own (F.contents then) (F.contents now) _ (c.empty_outputs.ensures.changes faithful)
-    (subst (λ (r : Result (Unit {0}) Fault). IsForgotten task.path memory r taken.files) c.in_ok-forget.was (c.forget.ensures.exists faithful observed memory existed none)))
+    (subst (λ (r : Result (Unit {0}) Fault). IsForgotten task.path memory r taken.files) c.in_ok-forget.was (c.forget.ensures.exists forgotten observed memory existed none)))
 
 pub returns-in_err-forget-clause-requests : goal.returns-in_err-forget-clause-requests
 returns-in_err-forget-clause-requests g c = record_taken c.args.task.now c.forget.ensures.requests

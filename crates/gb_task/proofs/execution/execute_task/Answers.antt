@@ -39,12 +39,13 @@ returns-in-Reported-clause-execution g c = λ faithful there kinds registry_of p
 
 pub returns-in-Sourceless-clause-execution : goal.returns-in-Sourceless-clause-execution
 returns-in-Sourceless-clause-execution g c = λ faithful there kinds registry_of plan moment given at needed known.
+    let settled = c.execute_without_source.ensures.back faithful in
     let F = g.F.Folder in
     let task = c.args.task.now in
     let start = c.args.folder.now in
     let then = c.settle.new.folder in
     let now = c.execute_without_source.new.folder in
-    let same : F.contents then ≡ F.contents start = c.settle.ensures.same faithful in
+    let same : F.contents then ≡ F.contents start = c.settle.ensures.same settled in
     let came = comes_later task c.is_some.result (F.contents start) (F.failures start) moment (F.contents then) (F.failures then) same
     (subst (λ (b : Bool). BeginsAt task b (F.contents start) (F.failures start) moment) (copied_some c.args.last ∙ sym c.is_some.ensures) at) in
     let later : Moment = record { world = moment.world; outcomes = moment.outcomes; failures = F.failures then } in
@@ -52,7 +53,7 @@ returns-in-Sourceless-clause-execution g c = λ faithful there kinds registry_of
     (subst (λ (n : ℕ). n ≤ F.failures then) (sym at.failures) c.settle.ensures.requests.count) c.execute_without_source.result (F.contents start) (F.failures now) (F.contents now) c.execute_without_source.ensures.requests.count
     (subst (λ (folder : Contents). HasExecuted (setting_with kinds registry_of (F.may_leave then)) c.args.options plan task later c.execute_without_source.result folder (F.failures now) (F.contents now)) same
     (c.execute_without_source.ensures.execution faithful kinds registry_of c.args.options plan later (observed_later _ _ c.settle.ensures.requests.tearing given.tears) came
-    (c.in-Sourceless.ensures.settled faithful there kinds registry_of plan moment at.folder at.failures needed known)))
+    (c.in-Sourceless.ensures.settled settled there kinds registry_of plan moment at.folder at.failures needed known)))
 
 pub run-requires-clause-due : goal.run-requires-clause-due
 run-requires-clause-due g c = c.in-Due.ensures.of_task.1
@@ -62,15 +63,16 @@ run-requires-clause-read g c = c.in-Due.ensures.of_task.2
 
 pub returns-in-Due-clause-execution : goal.returns-in-Due-clause-execution
 returns-in-Due-clause-execution g c = λ faithful there kinds registry_of plan moment given at needed known.
+    let settled = c.run.ensures.back faithful in
     let F = g.F.Folder in
     let task = c.args.task.now in
     let start = c.args.folder.now in
     let then = c.settle.new.folder in
     let now = c.run.new.folder in
-    let same : F.contents then ≡ F.contents start = c.settle.ensures.same faithful in
+    let same : F.contents then ≡ F.contents start = c.settle.ensures.same settled in
     let came = comes_later task _ (F.contents start) (F.failures start) moment (F.contents then) (F.failures then) same at in
     let later : Moment = record { world = moment.world; outcomes = moment.outcomes; failures = F.failures then } in
-    let due = c.in-Due.ensures.settled faithful there kinds registry_of plan moment at.folder at.failures needed known in
+    let due = c.in-Due.ensures.settled settled there kinds registry_of plan moment at.folder at.failures needed known in
     turned_before kinds registry_of (F.may_leave start) (F.may_leave then) c.settle.ensures.requests.tearing c.args.options plan task moment (F.failures then)
     (subst (λ (n : ℕ). n ≤ F.failures then) (sym at.failures) c.settle.ensures.requests.count) c.run.result (F.contents start) (F.failures now) (F.contents now) c.run.ensures.count
     (subst (λ (folder : Contents). HasExecuted (setting_with kinds registry_of (F.may_leave then)) c.args.options plan task later c.run.result folder (F.failures now) (F.contents now)) same

@@ -63,10 +63,11 @@ returns-in_err-clear-clause-execution g c = λ faithful kinds registry_of option
 
 pub returns-in_err-run-clause-changes : goal.returns-in_err-run-clause-changes
 returns-in_err-run-clause-changes g c = λ faithful.
+    let cleared = c.make_in_full.ensures.back faithful in
     let F = g.F.Folder in
     let task = c.args.task.now in
     changes_chain (is_of_execution task) (F.contents c.args.folder.now) (F.contents c.clear.new.folder) (F.contents c.make_in_full.new.folder)
-    (c.clear.ensures.changes faithful)
+    (c.clear.ensures.changes cleared)
     (outputs_in_execution task (F.contents c.clear.new.folder) (F.contents c.make_in_full.new.folder) (c.make_in_full.ensures.changes faithful))
 
 pub returns-in_err-run-clause-execution : goal.returns-in_err-run-clause-execution
@@ -77,7 +78,7 @@ returns-in_err-run-clause-execution g c = λ faithful kinds registry_of options 
     let then = c.clear.new.folder in
     let now = c.make_in_full.new.folder in
     let memory = moment.world.memory in
-    let cleared = c.clear.ensures.cleared faithful given.tears memory at.records (none_read (recalled memory task.path) c.args.was_read at.read) in
+    let cleared = c.clear.ensures.cleared (c.make_in_full.ensures.back faithful) given.tears memory at.records (none_read (recalled memory task.path) c.args.was_read at.read) in
     let is_cleared : IsCleared task memory (F.contents start) (F.contents then) =
     subst (λ (r : Result (Unit {0}) Fault). HasCleared task c.args.was_read memory (F.may_leave start) (F.failures start) (F.contents start) r (F.failures then) (F.contents then)) c.in_ok-clear.was cleared in
     let p = err_from_is_err_and c.from_residual-in_err-run.result c.from_residual-in_err-run.ensures.1 in
@@ -92,16 +93,19 @@ returns-in_err-run-clause-execution g c = λ faithful kinds registry_of options 
 
 pub returns-clause-changes : goal.returns-clause-changes
 returns-clause-changes g c = λ faithful.
+    let made = c.remember.ensures.back faithful in
     let F = g.F.Folder in
     let task = c.args.task.now in
     changes_chain (is_of_execution task) (F.contents c.args.folder.now) (F.contents c.make_in_full.new.folder) (F.contents c.remember.new.folder)
     (changes_chain (is_of_execution task) (F.contents c.args.folder.now) (F.contents c.clear.new.folder) (F.contents c.make_in_full.new.folder)
-    (c.clear.ensures.changes faithful)
-    (outputs_in_execution task (F.contents c.clear.new.folder) (F.contents c.make_in_full.new.folder) (c.make_in_full.ensures.changes faithful)))
+    (c.clear.ensures.changes (c.make_in_full.ensures.back made))
+    (outputs_in_execution task (F.contents c.clear.new.folder) (F.contents c.make_in_full.new.folder) (c.make_in_full.ensures.changes made)))
     (record_in_execution task (F.contents c.make_in_full.new.folder) (F.contents c.remember.new.folder) (c.remember.ensures.changes faithful))
 
 pub returns-clause-execution : goal.returns-clause-execution
 returns-clause-execution g c = λ faithful kinds registry_of options plan moment given at are_trees due.
+    let ran_known = c.remember.ensures.back faithful in
+    let then_known = c.make_in_full.ensures.back ran_known in
     let F = g.F.Folder in
     let task = c.args.task.now in
     let start = c.args.folder.now in
@@ -109,15 +113,15 @@ returns-clause-execution g c = λ faithful kinds registry_of options plan moment
     let ran = c.make_in_full.new.folder in
     let now = c.remember.new.folder in
     let memory = moment.world.memory in
-    let cleared = c.clear.ensures.cleared faithful given.tears memory at.records (none_read (recalled memory task.path) c.args.was_read at.read) in
+    let cleared = c.clear.ensures.cleared then_known given.tears memory at.records (none_read (recalled memory task.path) c.args.was_read at.read) in
     let is_cleared : IsCleared task memory (F.contents start) (F.contents then) =
     subst (λ (r : Result (Unit {0}) Fault). HasCleared task c.args.was_read memory (F.may_leave start) (F.failures start) (F.contents start) r (F.failures then) (F.contents then)) c.in_ok-clear.was cleared in
     let changed : ChangesOnly (is_of_execution task) (F.contents start) (F.contents ran) =
     changes_chain (is_of_execution task) (F.contents start) (F.contents then) (F.contents ran)
-    (c.clear.ensures.changes faithful)
-    (outputs_in_execution task (F.contents then) (F.contents ran) (c.make_in_full.ensures.changes faithful)) in
+    (c.clear.ensures.changes then_known)
+    (outputs_in_execution task (F.contents then) (F.contents ran) (c.make_in_full.ensures.changes ran_known)) in
     let reported = c.in_ok-changes.ensures c.args.inputs.trees (c.as_slice.ensures.value ∙ c.requires.digests) ∙ ap (added_of task.files) are_trees ∙ all_of (F.contents start).files task.files in
-    let ended = c.in_ok-run.ensures.ok faithful kinds given.agrees in
+    let ended = c.in_ok-run.ensures.ok ran_known kinds given.agrees in
     let exists : c.in_ok-run.run' ≡ run_now task c.args.inputs.prints.items (F.contents ran).files =
     record_exists kinds task c.args.inputs.trees c.args.inputs.prints.items (F.contents ran).files c.in_ok-run.run' (c.in_ok-run.ensures.made kinds given.agrees) c.requires.digests
     (λ held makes. made_exists kinds task c.args.inputs.trees c.in_ok-changes.changes is_cleared.taken.files c.make_in_full.new.lines (F.contents ran).files held is_cleared.is_folder.in_order
@@ -125,7 +129,7 @@ returns-clause-execution g c = λ faithful kinds registry_of options plan moment
     remembering kinds registry_of (F.may_leave start) options plan task c.args.was_read moment (F.contents start) (F.failures start) c.requires.buildable.not_own c.requires.separate at due
     (F.may_leave then) c.make_in_full.new.lines (F.failures then) (F.contents then) (F.contents ran) c.args.inputs.trees c.in_ok-changes.changes
     c.clear.ensures.requests.tearing c.clear.ensures.requests.count is_cleared
-    are_trees reported (c.make_in_full.ensures.changes faithful) changed
+    are_trees reported (c.make_in_full.ensures.changes ran_known) changed
     ended c.args.inputs.prints.items (F.failures ran) (F.failures now) (F.contents now)
     (c.requires.digests ∙ ap digests_in are_trees)
     c.make_in_full.ensures.requests.count c.remember.ensures.requests.count

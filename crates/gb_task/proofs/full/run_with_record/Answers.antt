@@ -30,19 +30,20 @@ returns-in_err-inputs-clause-execution g c = λ faithful kinds registry_of optio
 
 pub returns-clause-execution : goal.returns-clause-execution
 returns-clause-execution g c = λ faithful kinds registry_of options plan moment given at read due.
+    let completed = c.run_on.ensures.back faithful in
     let F = g.F.Folder in
     let task = c.args.task.now in
     let start = c.args.folder.now in
     let then = c.complete_inputs.new.folder in
     let now = c.run_on.new.folder in
-    let same : F.contents then ≡ F.contents start = c.complete_inputs.ensures.same faithful in
+    let same : F.contents then ≡ F.contents start = c.complete_inputs.ensures.same completed in
     let later : Moment = record { world = moment.world; outcomes = moment.outcomes; failures = F.failures then } in
     let came = comes_later task c.args.was_read (F.contents start) (F.failures start) moment (F.contents then) (F.failures then) same at in
     turned_before kinds registry_of (F.may_leave start) (F.may_leave then) c.complete_inputs.ensures.requests.tearing options plan task moment (F.failures then)
     (subst (λ (n : ℕ). n ≤ F.failures then) (sym at.failures) c.complete_inputs.ensures.requests.count) (report_of task c.run_on.result c.run_on.new.lines) (F.contents start) (F.failures now) (F.contents now) c.run_on.ensures.count
     (subst (λ (folder : Contents). HasExecuted (setting_with kinds registry_of (F.may_leave then)) options plan task later (report_of task c.run_on.result c.run_on.new.lines) folder (F.failures now) (F.contents now)) same
     (c.run_on.ensures.execution faithful kinds registry_of options plan later (assumed_later _ _ c.complete_inputs.ensures.requests.tearing given) came
-    (c.in_ok-inputs.ensures.trees faithful read ∙ ap (λ (folder : Contents). trees_of task folder.files) (sym same)) due))
+    (c.in_ok-inputs.ensures.trees completed read ∙ ap (λ (folder : Contents). trees_of task folder.files) (sym same)) due))
 
 pub returns-in_err-inputs-clause-ran : goal.returns-in_err-inputs-clause-ran
 returns-in_err-inputs-clause-ran g c = λ first before inputs.

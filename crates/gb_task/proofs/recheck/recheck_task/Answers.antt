@@ -26,16 +26,17 @@ returns-clause-recheck g c =
 
 pub returns-clause-as_before : goal.returns-clause-as_before
 returns-clause-as_before g c = λ faithful kinds world at inputs_observed outputs_observed goes.
+    let completed = c.complete_outputs.ensures.back faithful in
     let F = g.F.Folder in
     let task = c.args.task.now in
     let start : Contents = F.contents c.args.folder.now in
-    let same : F.contents c.complete_inputs.new.folder ≡ start = c.complete_inputs.ensures.same faithful in
+    let same : F.contents c.complete_inputs.new.folder ≡ start = c.complete_inputs.ensures.same completed in
     subst (IsAsBefore kinds c.args.options task start.files world) (sym c.recheck_by.ensures)
     (as_before c.args.options task c.args.last.now c.in_ok-decision.field-0.present c.in_ok-decision.field-0.decision _ _ c.in_ok-trees.field-0.prints.items c.in_ok-observed.field-0.prints.items
     c.in_ok-trees.ensures.named c.in_ok-trees.ensures.digests c.in_ok-observed.ensures.formed c.in_ok-observed.ensures.digests c.in_ok-decision.ensures.present c.in_ok-decision.ensures.decides
     c.in_ok-prints.ensures.inputs c.in_ok-prints.ensures.outputs
     kinds world start c.args.observed c.requires.not_own c.outside_is_enough.ensures c.prepared_is_case.ensures at goes
-    (c.in_ok-trees.ensures.trees faithful inputs_observed)
+    (c.in_ok-trees.ensures.trees completed inputs_observed)
     (c.in_ok-observed.ensures.files faithful (subst (λ (folder : Contents). AreOutputsObserved task folder.files c.args.observed.outputs.items) (sym same) outputs_observed)
     ∙ ap (λ (folder : Contents). map (observed_of folder.files) task.outputs) same))
 

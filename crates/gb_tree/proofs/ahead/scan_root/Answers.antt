@@ -14,6 +14,7 @@ use Rattle.gb_tree.proofs.ahead.scan_root.Goals.{in-Some+in_ok-waiting-in-Some, 
 pub loop-place-init : goal.loop-place-init
 loop-place-init g c = record {
   requests = c.few_at-places.ensures.requests;
+  back = c.few_at-places.ensures.back;
   same = c.few_at-places.ensures.same;
   answered = λ first earlier were. all_observed_longer (requests_nothing first) c.few_at-places.ensures.requests (c.args.files.now.items ++ waiting_files c.args.waiting) were;
   each = λ faithful were. were;
@@ -21,6 +22,7 @@ loop-place-init g c = record {
 
 pub loop-place-preserved : goal.loop-place-preserved
 loop-place-preserved g c =
+    let back = c.scan_place.ensures.back in
     let F = g.F.Folder in
     let start = c.args.folder.now in
     let files = (F.contents start).files in
@@ -31,7 +33,8 @@ loop-place-preserved g c =
     let after = then.files.items ++ waiting_files then.waiting in
     record {
       requests = requests_then so_far.requests c.scan_place.ensures.requests;
-      same = λ faithful. c.scan_place.ensures.same faithful ∙ so_far.same faithful;
+      back = λ faithful. so_far.back (back faithful);
+      same = λ faithful. c.scan_place.ensures.same faithful ∙ so_far.same (back faithful);
       answered = λ first earlier were.
           let before = all_observed_longer (requests_nothing first) c.scan_place.ensures.requests read (so_far.answered first earlier were) in
           elim then.branch [
@@ -44,8 +47,8 @@ loop-place-preserved g c =
       each = λ faithful were. elim then.branch [
         | in-Some+in_ok-waiting-in-Some w ↦ each_more (IsObservedIn files) read after (file_in w.in-Some.found)
             (ap (λ files. files.items ++ waiting_files then.waiting) w.files-is ∙ ap (λ those. w.add.new.observed.items ++ waiting_files those) w.waiting-is ∙ w.in_ok-waiting-in-Some.ensures)
-            (so_far.each faithful were) (subst (λ (contents : Contents). IsObservedIn contents.files (file_in w.in-Some.found)) (so_far.same faithful) (w.in-Some.ensures.observed faithful))
+            (so_far.each (back faithful) were) (subst (λ (contents : Contents). IsObservedIn contents.files (file_in w.in-Some.found)) (so_far.same (back faithful)) (w.in-Some.ensures.observed faithful))
         | in-None w ↦ subst (λ (those : List ScannedFile). AllByRecursion (IsObservedIn files) those)
-            (sym (ap (λ files. files.items ++ waiting_files then.waiting) w.files-is ∙ ap (λ those. c.loop-place.files.items ++ waiting_files those) w.waiting-is)) (so_far.each faithful were)
+            (sym (ap (λ files. files.items ++ waiting_files then.waiting) w.files-is ∙ ap (λ those. c.loop-place.files.items ++ waiting_files those) w.waiting-is)) (so_far.each (back faithful) were)
       ];
     }

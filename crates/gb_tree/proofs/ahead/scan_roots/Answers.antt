@@ -8,16 +8,18 @@ use Rattle.gb_tree.proofs.ahead.scan_roots.Goals as goal
 
 pub loop-root-preserved : goal.loop-root-preserved
 loop-root-preserved g c =
+    let back = c.scan_root.ensures.back in
     let F = g.F.Folder in
     let so_far = c.loop-root.invariant in
     let read = c.loop-root.files.items ++ waiting_files c.loop-root.waiting in
     let after = c.scan_root.new.files.items ++ waiting_files c.in_ok-waiting.waiting in
     record {
       requests = requests_then so_far.requests c.scan_root.ensures.requests;
-      same = λ faithful. c.scan_root.ensures.same faithful ∙ so_far.same faithful;
+      back = λ faithful. so_far.back (back faithful);
+      same = λ faithful. c.scan_root.ensures.same faithful ∙ so_far.same (back faithful);
       answered = c.in_ok-waiting.ensures.answered c.args.folder.now so_far.requests so_far.answered;
       each = λ faithful.
-          let same = so_far.same faithful in
+          let same = so_far.same (back faithful) in
           subst (λ (contents : Contents). AllByRecursion (IsObservedIn contents.files) after) same
-          (c.in_ok-waiting.ensures.observed faithful (subst (λ (contents : Contents). AllByRecursion (IsObservedIn contents.files) read) (sym same) (so_far.each faithful)));
+          (c.in_ok-waiting.ensures.observed faithful (subst (λ (contents : Contents). AllByRecursion (IsObservedIn contents.files) read) (sym same) (so_far.each (back faithful))));
     }

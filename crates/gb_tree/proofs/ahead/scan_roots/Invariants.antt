@@ -1,4 +1,4 @@
-use Rattle.std.proofs.Common.{◌≡◌, ◌++◌, IsTrue}
+use Rattle.std.proofs.Common.{◌≡◌, ◌++◌}
 use Rattle.std.specs.List.{AllByRecursion}
 use Rattle.gb_folder.specs.Calls.{Requests, no_change}
 use Rattle.gb_tree.specs.Answered.{WereObserved}
@@ -13,7 +13,8 @@ invariant-loop-root g l =
     let read = l.files.items ++ waiting_files l.waiting in
     record {
       requests : Requests F.failures F.may_leave F.allowed no_change l.fn.folder l.folder;
-      same : IsTrue F.faithful → F.contents l.folder ≡ F.contents l.fn.folder;
+      back : F.faithful l.folder → F.faithful l.fn.folder;
+      same : F.faithful l.folder → F.contents l.folder ≡ F.contents l.fn.folder;
       answered : WereObserved F.failures F.may_leave F.allowed l.fn.folder l.folder read;
-      each : IsTrue F.faithful → AllByRecursion (IsObservedIn old) read;
+      each : F.faithful l.folder → AllByRecursion (IsObservedIn old) read;
     }

@@ -41,10 +41,11 @@ returns-in_err-made-clause-err g c = λ faithful all.
     let is_observed = all_at (IsObservedIn (g.F.Folder.contents c.args.folder.now).files) xs (length c.loop-one.yielded) x turn.0 turn.1 all in
     at_err (λ r. IfErr r (IsTreeFaultOfMachine (failures c.args.folder.now) (failures c.complete.new.folder))) c.from_residual-in_err-made.result p.0 c.in_err-made.field-0.0 p.1 p.2
     (machine_before _ _ _ _ c.loop-one.invariant.requests.count c.in_err-made.ensures.requests.count
-    (c.in_err-made.ensures.err faithful (subst (λ (now : Contents). IsObservedIn now.files x) (sym (c.loop-one.invariant.same faithful)) is_observed)))
+    (c.in_err-made.ensures.err faithful (subst (λ (now : Contents). IsObservedIn now.files x) (sym (c.loop-one.invariant.same (c.complete.ensures.back faithful))) is_observed)))
 
 pub loop-one-preserved : goal.loop-one-preserved
 loop-one-preserved g c =
+    let back = c.complete.ensures.back in
     let old = (g.F.Folder.contents c.args.folder.now).files in
     let so_far = c.loop-one.invariant in
     let xs = c.args.observed.items in
@@ -60,7 +61,8 @@ loop-one-preserved g c =
       can_next = tt;
       is_finite = tt;
       requests = requests_then so_far.requests c.complete.ensures.requests;
-      same = λ faithful. c.complete.ensures.same faithful ∙ so_far.same faithful;
+      back = λ faithful. so_far.back (back faithful);
+      same = λ faithful. c.complete.ensures.same faithful ∙ so_far.same (back faithful);
       digests = digest_more tree _ c.loop-one.digests.items _ x.path bytes c.in_ok-made.made.2 c.in_ok-made.made.0 so_far.digests c.in_ok-add.ensures.digests c.in_ok-made.ensures.path c.in_ok-made.ensures.digest more;
       paths = ap (map (λ (file : List ℕ × List ℕ). file.0)) more ∙ path_more xs n x tree bytes turn.0 turn.1 so_far.paths ∙ ap (λ k. map (λ (file : ScannedFile). file.path) (take k xs)) next;
       answered = λ first before observed.
@@ -71,8 +73,8 @@ loop-one-preserved g c =
       read = λ faithful all.
           let is_observed = all_at (IsObservedIn old) xs n x turn.0 turn.1 all in
           more
-          ∙ ap (λ b. tree ++ (x.path, b) ∷ []) (c.in_ok-made.ensures.read faithful (subst (λ (now : Contents). IsObservedIn now.files x) (sym (so_far.same faithful)) is_observed) ∙ ap (λ now. bytes_at now.files x.place) (so_far.same faithful))
-          ∙ ap (λ files. files ++ (x.path, bytes_at old x.place) ∷ []) (so_far.read faithful all)
+          ∙ ap (λ b. tree ++ (x.path, b) ∷ []) (c.in_ok-made.ensures.read faithful (subst (λ (now : Contents). IsObservedIn now.files x) (sym (so_far.same (back faithful))) is_observed) ∙ ap (λ now. bytes_at now.files x.place) (so_far.same (back faithful)))
+          ∙ ap (λ files. files ++ (x.path, bytes_at old x.place) ∷ []) (so_far.read (back faithful) all)
           ∙ contents_more old xs n x turn.0 turn.1
           ∙ ap (λ k. contents_at old (entries_observed (take k xs))) next;
     }

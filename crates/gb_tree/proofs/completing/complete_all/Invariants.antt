@@ -1,4 +1,4 @@
-use Rattle.std.proofs.Common.{◌≡◌, IsTrue, length, map, take}
+use Rattle.std.proofs.Common.{◌≡◌, length, map, take}
 use Rattle.std.specs.List.{AllByRecursion}
 use Rattle.gb_folder.specs.Calls.{Requests, no_change}
 use Rattle.gb_tree.specs.Answered.{IsTreeRead, WereObserved}
@@ -16,11 +16,12 @@ invariant-loop-one g l =
       can_next : (goal.iterator-loop-one g).can_next l.one-iterator;
       is_finite : (goal.iterator-loop-one g).is_finite l.one-iterator;
       requests : Requests g.F.Folder.failures g.F.Folder.may_leave g.F.Folder.allowed no_change l.fn.folder l.folder;
-      same : IsTrue g.F.Folder.faithful → contents l.folder ≡ contents l.fn.folder;
+      back : g.F.Folder.faithful l.folder → g.F.Folder.faithful l.fn.folder;
+      same : g.F.Folder.faithful l.folder → contents l.folder ≡ contents l.fn.folder;
       digests : l.digests.items ≡ digests_of l.files;
       paths : map (λ file. file.0) l.files ≡ map (λ file. file.path) done;
       answered : (first : _) → Requests g.F.Folder.failures g.F.Folder.may_leave g.F.Folder.allowed no_change first l.fn.folder
           → WereObserved g.F.Folder.failures g.F.Folder.may_leave g.F.Folder.allowed first l.fn.folder l.fn.observed.items
           → IsTreeRead g.F.Folder.failures g.F.Folder.may_leave g.F.Folder.allowed first l.folder (entries_observed done) l.files;
-      read : IsTrue g.F.Folder.faithful → AllByRecursion (IsObservedIn old) l.fn.observed.items → l.files ≡ contents_at old (entries_observed done);
+      read : g.F.Folder.faithful l.folder → AllByRecursion (IsObservedIn old) l.fn.observed.items → l.files ≡ contents_at old (entries_observed done);
     }

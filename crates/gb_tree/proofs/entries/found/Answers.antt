@@ -32,6 +32,7 @@ add_entries-requires-clause-under g c =
 
 pub returns-in_err-places-clause-special : goal.returns-in_err-places-clause-special
 returns-in_err-places-clause-special g c = λ faithful.
+    let before = c.listed.ensures.back faithful in
     let p = err_from_is_err_and c.from_residual.result c.from_residual.ensures.1 in
     let failures = g.F.Folder.failures in
     let old = g.F.Folder.contents c.args.folder.now in
@@ -42,9 +43,9 @@ returns-in_err-places-clause-special g c = λ faithful.
     at_err (λ r. IfErr r (λ fault. IsRefused (failures c.args.folder.now) (failures c.listed.new.folder) (special_roots old (places_of starts)) fault)) c.from_residual.result p.0 c.in_err-places.field-0.0 p.1 p.2 (elim (c.in_err-places.ensures.special faithful) [
       | inl machine ↦ inl (machine_before _ _ _ _ c.loop-root.invariant.requests.count c.in_err-places.ensures.requests.count machine)
       | inr special ↦ inr (
-          sym (c.loop-root.invariant.special faithful)
+          sym (c.loop-root.invariant.special before)
           ∙ step_here (λ ss. first_of (special_roots old (places_of ss))) starts i start c.loop-root-test.true c.loop-root-item.is
-          ∙ ap (λ b. first_of (map faults.BadFileName (cond b (start.1 ∷ rest) rest))) (ap (λ (now : Contents). is_special_under now start.1) (sym (c.loop-root.invariant.same faithful)) ∙ special.0)
+          ∙ ap (λ b. first_of (map faults.BadFileName (cond b (start.1 ∷ rest) rest))) (ap (λ (now : Contents). is_special_under now start.1) (sym (c.loop-root.invariant.same before)) ∙ special.0)
           ∙ ap Some (sym special.1)
           )
     ])
@@ -60,6 +61,7 @@ returns-in_err-places-clause-blame g c =
 
 pub loop-root-preserved : goal.loop-root-preserved
 loop-root-preserved g c =
+    let back = c.listed.ensures.back in
     let old = g.F.Folder.contents c.args.folder.now in
     let was = c.loop-root.invariant in
     let naming = c.args.naming in
@@ -83,19 +85,20 @@ loop-root-preserved g c =
           (subst (λ (ps : List Place). WereListed g.F.Folder.failures g.F.Folder.may_leave g.F.Folder.allowed c.loop-root.folder c.listed.new.folder start.1 ps)
           (sym c.as_slice.ensures.value) c.in_ok-places.ensures.answered)
           c.in_ok-add_entries.ensures.entries was.answered;
-      same = λ faithful. c.in_ok-places.ensures.same faithful ∙ was.same faithful;
+      back = λ faithful. was.back (back faithful);
+      same = λ faithful. c.in_ok-places.ensures.same faithful ∙ was.same (back faithful);
       found = λ faithful.
-          let listed : places ≡ places_under old.files start.1 = c.as_slice.ensures.value ∙ c.in_ok-places.ensures.listed faithful ∙ ap (λ (now : Contents). places_under now.files start.1) (was.same faithful) in
+          let listed : places ≡ places_under old.files start.1 = c.as_slice.ensures.value ∙ c.in_ok-places.ensures.listed faithful ∙ ap (λ (now : Contents). places_under now.files start.1) (was.same (back faithful)) in
           ap (λ (es : Entries). held (es ++ rest)) c.in_ok-add_entries.ensures.entries
           ∙ take_again (max_files + 1) (kept ++ here places) rest
           ∙ ap held (append_assoc kept (here places) rest)
           ∙ ap (λ ps. held (kept ++ (here ps ++ rest))) listed
           ∙ ap (λ es. held (kept ++ es)) (sym (step_here (found_from naming include exclude old.files) starts i start within is))
-          ∙ was.found faithful;
+          ∙ was.found (back faithful);
       special = λ faithful.
-          let none = ap (λ (now : Contents). is_special_under now start.1) (sym (was.same faithful)) ∙ c.in_ok-places.ensures.none_special faithful in
+          let none = ap (λ (now : Contents). is_special_under now start.1) (sym (was.same (back faithful))) ∙ c.in_ok-places.ensures.none_special faithful in
           sym (step_here (λ ss. first_of (special_roots old (places_of ss))) starts i start within is ∙ ap (λ b. first_of (map faults.BadFileName (cond b (start.1 ∷ special_rest) special_rest))) none)
-          ∙ was.special faithful;
+          ∙ was.special (back faithful);
     }
 
 pub returns-clause-answered : goal.returns-clause-answered

@@ -20,7 +20,8 @@ invariant-loop-root g l =
       answered : (listings : List (List Place))
           × AllZip (IsStartListed g.F.Folder.failures g.F.Folder.may_leave g.F.Folder.allowed l.fn.folder l.folder) (take l.root-index l.starts) listings
           × (l.entries.items ≡ held (listed_in l.naming l.include l.exclude (zip (take l.root-index l.starts) listings)));
-      same : IsTrue g.F.Folder.faithful → contents l.folder ≡ old;
-      found : IsTrue g.F.Folder.faithful → held (l.entries.items ++ found_from l.naming l.include l.exclude old.files (drop l.root-index l.starts)) ≡ held (found_from l.naming l.include l.exclude old.files l.starts);
-      special : IsTrue g.F.Folder.faithful → first_of (special_roots old (places_of (drop l.root-index l.starts))) ≡ first_of (special_roots old (places_of l.starts));
+      back : g.F.Folder.faithful l.folder → g.F.Folder.faithful l.fn.folder;
+      same : g.F.Folder.faithful l.folder → contents l.folder ≡ old;
+      found : g.F.Folder.faithful l.folder → held (l.entries.items ++ found_from l.naming l.include l.exclude old.files (drop l.root-index l.starts)) ≡ held (found_from l.naming l.include l.exclude old.files l.starts);
+      special : g.F.Folder.faithful l.folder → first_of (special_roots old (places_of (drop l.root-index l.starts))) ≡ first_of (special_roots old (places_of l.starts));
     }

@@ -37,6 +37,7 @@ returns-in_err-here-clause-blame g c =
 
 pub returns-in_err-here-clause-special : goal.returns-in_err-here-clause-special
 returns-in_err-here-clause-special g c = λ faithful.
+    let before = c.found.ensures.back faithful in
     let p = err_from_is_err_and c.from_residual-in_err-here.result c.from_residual-in_err-here.ensures.1 in
     let failures = g.F.Folder.failures in
     let contents = g.F.Folder.contents in
@@ -50,12 +51,13 @@ returns-in_err-here-clause-special g c = λ faithful.
     let here : IsRefused (failures c.loop-root.folder) (failures c.found.new.folder) (special_roots (contents c.loop-root.folder) (places_of starts)) fault = c.in_err-here.ensures.special faithful in
     at_err (λ r. IfErr r (λ fault. IsRefused (failures c.args.folder.now) (failures c.found.new.folder) (special_roots old (places_of (starts_in include roots))) fault)) c.from_residual-in_err-here.result p.0 c.in_err-here.field-0.0 p.1 p.2
     (refused_here (failures c.args.folder.now) (failures c.loop-root.folder) (failures c.found.new.folder) old include roots c.loop-root.root-index root fault c.loop-root-test.true c.root-item.is
-    c.loop-root.invariant.requests.count c.in_err-here.ensures.requests.count (c.loop-root.invariant.none_special faithful)
-    (subst (λ (now : Contents). IsRefused (failures c.loop-root.folder) (failures c.found.new.folder) (special_roots now (places_of (starts_in include (root ∷ [])))) fault) (c.loop-root.invariant.same faithful)
+    c.loop-root.invariant.requests.count c.in_err-here.ensures.requests.count (c.loop-root.invariant.none_special before)
+    (subst (λ (now : Contents). IsRefused (failures c.loop-root.folder) (failures c.found.new.folder) (special_roots now (places_of (starts_in include (root ∷ [])))) fault) (c.loop-root.invariant.same before)
     (subst (λ (starts : List (Place × Place)). IsRefused (failures c.loop-root.folder) (failures c.found.new.folder) (special_roots (contents c.loop-root.folder) (places_of starts)) fault) these here)))
 
 pub loop-root-preserved : goal.loop-root-preserved
 loop-root-preserved g c =
+    let back = c.found.ensures.back in
     let contents = g.F.Folder.contents in
     let old = contents c.args.folder.now in
     let was = c.loop-root.invariant in
@@ -90,16 +92,17 @@ loop-root-preserved g c =
           (all_wider (λ (entry : List ℕ × Place). IsTrue (is_under_any (places_of starts) entry.1)) (λ (entry : List ℕ × Place). IsTrue (is_under_any (places_of (starts_in include roots)) entry.1)) here
           (λ entry h. under_all include roots i root entry.1 within is (subst (λ (starts : List (Place × Place)). IsTrue (is_under_any (places_of starts) entry.1)) these h)) c.in_ok-here.ensures.under)));
       answered = (all.0, all.1, taken ∙ all.2);
-      same = λ faithful. c.in_ok-here.ensures.same faithful ∙ was.same faithful;
+      back = λ faithful. was.back (back faithful);
+      same = λ faithful. c.in_ok-here.ensures.same faithful ∙ was.same (back faithful);
       found = λ faithful.
           let now : here ≡ held (found_from naming include exclude old.files (starts_in include (root ∷ []))) =
           c.in_ok-here.ensures.found faithful
           ∙ ap (λ patterns. held (found_from naming patterns c.in_ok-excluded.excluded (contents c.loop-root.folder).files starts)) c.in_ok-included.ensures
           ∙ ap (λ patterns. held (found_from naming include patterns (contents c.loop-root.folder).files starts)) c.in_ok-excluded.ensures
-          ∙ ap (λ (now : Contents). held (found_from naming include exclude now.files starts)) (was.same faithful)
+          ∙ ap (λ (now : Contents). held (found_from naming include exclude now.files starts)) (was.same (back faithful))
           ∙ ap (λ (starts : List (Place × Place)). held (found_from naming include exclude old.files starts)) these in
-          taken ∙ found_more naming include exclude old.files roots i root kept here within is (was.found faithful) now;
+          taken ∙ found_more naming include exclude old.files roots i root kept here within is (was.found (back faithful)) now;
       none_special = λ faithful.
-          none_special_more old include roots i root within is (was.none_special faithful)
-          (ap (λ (starts : List (Place × Place)). special_roots old (places_of starts)) (sym these) ∙ ap (λ (now : Contents). special_roots now (places_of starts)) (sym (was.same faithful)) ∙ c.in_ok-here.ensures.none_special faithful);
+          none_special_more old include roots i root within is (was.none_special (back faithful))
+          (ap (λ (starts : List (Place × Place)). special_roots old (places_of starts)) (sym these) ∙ ap (λ (now : Contents). special_roots now (places_of starts)) (sym (was.same (back faithful))) ∙ c.in_ok-here.ensures.none_special faithful);
     }

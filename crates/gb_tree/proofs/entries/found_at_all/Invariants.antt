@@ -20,7 +20,8 @@ invariant-loop-root g l =
       answered : (listings : List (List Place))
           × AllZip (IsStartListed g.F.Folder.failures g.F.Folder.may_leave g.F.Folder.allowed l.fn.folder l.folder) passed listings
           × (l.entries.items ≡ held (listed_in l.naming l.include l.exclude (zip passed listings)));
-      same : IsTrue g.F.Folder.faithful → contents l.folder ≡ old;
-      found : IsTrue g.F.Folder.faithful → l.entries.items ≡ held (found_from l.naming l.include l.exclude old.files passed);
-      none_special : IsTrue g.F.Folder.faithful → special_roots old (places_of passed) ≡ [];
+      back : g.F.Folder.faithful l.folder → g.F.Folder.faithful l.fn.folder;
+      same : g.F.Folder.faithful l.folder → contents l.folder ≡ old;
+      found : g.F.Folder.faithful l.folder → l.entries.items ≡ held (found_from l.naming l.include l.exclude old.files passed);
+      none_special : g.F.Folder.faithful l.folder → special_roots old (places_of passed) ≡ [];
     }

@@ -11,6 +11,7 @@ use Rattle.gb_tree.proofs.property.prints_of.Goals as goal
 
 pub returns-in_err-digests-clause-err : goal.returns-in_err-digests-clause-err
 returns-in_err-digests-clause-err g c = λ faithful.
+    let before = c.in_err-digests.ensures.back faithful in
     let p = err_from_is_err_and c.from_residual-in_err-digests.result c.from_residual-in_err-digests.ensures.1 in
     let failures = g.F.Folder.failures in
     let old = g.F.Folder.contents c.args.folder.now in
@@ -20,8 +21,8 @@ returns-in_err-digests-clause-err g c = λ faithful.
     let entries = entries_of c.args.naming roots include exclude old.files in
     let listing = entry_faults c.args.name.now c.args.naming roots include exclude old in
     at_err (λ r. IfErr r (λ fault. IsRefused (failures c.args.folder.now) (failures c.digest_all.new.folder) (listing ++ too_large old.files entries) fault)) c.from_residual-in_err-digests.result p.0 c.in_err-digests.field-0.0 p.1 p.2
-    (refused_reading (failures c.args.folder.now) _ _ old _ listing entries c.as_slice.result.now c.in_err-digests.field-0.0 (c.in_ok-entries.ensures.same faithful) (c.as_slice.ensures.value ∙ c.in_ok-entries.ensures.entries faithful)
-    c.in_ok-entries.ensures.requests.count c.in_err-digests.ensures.requests.count (c.in_ok-entries.ensures.fit faithful) (found_exist c.args.naming roots include exclude old.files) (c.in_err-digests.ensures.err faithful))
+    (refused_reading (failures c.args.folder.now) _ _ old _ listing entries c.as_slice.result.now c.in_err-digests.field-0.0 (c.in_ok-entries.ensures.same before) (c.as_slice.ensures.value ∙ c.in_ok-entries.ensures.entries before)
+    c.in_ok-entries.ensures.requests.count c.in_err-digests.ensures.requests.count (c.in_ok-entries.ensures.fit before) (found_exist c.args.naming roots include exclude old.files) (c.in_err-digests.ensures.err faithful))
 
 pub returns-in_err-entries-clause-blame : goal.returns-in_err-entries-clause-blame
 returns-in_err-entries-clause-blame g c =

@@ -20,6 +20,7 @@ use Rattle.gb_tree.proofs.property.read_once.Goals as goal
 
 pub returns-in_err-observed-clause-err : goal.returns-in_err-observed-clause-err
 returns-in_err-observed-clause-err g c = λ faithful known.
+    let before = c.in_err-observed.ensures.back faithful in
     let p = err_from_is_err_and c.from_residual-in_err-observed.result c.from_residual-in_err-observed.ensures.1 in
     let failures = g.F.Folder.failures in
     let old = g.F.Folder.contents c.args.folder.now in
@@ -29,8 +30,8 @@ returns-in_err-observed-clause-err g c = λ faithful known.
     let entries = entries_of c.args.naming roots include exclude old.files in
     let listing = entry_faults c.args.name.now c.args.naming roots include exclude old in
     at_err (λ r. IfErr r (λ fault. IsRefused (failures c.args.folder.now) (failures c.scan_all.new.folder) (listing ++ too_large old.files entries) fault)) c.from_residual-in_err-observed.result p.0 c.in_err-observed.field-0.0 p.1 p.2
-    (refused_reading (failures c.args.folder.now) _ _ old _ listing entries c.as_slice.result.now c.in_err-observed.field-0.0 (c.in_ok-entries.ensures.same faithful) (c.as_slice.ensures.value ∙ c.in_ok-entries.ensures.entries faithful)
-    c.in_ok-entries.ensures.requests.count c.in_err-observed.ensures.requests.count (c.in_ok-entries.ensures.fit faithful) (found_exist c.args.naming roots include exclude old.files) (c.in_err-observed.ensures.err faithful (subst (λ (now : Contents). AreSeenIn now.files c.args.seen.now) (sym (c.in_ok-entries.ensures.same faithful)) known)))
+    (refused_reading (failures c.args.folder.now) _ _ old _ listing entries c.as_slice.result.now c.in_err-observed.field-0.0 (c.in_ok-entries.ensures.same before) (c.as_slice.ensures.value ∙ c.in_ok-entries.ensures.entries before)
+    c.in_ok-entries.ensures.requests.count c.in_err-observed.ensures.requests.count (c.in_ok-entries.ensures.fit before) (found_exist c.args.naming roots include exclude old.files) (c.in_err-observed.ensures.err faithful (subst (λ (now : Contents). AreSeenIn now.files c.args.seen.now) (sym (c.in_ok-entries.ensures.same before)) known)))
 
 pub returns-in_err-entries-clause-blame : goal.returns-in_err-entries-clause-blame
 returns-in_err-entries-clause-blame g c =
@@ -81,12 +82,13 @@ returns-clause-answered g c = λ first before known.
 
 pub returns-clause-digests : goal.returns-clause-digests
 returns-clause-digests g c = λ faithful known.
+    let before = c.in_ok-observed.ensures.back faithful in
     let files = (g.F.Folder.contents c.args.folder.now).files in
     let observed = c.in_ok-observed.observed.items in
-    let same = c.in_ok-entries.ensures.same faithful in
+    let same = c.in_ok-entries.ensures.same before in
     ap (λ (reading : List ℕ × List ScannedFile). digests_observed reading.1) c.new.ensures
     ∙ observed_digests files (entries_of c.args.naming c.args.roots.now c.args.include.now c.args.exclude.now files) observed (record {
-      placed = c.in_ok-observed.ensures.placed ∙ c.as_slice.ensures.value ∙ c.in_ok-entries.ensures.entries faithful;
+      placed = c.in_ok-observed.ensures.placed ∙ c.as_slice.ensures.value ∙ c.in_ok-entries.ensures.entries before;
       each = subst (λ (now : Contents). AllByRecursion (IsObservedIn now.files) observed) same
           (c.in_ok-observed.ensures.observed faithful (subst (λ (now : Contents). AreSeenIn now.files c.args.seen.now) (sym same) known));
     })

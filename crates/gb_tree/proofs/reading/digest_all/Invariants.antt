@@ -1,4 +1,4 @@
-use Rattle.std.proofs.Common.{◌≡◌, IsTrue, drop, take, map}
+use Rattle.std.proofs.Common.{◌≡◌, drop, take, map}
 use Rattle.gb_core.specs.Lists.{first_of}
 use Rattle.gb_tree.specs.Prints.{digests_of}
 use Rattle.gb_tree.specs.Property.{paths_of}
@@ -12,8 +12,9 @@ invariant-loop-path g l =
     let old = (contents l.fn.folder).files in
     record {
       requests : Requests g.F.Folder.failures g.F.Folder.may_leave g.F.Folder.allowed no_change l.fn.folder l.folder;
-      same : IsTrue g.F.Folder.faithful → contents l.folder ≡ contents l.fn.folder;
+      back : g.F.Folder.faithful l.folder → g.F.Folder.faithful l.fn.folder;
+      same : g.F.Folder.faithful l.folder → contents l.folder ≡ contents l.fn.folder;
       paths : map (λ entry. entry.0) l.digests.items ≡ paths_of (take l.path-index l.entries);
-      digested : IsTrue g.F.Folder.faithful → l.digests.items ≡ digests_of (contents_at old (take l.path-index l.entries));
-      large : IsTrue g.F.Folder.faithful → first_of (too_large old (drop l.path-index l.entries)) ≡ first_of (too_large old l.entries);
+      digested : g.F.Folder.faithful l.folder → l.digests.items ≡ digests_of (contents_at old (take l.path-index l.entries));
+      large : g.F.Folder.faithful l.folder → first_of (too_large old (drop l.path-index l.entries)) ≡ first_of (too_large old l.entries);
     }

@@ -13,6 +13,7 @@ use Rattle.gb_tree.proofs.reading.read_all.Goals as goal
 
 pub loop-path-preserved : goal.loop-path-preserved
 loop-path-preserved g c =
+    let back = c.read_file.ensures.back in
     let contents = g.F.Folder.contents in
     let files = (contents c.args.folder.now).files in
     let entries = c.args.entries.now in
@@ -23,17 +24,18 @@ loop-path-preserved g c =
     let is = c.loop-path-item.is in
     record {
       requests = requests_then old.invariant.requests c.read_file.ensures.requests;
-      same = λ faithful. c.read_file.ensures.same faithful ∙ old.invariant.same faithful;
+      back = λ faithful. old.invariant.back (back faithful);
+      same = λ faithful. c.read_file.ensures.same faithful ∙ old.invariant.same (back faithful);
       read = λ faithful.
           c.in_ok-insert.ensures.ok
           ∙ ap (λ path. put byte_order path c.in_ok-bytes.bytes old.files) c.in_ok-copy.ensures
-          ∙ ap (λ bytes. put byte_order e.0 bytes old.files) (c.in_ok-bytes.ensures.read faithful ∙ ap (λ now. bytes_at now.files e.1) (old.invariant.same faithful))
-          ∙ ap (put byte_order e.0 (bytes_at files e.1)) (old.invariant.read faithful)
+          ∙ ap (λ bytes. put byte_order e.0 bytes old.files) (c.in_ok-bytes.ensures.read faithful ∙ ap (λ now. bytes_at now.files e.1) (old.invariant.same (back faithful)))
+          ∙ ap (put byte_order e.0 (bytes_at files e.1)) (old.invariant.read (back faithful))
           ∙ file_more files entries i e within is c.requires;
       large = λ faithful.
-          let small = ap (λ now. is_large now.files e.1) (sym (old.invariant.same faithful)) ∙ c.in_ok-bytes.ensures.small faithful in
+          let small = ap (λ now. is_large now.files e.1) (sym (old.invariant.same (back faithful))) ∙ c.in_ok-bytes.ensures.small faithful in
           sym (step_here (λ es. first_of (too_large files es)) entries i e within is ∙ ap (λ b. first_of (map (λ (f : List ℕ × List ℕ). faults.TooLarge f.1) (cond b (e ∷ filter (λ f. is_large files f.1) (drop (i + 1) entries)) (filter (λ f. is_large files f.1) (drop (i + 1) entries))))) small)
-          ∙ old.invariant.large faithful;
+          ∙ old.invariant.large (back faithful);
     }
 
 pub returns-in_err-bytes-clause-blame : goal.returns-in_err-bytes-clause-blame

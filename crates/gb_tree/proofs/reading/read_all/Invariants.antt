@@ -1,4 +1,4 @@
-use Rattle.std.proofs.Common.{◌≡◌, IsTrue, drop, take}
+use Rattle.std.proofs.Common.{◌≡◌, drop, take}
 use Rattle.gb_core.specs.Lists.{first_of}
 use Rattle.gb_tree.specs.Tree.{contents_at, too_large}
 use Rattle.gb_folder.specs.Calls.{Requests, no_change}
@@ -10,7 +10,8 @@ invariant-loop-path g l =
     let old = (contents l.fn.folder).files in
     record {
       requests : Requests g.F.Folder.failures g.F.Folder.may_leave g.F.Folder.allowed no_change l.fn.folder l.folder;
-      same : IsTrue g.F.Folder.faithful → contents l.folder ≡ contents l.fn.folder;
-      read : IsTrue g.F.Folder.faithful → l.files ≡ contents_at old (take l.path-index l.entries);
-      large : IsTrue g.F.Folder.faithful → first_of (too_large old (drop l.path-index l.entries)) ≡ first_of (too_large old l.entries);
+      back : g.F.Folder.faithful l.folder → g.F.Folder.faithful l.fn.folder;
+      same : g.F.Folder.faithful l.folder → contents l.folder ≡ contents l.fn.folder;
+      read : g.F.Folder.faithful l.folder → l.files ≡ contents_at old (take l.path-index l.entries);
+      large : g.F.Folder.faithful l.folder → first_of (too_large old (drop l.path-index l.entries)) ≡ first_of (too_large old l.entries);
     }

@@ -29,6 +29,7 @@ returns-in-Err-clause-blame g c =
 
 pub returns-in-Err-clause-err : goal.returns-in-Err-clause-err
 returns-in-Err-clause-err g c = λ faithful known exists.
+    let before = c.find_file.ensures.back faithful in
     let files = (g.F.Folder.contents c.args.folder.now).files in
     let entries = c.args.entries.now in
     let so_far = c.loop-path.invariant in
@@ -37,12 +38,12 @@ returns-in-Err-clause-err g c = λ faithful known exists.
     let within = c.loop-path-test.true in
     let is = c.loop-path-item.is in
     let rest = filter (λ f. is_large files f.1) (drop (i + 1) entries) in
-    elim (c.in-Err.ensures.err faithful (subst (λ (now : Contents). IsSome (file_at now.files e.1)) (sym (so_far.same faithful))
+    elim (c.in-Err.ensures.err faithful (subst (λ (now : Contents). IsSome (file_at now.files e.1)) (sym (so_far.same before))
     (all_at (λ (entry : List ℕ × Place). IsSome (file_at files entry.1)) entries i e within is exists))) [
       | inl machine ↦ inl (machine_before _ _ _ _ so_far.requests.count c.in-Err.ensures.requests.count machine)
       | inr large ↦
-          let here : is_large files e.1 ≡ true = sym (ap (λ (now : Contents). is_large now.files e.1) (so_far.same faithful)) ∙ large.0 in
-          inr (sym (so_far.large faithful known)
+          let here : is_large files e.1 ≡ true = sym (ap (λ (now : Contents). is_large now.files e.1) (so_far.same before)) ∙ large.0 in
+          inr (sym (so_far.large before known)
           ∙ step_here (λ es. first_of (too_large files es)) entries i e within is
           ∙ ap (λ b. first_of (map (λ (f : List ℕ × List ℕ). faults.TooLarge f.1) (cond b (e ∷ rest) rest))) here
           ∙ ap Some (sym large.1))
@@ -50,6 +51,7 @@ returns-in-Err-clause-err g c = λ faithful known exists.
 
 pub loop-path-preserved : goal.loop-path-preserved
 loop-path-preserved g c =
+    let back = c.find_file.ensures.back in
     let contents = g.F.Folder.contents in
     let files = (contents c.args.folder.now).files in
     let entries = c.args.entries.now in
@@ -62,11 +64,12 @@ loop-path-preserved g c =
     let is = c.loop-path-item.is in
     let added = c.in_ok-waiting.ensures in
     let seen = c.args.seen.now in
-    let is_observed : IsTrue g.F.Folder.faithful → AreSeenIn files seen → IsObservedIn files x = λ faithful known. subst (λ (now : Contents). IsObservedIn now.files x) (old.invariant.same faithful)
-    (c.in-Ok.ensures.observed faithful (subst (λ (now : Contents). AreSeenIn now.files seen) (sym (old.invariant.same faithful)) known)) in
+    let is_observed : g.F.Folder.faithful c.find_file.new.folder → AreSeenIn files seen → IsObservedIn files x = λ faithful known. subst (λ (now : Contents). IsObservedIn now.files x) (old.invariant.same (back faithful))
+    (c.in-Ok.ensures.observed faithful (subst (λ (now : Contents). AreSeenIn now.files seen) (sym (old.invariant.same (back faithful))) known)) in
     record {
       requests = requests_then old.invariant.requests c.find_file.ensures.requests;
-      same = λ faithful. c.find_file.ensures.same faithful ∙ old.invariant.same faithful;
+      back = λ faithful. old.invariant.back (back faithful);
+      same = λ faithful. c.find_file.ensures.same faithful ∙ old.invariant.same (back faithful);
       answered = λ first before known.
           let F = g.F.Folder in
           let now = c.find_file.new.folder in
@@ -75,11 +78,11 @@ loop-path-preserved g c =
           (c.in-Ok.ensures.answered first (requests_then before old.invariant.requests) (seen_longer (requests_nothing first) old.invariant.requests seen known));
       placed = placed_more entries i e read _ x within is added c.in-Ok.ensures.path c.in-Ok.ensures.place old.invariant.placed;
       digested = test_more (λ (file : ScannedFile). is_digest_of file.kept file.digest) read _ x added old.invariant.digested c.in-Ok.ensures.digested;
-      each = λ faithful known. each_more (IsObservedIn files) read _ x added (old.invariant.each faithful known) (is_observed faithful known);
+      each = λ faithful known. each_more (IsObservedIn files) read _ x added (old.invariant.each (back faithful) known) (is_observed faithful known);
       large = λ faithful known.
           let small : is_large files e.1 ≡ _ = ap (is_large files) (sym c.in-Ok.ensures.place) ∙ (is_observed faithful known).small in
           sym (step_here (λ es. first_of (too_large files es)) entries i e within is ∙ ap (λ b. first_of (map (λ (f : List ℕ × List ℕ). faults.TooLarge f.1) (cond b (e ∷ filter (λ f. is_large files f.1) (drop (i + 1) entries)) (filter (λ f. is_large files f.1) (drop (i + 1) entries))))) small)
-          ∙ old.invariant.large faithful known;
+          ∙ old.invariant.large (back faithful) known;
     }
 
 pub returns-clause-reading : goal.returns-clause-reading

@@ -16,12 +16,13 @@ invariant-loop-path g l =
     let read = l.observed.items ++ waiting_files l.waiting in
     record {
       requests : Requests g.F.Folder.failures g.F.Folder.may_leave g.F.Folder.allowed no_change l.fn.folder l.folder;
-      same : IsTrue g.F.Folder.faithful → contents l.folder ≡ contents l.fn.folder;
+      back : g.F.Folder.faithful l.folder → g.F.Folder.faithful l.fn.folder;
+      same : g.F.Folder.faithful l.folder → contents l.folder ≡ contents l.fn.folder;
       answered : (first : _) → Requests g.F.Folder.failures g.F.Folder.may_leave g.F.Folder.allowed no_change first l.fn.folder
           → AreSeen g.F.Folder.failures g.F.Folder.may_leave g.F.Folder.allowed first l.fn.folder l.seen
           → WereObserved g.F.Folder.failures g.F.Folder.may_leave g.F.Folder.allowed first l.folder read;
       placed : entries_observed read ≡ take l.path-index l.entries;
       digested : IsTrue (list_all (λ file. is_digest_of file.kept file.digest) read);
-      each : IsTrue g.F.Folder.faithful → AreSeenIn old l.seen → AllByRecursion (IsObservedIn old) read;
-      large : IsTrue g.F.Folder.faithful → AreSeenIn old l.seen → first_of (too_large old (drop l.path-index l.entries)) ≡ first_of (too_large old l.entries);
+      each : g.F.Folder.faithful l.folder → AreSeenIn old l.seen → AllByRecursion (IsObservedIn old) read;
+      large : g.F.Folder.faithful l.folder → AreSeenIn old l.seen → first_of (too_large old (drop l.path-index l.entries)) ≡ first_of (too_large old l.entries);
     }

@@ -28,5 +28,6 @@ returns-in_default g c =
       whole = λ _. refl;
       count = omega arith;
       tearing = λ place existed next left. (λ may. may, λ may. may);
+      back = λ is. is;
       torn = λ faithful next. nothing_touched folder.plan.mode (g.F.Folder.may_leave folder.inner) (g.F.Folder.contents folder.inner) c.args.place.now (Some next) (g.met.F.Folder.sound folder.inner);
     }
