@@ -125,7 +125,7 @@ abbrev pub doubled : List (List ℕ) → List (List ℕ)
 doubled [] = []
 doubled (path ∷ paths) = filter (λ other. is_under other path) paths ++ doubled paths
 
--- The faults in listing the property's files, and then in reading them, in this order.
+-- The faults in listing the property's files, in this order.
 abbrev pub entry_faults : List ℕ → Naming → List Place → List (List ℕ) → List (List ℕ) → Contents
     → List TreeFault
 entry_faults name naming roots include exclude contents =
@@ -133,6 +133,7 @@ entry_faults name naming roots include exclude contents =
     special_roots contents (places_of (starts_in include (distinct roots))) ++ too_many name entries
     ++ map (faults.DuplicateInput name) (doubled (paths_of entries))
 
+-- These, and then those in reading the files.
 abbrev pub tree_faults : List ℕ → Naming → List Place → List (List ℕ) → List (List ℕ) → Contents
     → List TreeFault
 tree_faults name naming roots include exclude contents =

@@ -12,13 +12,13 @@
 //! | a `FileKind` | `ByFile<K>` | makes a file of each file, in full or incrementally |
 //! | a `TryFileKind` | `TryByFile<K>` | makes a file of each file, all again after any change; fails |
 //! | | | with the failure of the first file, its path in front |
-//! | a `Renaming` | `Renamed<K>` | makes each file at a path of its own; fails if a file has no path, |
-//! | | | or two have one |
+//! | a `Renaming` | `OfTrees<Renamed<K>>` | makes each file at a path of its own; fails if a file has no |
+//! | | | path, or two have one |
 //! | a `TreeKind` | `OfTrees<K>` | makes files of arguments and all files; its failure is a text |
 //! | a `CheckKind` | `Checks<K>` | makes no file, and fails with what it finds |
 //!
 //! `ByFile` and `TryByFile` print a line for each change, `OfTrees` prints none. Asked for changes,
-//! `TryByFile`, `Renamed` and `OfTrees` make all files, write those that differ, and remove those
+//! `TryByFile` and `OfTrees` make all files, write those that differ, and remove those
 //! that are made no more (`IsRecheck`).
 #![tactic(auto)]
 
