@@ -67,7 +67,7 @@ pub fn run<A: Actions, T: Transforms, F: Folder, W: Printer>(
 ) -> Option<u8>
     // Over any folder: no change is requested.
     ensures requests { Requests F.failures F.may_leave F.allowed no_change folder.old folder.new }
-    ensures back { F.faithful folder.new → (F.faithful folder.new) folder.old }
+    ensures back { F.faithful folder.new → F.faithful folder.old }
     ensures same { F.faithful folder.new → F.contents folder.new ≡ F.contents folder.old }
     ensures reported { (reply : CheckReply)
         × RepliesCheck (tables_of T.meanings A.meanings tables.now) (F.faithful folder.new)
@@ -187,7 +187,7 @@ fn replied<A: Actions, T: Transforms, F: Folder>(
     tables: &Tables<A, T>,
 ) -> Result<Findings, Fault>
     ensures requests { Requests F.failures F.may_leave F.allowed no_change folder.old folder.new }
-    ensures back { F.faithful folder.new → (F.faithful folder.new) folder.old }
+    ensures back { F.faithful folder.new → F.faithful folder.old }
     ensures same { F.faithful folder.new → F.contents folder.new ≡ F.contents folder.old }
     ensures replies { RepliesCheck (tables_of T.meanings A.meanings tables.now) (F.faithful folder.new)
         (given_of (λ words. map string_bytes words.items) words) (F.contents folder.old)
@@ -207,7 +207,7 @@ fn check_asked<A: Actions, T: Transforms, F: Folder>(
     invocation: &Invocation,
 ) -> Result<Findings, Fault>
     ensures requests { Requests F.failures F.may_leave F.allowed no_change folder.old folder.new }
-    ensures back { F.faithful folder.new → (F.faithful folder.new) folder.old }
+    ensures back { F.faithful folder.new → F.faithful folder.old }
     ensures same { F.faithful folder.new → F.contents folder.new ≡ F.contents folder.old }
     ensures reply { IsCheckReply (tables_of T.meanings A.meanings tables.now) (F.faithful folder.new) invocation.now
         (F.contents folder.old) (F.failures folder.old) (F.failures folder.new) result }
@@ -234,7 +234,7 @@ fn check_statements<A: Actions, T: Transforms, F: Folder>(
     fault: Fault,
 ) -> Result<Findings, Fault>
     ensures requests { Requests F.failures F.may_leave F.allowed no_change folder.old folder.new }
-    ensures back { F.faithful folder.new → (F.faithful folder.new) folder.old }
+    ensures back { F.faithful folder.new → F.faithful folder.old }
     ensures same { F.faithful folder.new → F.contents folder.new ≡ F.contents folder.old }
     ensures found { IfOk result (IsFoundAt (tables_of T.meanings A.meanings tables.now) (F.faithful folder.new)
         (F.contents folder.old).files) }
@@ -264,7 +264,7 @@ fn statement_found<A: Actions, T: Transforms, F: Folder>(
     tables: &Tables<A, T>,
 ) -> Result<Option<Findings>, Fault>
     ensures requests { Requests F.failures F.may_leave F.allowed no_change folder.old folder.new }
-    ensures back { F.faithful folder.new → (F.faithful folder.new) folder.old }
+    ensures back { F.faithful folder.new → F.faithful folder.old }
     ensures same { F.faithful folder.new → F.contents folder.new ≡ F.contents folder.old }
     ensures found { IfOk result (λ found. IfSome found
         (IsFoundAt (tables_of T.meanings A.meanings tables.now) (F.faithful folder.new)
@@ -284,7 +284,7 @@ fn statement_found<A: Actions, T: Transforms, F: Folder>(
 /// The finding of a fault at its statement, as the only one.
 fn found_at<F: Folder>(alloc: Global, folder: &mut F, at: FaultAt) -> Result<Findings, Fault>
     ensures requests { Requests F.failures F.may_leave F.allowed no_change folder.old folder.new }
-    ensures back { F.faithful folder.new → (F.faithful folder.new) folder.old }
+    ensures back { F.faithful folder.new → F.faithful folder.old }
     ensures same { F.faithful folder.new → F.contents folder.new ≡ F.contents folder.old }
     ensures found { IfOk result (IsFindingAt (F.faithful folder.new) (F.contents folder.old).files at) }
     ensures err { F.faithful folder.new → IfErr result (λ fault.
@@ -325,7 +325,7 @@ fn check_configured<A: Actions, T: Transforms, F: Folder>(
     configured: &Configured<'_, A, T>,
 ) -> Result<Findings, Fault>
     ensures requests { Requests F.failures F.may_leave F.allowed no_change folder.old folder.new }
-    ensures back { F.faithful folder.new → (F.faithful folder.new) folder.old }
+    ensures back { F.faithful folder.new → F.faithful folder.old }
     ensures same { F.faithful folder.new → F.contents folder.new ≡ F.contents folder.old }
     ensures found { IfOk result
         (AreFindingsOf (tables_of T.meanings A.meanings configured.now.tables.now) (F.faithful folder.new)
@@ -370,7 +370,7 @@ fn warn_unregistered<A: Actions, T: Transforms, F: Folder>(
     configured: &Configured<'_, A, T>,
 ) -> Result<Vec<Finding>, Fault>
     ensures requests { Requests F.failures F.may_leave F.allowed no_change folder.old folder.new }
-    ensures back { F.faithful folder.new → (F.faithful folder.new) folder.old }
+    ensures back { F.faithful folder.new → F.faithful folder.old }
     ensures same { F.faithful folder.new → F.contents folder.new ≡ F.contents folder.old }
     ensures found { let tables = tables_of T.meanings A.meanings configured.now.tables.now in
         IfOk result (λ found. AreLeft (F.faithful folder.new) (F.contents folder.old)
@@ -404,7 +404,7 @@ fn check_tasks<A: Actions, T: Transforms, F: Folder>(
     scripts: &[Scripted],
 ) -> Result<Findings, Fault>
     ensures requests { Requests F.failures F.may_leave F.allowed no_change folder.old folder.new }
-    ensures back { F.faithful folder.new → (F.faithful folder.new) folder.old }
+    ensures back { F.faithful folder.new → F.faithful folder.old }
     ensures same { F.faithful folder.new → F.contents folder.new ≡ F.contents folder.old }
     ensures found { let tables = tables_of T.meanings A.meanings configured.now.tables.now in
         IfOk result (AreFindings tables configured.now.registry.names (F.faithful folder.new) (F.contents folder.old)

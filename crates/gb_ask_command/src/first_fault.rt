@@ -24,7 +24,7 @@ pub fn read_fault<A: Actions, T: Transforms, F: Folder>(
     tables: &Tables<A, T>,
 ) -> Result<Option<FaultAt>, Fault>
     ensures requests { Requests F.failures F.may_leave F.allowed no_change folder.old folder.new }
-    ensures back { F.faithful folder.new → (F.faithful folder.new) folder.old }
+    ensures back { F.faithful folder.new → F.faithful folder.old }
     ensures same { F.faithful folder.new → F.contents folder.new ≡ F.contents folder.old }
     ensures found { let tables = tables_of T.meanings A.meanings tables.now in
         F.faithful folder.new → IfOk result (λ found.

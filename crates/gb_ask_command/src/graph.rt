@@ -46,7 +46,7 @@ pub fn run<A: Actions, T: Transforms, F: Folder, W: Printer>(
 ) -> Option<u8>
     // Over any folder: no change is requested.
     ensures requests { Requests F.failures F.may_leave F.allowed no_change folder.old folder.new }
-    ensures back { F.faithful folder.new → (F.faithful folder.new) folder.old }
+    ensures back { F.faithful folder.new → F.faithful folder.old }
     ensures same { F.faithful folder.new → F.contents folder.new ≡ F.contents folder.old }
     ensures reported { (reply : Replied)
         × Replies (IsGraphAnswer (tables_of T.meanings A.meanings tables.now) (F.faithful folder.new)
@@ -73,7 +73,7 @@ fn replied<A: Actions, T: Transforms, F: Folder>(
     tables: &Tables<A, T>,
 ) -> Reply
     ensures requests { Requests F.failures F.may_leave F.allowed no_change folder.old folder.new }
-    ensures back { F.faithful folder.new → (F.faithful folder.new) folder.old }
+    ensures back { F.faithful folder.new → F.faithful folder.old }
     ensures same { F.faithful folder.new → F.contents folder.new ≡ F.contents folder.old }
     ensures replies { Replies (IsGraphAnswer (tables_of T.meanings A.meanings tables.now) (F.faithful folder.new)
         (record { contents = F.contents folder.old; failures = F.failures folder.old })
@@ -96,7 +96,7 @@ fn draw_coloured<A: Actions, T: Transforms, F: Folder>(
     invocation: &Invocation,
 ) -> Reply
     ensures requests { Requests F.failures F.may_leave F.allowed no_change folder.old folder.new }
-    ensures back { F.faithful folder.new → (F.faithful folder.new) folder.old }
+    ensures back { F.faithful folder.new → F.faithful folder.old }
     ensures same { F.faithful folder.new → F.contents folder.new ≡ F.contents folder.old }
     ensures reply { IsGraphAnswer (tables_of T.meanings A.meanings tables.now) (F.faithful folder.new)
         (record { contents = F.contents folder.old; failures = F.failures folder.old })
@@ -123,7 +123,7 @@ fn predicted<A: Actions, T: Transforms, F: Folder>(
     invocation: &Invocation,
 ) -> Vec<Prediction>
     ensures requests { Requests F.failures F.may_leave F.allowed no_change folder.old folder.new }
-    ensures back { F.faithful folder.new → (F.faithful folder.new) folder.old }
+    ensures back { F.faithful folder.new → F.faithful folder.old }
     ensures same { F.faithful folder.new → F.contents folder.new ≡ F.contents folder.old }
     ensures predicted { ArePredicted (tables_of T.meanings A.meanings tables.now) (F.faithful folder.new)
         (record { contents = F.contents folder.old; failures = F.failures folder.old })
@@ -161,7 +161,7 @@ fn draw<A: Actions, T: Transforms, F: Folder>(
     invocation: &Invocation,
 ) -> Reply
     ensures requests { Requests F.failures F.may_leave F.allowed no_change folder.old folder.new }
-    ensures back { F.faithful folder.new → (F.faithful folder.new) folder.old }
+    ensures back { F.faithful folder.new → F.faithful folder.old }
     ensures same { F.faithful folder.new → F.contents folder.new ≡ F.contents folder.old }
     ensures reply { IsGraphReply (tables_of T.meanings A.meanings tables.now) (F.faithful folder.new)
         (record { contents = F.contents folder.old; failures = F.failures folder.old })

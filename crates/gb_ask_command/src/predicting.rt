@@ -40,7 +40,7 @@ pub(crate) fn predict_build<A: Actions, T: Transforms, F: Folder>(
     invocation: &Invocation,
 ) -> Answer
     ensures requests { Requests F.failures F.may_leave F.allowed no_change folder.old folder.new }
-    ensures back { F.faithful folder.new → (F.faithful folder.new) folder.old }
+    ensures back { F.faithful folder.new → F.faithful folder.old }
     ensures same { F.faithful folder.new → F.contents folder.new ≡ F.contents folder.old }
     ensures answer { IsAnswerTo (tables_of T.meanings A.meanings tables.now) (F.faithful folder.new) invocation.now
         (record { contents = F.contents folder.old; failures = F.failures folder.old })
@@ -62,7 +62,7 @@ fn predict_registered<A: Actions, T: Transforms, F: Folder>(
     invocation: &Invocation,
 ) -> Answer
     ensures requests { Requests F.failures F.may_leave F.allowed no_change folder.old folder.new }
-    ensures back { F.faithful folder.new → (F.faithful folder.new) folder.old }
+    ensures back { F.faithful folder.new → F.faithful folder.old }
     ensures same { F.faithful folder.new → F.contents folder.new ≡ F.contents folder.old }
     ensures sound { let tables = tables_of T.meanings A.meanings configured.now.tables.now in
         IfOk result (λ _. IsRegistry (registry_said tables configured.now.registry)) }
@@ -103,7 +103,7 @@ fn predict_requested<A: Actions, F: Folder, Ts: Tasks>(
 ) -> Answer
     requires { AreBuildable A.meanings table.now (Ts.registry tasks.old) }
     ensures requests { Requests F.failures F.may_leave F.allowed no_change folder.old folder.new }
-    ensures back { F.faithful folder.new → (F.faithful folder.new) folder.old }
+    ensures back { F.faithful folder.new → F.faithful folder.old }
     ensures same { F.faithful folder.new → F.contents folder.new ≡ F.contents folder.old }
     ensures reported { IfOk result (λ reported. AreReportedOf (F.faithful folder.new) A.meanings table.now
         (Ts.registry tasks.old)
@@ -127,7 +127,7 @@ fn predict_planned<A: Actions, F: Folder>(
 ) -> Answer
     requires { AllByRecursion (λ planned. IsBuildable A.meanings table.now planned.task) plan.now }
     ensures requests { Requests F.failures F.may_leave F.allowed no_change folder.old folder.new }
-    ensures back { F.faithful folder.new → (F.faithful folder.new) folder.old }
+    ensures back { F.faithful folder.new → F.faithful folder.old }
     ensures same { F.faithful folder.new → F.contents folder.new ≡ F.contents folder.old }
     ensures reported { IfOk result (λ reported. AreReported (F.faithful folder.new) A.meanings table.now options
         (record { contents = F.contents folder.old; failures = F.failures folder.old })

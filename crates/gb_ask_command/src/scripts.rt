@@ -23,7 +23,7 @@ pub(crate) fn read_asked<'a, A: Actions, T: Transforms, F: Folder>(
     invocation: &Invocation,
 ) -> Result<Configured<'a, A, T>, Fault>
     ensures requests { Requests F.failures F.may_leave F.allowed no_change folder.old folder.new }
-    ensures back { F.faithful folder.new → (F.faithful folder.new) folder.old }
+    ensures back { F.faithful folder.new → F.faithful folder.old }
     ensures same { F.faithful folder.new → F.contents folder.new ≡ F.contents folder.old }
     ensures tables { IfOk result (λ configured. configured.tables.now ≡ tables.now) }
     ensures read { let handed = tables_of T.meanings A.meanings tables.now in MatchResult result

@@ -43,7 +43,7 @@ pub fn run<A: Actions, T: Transforms, F: Folder, W: Printer>(
 ) -> Option<u8>
     // Over any folder: no change is requested.
     ensures requests { Requests F.failures F.may_leave F.allowed no_change folder.old folder.new }
-    ensures back { F.faithful folder.new → (F.faithful folder.new) folder.old }
+    ensures back { F.faithful folder.new → F.faithful folder.old }
     ensures same { F.faithful folder.new → F.contents folder.new ≡ F.contents folder.old }
     ensures reported { (reply : Replied)
         × Replies (IsStatusReply (tables_of T.meanings A.meanings tables.now) (F.faithful folder.new)
@@ -70,7 +70,7 @@ fn replied<A: Actions, T: Transforms, F: Folder>(
     tables: &Tables<A, T>,
 ) -> Reply
     ensures requests { Requests F.failures F.may_leave F.allowed no_change folder.old folder.new }
-    ensures back { F.faithful folder.new → (F.faithful folder.new) folder.old }
+    ensures back { F.faithful folder.new → F.faithful folder.old }
     ensures same { F.faithful folder.new → F.contents folder.new ≡ F.contents folder.old }
     ensures replies { Replies (IsStatusReply (tables_of T.meanings A.meanings tables.now) (F.faithful folder.new)
         (record { contents = F.contents folder.old; failures = F.failures folder.old })
@@ -94,7 +94,7 @@ fn look<A: Actions, T: Transforms, F: Folder>(
     invocation: &Invocation,
 ) -> Reply
     ensures requests { Requests F.failures F.may_leave F.allowed no_change folder.old folder.new }
-    ensures back { F.faithful folder.new → (F.faithful folder.new) folder.old }
+    ensures back { F.faithful folder.new → F.faithful folder.old }
     ensures same { F.faithful folder.new → F.contents folder.new ≡ F.contents folder.old }
     ensures reply { IsStatusReply (tables_of T.meanings A.meanings tables.now) (F.faithful folder.new)
         (record { contents = F.contents folder.old; failures = F.failures folder.old })
@@ -115,7 +115,7 @@ fn look_beside<A: Actions, T: Transforms, F: Folder>(
     configured: &Configured<'_, A, T>,
 ) -> Reply
     ensures requests { Requests F.failures F.may_leave F.allowed no_change folder.old folder.new }
-    ensures back { F.faithful folder.new → (F.faithful folder.new) folder.old }
+    ensures back { F.faithful folder.new → F.faithful folder.old }
     ensures same { F.faithful folder.new → F.contents folder.new ≡ F.contents folder.old }
     ensures text { let tables = tables_of T.meanings A.meanings configured.now.tables.now in
         IfOk result (λ text. IsStatusOf (F.faithful folder.new) notation activity (F.contents folder.old).files

@@ -36,7 +36,7 @@ pub fn run<A: Actions, T: Transforms, F: Folder, W: Printer>(
 ) -> Option<u8>
     // Over any folder: no change is requested.
     ensures requests { Requests F.failures F.may_leave F.allowed no_change folder.old folder.new }
-    ensures back { F.faithful folder.new → (F.faithful folder.new) folder.old }
+    ensures back { F.faithful folder.new → F.faithful folder.old }
     ensures same { F.faithful folder.new → F.contents folder.new ≡ F.contents folder.old }
     // There is an answer, whether it could be printed or not. If it could, exactly its text is
     // printed, and the status is its own; if not, a beginning of its text is printed.
@@ -66,7 +66,7 @@ fn answered<A: Actions, T: Transforms, F: Folder>(
     tables: &Tables<A, T>,
 ) -> Answer
     ensures requests { Requests F.failures F.may_leave F.allowed no_change folder.old folder.new }
-    ensures back { F.faithful folder.new → (F.faithful folder.new) folder.old }
+    ensures back { F.faithful folder.new → F.faithful folder.old }
     ensures same { F.faithful folder.new → F.contents folder.new ≡ F.contents folder.old }
     ensures answers { Answers (tables_of T.meanings A.meanings tables.now) (F.faithful folder.new)
         (given_of (λ words. map string_bytes words.items) words)

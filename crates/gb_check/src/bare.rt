@@ -27,7 +27,7 @@ pub(crate) fn warn_bare<F: Folder>(
     sites: &[Site],
 ) -> Result<Vec<Finding>, Fault>
     ensures requests { Requests F.failures F.may_leave F.allowed no_change folder.old folder.new }
-    ensures back { F.faithful folder.new → (F.faithful folder.new) folder.old }
+    ensures back { F.faithful folder.new → F.faithful folder.old }
     ensures same { F.faithful folder.new → F.contents folder.new ≡ F.contents folder.old }
     ensures found { F.faithful folder.new → IfOk result (λ found. found.items
         ≡ bare_roots sites.now (F.contents folder.old) tasks.now) }
@@ -48,7 +48,7 @@ fn warn_each<F: Folder>(
     roots: &[Rooted],
 ) -> Result<Vec<Finding>, Fault>
     ensures requests { Requests F.failures F.may_leave F.allowed no_change folder.old folder.new }
-    ensures back { F.faithful folder.new → (F.faithful folder.new) folder.old }
+    ensures back { F.faithful folder.new → F.faithful folder.old }
     ensures same { F.faithful folder.new → F.contents folder.new ≡ F.contents folder.old }
     ensures found { F.faithful folder.new → IfOk result (λ found. found.items
         ≡ flat_map (bare_root sites.now (F.contents folder.old) outputs.now) roots.now) }
@@ -71,7 +71,7 @@ fn push_rooted<F: Folder>(
     rooted: &Rooted,
 ) -> Result<(), Fault>
     ensures requests { Requests F.failures F.may_leave F.allowed no_change folder.old folder.new }
-    ensures back { F.faithful folder.new → (F.faithful folder.new) folder.old }
+    ensures back { F.faithful folder.new → F.faithful folder.old }
     ensures same { F.faithful folder.new → F.contents folder.new ≡ F.contents folder.old }
     ensures found { F.faithful folder.new → OnOk result (found.new.items
         ≡ found.old.items ++ bare_root sites.now (F.contents folder.old) outputs.now rooted.now) }
@@ -104,7 +104,7 @@ fn is_bare<F: Folder>(
     root: &Place,
 ) -> Result<bool, Fault>
     ensures requests { Requests F.failures F.may_leave F.allowed no_change folder.old folder.new }
-    ensures back { F.faithful folder.new → (F.faithful folder.new) folder.old }
+    ensures back { F.faithful folder.new → F.faithful folder.old }
     ensures same { F.faithful folder.new → F.contents folder.new ≡ F.contents folder.old }
     ensures bare { F.faithful folder.new → IfOk result (λ is.
         is ≡ is_bare (F.contents folder.old) outputs.now root.now) }
@@ -125,7 +125,7 @@ fn is_made(outputs: &[Place], root: &Place) -> bool
 
 fn has_nothing<F: Folder>(alloc: Global, folder: &mut F, root: &Place) -> Result<bool, Fault>
     ensures requests { Requests F.failures F.may_leave F.allowed no_change folder.old folder.new }
-    ensures back { F.faithful folder.new → (F.faithful folder.new) folder.old }
+    ensures back { F.faithful folder.new → F.faithful folder.old }
     ensures same { F.faithful folder.new → F.contents folder.new ≡ F.contents folder.old }
     ensures nothing { F.faithful folder.new → IfOk result (λ is. is
         ≡ (is_empty (places_under (F.contents folder.old).files root.now)

@@ -32,7 +32,7 @@ pub(crate) fn check_default_words<Ts: Tasks, F: Folder>(
     scripts: &[Scripted],
 ) -> Result<Vec<Finding>, Fault>
     ensures requests { Requests F.failures F.may_leave F.allowed no_change folder.old folder.new }
-    ensures back { F.faithful folder.new → (F.faithful folder.new) folder.old }
+    ensures back { F.faithful folder.new → F.faithful folder.old }
     ensures same { F.faithful folder.new → F.contents folder.new ≡ F.contents folder.old }
     ensures found { IfOk result (λ found. AreDefaultsFound (F.faithful folder.new) (F.contents folder.old).files
         (scripts_in scripts.now) (Ts.registry tasks.now) found.items) }
@@ -54,7 +54,7 @@ fn find_words<F: Folder>(
     faults: &[Fault],
 ) -> Result<Vec<Finding>, Fault>
     ensures requests { Requests F.failures F.may_leave F.allowed no_change folder.old folder.new }
-    ensures back { F.faithful folder.new → (F.faithful folder.new) folder.old }
+    ensures back { F.faithful folder.new → F.faithful folder.old }
     ensures same { F.faithful folder.new → F.contents folder.new ≡ F.contents folder.old }
     ensures found { IfOk result (λ found. AreAtDefaults (F.faithful folder.new) (F.contents folder.old).files
         (scripts_in scripts.now) faults.now found.items) }
@@ -122,7 +122,7 @@ fn defaults_spot<F: Folder>(
     scripts: &[Scripted],
 ) -> Result<Spot, Fault>
     ensures requests { Requests F.failures F.may_leave F.allowed no_change folder.old folder.new }
-    ensures back { F.faithful folder.new → (F.faithful folder.new) folder.old }
+    ensures back { F.faithful folder.new → F.faithful folder.old }
     ensures same { F.faithful folder.new → F.contents folder.new ≡ F.contents folder.old }
     ensures spot { IfOk result
         (IsDefaultsSpot (F.faithful folder.new) (F.contents folder.old).files (scripts_in scripts.now)) }
@@ -149,7 +149,7 @@ fn root_of(scripts: &[Scripted]) -> Option<&Scripted>
 /// The line of the last `defaultTasks` of a script; 1 if there is none.
 fn line_in<F: Folder>(alloc: Global, folder: &mut F, scripted: &Scripted) -> Result<Spot, Fault>
     ensures requests { Requests F.failures F.may_leave F.allowed no_change folder.old folder.new }
-    ensures back { F.faithful folder.new → (F.faithful folder.new) folder.old }
+    ensures back { F.faithful folder.new → F.faithful folder.old }
     ensures same { F.faithful folder.new → F.contents folder.new ≡ F.contents folder.old }
     ensures spot { IfOk result (λ spot. (lines : List Lines) × (F.faithful folder.new
         → AreLinesAt (F.contents folder.old).files (script_of_project scripted.now.project) lines)

@@ -53,7 +53,7 @@ pub fn find<A: Actions, T: Transforms, Ts: Tasks, F: Folder>(
 ) -> Result<Findings, Fault>
     requires { paths.now ≡ paths_of (Ts.registry tasks.old) }
     ensures requests { Requests F.failures F.may_leave F.allowed no_change folder.old folder.new }
-    ensures back { F.faithful folder.new → (F.faithful folder.new) folder.old }
+    ensures back { F.faithful folder.new → F.faithful folder.old }
     ensures same { F.faithful folder.new → F.contents folder.new ≡ F.contents folder.old }
     ensures findings { IfOk result (AreFindings (tables_of T.meanings A.meanings tables.now) known.now
         (F.faithful folder.new) (F.contents folder.old) (Ts.registry tasks.old) (scripts_in scripts.now)) }
@@ -87,7 +87,7 @@ fn find_faults<Ts: Tasks, F: Folder>(
 ) -> Result<Vec<Finding>, Fault>
     requires { paths.now ≡ paths_of (Ts.registry tasks.old) }
     ensures kept { Ts.registry tasks.new ≡ Ts.registry tasks.old }
-    ensures back { F.faithful folder.new → (F.faithful folder.new) folder.old }
+    ensures back { F.faithful folder.new → F.faithful folder.old }
     ensures requests { Requests F.failures F.may_leave F.allowed no_change folder.old folder.new }
     ensures same { F.faithful folder.new → F.contents folder.new ≡ F.contents folder.old }
     ensures faults { IfOk result (λ found. AreFaults (F.faithful folder.new) (F.contents folder.old).files sites.now

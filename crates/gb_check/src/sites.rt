@@ -60,7 +60,7 @@ pub(crate) fn read_sites<A: Actions, T: Transforms, F: Folder>(
     scripts: &[Scripted],
 ) -> Result<(Vec<Site>, Vec<ClauseMark>), Fault>
     ensures requests { Requests F.failures F.may_leave F.allowed no_change folder.old folder.new }
-    ensures back { F.faithful folder.new → (F.faithful folder.new) folder.old }
+    ensures back { F.faithful folder.new → F.faithful folder.old }
     ensures same { F.faithful folder.new → F.contents folder.new ≡ F.contents folder.old }
     ensures sites { IfOk result (λ read.
         AreSites (tables_of T.meanings A.meanings tables.now) names.now (F.faithful folder.new)
@@ -90,7 +90,7 @@ fn push_script<A: Actions, T: Transforms, F: Folder>(
     scripted: &Scripted,
 ) -> Result<(), Fault>
     ensures requests { Requests F.failures F.may_leave F.allowed no_change folder.old folder.new }
-    ensures back { F.faithful folder.new → (F.faithful folder.new) folder.old }
+    ensures back { F.faithful folder.new → F.faithful folder.old }
     ensures same { F.faithful folder.new → F.contents folder.new ≡ F.contents folder.old }
     ensures sites { OnOk result ((lines : List Lines)
         × (F.faithful folder.new
@@ -146,7 +146,7 @@ pub(crate) fn lines_at<F: Folder>(
     place: &Place,
 ) -> Result<Vec<StatementLines>, Fault>
     ensures requests { Requests F.failures F.may_leave F.allowed no_change folder.old folder.new }
-    ensures back { F.faithful folder.new → (F.faithful folder.new) folder.old }
+    ensures back { F.faithful folder.new → F.faithful folder.old }
     ensures same { F.faithful folder.new → F.contents folder.new ≡ F.contents folder.old }
     ensures lines { F.faithful folder.new → IfOk result (λ lines.
         AreLinesAt (F.contents folder.old).files place.now lines.items) }

@@ -23,7 +23,7 @@ pub fn statement_spot<F: Folder>(
     number: usize,
 ) -> Result<Spot, Fault>
     ensures requests { Requests F.failures F.may_leave F.allowed no_change folder.old folder.new }
-    ensures back { F.faithful folder.new → (F.faithful folder.new) folder.old }
+    ensures back { F.faithful folder.new → F.faithful folder.old }
     ensures same { F.faithful folder.new → F.contents folder.new ≡ F.contents folder.old }
     ensures spot { IfOk result
         (IsStatementSpot (F.faithful folder.new) (F.contents folder.old).files project.now number) }

@@ -33,7 +33,7 @@ pub(crate) fn warn<Ts: Tasks, F: Folder>(
 ) -> Result<Vec<Finding>, Fault>
     requires { names.now ≡ paths_of (Ts.registry tasks.old) }
     ensures kept { Ts.registry tasks.new ≡ Ts.registry tasks.old }
-    ensures back { F.faithful folder.new → (F.faithful folder.new) folder.old }
+    ensures back { F.faithful folder.new → F.faithful folder.old }
     ensures requests { Requests F.failures F.may_leave F.allowed no_change folder.old folder.new }
     ensures same { F.faithful folder.new → F.contents folder.new ≡ F.contents folder.old }
     ensures warnings { IfOk result (λ found. AreWarnings (F.faithful folder.new) sites.now (scripts_in scripts.now)

@@ -46,7 +46,7 @@ pub fn predict<A: Actions, F: Folder>(
     requires in_order { AllByRecursion (λ planned. HasNamesInOrder planned.task) plan.now }
     requires each { length records.now ≡ length plan.now }
     ensures requests { Requests F.failures F.may_leave F.allowed no_change folder.old folder.new }
-    ensures back { F.faithful folder.new → (F.faithful folder.new) folder.old }
+    ensures back { F.faithful folder.new → F.faithful folder.old }
     ensures same { F.faithful folder.new → F.contents folder.new ≡ F.contents folder.old }
     ensures paths { IfOk result (λ reported. map (λ one. one.path) reported.items ≡ order plan.now) }
     // Over any folder there is a reason if a task runs for reasons.
@@ -135,7 +135,7 @@ fn prediction<A: Actions, F: Folder>(
     requires each { length reported.now ≤ length plan.now }
     requires not_starting { AreNotStarting reported.now not_starting.now }
     ensures requests { Requests F.failures F.may_leave F.allowed no_change folder.old folder.new }
-    ensures back { F.faithful folder.new → (F.faithful folder.new) folder.old }
+    ensures back { F.faithful folder.new → F.faithful folder.old }
     ensures same { F.faithful folder.new → F.contents folder.new ≡ F.contents folder.old }
     ensures path { IfOk result (λ one. one.path ≡ planned.now.task.path) }
     ensures reasoned { IfOk result (λ one. IsReasoned one.coming) }

@@ -37,7 +37,7 @@ pub(crate) fn predicted_outcome<A: Actions, F: Folder>(
     requires ready { IsReady A.meanings table.now task.now }
     requires in_order { HasNamesInOrder task.now }
     ensures requests { Requests F.failures F.may_leave F.allowed no_change folder.old folder.new }
-    ensures back { F.faithful folder.new → (F.faithful folder.new) folder.old }
+    ensures back { F.faithful folder.new → F.faithful folder.old }
     ensures same { F.faithful folder.new → F.contents folder.new ≡ F.contents folder.old }
     // Over any folder there is a reason if it runs for reasons.
     ensures reasoned { IsReasoned result }
@@ -65,7 +65,7 @@ fn sourceless<F: Folder>(
     task: &TaskDeclaration,
 ) -> Result<PredictedOutcome, Fault>
     ensures requests { Requests F.failures F.may_leave F.allowed no_change folder.old folder.new }
-    ensures back { F.faithful folder.new → (F.faithful folder.new) folder.old }
+    ensures back { F.faithful folder.new → F.faithful folder.old }
     ensures same { F.faithful folder.new → F.contents folder.new ≡ F.contents folder.old }
     ensures reasoned { IfOk result IsReasoned }
     ensures removes { F.faithful folder.new → IfOk result (λ coming. (removes : Bool)

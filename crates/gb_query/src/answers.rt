@@ -66,7 +66,7 @@ pub fn inventory_text<F: Folder>(
     registered: &[TaskPath],
 ) -> Result<String, Fault>
     ensures requests { Requests F.failures F.may_leave F.allowed no_change folder.old folder.new }
-    ensures back { F.faithful folder.new → (F.faithful folder.new) folder.old }
+    ensures back { F.faithful folder.new → F.faithful folder.old }
     ensures same { F.faithful folder.new → F.contents folder.new ≡ F.contents folder.old }
     ensures text { IfOk result (λ text. IsStatusOf (F.faithful folder.new) notation activity
         (F.contents folder.old).files registered.now (string_bytes text)) }

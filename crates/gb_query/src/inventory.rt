@@ -43,7 +43,7 @@ pub fn inventory<F: Folder>(
     registered: &[TaskPath],
 ) -> Result<Vec<Entry>, Fault>
     ensures requests { Requests F.failures F.may_leave F.allowed no_change folder.old folder.new }
-    ensures back { F.faithful folder.new → (F.faithful folder.new) folder.old }
+    ensures back { F.faithful folder.new → F.faithful folder.old }
     ensures same { F.faithful folder.new → F.contents folder.new ≡ F.contents folder.old }
     ensures entries { F.faithful folder.new → IfOk result
         (λ entries. AreEntriesOf (F.contents folder.old).files registered.now entries.items) }
@@ -63,7 +63,7 @@ pub fn unregistered<F: Folder>(
     registered: &[TaskPath],
 ) -> Result<Vec<TaskPath>, Fault>
     ensures requests { Requests F.failures F.may_leave F.allowed no_change folder.old folder.new }
-    ensures back { F.faithful folder.new → (F.faithful folder.new) folder.old }
+    ensures back { F.faithful folder.new → F.faithful folder.old }
     ensures same { F.faithful folder.new → F.contents folder.new ≡ F.contents folder.old }
     ensures left { F.faithful folder.new → IfOk result
         (λ left. AreUnregistered (F.contents folder.old) registered.now left.items) }
@@ -86,7 +86,7 @@ fn left_at<F: Folder>(
     places: &[Place],
 ) -> Result<Vec<TaskPath>, Fault>
     ensures requests { Requests F.failures F.may_leave F.allowed no_change folder.old folder.new }
-    ensures back { F.faithful folder.new → (F.faithful folder.new) folder.old }
+    ensures back { F.faithful folder.new → F.faithful folder.old }
     ensures same { F.faithful folder.new → F.contents folder.new ≡ F.contents folder.old }
     ensures left { F.faithful folder.new → IfOk result (λ left.
         AreLeftAt (F.contents folder.old).files registered.now places.now left.items) }
@@ -108,7 +108,7 @@ fn push_left<F: Folder>(
     place: &Place,
 ) -> Result<(), Fault>
     ensures requests { Requests F.failures F.may_leave F.allowed no_change folder.old folder.new }
-    ensures back { F.faithful folder.new → (F.faithful folder.new) folder.old }
+    ensures back { F.faithful folder.new → F.faithful folder.old }
     ensures same { F.faithful folder.new → F.contents folder.new ≡ F.contents folder.old }
     ensures left { F.faithful folder.new → OnOk result ((row : List Path)
         × IsLeftAt (F.contents folder.old).files registered.now place.now row
@@ -132,7 +132,7 @@ fn push_owner<F: Folder>(
 ) -> Result<(), Fault>
     requires { IsOwner place.now (Some path.now) }
     ensures requests { Requests F.failures F.may_leave F.allowed no_change folder.old folder.new }
-    ensures back { F.faithful folder.new → (F.faithful folder.new) folder.old }
+    ensures back { F.faithful folder.new → F.faithful folder.old }
     ensures same { F.faithful folder.new → F.contents folder.new ≡ F.contents folder.old }
     ensures left { F.faithful folder.new → OnOk result ((row : List Path)
         × IsLeftAt (F.contents folder.old).files registered.now place.now row
@@ -152,7 +152,7 @@ fn is_left<F: Folder>(
     path: &TaskPath,
 ) -> Result<bool, Fault>
     ensures requests { Requests F.failures F.may_leave F.allowed no_change folder.old folder.new }
-    ensures back { F.faithful folder.new → (F.faithful folder.new) folder.old }
+    ensures back { F.faithful folder.new → F.faithful folder.old }
     ensures same { F.faithful folder.new → F.contents folder.new ≡ F.contents folder.old }
     ensures left { F.faithful folder.new → IfOk result (λ is. (place : PlaceOf) → IsOwner place (Some path.now)
         → IsLeftAt (F.contents folder.old).files registered.now place (row_if is path.now)) }
@@ -193,7 +193,7 @@ fn entries_of<F: Folder>(
     places: &[Place],
 ) -> Result<Vec<Entry>, Fault>
     ensures requests { Requests F.failures F.may_leave F.allowed no_change folder.old folder.new }
-    ensures back { F.faithful folder.new → (F.faithful folder.new) folder.old }
+    ensures back { F.faithful folder.new → F.faithful folder.old }
     ensures same { F.faithful folder.new → F.contents folder.new ≡ F.contents folder.old }
     ensures entries { F.faithful folder.new → IfOk result (λ entries.
         AllZip (IsEntryOf (F.contents folder.old).files registered.now) places.now entries.items) }
@@ -214,7 +214,7 @@ fn entry_of<F: Folder>(
     place: &Place,
 ) -> Result<Entry, Fault>
     ensures requests { Requests F.failures F.may_leave F.allowed no_change folder.old folder.new }
-    ensures back { F.faithful folder.new → (F.faithful folder.new) folder.old }
+    ensures back { F.faithful folder.new → F.faithful folder.old }
     ensures same { F.faithful folder.new → F.contents folder.new ≡ F.contents folder.old }
     ensures entry { F.faithful folder.new → IfOk result
         (IsEntryOf (F.contents folder.old).files registered.now place.now) }
@@ -236,7 +236,7 @@ fn record_entry<F: Folder>(
 ) -> Result<Entry, Fault>
     requires { IsOwner place.now (Some path) }
     ensures requests { Requests F.failures F.may_leave F.allowed no_change folder.old folder.new }
-    ensures back { F.faithful folder.new → (F.faithful folder.new) folder.old }
+    ensures back { F.faithful folder.new → F.faithful folder.old }
     ensures same { F.faithful folder.new → F.contents folder.new ≡ F.contents folder.old }
     ensures entry { F.faithful folder.new → IfOk result
         (IsEntryOf (F.contents folder.old).files registered.now place.now) }
@@ -269,7 +269,7 @@ fn is_among(registered: &[TaskPath], path: &TaskPath) -> bool
 /// Whether there is a record of the task.
 fn has_record<F: Folder>(alloc: Global, folder: &mut F, path: &TaskPath) -> Result<bool, Fault>
     ensures requests { Requests F.failures F.may_leave F.allowed no_change folder.old folder.new }
-    ensures back { F.faithful folder.new → (F.faithful folder.new) folder.old }
+    ensures back { F.faithful folder.new → F.faithful folder.old }
     ensures same { F.faithful folder.new → F.contents folder.new ≡ F.contents folder.old }
     ensures read { F.faithful folder.new → IfOk result (λ has_record. (read : Option Record)
         × IsReadAt (F.contents folder.old).files path.now read × (has_record ≡ is_some read)) }
