@@ -1,10 +1,10 @@
 -- What the answer of a call over known contents says, clause by clause.
-use Rattle.std.specs.Prelude.{ℕ, ◌≡◌, ◌≢◌, ◌<◌, false, List, Option, Some, None, Result, Ok, Err, IfErr, IfOk, IsSome, IsSomeAnd, OnOk, length, take, drop}
+use Rattle.std.specs.Prelude.{ℕ, ◌≡◌, ◌≢◌, ◌<◌, false, Option, Some, Result, Ok, Err, IfErr, IfOk, IsSome, IsSomeAnd, OnOk, length, take, drop}
 use Rattle.std.specs.Global.{Global}
 use Rattle.std.specs.declared.vec.Vec.{Vec}
 use Rattle.std.proofs.Common.{refl, subst, sym}
 use Rattle.gb_folder.specs.Calls.{answered}
-use Rattle.gb_folder.specs.Files.{Bytes, Contents, IsTorn, Place, Tearing, file_at, is_blocked, is_special_under, places_under, with_file, without}
+use Rattle.gb_folder.specs.Files.{Bytes, Contents, Place, Tearing, file_at, is_blocked, is_special_under, places_under, with_file, without}
 use Rattle.gb_folder.specs.Semantics.{Answer, Listed, Read, ReadPart, Removed, Wrote}
 use Rattle.gb_folder.specs.declared.folder.FolderFault.{FolderFault}
 use Rattle.gb_folder.specs.declared.folder.FolderFault.TheVariants as folders

@@ -1,7 +1,8 @@
 -- The calls of a folder on a disk, which it keeps for proofs alone.
-use Rattle.std.specs.Prelude.{ℕ, ◌≡◌, List, [], ◌∷◌, ◌++◌, ⊤}
+use Rattle.std.specs.Prelude.{ℕ, ◌≡◌, List, [], ◌∷◌, ◌++◌}
 use Rattle.gb_folder.specs.Calls.{Call}
 use Rattle.gb_folder.specs.Files.{Tearing}
+use Rattle.gb_disk.specs.Supposed.{leaves_of}
 use Rattle.gb_disk.specs.declared.disk.DiskFolder.{DiskFolder}
 
 -- the calls that it was asked for, with their answers, in order
@@ -16,6 +17,6 @@ is_next old call new = calls_of new ≡ calls_of old ++ call ∷ []
 abbrev pub failures_of : {R : Type 0} → DiskFolder R → ℕ
 failures_of folder = folder.failures
 
--- a torn write may leave anything
-abbrev pub leaves_anything : {R : Type 0} → DiskFolder R → Tearing
-leaves_anything folder place old next left = ⊤
+-- what a stopped write or removal may leave there, as is supposed
+abbrev pub may_leave_of : {R : Type 0} → DiskFolder R → Tearing
+may_leave_of folder = leaves_of folder.log.supposed

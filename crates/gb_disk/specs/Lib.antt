@@ -2,3 +2,4 @@ pub mod Disk
 pub mod Noted
 pub mod Shown
 pub mod Called
+pub mod Supposed

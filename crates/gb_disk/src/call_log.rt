@@ -2,8 +2,8 @@
 ghost use Rattle.std.specs.Prelude.{◌≡◌, [], ◌∷◌, ◌++◌, List};
 ghost use Rattle.std.specs.Borrow.{ftrue};
 ghost use Rattle.gb_folder.specs.Calls.{Call};
-ghost use Rattle.gb_folder.specs.Files.{Contents};
 ghost use Rattle.gb_disk.specs.Noted.{call_of};
+ghost use Rattle.gb_disk.specs.Supposed.{Supposed};
 
 use gb_core::place::Place;
 use gb_folder::folder::FolderFault;
@@ -24,12 +24,12 @@ pub(crate) enum Noted<'a> {
     Removes(&'a Place, &'a Result<(), FolderFault>),
 }
 
-/// The calls so far, in order, and contents for each state: before the first call, and after each.
-/// It takes no memory, and its methods do nothing when they run.
+/// The calls so far, in order, and what is supposed of the folder. It takes no memory, and its
+/// methods do nothing when they run.
 #[derive(Drop)]
 pub(crate) struct CallLog {
     ghost calls: { List Call },
-    ghost states: { List Contents },
+    ghost supposed: { Supposed },
 }
 
 impl Model for CallLog {
@@ -37,10 +37,10 @@ impl Model for CallLog {
 }
 
 impl CallLog {
-    /// No call, and any contents.
+    /// No call.
     pub(crate) fn new() -> CallLog
-        ghost states: { List Contents }
-        ensures { (result.calls ≡ []) × (result.states ≡ states) }
+        ghost supposed: { Supposed }
+        ensures { (result.calls ≡ []) × (result.supposed ≡ supposed) }
     {
         CallLog {}
     }
@@ -48,7 +48,7 @@ impl CallLog {
     /// These calls, and then this one.
     pub(crate) fn and(&self, _noted: &Noted<'_>) -> CallLog
         ensures { (result.calls ≡ self.now.calls ++ call_of _noted.now ∷ [])
-            × (result.states ≡ self.now.states) }
+            × (result.supposed ≡ self.now.supposed) }
     {
         CallLog {}
     }
