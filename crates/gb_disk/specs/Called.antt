@@ -1,7 +1,8 @@
--- The calls of a folder on a disk, which it keeps for proofs alone.
+-- The calls of a folder on a disk, which it keeps for proofs alone, and what is supposed of it.
 use Rattle.std.specs.Prelude.{ℕ, ◌≡◌, List, [], ◌∷◌, ◌++◌}
 use Rattle.gb_folder.specs.Calls.{Call}
-use Rattle.gb_folder.specs.Files.{Tearing}
+use Rattle.gb_folder.specs.Files.{Contents, Tearing}
+use Rattle.gb_disk.specs.Shown.{IsAnswered, shown}
 use Rattle.gb_disk.specs.Supposed.{leaves_of}
 use Rattle.gb_disk.specs.declared.disk.DiskFolder.{DiskFolder}
 
@@ -16,6 +17,14 @@ is_next old call new = calls_of new ≡ calls_of old ++ call ∷ []
 -- how often the device failed in them
 abbrev pub failures_of : {R : Type 0} → DiskFolder R → ℕ
 failures_of folder = folder.failures
+
+-- Each call so far was answered as it would have been over the supposed contents.
+abbrev pub IsAsSupposed : {R : Type 0} → DiskFolder R → Type 0
+IsAsSupposed folder = IsAnswered folder.log
+
+-- the supposed contents after the calls so far
+abbrev pub contents_of : {R : Type 0} → DiskFolder R → Contents
+contents_of folder = shown folder.log
 
 -- what a stopped write or removal may leave there, as is supposed
 abbrev pub may_leave_of : {R : Type 0} → DiskFolder R → Tearing

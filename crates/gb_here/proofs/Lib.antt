@@ -1,1 +1,1 @@
-mod OnDisk
+mod Status
