@@ -71,7 +71,7 @@ How to read an entry:
   not change. `result` is what the call returns.
 - `IfOk result (λ x. ..)` is about a result without an error, `IfErr result (λ fault. ..)` about the error.
   `OnOk result ..` and `OnErr result ..` are about the same two cases, without a name for the value.
-- A clause *where contents are known* holds of a folder type that is `faithful`, such as a folder in memory.
+- A clause *where contents are known* is about states in which `faithful` holds, such as all of one in memory.
 - A law is a call that does nothing at run time. Its clause is a fact for proofs.
 - Lines that begin with `impl` say which traits a type has, and what its parameters have to be.
 

@@ -1,9 +1,9 @@
 //! What follows from the calls of builds and their answers, whatever the folder is.
 //!
-//! No contract says what a disk holds, so the theorem about known contents says nothing of it. But
-//! of a folder that keeps its calls (`LogsCalls`), as one on a disk, the contracts say which calls a
-//! build made, and with which bytes, given their answers. This crate has what follows, in two laws
-//! over what `invoke` does (`requests` of its clause `does`). No body is changed for them.
+//! The theorem about known contents needs contents that answer each call. But of any folder that
+//! keeps its calls (`LogsCalls`), as one on a disk, the contracts say which calls a build made, and
+//! with which bytes, given their answers. This crate has what follows, in two laws over what `invoke`
+//! does (`requests` of its clause `does`). No body is changed for them.
 //!
 //! - `answered_success_is_from_scratch`: if contents that hold true records answer all calls that
 //!   the folder keeps of a build, no two contents share a digest, and no task failed, then in these
@@ -30,8 +30,9 @@
 //! `disk_folders_keep_calls` the laws hold of builds on a disk. `invoke_logged` is a build over a
 //! `LoggedFolder` (`gb_logged`), whose caller can read the calls, whatever the folder beneath is.
 //!
-//! Not proved: the same for outcomes and printed lines. The clause says why a task is up to date
-//! and what an executed one did, but not that no task was executed that was up to date.
+//! Not in these laws: outcomes and printed lines. The clause says why a task is up to date and what
+//! an executed one did, but not that no task was executed that was up to date. (On a disk `promise`
+//! of `invoke` says so of contents that answer its calls.)
 #![tactic(auto)]
 
 pub mod laws;

@@ -51,13 +51,14 @@
 //! `DiskFolder` keeps the calls that it was asked for, with what it returned, in a log that exists
 //! only in proofs (`calls_of`): no call and no byte is kept when it runs. So what contracts say of
 //! calls over any folder, they say of a disk. What a call does there is not in them: a body that
-//! only notes its call would be proved too.
+//! only notes its call would be proved too. Contents may be supposed of it, one for each state
+//! (`Supposed`), also for proofs alone. They need not be what the disk holds; but as long as its
+//! answers are theirs (`IsAsSupposed`), all that is proved of known contents holds of them.
 //!
-//! It also keeps the clauses of `Folder` that need no known contents. After a read, a write or a
-//! removal that succeeded, the path in use is that of the place (`at`, by `path_in`). A listing is
-//! in byte order and under its root, and a read returns no more than was asked. No clause is on the
-//! path of `create_dir`, or of what is removed under `.gb/new`: that is to be read in `device.rt`
-//! and `putting.rt`. No contract can say that links are not followed, that a read is of one file and
+//! After a read, a write or a removal that succeeded, the path in use is that of the place (`at`, by
+//! `path_in`). A listing is in byte order and under its root, and a read returns no more than was
+//! asked. No clause is on the path of `create_dir`, or of what is removed under `.gb/new`: that is to
+//! be read in `device.rt` and `putting.rt`. No contract can say that links are not followed, that a read is of one file and
 //! that a write is whole, since the system's calls have no such contract. Tests show it.
 //!
 //! That a remembered listing is in order and under its root is proved. That it is an earlier one of

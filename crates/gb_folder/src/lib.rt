@@ -3,10 +3,11 @@
 //! [`Folder`](folder::Folder) is five calls over places. Code over a folder is proved once, for
 //! every type of folder. Its contracts say which calls were made, with which bytes, and what they
 //! returned, by the relation `allowed` of the type: which call may lead from which state to which.
-//! A folder on a disk keeps its calls for proofs, so they hold of it too. What is on the disk they
-//! do not say. If the type of the folder is `faithful`, its contents are known, and each result is
-//! exact: a refused call changes nothing, and only a device fault in a write or a removal may leave
-//! something else, at the place of the call. `proofs/Changes.antt` has lemmas for callers.
+//! A folder on a disk keeps its calls for proofs, so they hold of it too. Where the contents of the
+//! folder are known (`faithful`), each result is exact: a refused call changes nothing, and only a
+//! device fault in a write or a removal may leave something else, at the place of the call. Those of
+//! a folder in memory are always known. Of one on a disk contents may be supposed, and are known as
+//! long as its answers are theirs. `proofs/Changes.antt` has lemmas for callers.
 //!
 //! A list of calls with their answers is a value too. `specs/Device.antt` defines when such a list
 //! leads from one folder to another, over any folder. `specs/Semantics.antt` defines the answer of

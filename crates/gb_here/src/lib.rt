@@ -6,10 +6,10 @@
 //! crate does.
 //!
 //! [`on_disk::run_on_disk`] says what such a build does, whatever the disk returns
-//! (`IsBuiltOnDisk`): its calls are those of a build by the rules, given what they returned; and in
-//! any contents that answer these calls and hold true records, a build in which no task failed
-//! leaves what a build from scratch makes, if no two contents share a digest. That `build_here`
-//! calls it with a new folder, the program's arguments and its tables is to be read in `here.rt`.
+//! (`IsBuiltOnDisk`): its calls are those of a build by the rules, given what they returned; and of
+//! any contents that answer these calls in the same way, all holds that is promised of a folder with
+//! known contents (`KeepsPromise` of `gb_build`). That `build_here` calls it with a new folder, the
+//! program's arguments and its tables is to be read in `here.rt`.
 //!
 //! One build at a time works in a folder. No contract says so: it is tested. A build holds the
 //! system's locks on the folder itself and on the folders of its projects, in the order of
