@@ -1,5 +1,5 @@
 -- All findings: faults and warnings.
-use Rattle.std.specs.Prelude.{◌≡◌, Bool, List, [], ◌++◌}
+use Rattle.std.specs.Prelude.{◌≡◌, List, [], ◌++◌}
 use Rattle.gb_folder.specs.Files.{Contents, Files}
 use Rattle.gb_plan.specs.Graph.{Registry}
 use Rattle.gb_plan.specs.Task.{Path}

@@ -1,5 +1,5 @@
 -- The faults of the words of `defaultTasks`, which count where no word is requested.
-use Rattle.std.specs.Prelude.{ℕ, ◌≡◌, ◌≢◌, Bool, IsTrue, List, [], ◌∷◌, MatchOption, bytes_eq, find, map}
+use Rattle.std.specs.Prelude.{ℕ, ◌≡◌, ◌≢◌, Bool, List, [], ◌∷◌, MatchOption, bytes_eq, find, map}
 use Rattle.std.specs.List.{flat_map}
 use Rattle.gb_folder.specs.Files.{Files}
 use Rattle.gb_plan.specs.Graph.{Registry}

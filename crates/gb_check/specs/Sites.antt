@@ -1,5 +1,5 @@
 -- Where scripts register tasks.
-use Rattle.std.specs.Prelude.{ℕ, ◌≡◌, Bool, false, IsTrue, List, [], ◌∷◌, ◌++◌, Contains, MatchOption, Some}
+use Rattle.std.specs.Prelude.{ℕ, ◌≡◌, false, IsTrue, List, [], ◌∷◌, ◌++◌, Contains, MatchOption, Some}
 use Rattle.std.specs.Prelude.{Err, codes}
 use Rattle.gb_core.specs.Path.{task_in}
 use Rattle.gb_core.specs.Place.{is_place, joined}

@@ -1,5 +1,5 @@
 -- Where a statement of a script is.
-use Rattle.std.specs.Prelude.{ℕ, ◌≡◌, Bool, IsTrue, List, slice_get, unwrap_or}
+use Rattle.std.specs.Prelude.{ℕ, ◌≡◌, List, slice_get, unwrap_or}
 use Rattle.std.specs.Option.{option_map}
 use Rattle.gb_folder.specs.Files.{Files}
 use Rattle.gb_registry.specs.Projects.{Path}

@@ -1,5 +1,5 @@
 -- The warnings.
-use Rattle.std.specs.Prelude.{◌≡◌, ◌&&◌, Bool, not, IsTrue, List, [], ◌∷◌, ◌++◌, map, Option, Some}
+use Rattle.std.specs.Prelude.{◌≡◌, ◌&&◌, Bool, not, List, [], ◌∷◌, ◌++◌, map, Option, Some}
 use Rattle.std.specs.Prelude.{None, Result, Ok, Err, bytes_eq, false, if◌then◌else◌, true}
 use Rattle.std.specs.List.{flat_map, list_any}
 use Rattle.gb_core.specs.Path.{task_in}

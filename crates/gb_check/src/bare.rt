@@ -1,5 +1,5 @@
 //! Roots of file properties that have no files.
-ghost use Rattle.std.specs.Prelude.{◌≡◌, ◌∷◌, ◌++◌, ◌&&◌, [], IfErr, IfOk, IsTrue, OnOk, not};
+ghost use Rattle.std.specs.Prelude.{◌≡◌, ◌∷◌, ◌++◌, ◌&&◌, [], IfErr, IfOk, OnOk, not};
 ghost use Rattle.std.specs.List.{flat_map, list_any};
 ghost use Rattle.gb_core.specs.Place.{overlaps};
 ghost use Rattle.gb_folder.specs.Calls.{Requests, no_change};

@@ -1,5 +1,5 @@
 //! The words of `defaultTasks`.
-ghost use Rattle.std.specs.Prelude.{◌≡◌, ◌≢◌, ◌⊎◌, ◌∷◌, ◌++◌, [], IfErr, IfOk, IsTrue, List, OnOk, find, map};
+ghost use Rattle.std.specs.Prelude.{◌≡◌, ◌≢◌, ◌⊎◌, ◌∷◌, ◌++◌, [], IfErr, IfOk, List, OnOk, find, map};
 ghost use Rattle.std.specs.List.{flat_map};
 ghost use Rattle.std.specs.Option.{option_copied};
 ghost use Rattle.gb_folder.specs.Calls.{Requests, no_change};
@@ -34,8 +34,8 @@ pub(crate) fn check_default_words<Ts: Tasks, F: Folder>(
     ensures requests { Requests F.failures F.may_leave F.allowed no_change folder.old folder.new }
     ensures back { F.faithful folder.new → F.faithful folder.old }
     ensures same { F.faithful folder.new → F.contents folder.new ≡ F.contents folder.old }
-    ensures found { IfOk result (λ found. AreDefaultsFound (F.faithful folder.new) (F.contents folder.old).files
-        (scripts_in scripts.now) (Ts.registry tasks.now) found.items) }
+    ensures found { IfOk result (λ found. AreDefaultsFound (F.faithful folder.new)
+        (F.contents folder.old).files (scripts_in scripts.now) (Ts.registry tasks.now) found.items) }
     ensures err { F.faithful folder.new → IfErr result (λ fault.
         IsOfMachine (F.failures folder.old) (F.failures folder.new) fault
         ⊎ IsUnread (F.contents folder.old).files (scripts_in scripts.now) fault) }

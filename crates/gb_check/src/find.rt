@@ -1,5 +1,5 @@
 //! The faults of registered tasks, and warnings.
-ghost use Rattle.std.specs.Prelude.{◌≡◌, ◌⊎◌, IfErr, IfOk, IsTrue};
+ghost use Rattle.std.specs.Prelude.{◌≡◌, ◌⊎◌, IfErr, IfOk};
 ghost use Rattle.gb_folder.specs.Calls.{Requests, no_change};
 ghost use Rattle.gb_plan.specs.Graph.{paths_of};
 ghost use Rattle.gb_registry.specs.SoFar.{scripts_in};
@@ -90,8 +90,8 @@ fn find_faults<Ts: Tasks, F: Folder>(
     ensures back { F.faithful folder.new → F.faithful folder.old }
     ensures requests { Requests F.failures F.may_leave F.allowed no_change folder.old folder.new }
     ensures same { F.faithful folder.new → F.contents folder.new ≡ F.contents folder.old }
-    ensures faults { IfOk result (λ found. AreFaults (F.faithful folder.new) (F.contents folder.old).files sites.now
-        marks.now (Ts.registry tasks.old) (scripts_in scripts.now) found.items) }
+    ensures faults { IfOk result (λ found. AreFaults (F.faithful folder.new) (F.contents folder.old).files
+        sites.now marks.now (Ts.registry tasks.old) (scripts_in scripts.now) found.items) }
     ensures err { F.faithful folder.new → IfErr result (λ fault.
         IsOfMachine (F.failures folder.old) (F.failures folder.new) fault
         ⊎ IsUnread (F.contents folder.old).files (scripts_in scripts.now) fault) }

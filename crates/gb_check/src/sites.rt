@@ -1,5 +1,5 @@
 //! Where scripts register tasks, and the marks of their clauses.
-ghost use Rattle.std.specs.Prelude.{◌≡◌, ◌⊎◌, ℕ, [], ◌∷◌, ◌++◌, Err, IfErr, IfOk, IsTrue, List, OnOk};
+ghost use Rattle.std.specs.Prelude.{◌≡◌, ◌⊎◌, ℕ, [], ◌∷◌, ◌++◌, Err, IfErr, IfOk, List, OnOk};
 ghost use Rattle.std.specs.Prelude.{codes, false};
 ghost use Rattle.std.specs.Option.{option_copied};
 ghost use Rattle.gb_core.specs.Path.{task_in};

@@ -1,5 +1,5 @@
 //! Where a statement of a script is.
-ghost use Rattle.std.specs.Prelude.{◌≡◌, ◌⊎◌, IfErr, IfOk, IsTrue};
+ghost use Rattle.std.specs.Prelude.{◌≡◌, ◌⊎◌, IfErr, IfOk};
 ghost use Rattle.gb_folder.specs.Calls.{Requests, no_change};
 ghost use Rattle.gb_store.specs.Faults.{IsOfMachine};
 ghost use Rattle.gb_check.specs.Sites.{HasTextFault, script_of_project};

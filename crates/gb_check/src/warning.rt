@@ -1,5 +1,5 @@
 //! All warnings of registered tasks.
-ghost use Rattle.std.specs.Prelude.{◌≡◌, IfErr, IfOk, IsTrue};
+ghost use Rattle.std.specs.Prelude.{◌≡◌, IfErr, IfOk};
 ghost use Rattle.gb_folder.specs.Calls.{Requests, no_change};
 ghost use Rattle.gb_plan.specs.Graph.{paths_of};
 ghost use Rattle.gb_registry.specs.SoFar.{scripts_in};
@@ -36,8 +36,8 @@ pub(crate) fn warn<Ts: Tasks, F: Folder>(
     ensures back { F.faithful folder.new → F.faithful folder.old }
     ensures requests { Requests F.failures F.may_leave F.allowed no_change folder.old folder.new }
     ensures same { F.faithful folder.new → F.contents folder.new ≡ F.contents folder.old }
-    ensures warnings { IfOk result (λ found. AreWarnings (F.faithful folder.new) sites.now (scripts_in scripts.now)
-        (F.contents folder.old) (Ts.registry tasks.old) found.items) }
+    ensures warnings { IfOk result (λ found. AreWarnings (F.faithful folder.new) sites.now
+        (scripts_in scripts.now) (F.contents folder.old) (Ts.registry tasks.old) found.items) }
     ensures err { F.faithful folder.new
         → IfErr result (IsOfMachine (F.failures folder.old) (F.failures folder.new)) }
 {

@@ -1,5 +1,5 @@
 -- An answer as lines or as JSON.
-use Rattle.std.specs.Prelude.{ℕ, ◌≡◌, Bool, IsTrue, List}
+use Rattle.std.specs.Prelude.{ℕ, ◌≡◌, List}
 use Rattle.gb_folder.specs.Files.{Files}
 use Rattle.gb_plan.specs.Graph.{Registry}
 use Rattle.gb_plan.specs.Task.{Path}

@@ -1,5 +1,5 @@
 //! What each file of `.gb` is.
-ghost use Rattle.std.specs.Prelude.{◌≡◌, ◌++◌, List, Option, Some, IfErr, IfOk, IsTrue, OnOk, codes};
+ghost use Rattle.std.specs.Prelude.{◌≡◌, ◌++◌, List, Option, Some, IfErr, IfOk, OnOk, codes};
 ghost use Rattle.std.specs.Prelude.{if◌then◌else◌, is_some, not};
 ghost use Rattle.std.specs.List.{AllZip};
 ghost use Rattle.gb_folder.specs.Calls.{Requests, no_change};
@@ -154,7 +154,8 @@ fn is_left<F: Folder>(
     ensures requests { Requests F.failures F.may_leave F.allowed no_change folder.old folder.new }
     ensures back { F.faithful folder.new → F.faithful folder.old }
     ensures same { F.faithful folder.new → F.contents folder.new ≡ F.contents folder.old }
-    ensures left { F.faithful folder.new → IfOk result (λ is. (place : PlaceOf) → IsOwner place (Some path.now)
+    ensures left { F.faithful folder.new → IfOk result (λ is. (place : PlaceOf)
+        → IsOwner place (Some path.now)
         → IsLeftAt (F.contents folder.old).files registered.now place (row_if is path.now)) }
     ensures err { IfErr result (IsOfMachine (F.failures folder.old) (F.failures folder.new)) }
 {

@@ -16,14 +16,16 @@ loop-rooted-preserved g c =
     let outputs = c.args.outputs.now in
     let rooted = c.rooted-item.result in
     let before = c.loop-rooted.found.items in
+    let back = c.push_rooted.ensures.back in
     let of = bare_root sites (F.contents c.args.folder.now) outputs in
     record {
       requests = requests_then c.loop-rooted.invariant.requests c.push_rooted.ensures.requests;
-      same = λ faithful. c.push_rooted.ensures.same faithful ∙ c.loop-rooted.invariant.same faithful;
+      back = λ known. c.loop-rooted.invariant.back (back known);
+      same = λ faithful. c.push_rooted.ensures.same faithful ∙ c.loop-rooted.invariant.same (back faithful);
       found = λ faithful.
           c.in_ok-push_rooted.ensures.found faithful
-          ∙ ap (λ (contents : Contents). before ++ bare_root sites contents outputs rooted) (c.loop-rooted.invariant.same faithful)
-          ∙ ap (λ (found : List Finding). found ++ of rooted) (c.loop-rooted.invariant.found faithful)
+          ∙ ap (λ (contents : Contents). before ++ bare_root sites contents outputs rooted) (c.loop-rooted.invariant.same (back faithful))
+          ∙ ap (λ (found : List Finding). found ++ of rooted) (c.loop-rooted.invariant.found (back faithful))
           ∙ one_more of c.args.roots.now c.loop-rooted.rooted-index rooted c.loop-rooted-test.true c.rooted-item.is;
     }
 

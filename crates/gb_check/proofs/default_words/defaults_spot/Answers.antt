@@ -1,5 +1,5 @@
 use Rattle.std.proofs.Common.{◌≡◌, ◌⊎◌, ◌∙◌, List, Some, None, refl, ap, inl, inr, subst, sym}
-use Rattle.std.specs.Prelude.{IsTrue, MatchOption, Option, find, option_map}
+use Rattle.std.specs.Prelude.{MatchOption, Option, find, option_map}
 use Rattle.std.proofs.lemmas.Result.{IfErr-weaker, IfOk-weaker}
 use Rattle.gb_registry.specs.Projects.{Path}
 use Rattle.gb_registry.specs.SoFar.{scripts_in}
@@ -26,7 +26,7 @@ returns-in-Some-clause-spot g c =
     IfOk-weaker c.line_in.result _ _
     (λ spot is.
     subst (λ (script : Option (Path × List Statement)). MatchOption script (spot ≡ spots.Unknown) (λ one.
-    (lines : List Lines) × (IsTrue F.faithful → AreLinesAt files (script_of_project one.0) lines) × (spot ≡ spots.Line (script_of_project one.0) (defaults_line 1 one.1 lines)))) (sym here) is)
+    (lines : List Lines) × (F.faithful c.line_in.new.folder → AreLinesAt files (script_of_project one.0) lines) × (spot ≡ spots.Line (script_of_project one.0) (defaults_line 1 one.1 lines)))) (sym here) is)
     c.line_in.ensures.spot
 
 pub returns-in-None-clause-spot : goal.returns-in-None-clause-spot
@@ -36,7 +36,7 @@ returns-in-None-clause-spot g c =
     let spot : Spot = spots.Unknown in
     let none : find is_root (scripts_in c.args.scripts.now) ≡ None = found_of_each said is_root c.args.scripts.now ∙ ap (option_map said) (sym c.in-None.ensures) in
     subst (λ (script : Option (Path × List Statement)). MatchOption script (spot ≡ spots.Unknown) (λ one.
-    (lines : List Lines) × (IsTrue F.faithful → AreLinesAt files (script_of_project one.0) lines) × (spot ≡ spots.Line (script_of_project one.0) (defaults_line 1 one.1 lines)))) (sym none) refl
+    (lines : List Lines) × (F.faithful c.args.folder.now → AreLinesAt files (script_of_project one.0) lines) × (spot ≡ spots.Line (script_of_project one.0) (defaults_line 1 one.1 lines)))) (sym none) refl
 
 pub returns-in-Some-clause-err : goal.returns-in-Some-clause-err
 returns-in-Some-clause-err g c = λ faithful.

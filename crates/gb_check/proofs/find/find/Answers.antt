@@ -1,7 +1,8 @@
-use Rattle.std.proofs.Common.{◌⊎◌, ◌∙◌, List, ap, arith, inl, subst}
+use Rattle.std.proofs.Common.{◌⊎◌, ◌∙◌, List, ap, arith, inl, refl, subst}
 use Rattle.gb_folder.specs.Files.{Contents}
 use Rattle.gb_plan.specs.Graph.{Registry}
 use Rattle.gb_registry.specs.SoFar.{scripts_in}
+use Rattle.gb_registry.specs.Tables.{tables_of}
 use Rattle.gb_report.specs.declared.fault.Fault.{Fault}
 use Rattle.gb_store.proofs.Machine.{machine_before}
 use Rattle.gb_store.specs.Faults.{IsOfMachine}
@@ -11,7 +12,7 @@ use Rattle.gb_check.specs.Warnings.{AreWarnings}
 use Rattle.gb_check.specs.declared.clause_lines.ClauseMark.{ClauseMark}
 use Rattle.gb_check.specs.declared.sites.Site.{Site}
 use Rattle.gb_check.proofs.Refused.{handed}
-use Rattle.gb_check.proofs.Same.{faults_of_same, warnings_of_same}
+use Rattle.gb_check.proofs.Same.{faults_of_same, sites_of_same, warnings_of_same}
 use Rattle.gb_check.proofs.find.find.Goals as goal
 
 pub returns-in_err-warnings-clause-err : goal.returns-in_err-warnings-clause-err
@@ -37,14 +38,18 @@ returns-clause-findings g c =
     let late : Contents = F.contents c.find_faults.new.folder in
     let faults = c.in_ok-faults.faults.items in
     let warnings = c.in_ok-warnings.warnings.items in
+    let known = F.faithful c.find_faults.new.folder in
+    let later = F.faithful c.warn.new.folder in
+    let back : later → known = c.warn.ensures.back in
+    let read : later → F.faithful c.read_sites.new.folder = λ here. c.find_faults.ensures.back (back here) in
     record {
       sites = sites;
       marks = marks;
-      are_sites = c.in_ok-sites.ensures.sites;
-      faults = faults_of_same F.faithful old.files mid.files (λ known. ap (λ (contents : Contents). contents.files) (c.read_sites.ensures.same known)) sites marks registry scripts faults
-          (subst (λ (s : List Site). AreFaults F.faithful mid.files s marks registry scripts faults) c.as_slice.ensures.value
-          (subst (λ (m : List ClauseMark). AreFaults F.faithful mid.files c.as_slice.result.now m registry scripts faults) c.as_slice-2.ensures.value c.in_ok-faults.ensures.faults));
-      warnings = warnings_of_same F.faithful old late (λ known. c.find_faults.ensures.same known ∙ c.read_sites.ensures.same known) sites scripts registry warnings
-          (subst (λ (r : Registry). AreWarnings F.faithful sites scripts late r warnings) c.find_faults.ensures.kept
-          (subst (λ (s : List Site). AreWarnings F.faithful s scripts late (g.Ts.Tasks.registry c.find_faults.new.tasks) warnings) c.as_slice-3.ensures.value c.in_ok-warnings.ensures.warnings));
+      are_sites = sites_of_same (F.faithful c.read_sites.new.folder) later read old.files old.files (λ _. refl) (tables_of g.T.Transforms.meanings g.A.Actions.meanings c.args.tables.now) c.args.known.now scripts sites marks c.in_ok-sites.ensures.sites;
+      faults = faults_of_same known later back old.files mid.files (λ here. ap (λ (contents : Contents). contents.files) (c.read_sites.ensures.same (read here))) sites marks registry scripts faults
+          (subst (λ (s : List Site). AreFaults known mid.files s marks registry scripts faults) c.as_slice.ensures.value
+          (subst (λ (m : List ClauseMark). AreFaults known mid.files c.as_slice.result.now m registry scripts faults) c.as_slice-2.ensures.value c.in_ok-faults.ensures.faults));
+      warnings = warnings_of_same later later (λ here. here) old late (λ here. c.find_faults.ensures.same (back here) ∙ c.read_sites.ensures.same (read here)) sites scripts registry warnings
+          (subst (λ (r : Registry). AreWarnings later sites scripts late r warnings) c.find_faults.ensures.kept
+          (subst (λ (s : List Site). AreWarnings later s scripts late (g.Ts.Tasks.registry c.find_faults.new.tasks) warnings) c.as_slice-3.ensures.value c.in_ok-warnings.ensures.warnings));
     }

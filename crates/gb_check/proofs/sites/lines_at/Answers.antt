@@ -15,6 +15,7 @@ returns-in_default g c =
     let read = c.in-Err.ensures in
     record {
       requests = read.requests;
+      back = read.back;
       same = read.same;
       lines = λ faithful. tt;
       err = λ faithful.

@@ -32,18 +32,20 @@ loop-scripted-preserved g c =
     let more = sites_of scripted.project place scripted.script added.0 in
     let marks_before = c.loop-scripted.marks.items in
     let marked = marks_of tables (script_scope names scripted.project scripted.script) scripted.project scripted.script added.0 in
+    let back = c.push_script.ensures.back in
     record {
       requests = requests_then c.loop-scripted.invariant.requests c.push_script.ensures.requests;
-      same = λ faithful. c.push_script.ensures.same faithful ∙ c.loop-scripted.invariant.same faithful;
-      sites = λ others words rest.
-          subst (λ (sites : List Site). AreSites tables names F.faithful files (scripts_in scripts) sites (c.push_script.new.marks.items ++ words)) (sym (ap (λ (sites : List Site). sites ++ others) added.2 ∙ append_assoc before more others))
-          (subst (λ (marks : List ClauseMark). AreSites tables names F.faithful files (scripts_in scripts) (before ++ (more ++ others)) marks) (sym (ap (λ (marks : List ClauseMark). marks ++ words) added.3 ∙ append_assoc marks_before marked words))
-          (c.loop-scripted.invariant.sites (more ++ others) (marked ++ words)
-          (subst (λ (left : List Scripted). AreSites tables names F.faithful files (scripts_in left) (more ++ others) (marked ++ words)) (sym (rest_from scripts index scripted c.loop-scripted-test.true c.scripted-item.is)) (
+      back = λ known. c.loop-scripted.invariant.back (back known);
+      same = λ faithful. c.push_script.ensures.same faithful ∙ c.loop-scripted.invariant.same (back faithful);
+      sites = λ later leads others words rest.
+          subst (λ (sites : List Site). AreSites tables names (F.faithful later) files (scripts_in scripts) sites (c.push_script.new.marks.items ++ words)) (sym (ap (λ (sites : List Site). sites ++ others) added.2 ∙ append_assoc before more others))
+          (subst (λ (marks : List ClauseMark). AreSites tables names (F.faithful later) files (scripts_in scripts) (before ++ (more ++ others)) marks) (sym (ap (λ (marks : List ClauseMark). marks ++ words) added.3 ∙ append_assoc marks_before marked words))
+          (c.loop-scripted.invariant.sites later (λ known. back (leads known)) (more ++ others) (marked ++ words)
+          (subst (λ (left : List Scripted). AreSites tables names (F.faithful later) files (scripts_in left) (more ++ others) (marked ++ words)) (sym (rest_from scripts index scripted c.loop-scripted-test.true c.scripted-item.is)) (
             added.0,
             others,
             words,
-            λ faithful. subst (λ (contents : Contents). AreLinesAt contents.files place added.0) (c.loop-scripted.invariant.same faithful) (added.1 faithful),
+            λ known. subst (λ (contents : Contents). AreLinesAt contents.files place added.0) (c.loop-scripted.invariant.same (back (leads known))) (added.1 (leads known)),
             rest,
             refl,
             refl,
@@ -64,7 +66,7 @@ returns-in_err-push_script-clause-err g c = λ faithful.
     (contained (λ (s : Scripted). (s.project, s.script)) scripts c.loop-scripted.scripted-index scripted c.loop-scripted-test.true c.scripted-item.is)
     c.loop-scripted.invariant.requests.count c.push_script.ensures.requests.count
     (subst (λ (contents : Contents). IsOfMachine (F.failures c.loop-scripted.folder) (F.failures c.push_script.new.folder) fault ⊎ HasTextFault contents.files (script_of_project scripted.project) fault)
-    (c.loop-scripted.invariant.same faithful) (c.in_err-push_script.ensures.err faithful)))
+    (c.loop-scripted.invariant.same (c.push_script.ensures.back faithful)) (c.in_err-push_script.ensures.err faithful)))
 
 pub returns-clause-sites : goal.returns-clause-sites
 returns-clause-sites g c =
@@ -76,6 +78,6 @@ returns-clause-sites g c =
     let sites = c.loop-scripted.sites.items in
     let marks = c.loop-scripted.marks.items in
     let all = drop_all c.loop-scripted.scripted-index scripts (omega (arith, c.loop-scripted-test.false)) in
-    subst (λ (s : List Site). AreSites tables names F.faithful files (scripts_in scripts) s marks) (append-nil sites)
-    (subst (λ (m : List ClauseMark). AreSites tables names F.faithful files (scripts_in scripts) (sites ++ []) m) (append-nil marks)
-    (c.loop-scripted.invariant.sites [] [] (subst (λ (left : List Scripted). AreSites tables names F.faithful files (scripts_in left) [] []) (sym all) (refl, refl))))
+    subst (λ (s : List Site). AreSites tables names (F.faithful c.loop-scripted.folder) files (scripts_in scripts) s marks) (append-nil sites)
+    (subst (λ (m : List ClauseMark). AreSites tables names (F.faithful c.loop-scripted.folder) files (scripts_in scripts) (sites ++ []) m) (append-nil marks)
+    (c.loop-scripted.invariant.sites c.loop-scripted.folder (λ known. known) [] [] (subst (λ (left : List Scripted). AreSites tables names (F.faithful c.loop-scripted.folder) files (scripts_in left) [] []) (sym all) (refl, refl))))

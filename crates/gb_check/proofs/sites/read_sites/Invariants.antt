@@ -1,4 +1,4 @@
-use Rattle.std.proofs.Common.{◌≡◌, ◌++◌, IsTrue, List, drop}
+use Rattle.std.proofs.Common.{◌≡◌, ◌++◌, List, drop}
 use Rattle.gb_folder.specs.Calls.{Requests, no_change}
 use Rattle.gb_registry.specs.SoFar.{scripts_in}
 use Rattle.gb_registry.specs.Tables.{tables_of}
@@ -15,6 +15,9 @@ invariant-loop-scripted g l =
     let tables = tables_of g.T.Transforms.meanings g.A.Actions.meanings l.tables in
     record {
       requests : Requests g.F.Folder.failures g.F.Folder.may_leave g.F.Folder.allowed no_change l.fn.folder l.folder;
-      same : IsTrue faithful → contents l.folder ≡ contents l.fn.folder;
-      sites : (others : List Site) (words : List ClauseMark) → AreSites tables l.names faithful files (scripts_in (drop l.scripted-index l.scripts)) others words → AreSites tables l.names faithful files (scripts_in l.scripts) (l.sites.items ++ others) (l.marks.items ++ words);
+      back : faithful l.folder → faithful l.fn.folder;
+      same : faithful l.folder → contents l.folder ≡ contents l.fn.folder;
+      sites : (later : _) → (faithful later → faithful l.folder) → (others : List Site) (words : List ClauseMark)
+          → AreSites tables l.names (faithful later) files (scripts_in (drop l.scripted-index l.scripts)) others words
+          → AreSites tables l.names (faithful later) files (scripts_in l.scripts) (l.sites.items ++ others) (l.marks.items ++ words);
     }

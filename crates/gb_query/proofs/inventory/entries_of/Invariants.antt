@@ -1,5 +1,4 @@
 use Rattle.std.proofs.Common.{◌≡◌, take}
-use Rattle.std.specs.Prelude.{IsTrue}
 use Rattle.std.specs.List.{AllZip}
 use Rattle.gb_folder.specs.Calls.{Requests, no_change}
 use Rattle.gb_query.specs.Inventory.{IsEntryOf}
@@ -10,6 +9,7 @@ invariant-loop-place g l =
     let F = g.F.Folder in
     record {
       requests : Requests F.failures F.may_leave F.allowed no_change l.fn.folder l.folder;
-      same : IsTrue F.faithful → F.contents l.folder ≡ F.contents l.fn.folder;
-      entries : IsTrue F.faithful → AllZip (IsEntryOf (F.contents l.fn.folder).files l.registered) (take l.place-index l.places) l.entries.items;
+      back : F.faithful l.folder → F.faithful l.fn.folder;
+      same : F.faithful l.folder → F.contents l.folder ≡ F.contents l.fn.folder;
+      entries : F.faithful l.folder → AllZip (IsEntryOf (F.contents l.fn.folder).files l.registered) (take l.place-index l.places) l.entries.items;
     }

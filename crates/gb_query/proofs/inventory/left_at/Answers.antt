@@ -17,16 +17,18 @@ loop-place-preserved g c =
     let place = c.place-item.result in
     let index = c.loop-place.place-index in
     let before = c.loop-place.left.items in
+    let back = c.push_left.ensures.back in
     let files = (F.contents c.args.folder.now).files in
     record {
       requests = requests_then c.loop-place.invariant.requests c.push_left.ensures.requests;
-      same = λ faithful. c.push_left.ensures.same faithful ∙ c.loop-place.invariant.same faithful;
+      back = λ known. c.loop-place.invariant.back (back known);
+      same = λ faithful. c.push_left.ensures.same faithful ∙ c.loop-place.invariant.same (back faithful);
       left = λ faithful more rest.
           let added = c.in_ok-push_left.ensures.left faithful in
           let row = added.0 in
-          let here : IsLeftAt files registered place row = subst (λ (folder : Contents). IsLeftAt folder.files registered place row) (c.loop-place.invariant.same faithful) added.1 in
+          let here : IsLeftAt files registered place row = subst (λ (folder : Contents). IsLeftAt folder.files registered place row) (c.loop-place.invariant.same (back faithful)) added.1 in
           subst (λ (found : List Path). AreLeftAt files registered places found) (sym (ap (λ (found : List Path). found ++ more) added.2 ∙ append_assoc before row more))
-          (c.loop-place.invariant.left faithful (row ++ more)
+          (c.loop-place.invariant.left (back faithful) (row ++ more)
           (subst (λ (left : List Place). AreLeftAt files registered left (row ++ more)) (sym (rest_from places index place c.loop-place-test.true c.place-item.is))
           (row, more, here, rest, refl)));
     }

@@ -1,5 +1,4 @@
 use Rattle.std.proofs.Common.{◌≡◌, ◌++◌, List, drop}
-use Rattle.std.specs.Prelude.{IsTrue}
 use Rattle.gb_folder.specs.Calls.{Requests, no_change}
 use Rattle.gb_plan.specs.Task.{Path}
 use Rattle.gb_query.specs.Inventory.{AreLeftAt}
@@ -10,6 +9,7 @@ invariant-loop-place g l =
     let F = g.F.Folder in
     record {
       requests : Requests F.failures F.may_leave F.allowed no_change l.fn.folder l.folder;
-      same : IsTrue F.faithful → F.contents l.folder ≡ F.contents l.fn.folder;
-      left : IsTrue F.faithful → (more : List Path) → AreLeftAt (F.contents l.fn.folder).files l.registered (drop l.place-index l.places) more → AreLeftAt (F.contents l.fn.folder).files l.registered l.places (l.left.items ++ more);
+      back : F.faithful l.folder → F.faithful l.fn.folder;
+      same : F.faithful l.folder → F.contents l.folder ≡ F.contents l.fn.folder;
+      left : F.faithful l.folder → (more : List Path) → AreLeftAt (F.contents l.fn.folder).files l.registered (drop l.place-index l.places) more → AreLeftAt (F.contents l.fn.folder).files l.registered l.places (l.left.items ++ more);
     }
