@@ -22,7 +22,7 @@ use Rattle.gb_check.specs.declared.sites.Site.{Site}
 -- `earlier`: what is known of them follows from what is `known` of a later state.
 module _ (earlier known : Type 0) (back : known → earlier) (old new : Files) (same : known → new ≡ old) where
   lines_of_same : (script : Path) (lines : List Lines) → (earlier → AreLinesAt new (script_of_project script) lines) → known → AreLinesAt old (script_of_project script) lines
-  lines_of_same script lines at yes = subst (λ (files : Files). AreLinesAt files (script_of_project script) lines) (same yes) (at (back yes))
+  lines_of_same script lines at later = subst (λ (files : Files). AreLinesAt files (script_of_project script) lines) (same later) (at (back later))
 
   sites_of_same : {M F Z S A : Type 0} (tables : Tables M F Z S A) (names : Names) (scripts : List (Path × List Statement)) (sites : List Site) (marks : List ClauseMark)
       → AreSites tables names earlier new scripts sites marks → AreSites tables names known old scripts sites marks
@@ -54,13 +54,13 @@ module _ (earlier known : Type 0) (back : known → earlier) (old new : Files) (
 
 module _ (earlier known : Type 0) (back : known → earlier) (old new : Contents) (same : known → new ≡ old) where
   same_files : known → new.files ≡ old.files
-  same_files yes = ap (λ (contents : Contents). contents.files) (same yes)
+  same_files later = ap (λ (contents : Contents). contents.files) (same later)
 
   pub warnings_of_same : (sites : List Site) (scripts : List (Path × List Statement)) (registry : Registry) (found : List Finding)
       → AreWarnings earlier sites scripts new registry found → AreWarnings known sites scripts old registry found
   warnings_of_same sites scripts registry found are = record {
     bare = are.bare;
-    are_bare = λ yes. subst (λ (contents : Contents). are.bare ≡ bare_roots sites contents (declared_in registry)) (same yes) (are.are_bare (back yes));
+    are_bare = λ later. subst (λ (contents : Contents). are.bare ≡ bare_roots sites contents (declared_in registry)) (same later) (are.are_bare (back later));
     found_is = are.found_is;
   }
 
