@@ -1,5 +1,5 @@
 -- Scripts that could be read can be read once more.
-use Rattle.std.proofs.Common.{ℕ, ◌≡◌, ◌∙◌, ◌++◌, Bool, true, IsTrue, List, [], ◌∷◌, Option, Some, Result, Ok, Err, ap, inl, inr, subst, sym}
+use Rattle.std.proofs.Common.{ℕ, ◌≡◌, ◌∙◌, ◌++◌, true, List, [], ◌∷◌, Option, Some, Result, Ok, Err, ap, inl, inr, subst, sym}
 use Rattle.std.specs.List.{AllByRecursion, list_all}
 use Rattle.std.specs.Prelude.{Contains, IfErr, IfOk, MatchResult, zip}
 use Rattle.std.specs.Result.{IsErrAnd}
@@ -87,7 +87,7 @@ handed Good Bad (Ok x) fault is bad = absurd is
 handed Good Bad (Err reported) fault is bad = subst Bad (sym is) bad
 
 -- what holds of a result and what holds of an error, as one
-pub match_of : {T : Type 0} (result : Result T Fault) (Good Better : T → Type 0) (faithful : Bool) (Bad Worse : Fault → Type 0) → ((x : T) → Good x → Better x)
-    → ((fault : Fault) → IsTrue faithful → Bad fault → Worse fault) → IfOk result Good → (IsTrue faithful → IfErr result Bad) → MatchResult result Better (λ fault. IsTrue faithful → Worse fault)
-match_of (Ok x) Good Better faithful Bad Worse better worse good bad = better x good
-match_of (Err fault) Good Better faithful Bad Worse better worse good bad = λ reported. worse fault reported (bad reported)
+pub match_of : {T : Type 0} (result : Result T Fault) (Good Better : T → Type 0) (known : Type 0) (Bad Worse : Fault → Type 0) → ((x : T) → Good x → Better x)
+    → ((fault : Fault) → known → Bad fault → Worse fault) → IfOk result Good → (known → IfErr result Bad) → MatchResult result Better (λ fault. known → Worse fault)
+match_of (Ok x) Good Better known Bad Worse better worse good bad = better x good
+match_of (Err fault) Good Better known Bad Worse better worse good bad = λ reported. worse fault reported (bad reported)

@@ -1,6 +1,5 @@
 -- The findings for a folder; and if there is no fault, builds of it are refused for no task.
 use Rattle.std.proofs.Common.{◌≡◌, ◌⊎◌, List, Ok, Err, ap, subst, sym, ◌∙◌, inl, inr}
-use Rattle.std.specs.Prelude.{Bool, IsTrue}
 use Rattle.gb_build.proofs.OneLemmas.{folders_one}
 use Rattle.gb_build.proofs.Readings.{registered}
 use Rattle.gb_ask_command.specs.Faulty.{IsFaulty}
@@ -28,23 +27,23 @@ use Rattle.gb_ask_command.specs.Check.{AreFindingsOf, AreLeft, IsFoundAt, IsNotF
 
 -- ---- The same folder
 
-pub left_of_same : (faithful : Bool) (old new : Contents) → (IsTrue faithful → new ≡ old) → (registered : List Path) (found : List Finding) → AreLeft faithful new registered found → AreLeft faithful old registered found
-left_of_same faithful old new same registered found (left, are, is) = (
+pub left_of_same : (known : Type 0) (old new : Contents) → (known → new ≡ old) → (registered : List Path) (found : List Finding) → AreLeft known new registered found → AreLeft known old registered found
+left_of_same known old new same registered found (left, are, is) = (
   left,
   λ reported. subst (λ (contents : Contents). AreUnregistered contents registered left) (same reported) (are reported),
   is,
 )
 
 module _ {M F Z S A : Type 0} (tables : Tables M F Z S A) where
-  pub found_in_same : (faithful : Bool) (old new : Contents) → (IsTrue faithful → new ≡ old) → (source : Source) (findings : Findings)
-      → AreFindingsOf tables faithful source new findings → AreFindingsOf tables faithful source old findings
-  found_in_same faithful old new same source findings are = record {
+  pub found_in_same : (known : Type 0) (old new : Contents) → (known → new ≡ old) → (source : Source) (findings : Findings)
+      → AreFindingsOf tables known source new findings → AreFindingsOf tables known source old findings
+  found_in_same known old new same source findings are = record {
     scripts = are.scripts;
     are_scripts = are.are_scripts;
     in_tasks = are.in_tasks;
-    findings = found_of_same faithful old new same tables source.names (registry_said tables source) are.scripts are.in_tasks are.findings;
+    findings = found_of_same known known (λ yes. yes) old new same tables source.names (registry_said tables source) are.scripts are.in_tasks are.findings;
     left = are.left;
-    are_left = left_of_same faithful old new same (paths_of (registry_said tables source)) are.left are.are_left;
+    are_left = left_of_same known old new same (paths_of (registry_said tables source)) are.left are.are_left;
     faults = are.faults;
     warnings = are.warnings;
   }
@@ -80,9 +79,9 @@ module _ {M F Z S A : Type 0} (tables : Tables M F Z S A) where
     quiet invocation failures after fault same (inr (inr (inr (place, first, device)))) = inr (inl (place, device))
 
 -- the finding of a statement, too
-pub found_at_same : {M F Z S A : Type 0} (tables : Tables M F Z S A) (faithful : Bool) (old new : Files) → (IsTrue faithful → new ≡ old) → (findings : Findings)
-    → IsFoundAt tables faithful new findings → IsFoundAt tables faithful old findings
-found_at_same tables faithful old new same findings (at, faulty, (spot, (lines, are, is), alone, none)) = (
+pub found_at_same : {M F Z S A : Type 0} (tables : Tables M F Z S A) (known : Type 0) (old new : Files) → (known → new ≡ old) → (findings : Findings)
+    → IsFoundAt tables known new findings → IsFoundAt tables known old findings
+found_at_same tables known old new same findings (at, faulty, (spot, (lines, are, is), alone, none)) = (
   at,
   λ reported. subst (λ (files : Files). IsFaulty tables files at) (same reported) (faulty reported),
   (spot, (lines, λ reported. subst (λ (files : Files). AreLinesAt files (script_of_project at.project) lines) (same reported) (are reported), is), alone, none),

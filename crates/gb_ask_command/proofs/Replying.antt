@@ -1,5 +1,5 @@
 -- The reply about scripts that were read is the reply to the arguments.
-use Rattle.std.specs.Prelude.{ℕ, ◌≡◌, ◌≤◌, ◌⊎◌, Bool, IsTrue, List, Result, Ok, Err, IfErr, IfOk, MatchResult, codes, string_bytes}
+use Rattle.std.specs.Prelude.{ℕ, ◌≡◌, ◌≤◌, ◌⊎◌, IsTrue, List, Result, Ok, Err, IfErr, IfOk, MatchResult, codes, string_bytes}
 use Rattle.std.proofs.Common.{ap, inl, inr, subst}
 use Rattle.gb_declare.specs.Registered.{registry_said}
 use Rattle.gb_folder.specs.Files.{Contents, Place, is_special_under}
@@ -23,36 +23,36 @@ use Rattle.gb_ask_command.specs.Replies.{AreRead, IsGraphReply, IsReplyAbout, Is
 use Rattle.gb_ask_command.specs.Reply.{Reply}
 use Rattle.gb_ask_command.specs.declared.words.Style.{Style}
 
-module _ {M F Z S A : Type 0} (tables : Tables M F Z S A) (faithful : Bool) (old : Shown) (after : ℕ) (invocation : Invocation) where
+module _ {M F Z S A : Type 0} (tables : Tables M F Z S A) (known : Type 0) (old : Shown) (after : ℕ) (invocation : Invocation) where
   -- a text, or that memory ran out
-  pub of_text : (IsTextOf : Registry → List ℕ → Type 0) (source : Source) → AreRead tables faithful old after invocation (Ok source)
+  pub of_text : (IsTextOf : Registry → List ℕ → Type 0) (source : Source) → AreRead tables known old after invocation (Ok source)
       → (reply : Reply) → IfOk reply (λ text. IsTextOf (registry_said tables source) (string_bytes text)) → IfErr reply (λ fault. fault ≡ faults.OutOfMemory)
-      → IsReplyOf tables faithful old after IsTextOf invocation reply
+      → IsReplyOf tables known old after IsTextOf invocation reply
   of_text IsTextOf source read (Ok text) is out = (source, read, is)
   of_text IsTextOf source read (Err fault) is out = λ yes. inl (inl out)
 
   -- a graph, or why there is none
-  pub of_drawing : (style : Style) (predicted : List Prediction) (source : Source) → AreRead tables faithful old after invocation (Ok source)
+  pub of_drawing : (style : Style) (predicted : List Prediction) (source : Source) → AreRead tables known old after invocation (Ok source)
       → (reply : Reply) → IfOk reply (λ text. IsDrawing style predicted (registry_said tables source) invocation.requested invocation.excluded (string_bytes text))
       → IfErr reply (IsRefusalOf (registry_said tables source) invocation.requested invocation.excluded)
-      → IsGraphReply tables faithful old after style predicted invocation reply
+      → IsGraphReply tables known old after style predicted invocation reply
   of_drawing style predicted source read (Ok text) is refused = (source, read, is)
   of_drawing style predicted source read (Err fault) is refused = inr (source, read, refused)
 
   -- no place is requested
   pub of_no_place : (notation : Notation) (relation : Relation) (place found : Result Place Fault) (fault : Fault) → found ≡ Err fault
-      → (found ≡ place) ⊎ (found ≡ Err faults.OutOfMemory) → IsReplyAbout tables faithful old after notation relation place invocation (Err fault)
+      → (found ≡ place) ⊎ (found ≡ Err faults.OutOfMemory) → IsReplyAbout tables known old after notation relation place invocation (Err fault)
   of_no_place notation relation (Ok place) found fault err (inl is) = absurd (cc)
   of_no_place notation relation (Ok place) found fault err (inr is) = λ yes. inl (inl (cc))
   of_no_place notation relation (Err other) found fault err (inl is) = inl (cc)
   of_no_place notation relation (Err other) found fault err (inr is) = inr (cc)
 
   -- the entries of the folder, after the scripts are read
-  pub of_status : (notation : Notation) (activity : Activity) (source : Source) → AreRead tables faithful old after invocation (Ok source)
-      → (mid : Contents) (later : ℕ) → (IsTrue faithful → mid ≡ old.contents) → old.failures ≤ later → later ≤ after
-      → (reply : Reply) → IfOk reply (λ text. IsStatusOf faithful notation activity mid.files (paths_of (registry_said tables source)) (string_bytes text))
-      → (IsTrue faithful → IfErr reply (IsUnlisted mid later after))
-      → IsStatusReply tables faithful old after notation activity invocation reply
+  pub of_status : (notation : Notation) (activity : Activity) (source : Source) → AreRead tables known old after invocation (Ok source)
+      → (mid : Contents) (later : ℕ) → (known → mid ≡ old.contents) → old.failures ≤ later → later ≤ after
+      → (reply : Reply) → IfOk reply (λ text. IsStatusOf known notation activity mid.files (paths_of (registry_said tables source)) (string_bytes text))
+      → (known → IfErr reply (IsUnlisted mid later after))
+      → IsStatusReply tables known old after notation activity invocation reply
   of_status notation activity source read mid later same earlier count (Ok text) is unlisted = (
     source,
     read,

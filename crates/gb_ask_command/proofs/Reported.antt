@@ -1,5 +1,5 @@
 -- The report of a plan is the report of the request, and a later report is one of the earlier folder.
-use Rattle.std.specs.Prelude.{ℕ, ◌≡◌, ◌≤◌, Bool, IsTrue, List, [], Option, Result, Ok, Err, IfErr, IfOk}
+use Rattle.std.specs.Prelude.{ℕ, ◌≡◌, ◌≤◌, List, [], Option, Result, Ok, Err, IfErr, IfOk}
 use Rattle.std.specs.List.{AllZip, zip}
 use Rattle.std.proofs.Common.{subst, arith}
 use Rattle.gb_action.specs.Meanings.{Meanings}
@@ -21,7 +21,10 @@ use Rattle.gb_plan.specs.declared.plan.Planned.{Planned}
 use Rattle.gb_records.specs.Said.{IsReadAt}
 use Rattle.gb_registry.specs.Tables.{Tables}
 use Rattle.gb_report.specs.declared.report.Options.{Options}
-use Rattle.gb_ask_command.specs.Reported.{Answer, AreReported, AreReportedOf, AreReportedOn, IsAnswerTo, IsNotReported, in_earnest}
+use Rattle.gb_ask_command.specs.Coloured.{ArePredicted}
+use Rattle.gb_ask_command.specs.Reported.{Answer, AreReported, AreReportedOf, AreReportedOn, IsAnswerTo, IsNotReported, IsReported, in_earnest}
+use Rattle.gb_ask_command.specs.declared.words.Colouring.{Colouring}
+use Rattle.gb_ask_command.specs.declared.words.Colouring.TheVariants as colourings
 
 -- ---- Answers
 
@@ -58,9 +61,9 @@ module _ {S : Type 0} (meanings : Meanings S) (rows : Rows S) (options : Options
         (subst (λ (c : Contents). ArePredictedOf kinds options c later after plan on.records reported) same (on.prediction kinds agrees));
   }
 
-  pub reported_since : (faithful : Bool) → (IsTrue faithful → mid ≡ contents) → before ≤ later → later ≤ after → (plan : Plan) (reported : List Prediction)
-      → AreReported faithful meanings rows options (shows mid later) after plan reported → AreReported faithful meanings rows options (shows contents before) after plan reported
-  reported_since faithful same earlier count plan reported is = record {
+  pub reported_since : (known : Type 0) → (known → mid ≡ contents) → before ≤ later → later ≤ after → (plan : Plan) (reported : List Prediction)
+      → AreReported known meanings rows options (shows mid later) after plan reported → AreReported known meanings rows options (shows contents before) after plan reported
+  reported_since known same earlier count plan reported is = record {
     paths = is.paths;
     reasoned = is.reasoned;
     marked = is.marked;
@@ -69,14 +72,14 @@ module _ {S : Type 0} (meanings : Meanings S) (rows : Rows S) (options : Options
 
 -- ---- The request
 
-module _ {M F Z S A : Type 0} (tables : Tables M F Z S A) (faithful : Bool) (invocation : Invocation) (contents mid : Contents) (before later after : ℕ)
-    (same : IsTrue faithful → mid ≡ contents) (earlier : before ≤ later) (count : later ≤ after) (registry : Registry)
-    (scripts : IsTrue faithful → registers_in tables (outside contents).files invocation.properties (Ok registry)) where
+module _ {M F Z S A : Type 0} (tables : Tables M F Z S A) (known : Type 0) (invocation : Invocation) (contents mid : Contents) (before later after : ℕ)
+    (same : known → mid ≡ contents) (earlier : before ≤ later) (count : later ≤ after) (registry : Registry)
+    (scripts : known → registers_in tables (outside contents).files invocation.properties (Ok registry)) where
   -- an answer since the scripts were read is the answer to the request
   pub answers_it : (answer : Answer) → IfOk answer (λ reported. IsRegistry registry)
-      → IfOk answer (λ reported. AreReportedOf faithful tables.shapes tables.kinds registry invocation.requested invocation.excluded invocation.options (shows mid later) after reported.items)
+      → IfOk answer (λ reported. AreReportedOf known tables.shapes tables.kinds registry invocation.requested invocation.excluded invocation.options (shows mid later) after reported.items)
       → IfErr answer (IsNotReported registry invocation.requested invocation.excluded later after)
-      → IsAnswerTo tables faithful invocation (shows contents before) answer after
+      → IsAnswerTo tables known invocation (shows contents before) answer after
   answers_it (Ok reported) sound is none = record {
     registry = registry;
     is_registry = sound;
@@ -84,9 +87,37 @@ module _ {M F Z S A : Type 0} (tables : Tables M F Z S A) (faithful : Bool) (inv
     reported_of = (
       is.0,
       is.1,
-      reported_since tables.shapes tables.kinds invocation.options contents mid before later after faithful same earlier count is.0 reported.items is.2,
+      reported_since tables.shapes tables.kinds invocation.options contents mid before later after known same earlier count is.0 reported.items is.2,
     );
   }
   answers_it (Err fault) sound none why = λ yes.
       not_built (registers_in tables) registry (shows contents before) (in_earnest invocation) fault after (scripts yes)
       (begun_before registry (in_earnest invocation) before later after earlier count fault why)
+
+-- ---- What was known of an earlier state
+
+module _ {M F Z S A : Type 0} (tables : Tables M F Z S A) (earlier known : Type 0) (back : known → earlier) (old : Shown) (after : ℕ) (invocation : Invocation) where
+  reported_before : (reported : List Prediction) → IsReported tables earlier invocation old after reported → IsReported tables known invocation old after reported
+  reported_before reported is = record {
+    registry = is.registry;
+    is_registry = is.is_registry;
+    scripts = λ yes. is.scripts (back yes);
+    reported_of = (
+      is.reported_of.0,
+      is.reported_of.1,
+      record {
+        paths = is.reported_of.2.paths;
+        reasoned = is.reported_of.2.reasoned;
+        marked = is.reported_of.2.marked;
+        prediction = λ yes. is.reported_of.2.prediction (back yes);
+      },
+    );
+  }
+
+  answer_before : (answer : Answer) → IsAnswerTo tables earlier invocation old answer after → IsAnswerTo tables known invocation old answer after
+  answer_before (Ok reported) is = reported_before reported.items is
+  answer_before (Err fault) is = λ yes. is (back yes)
+
+  pub predicted_before : (colouring : Colouring) (predicted : List Prediction) → ArePredicted tables earlier old after colouring invocation predicted → ArePredicted tables known old after colouring invocation predicted
+  predicted_before colourings.Plain predicted is = is
+  predicted_before colourings.Outcomes predicted (answer, is, found) = (answer, answer_before answer is, found)

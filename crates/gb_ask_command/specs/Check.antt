@@ -1,5 +1,5 @@
 -- The reply to `check`.
-use Rattle.std.specs.Prelude.{ℕ, ◌≡◌, ◌⊎◌, ◌∷◌, ◌++◌, Bool, IsTrue, MatchResult, List, [], Result, Ok, Err}
+use Rattle.std.specs.Prelude.{ℕ, ◌≡◌, ◌⊎◌, ◌∷◌, ◌++◌, MatchResult, List, [], Result, Ok, Err}
 use Rattle.std.specs.Prelude.{if◌then◌else◌, map, nat_eq, string_bytes}
 use Rattle.gb_ask_command.specs.Faulty.{IsFaulty, IsTextFault}
 use Rattle.gb_build.specs.Registering.{registers_in}

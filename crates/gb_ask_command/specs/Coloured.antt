@@ -1,5 +1,5 @@
 -- Graphs with the colours of predictions.
-use Rattle.std.specs.Prelude.{ℕ, ◌≡◌, Bool, IsTrue, List, [], Ok, Err}
+use Rattle.std.specs.Prelude.{ℕ, ◌≡◌, List, [], Ok, Err}
 use Rattle.gb_meaning.specs.Edits.{Shown}
 use Rattle.gb_meaning.specs.declared.events.Invocation.{Invocation}
 use Rattle.gb_predict.specs.declared.predicted_outcome.Prediction.{Prediction}

@@ -1,5 +1,5 @@
 -- The replies to the arguments of a question.
-use Rattle.std.specs.Prelude.{ℕ, ◌≡◌, ◌⊎◌, Bool, IsTrue, List, Ok, Err, Result, string_bytes}
+use Rattle.std.specs.Prelude.{ℕ, ◌≡◌, ◌⊎◌, List, Ok, Err, Result, string_bytes}
 use Rattle.gb_build.specs.Scripts.{FolderSays}
 use Rattle.gb_command.specs.Answered.{AreRefused, AskFor, Given}
 use Rattle.gb_declare.specs.Registered.{registry_said}

@@ -1,5 +1,5 @@
 //! `check`: the faults and warnings of a folder's tasks.
-ghost use Rattle.std.specs.Prelude.{◌≡◌, ◌⊎◌, ◌∷◌, ◌++◌, [], IfErr, IfOk, IfSome, if◌then◌else◌, IsTrue};
+ghost use Rattle.std.specs.Prelude.{◌≡◌, ◌⊎◌, ◌∷◌, ◌++◌, [], IfErr, IfOk, IfSome, if◌then◌else◌};
 ghost use Rattle.std.specs.Prelude.{List, None, map, string_bytes};
 ghost use Rattle.std.specs.Io.KnownBytes.{Appends};
 ghost use Rattle.gb_command.specs.Answered.{given_of};
@@ -209,8 +209,8 @@ fn check_asked<A: Actions, T: Transforms, F: Folder>(
     ensures requests { Requests F.failures F.may_leave F.allowed no_change folder.old folder.new }
     ensures back { F.faithful folder.new → F.faithful folder.old }
     ensures same { F.faithful folder.new → F.contents folder.new ≡ F.contents folder.old }
-    ensures reply { IsCheckReply (tables_of T.meanings A.meanings tables.now) (F.faithful folder.new) invocation.now
-        (F.contents folder.old) (F.failures folder.old) (F.failures folder.new) result }
+    ensures reply { IsCheckReply (tables_of T.meanings A.meanings tables.now) (F.faithful folder.new)
+        invocation.now (F.contents folder.old) (F.failures folder.old) (F.failures folder.new) result }
 {
     let copied = invocation.properties.copy(alloc)?;
     let given = copied.into_vec();
@@ -236,8 +236,8 @@ fn check_statements<A: Actions, T: Transforms, F: Folder>(
     ensures requests { Requests F.failures F.may_leave F.allowed no_change folder.old folder.new }
     ensures back { F.faithful folder.new → F.faithful folder.old }
     ensures same { F.faithful folder.new → F.contents folder.new ≡ F.contents folder.old }
-    ensures found { IfOk result (IsFoundAt (tables_of T.meanings A.meanings tables.now) (F.faithful folder.new)
-        (F.contents folder.old).files) }
+    ensures found { IfOk result (IsFoundAt (tables_of T.meanings A.meanings tables.now)
+        (F.faithful folder.new) (F.contents folder.old).files) }
     ensures err { F.faithful folder.new → IfErr result (λ other.
         IsOfMachine (F.failures folder.old) (F.failures folder.new) other
         ⊎ (IsTextFault (F.contents folder.old).files other
@@ -407,8 +407,8 @@ fn check_tasks<A: Actions, T: Transforms, F: Folder>(
     ensures back { F.faithful folder.new → F.faithful folder.old }
     ensures same { F.faithful folder.new → F.contents folder.new ≡ F.contents folder.old }
     ensures found { let tables = tables_of T.meanings A.meanings configured.now.tables.now in
-        IfOk result (AreFindings tables configured.now.registry.names (F.faithful folder.new) (F.contents folder.old)
-        (registry_said tables configured.now.registry) (scripts_in scripts.now)) }
+        IfOk result (AreFindings tables configured.now.registry.names (F.faithful folder.new)
+        (F.contents folder.old) (registry_said tables configured.now.registry) (scripts_in scripts.now)) }
     ensures err { F.faithful folder.new → IfErr result (λ fault.
         IsOfMachine (F.failures folder.old) (F.failures folder.new) fault
         ⊎ IsUnread (F.contents folder.old).files (scripts_in scripts.now) fault) }

@@ -1,5 +1,5 @@
 //! `graph`: the plan of a request, as a graph.
-ghost use Rattle.std.specs.Prelude.{◌≡◌, IfErr, IfOk, IfSome, IsTrue, map, string_bytes};
+ghost use Rattle.std.specs.Prelude.{◌≡◌, IfErr, IfOk, IfSome, map, string_bytes};
 ghost use Rattle.std.specs.Io.KnownBytes.{Appends};
 ghost use Rattle.gb_command.specs.Answered.{given_of};
 ghost use Rattle.gb_declare.specs.Registered.{registry_said};
@@ -75,7 +75,8 @@ fn replied<A: Actions, T: Transforms, F: Folder>(
     ensures requests { Requests F.failures F.may_leave F.allowed no_change folder.old folder.new }
     ensures back { F.faithful folder.new → F.faithful folder.old }
     ensures same { F.faithful folder.new → F.contents folder.new ≡ F.contents folder.old }
-    ensures replies { Replies (IsGraphAnswer (tables_of T.meanings A.meanings tables.now) (F.faithful folder.new)
+    ensures replies { Replies (IsGraphAnswer (tables_of T.meanings A.meanings tables.now)
+        (F.faithful folder.new)
         (record { contents = F.contents folder.old; failures = F.failures folder.old })
         (F.failures folder.new) style colouring)
         (given_of (λ words. map string_bytes words.items) words) result }

@@ -1,5 +1,5 @@
 //! `reads` and `makes`: the tasks that read a place, or those that make it.
-ghost use Rattle.std.specs.Prelude.{◌≡◌, IfErr, IfOk, IfSome, IsTrue, Ok, map, string_bytes};
+ghost use Rattle.std.specs.Prelude.{◌≡◌, IfErr, IfOk, IfSome, Ok, map, string_bytes};
 ghost use Rattle.std.specs.Io.KnownBytes.{Appends};
 ghost use Rattle.gb_command.specs.Answered.{given_of};
 ghost use Rattle.gb_declare.specs.Registered.{registry_said};
@@ -75,7 +75,8 @@ fn replied<A: Actions, T: Transforms, F: Folder>(
     ensures requests { Requests F.failures F.may_leave F.allowed no_change folder.old folder.new }
     ensures back { F.faithful folder.new → F.faithful folder.old }
     ensures same { F.faithful folder.new → F.contents folder.new ≡ F.contents folder.old }
-    ensures replies { Replies (IsPlaceReply (tables_of T.meanings A.meanings tables.now) (F.faithful folder.new)
+    ensures replies { Replies (IsPlaceReply (tables_of T.meanings A.meanings tables.now)
+        (F.faithful folder.new)
         (record { contents = F.contents folder.old; failures = F.failures folder.old })
         (F.failures folder.new) notation relation)
         (given_of (λ words. map string_bytes words.items) words) result }

@@ -1,5 +1,5 @@
 //! The prediction of a request.
-ghost use Rattle.std.specs.Prelude.{◌≡◌, false, IfErr, IfOk, IsTrue};
+ghost use Rattle.std.specs.Prelude.{◌≡◌, false, IfErr, IfOk};
 ghost use Rattle.std.specs.List.{AllByRecursion};
 ghost use Rattle.gb_task.specs.Buildable.{IsBuildable};
 ghost use Rattle.gb_folder.specs.Calls.{Requests, no_change};
@@ -42,8 +42,8 @@ pub(crate) fn predict_build<A: Actions, T: Transforms, F: Folder>(
     ensures requests { Requests F.failures F.may_leave F.allowed no_change folder.old folder.new }
     ensures back { F.faithful folder.new → F.faithful folder.old }
     ensures same { F.faithful folder.new → F.contents folder.new ≡ F.contents folder.old }
-    ensures answer { IsAnswerTo (tables_of T.meanings A.meanings tables.now) (F.faithful folder.new) invocation.now
-        (record { contents = F.contents folder.old; failures = F.failures folder.old })
+    ensures answer { IsAnswerTo (tables_of T.meanings A.meanings tables.now) (F.faithful folder.new)
+        invocation.now (record { contents = F.contents folder.old; failures = F.failures folder.old })
         result (F.failures folder.new) }
 {
     let copied = invocation.properties.copy(alloc)?;
@@ -67,8 +67,8 @@ fn predict_registered<A: Actions, T: Transforms, F: Folder>(
     ensures sound { let tables = tables_of T.meanings A.meanings configured.now.tables.now in
         IfOk result (λ _. IsRegistry (registry_said tables configured.now.registry)) }
     ensures reported { let tables = tables_of T.meanings A.meanings configured.now.tables.now in
-        IfOk result (λ reported. AreReportedOf (F.faithful folder.new) A.meanings configured.now.tables.now.actions
-        (registry_said tables configured.now.registry)
+        IfOk result (λ reported. AreReportedOf (F.faithful folder.new) A.meanings
+        configured.now.tables.now.actions (registry_said tables configured.now.registry)
         invocation.now.requested invocation.now.excluded invocation.now.options
         (record { contents = F.contents folder.old; failures = F.failures folder.old })
         (F.failures folder.new) reported.items) }
@@ -129,8 +129,8 @@ fn predict_planned<A: Actions, F: Folder>(
     ensures requests { Requests F.failures F.may_leave F.allowed no_change folder.old folder.new }
     ensures back { F.faithful folder.new → F.faithful folder.old }
     ensures same { F.faithful folder.new → F.contents folder.new ≡ F.contents folder.old }
-    ensures reported { IfOk result (λ reported. AreReported (F.faithful folder.new) A.meanings table.now options
-        (record { contents = F.contents folder.old; failures = F.failures folder.old })
+    ensures reported { IfOk result (λ reported. AreReported (F.faithful folder.new) A.meanings table.now
+        options (record { contents = F.contents folder.old; failures = F.failures folder.old })
         (F.failures folder.new) plan.now reported.items) }
     ensures unread { IfErr result
         (IsUnread false (F.failures folder.old) (F.failures folder.new)) }

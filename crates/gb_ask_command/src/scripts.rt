@@ -1,5 +1,5 @@
 //! The scripts of a folder, read with the values that an invocation gives.
-ghost use Rattle.std.specs.Prelude.{◌≡◌, IfOk, IsTrue, Err, MatchResult, Ok};
+ghost use Rattle.std.specs.Prelude.{◌≡◌, IfOk, Err, MatchResult, Ok};
 ghost use Rattle.gb_folder.specs.Calls.{Requests, no_change};
 ghost use Rattle.gb_registry.specs.Tables.{tables_of};
 ghost use Rattle.gb_ask_command.specs.Replies.{AreRead};

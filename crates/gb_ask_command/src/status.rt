@@ -1,5 +1,5 @@
 //! `status`: whether a build runs, and what each file of `.gb` is.
-ghost use Rattle.std.specs.Prelude.{◌≡◌, IfErr, IfOk, IfSome, IsTrue, map, string_bytes};
+ghost use Rattle.std.specs.Prelude.{◌≡◌, IfErr, IfOk, IfSome, map, string_bytes};
 ghost use Rattle.std.specs.Io.KnownBytes.{Appends};
 ghost use Rattle.gb_command.specs.Answered.{given_of};
 ghost use Rattle.gb_declare.specs.Registered.{registry_said};
@@ -72,7 +72,8 @@ fn replied<A: Actions, T: Transforms, F: Folder>(
     ensures requests { Requests F.failures F.may_leave F.allowed no_change folder.old folder.new }
     ensures back { F.faithful folder.new → F.faithful folder.old }
     ensures same { F.faithful folder.new → F.contents folder.new ≡ F.contents folder.old }
-    ensures replies { Replies (IsStatusReply (tables_of T.meanings A.meanings tables.now) (F.faithful folder.new)
+    ensures replies { Replies (IsStatusReply (tables_of T.meanings A.meanings tables.now)
+        (F.faithful folder.new)
         (record { contents = F.contents folder.old; failures = F.failures folder.old })
         (F.failures folder.new) notation activity)
         (given_of (λ words. map string_bytes words.items) words) result }
@@ -118,8 +119,9 @@ fn look_beside<A: Actions, T: Transforms, F: Folder>(
     ensures back { F.faithful folder.new → F.faithful folder.old }
     ensures same { F.faithful folder.new → F.contents folder.new ≡ F.contents folder.old }
     ensures text { let tables = tables_of T.meanings A.meanings configured.now.tables.now in
-        IfOk result (λ text. IsStatusOf (F.faithful folder.new) notation activity (F.contents folder.old).files
-        (paths_of (registry_said tables configured.now.registry)) (string_bytes text)) }
+        IfOk result (λ text. IsStatusOf (F.faithful folder.new) notation activity
+        (F.contents folder.old).files (paths_of (registry_said tables configured.now.registry))
+        (string_bytes text)) }
     ensures refused { F.faithful folder.new → IfErr result
         (IsUnlisted (F.contents folder.old) (F.failures folder.old) (F.failures folder.new)) }
 {

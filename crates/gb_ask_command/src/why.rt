@@ -1,5 +1,5 @@
 //! `why`: the outcome of each task in a build, and why it would be executed.
-ghost use Rattle.std.specs.Prelude.{◌≡◌, IfSome, IsTrue, MatchResult, map, string_bytes};
+ghost use Rattle.std.specs.Prelude.{◌≡◌, IfSome, MatchResult, map, string_bytes};
 ghost use Rattle.std.specs.Io.KnownBytes.{Appends};
 ghost use Rattle.gb_command.specs.Answered.{AreRefused, AskFor, given_of};
 ghost use Rattle.gb_folder.specs.Calls.{Requests, no_change};

@@ -1,4 +1,4 @@
--- Findings for a folder are findings for one with the same contents, and for a later state.
+-- Findings for a folder are findings for one with the same contents.
 use Rattle.std.proofs.Common.{◌≡◌, List, [], ◌∷◌, ap, subst}
 use Rattle.std.specs.Prelude.{MatchOption, Option, None, Some, find}
 use Rattle.gb_folder.specs.Files.{Contents, Files}
@@ -19,29 +19,30 @@ use Rattle.gb_check.specs.declared.findings.Spot.{Spot}
 use Rattle.gb_check.specs.declared.findings.Spot.TheVariants as spots
 use Rattle.gb_check.specs.declared.sites.Site.{Site}
 
-module _ (known later : Type 0) (back : later → known) (old new : Files) (same : later → new ≡ old) where
-  lines_of_same : (script : Path) (lines : List Lines) → (known → AreLinesAt new (script_of_project script) lines) → later → AreLinesAt old (script_of_project script) lines
-  lines_of_same script lines at here = subst (λ (files : Files). AreLinesAt files (script_of_project script) lines) (same here) (at (back here))
+-- `earlier`: what is known of them follows from what is `known` of a later state.
+module _ (earlier known : Type 0) (back : known → earlier) (old new : Files) (same : known → new ≡ old) where
+  lines_of_same : (script : Path) (lines : List Lines) → (earlier → AreLinesAt new (script_of_project script) lines) → known → AreLinesAt old (script_of_project script) lines
+  lines_of_same script lines at later = subst (λ (files : Files). AreLinesAt files (script_of_project script) lines) (same later) (at (back later))
 
   pub sites_of_same : {M F Z S A : Type 0} (tables : Tables M F Z S A) (names : Names) (scripts : List (Path × List Statement)) (sites : List Site) (marks : List ClauseMark)
-      → AreSites tables names known new scripts sites marks → AreSites tables names later old scripts sites marks
+      → AreSites tables names earlier new scripts sites marks → AreSites tables names known old scripts sites marks
   sites_of_same tables names [] sites marks are = are
   sites_of_same tables names (script ∷ scripts) sites marks (lines, others, words, at, rest, is, of) =
       (lines, others, words, lines_of_same script.0 lines at, sites_of_same tables names scripts others words rest, is, of)
 
   abbrev IsIn : Type 0 → Files → Spot → Option (Path × List Statement) → Type 0
-  IsIn now files spot root = MatchOption root (spot ≡ spots.Unknown) (λ script.
-      (lines : List Lines) × (now → AreLinesAt files (script_of_project script.0) lines) × (spot ≡ spots.Line (script_of_project script.0) (defaults_line 1 script.1 lines)))
+  IsIn sure files spot root = MatchOption root (spot ≡ spots.Unknown) (λ script.
+      (lines : List Lines) × (sure → AreLinesAt files (script_of_project script.0) lines) × (spot ≡ spots.Line (script_of_project script.0) (defaults_line 1 script.1 lines)))
 
-  spot_of_same : (spot : Spot) (root : Option (Path × List Statement)) → IsIn known new spot root → IsIn later old spot root
+  spot_of_same : (spot : Spot) (root : Option (Path × List Statement)) → IsIn earlier new spot root → IsIn known old spot root
   spot_of_same spot None is = is
   spot_of_same spot (Some script) (lines, at, is) = (lines, lines_of_same script.0 lines at, is)
 
-  words_of_same : (scripts : List (Path × List Statement)) (registry : Registry) (found : List Finding) → AreDefaultsFound known new scripts registry found → AreDefaultsFound later old scripts registry found
+  words_of_same : (scripts : List (Path × List Statement)) (registry : Registry) (found : List Finding) → AreDefaultsFound earlier new scripts registry found → AreDefaultsFound known old scripts registry found
   words_of_same scripts registry found (spot, at, is) = (spot, λ some. spot_of_same spot (find is_root scripts) (at some), is)
 
   pub faults_of_same : (sites : List Site) (marks : List ClauseMark) (registry : Registry) (scripts : List (Path × List Statement)) (found : List Finding)
-      → AreFaults known new sites marks registry scripts found → AreFaults later old sites marks registry scripts found
+      → AreFaults earlier new sites marks registry scripts found → AreFaults known old sites marks registry scripts found
   faults_of_same sites marks registry scripts found are = record {
     in_words = are.in_words;
     of_words = words_of_same scripts registry are.in_words are.of_words;
@@ -51,24 +52,24 @@ module _ (known later : Type 0) (back : later → known) (old new : Files) (same
     silent = are.silent;
   }
 
-module _ (known later : Type 0) (back : later → known) (old new : Contents) (same : later → new ≡ old) where
-  same_files : later → new.files ≡ old.files
-  same_files here = ap (λ (contents : Contents). contents.files) (same here)
+module _ (earlier known : Type 0) (back : known → earlier) (old new : Contents) (same : known → new ≡ old) where
+  same_files : known → new.files ≡ old.files
+  same_files later = ap (λ (contents : Contents). contents.files) (same later)
 
   pub warnings_of_same : (sites : List Site) (scripts : List (Path × List Statement)) (registry : Registry) (found : List Finding)
-      → AreWarnings known sites scripts new registry found → AreWarnings later sites scripts old registry found
+      → AreWarnings earlier sites scripts new registry found → AreWarnings known sites scripts old registry found
   warnings_of_same sites scripts registry found are = record {
     bare = are.bare;
-    are_bare = λ here. subst (λ (contents : Contents). are.bare ≡ bare_roots sites contents (declared_in registry)) (same here) (are.are_bare (back here));
+    are_bare = λ later. subst (λ (contents : Contents). are.bare ≡ bare_roots sites contents (declared_in registry)) (same later) (are.are_bare (back later));
     found_is = are.found_is;
   }
 
   pub found_of_same : {M F Z S A : Type 0} (tables : Tables M F Z S A) (names : Names) (registry : Registry) (scripts : List (Path × List Statement)) (findings : Findings)
-      → AreFindings tables names known new registry scripts findings → AreFindings tables names later old registry scripts findings
+      → AreFindings tables names earlier new registry scripts findings → AreFindings tables names known old registry scripts findings
   found_of_same tables names registry scripts findings are = record {
     sites = are.sites;
     marks = are.marks;
-    are_sites = sites_of_same known later back old.files new.files same_files tables names scripts are.sites are.marks are.are_sites;
-    faults = faults_of_same known later back old.files new.files same_files are.sites are.marks registry scripts findings.faults.items are.faults;
+    are_sites = sites_of_same earlier known back old.files new.files same_files tables names scripts are.sites are.marks are.are_sites;
+    faults = faults_of_same earlier known back old.files new.files same_files are.sites are.marks registry scripts findings.faults.items are.faults;
     warnings = warnings_of_same are.sites scripts registry findings.warnings.items are.warnings;
   }

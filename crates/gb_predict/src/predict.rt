@@ -1,5 +1,5 @@
 //! The prediction for the tasks of a plan.
-ghost use Rattle.std.specs.Prelude.{◌≡◌, ◌≤◌, ◌++◌, ◌∷◌, ◌&&◌, [], ℕ, List, Some, false, IfOk, IsTrue};
+ghost use Rattle.std.specs.Prelude.{◌≡◌, ◌≤◌, ◌++◌, ◌∷◌, ◌&&◌, [], ℕ, List, Some, false, IfOk};
 ghost use Rattle.std.specs.Prelude.{OnOk, bytes_eq, if◌then◌else◌, is_some, length, map, option_copied};
 ghost use Rattle.std.specs.List.{AllByRecursion, list_any, zip};
 ghost use Rattle.gb_folder.specs.Calls.{Requests, no_change};

@@ -1,5 +1,5 @@
 //! The outcome of one task, if it were executed now: what an execution decides, without doing it.
-ghost use Rattle.std.specs.Prelude.{◌≡◌, Bool, IfErr, IfOk, IsTrue, not, option_copied};
+ghost use Rattle.std.specs.Prelude.{◌≡◌, Bool, IfErr, IfOk, not, option_copied};
 ghost use Rattle.gb_folder.specs.Calls.{Requests, no_change};
 ghost use Rattle.gb_folder.specs.Files.{is_empty};
 ghost use Rattle.gb_predict.specs.Prediction.{IsPredictedOf, IsReasoned, reported_of};
@@ -71,7 +71,8 @@ fn sourceless<F: Folder>(
     ensures removes { F.faithful folder.new → IfOk result (λ coming. (removes : Bool)
         × (coming ≡ PredictedOutcome.HasNoSource removes)
         × (removes ≡ not (is_empty (output_files task.now (F.contents folder.old).files)))) }
-    ensures err { F.faithful folder.new → IfErr result (CannotRead (F.failures folder.old) (F.failures folder.new)
+    ensures err { F.faithful folder.new
+        → IfErr result (CannotRead (F.failures folder.old) (F.failures folder.new)
         (listing_faults task.now (F.contents folder.old))) }
 {
     let places = listed_outputs(alloc, folder, task.outputs.as_slice())?;

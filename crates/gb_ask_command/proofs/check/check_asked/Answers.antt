@@ -1,5 +1,5 @@
 use Rattle.std.proofs.Common.{◌≡◌, ◌⊎◌, Ok, Err, List, ap, inl, inr, subst, sym, ◌∙◌}
-use Rattle.std.specs.Prelude.{IfOk, IsTrue}
+use Rattle.std.specs.Prelude.{IfOk}
 use Rattle.gb_build.specs.Scripts.{FolderSays}
 use Rattle.gb_check.specs.Sites.{IsUnread}
 use Rattle.gb_check.specs.declared.findings.Findings.{Findings}
@@ -29,19 +29,21 @@ returns-in-Ok-clause-reply g c =
     let before = F.failures c.args.folder.now in
     let between = F.failures c.read_registry.new.folder in
     let after = F.failures c.check_configured-found.new.folder in
+    let known = F.faithful c.check_configured-found.new.folder in
+    let back = c.check_configured-found.ensures.back in
     let tables = tables_of g.T.Transforms.meanings M c.args.tables.now in
     let given = c.args.invocation.now.properties in
-    let said : IsTrue F.faithful → FolderSays tables old.files given (Ok source) =
-    λ faithful. subst (λ values. FolderSays tables old.files values (Ok source)) (c.into_vec-given.ensures ∙ c.in_ok-copied.ensures) (c.in-Ok.ensures.said faithful) in
-    let found : IfOk c.check_configured-found.result (AreFindingsOf tables F.faithful source mid) =
-    subst (λ (handed_in : tables_of_code.Tables _ _ _ _ _ _ _). IfOk c.check_configured-found.result (AreFindingsOf (tables_of g.T.Transforms.meanings M handed_in) F.faithful source mid)) c.in-Ok.ensures.tables c.check_configured-found.ensures.found in
+    let said : known → FolderSays tables old.files given (Ok source) =
+    λ faithful. subst (λ values. FolderSays tables old.files values (Ok source)) (c.into_vec-given.ensures ∙ c.in_ok-copied.ensures) (c.in-Ok.ensures.said (back faithful)) in
+    let found : IfOk c.check_configured-found.result (AreFindingsOf tables known source mid) =
+    subst (λ (handed_in : tables_of_code.Tables _ _ _ _ _ _ _). IfOk c.check_configured-found.result (AreFindingsOf (tables_of g.T.Transforms.meanings M handed_in) known source mid)) c.in-Ok.ensures.tables c.check_configured-found.ensures.found in
     let Unread : Contents → Fault → Type 0 = λ contents fault. (scripts : List (Path × List Statement)) × IsRead source scripts × IsUnread contents.files scripts fault in
     let Bad : Fault → Type 0 = λ fault. IsOfMachine between after fault ⊎ Unread mid fault in
     let Worse : Fault → Type 0 = λ fault. IsOfMachine before after fault ⊎ IsTextFault old.files fault in
-    let Replied : Findings → Type 0 = λ found. IsChecked tables F.faithful c.args.invocation.now old found ⊎ IsFoundAt tables F.faithful old.files found in
-    match_of c.check_configured-found.result (AreFindingsOf tables F.faithful source mid) Replied F.faithful Bad Worse
+    let Replied : Findings → Type 0 = λ found. IsChecked tables known c.args.invocation.now old found ⊎ IsFoundAt tables known old.files found in
+    match_of c.check_configured-found.result (AreFindingsOf tables known source mid) Replied known Bad Worse
     (λ findings are.
-    let here : AreFindingsOf tables F.faithful source old findings = found_in_same tables F.faithful old mid c.read_registry.ensures.same source findings are in
+    let here : AreFindingsOf tables known source old findings = found_in_same tables known old mid (λ faithful. c.read_registry.ensures.same (back faithful)) source findings are in
     inl (record {
       source = source;
       said = said;
@@ -51,7 +53,7 @@ returns-in-Ok-clause-reply g c =
     (λ fault faithful bad.
     elim bad as (λ _. Worse fault) [
       | inl machine ↦ inl (machine_before before between after fault c.read_registry.ensures.requests.count c.check_configured-found.ensures.requests.count machine)
-      | inr unread ↦ absurd (none_again tables old.files given source unread.0 fault (said faithful) unread.1 (subst (λ (contents : Contents). IsUnread contents.files unread.0 fault) (c.read_registry.ensures.same faithful) unread.2))
+      | inr unread ↦ absurd (none_again tables old.files given source unread.0 fault (said faithful) unread.1 (subst (λ (contents : Contents). IsUnread contents.files unread.0 fault) (c.read_registry.ensures.same (back faithful)) unread.2))
     ])
     found
     c.check_configured-found.ensures.err
@@ -64,23 +66,25 @@ returns-in-Err-clause-reply g c =
     let before = F.failures c.args.folder.now in
     let between = F.failures c.read_registry.new.folder in
     let after = F.failures c.check_statements.new.folder in
+    let known = F.faithful c.check_statements.new.folder in
+    let back = c.check_statements.ensures.back in
     let tables = tables_of g.T.Transforms.meanings g.A.Actions.meanings c.args.tables.now in
     let given = c.args.invocation.now.properties in
     let refused = c.in-Err.fault in
-    let Replied : Findings → Type 0 = λ found. IsChecked tables F.faithful c.args.invocation.now old found ⊎ IsFoundAt tables F.faithful old.files found in
+    let Replied : Findings → Type 0 = λ found. IsChecked tables known c.args.invocation.now old found ⊎ IsFoundAt tables known old.files found in
     let Refused : List (List _ × List _) → Fault → Type 0 = λ values fault. IsOfMachine before between fault ⊎ FolderSays tables old.files values (Err fault) in
     let Faultless : Fault → Type 0 = λ fault. (fault ≡ refused) × IsFaultless tables mid.files in
     let Told : Fault → Type 0 = λ fault. IsOfMachine between after fault ⊎ (IsTextFault mid.files fault ⊎ Faultless fault) in
     let Worse : Fault → Type 0 = λ fault. IsOfMachine before after fault ⊎ IsTextFault old.files fault in
-    match_of c.check_statements.result (IsFoundAt tables F.faithful mid.files) Replied F.faithful Told Worse
-    (λ found is. inr (found_at_same tables F.faithful old.files mid.files (λ faithful. ap (λ (contents : Contents). contents.files) (c.read_registry.ensures.same faithful)) found is))
+    match_of c.check_statements.result (IsFoundAt tables known mid.files) Replied known Told Worse
+    (λ found is. inr (found_at_same tables known old.files mid.files (λ faithful. ap (λ (contents : Contents). contents.files) (c.read_registry.ensures.same (back faithful))) found is))
     (λ fault faithful told.
-    let same_files : mid.files ≡ old.files = ap (λ (contents : Contents). contents.files) (c.read_registry.ensures.same faithful) in
+    let same_files : mid.files ≡ old.files = ap (λ (contents : Contents). contents.files) (c.read_registry.ensures.same (back faithful)) in
     elim told as (λ _. Worse fault) [
       | inl machine ↦ inl (machine_before before between after fault c.read_registry.ensures.requests.count c.check_statements.ensures.requests.count machine)
       | inr (inl text) ↦ inr (subst (λ (files : Files). IsTextFault files fault) same_files text)
       | inr (inr (is, faultless)) ↦ subst Worse (sym is)
-          (elim (subst (λ values. Refused values refused) (c.into_vec-given.ensures ∙ c.in_ok-copied.ensures) (c.in-Err.ensures.said faithful)) as (λ _. Worse refused) [
+          (elim (subst (λ values. Refused values refused) (c.into_vec-given.ensures ∙ c.in_ok-copied.ensures) (c.in-Err.ensures.said (back faithful))) as (λ _. Worse refused) [
             | inl machine ↦ inl (machine_after before between after refused c.check_statements.ensures.requests.count machine)
             | inr says ↦ inr (of_texts tables old.files given refused (subst (λ (files : Files). IsFaultless tables files) same_files faultless) says)
           ])

@@ -1,4 +1,4 @@
-use Rattle.std.proofs.Common.{◌⊎◌, ◌++◌, List, ap, inl, ◌∙◌}
+use Rattle.std.proofs.Common.{◌⊎◌, ◌++◌, List, ap, inl, refl, ◌∙◌}
 use Rattle.gb_check.specs.declared.findings.Finding.{Finding}
 use Rattle.gb_check.specs.Sites.{IsUnread}
 use Rattle.gb_declare.specs.Registered.{registry_said}
@@ -13,12 +13,16 @@ use Rattle.gb_store.proofs.Machine.{machine_before}
 use Rattle.gb_store.specs.Faults.{IsOfMachine}
 use Rattle.gb_ask_command.specs.Unread.{unread_values}
 use Rattle.gb_check.proofs.Refused.{handed}
+use Rattle.gb_check.proofs.Same.{found_of_same}
 use Rattle.gb_ask_command.proofs.Quiet.{left_of_same}
 use Rattle.gb_ask_command.proofs.check.check_configured.Goals as goal
 
 pub returns-clause-found : goal.returns-clause-found
 returns-clause-found g c =
     let F = g.F.Folder in
+    let known = F.faithful c.warn_unregistered.new.folder in
+    let back = c.warn_unregistered.ensures.back in
+    let old = F.contents c.args.folder.now in
     let scripts = scripts_in c.scripts-scripts.result.now in
     let source = c.args.configured.now.registry in
     let tables = tables_of g.T.Transforms.meanings g.A.Actions.meanings c.args.configured.now.tables.now in
@@ -29,9 +33,9 @@ returns-clause-found g c =
       scripts = scripts;
       are_scripts = c.scripts-scripts.ensures.read;
       in_tasks = found;
-      findings = c.in_ok-found.ensures.found;
+      findings = found_of_same (F.faithful c.check_tasks.new.folder) known back old old (λ faithful. refl) tables source.names (registry_said tables source) scripts found c.in_ok-found.ensures.found;
       left = left;
-      are_left = left_of_same F.faithful (F.contents c.args.folder.now) (F.contents c.check_tasks.new.folder) c.check_tasks.ensures.same
+      are_left = left_of_same known old (F.contents c.check_tasks.new.folder) (λ faithful. c.check_tasks.ensures.same (back faithful))
           (paths_of (registry_said tables source)) left c.in_ok-left.ensures.found;
       faults = reported.0;
       warnings =

@@ -49,6 +49,7 @@ returns-in_err-scripts-clause-err g c = λ faithful.
     let files = (F.contents c.args.folder.now).files in
     let tables = tables_of g.T.Transforms.meanings g.A.Actions.meanings c.args.tables.now in
     let settings = c.in_ok-settings.settings in
+    let before = c.read_scripts.ensures.back faithful in
     let Bad = Refused tables files (F.failures c.args.folder.now) (F.failures c.read_scripts.new.folder) in
     let fault = c.in_err-scripts.field-0.0 in
     handed _ Bad c.from_residual-in_err-scripts.result fault c.from_residual-in_err-scripts.ensures.1
@@ -56,9 +57,9 @@ returns-in_err-scripts-clause-err g c = λ faithful.
       | inl machine ↦ inl (machine_before _ _ _ fault c.read_settings_of.ensures.requests.count c.read_scripts.ensures.requests.count machine)
       | inr bad ↦ inr (inr (
         settings,
-        (settings, c.in_ok-settings.ensures.said faithful, (c.in_ok-projects.ensures.faults, refl)),
+        (settings, c.in_ok-settings.ensures.said before, (c.in_ok-projects.ensures.faults, refl)),
         scripts_here (F.contents c.read_settings_of.new.folder) (F.contents c.args.folder.now) c.as_slice.result.now (projects_of settings) (Err fault)
-            (c.read_settings_of.ensures.same faithful) (c.as_slice.ensures.value ∙ c.in_ok-projects.ensures.projects) bad,
+            (c.read_settings_of.ensures.same before) (c.as_slice.ensures.value ∙ c.in_ok-projects.ensures.projects) bad,
       ))
     ])
 
@@ -67,11 +68,12 @@ returns-clause-found g c = λ faithful.
     let F = g.F.Folder in
     let files = (F.contents c.args.folder.now).files in
     let settings = c.in_ok-settings.settings in
+    let before = c.read_scripts.ensures.back faithful in
     let tables = tables_of g.T.Transforms.meanings g.A.Actions.meanings c.args.tables.now in
     faulty tables files settings c.in_ok-scripts.scripts.items
-    (settings, c.in_ok-settings.ensures.said faithful, (c.in_ok-projects.ensures.faults, refl))
+    (settings, c.in_ok-settings.ensures.said before, (c.in_ok-projects.ensures.faults, refl))
     (scripts_here (F.contents c.read_settings_of.new.folder) (F.contents c.args.folder.now) c.as_slice.result.now (projects_of settings) (Ok c.in_ok-scripts.scripts.items)
-    (c.read_settings_of.ensures.same faithful) (c.as_slice.ensures.value ∙ c.in_ok-projects.ensures.projects) (c.in_ok-scripts.ensures.said faithful))
+    (c.read_settings_of.ensures.same before) (c.as_slice.ensures.value ∙ c.in_ok-projects.ensures.projects) (c.in_ok-scripts.ensures.said faithful))
     c.first_fault.result c.first_fault.ensures.first c.first_fault.ensures.at
 
 pub returns-clause-err : goal.returns-clause-err

@@ -51,6 +51,7 @@ returns-clause-reported g c =
     let before = F.failures c.args.folder.now in
     let later = F.failures c.read_records.new.folder in
     let after = F.failures c.predict.new.folder in
+    let back = c.predict.ensures.back in
     record {
       paths = c.in_ok-reported.ensures.paths;
       reasoned = c.in_ok-reported.ensures.reasoned;
@@ -59,9 +60,9 @@ returns-clause-reported g c =
         records = records;
         read =
             subst (λ (read : List (Option Record)). AllZip (IsReadAt old.files) (order plan) read) (sym c.as_slice-2.ensures.value)
-            (subst (λ (paths : List Path). AllZip (IsReadAt old.files) paths c.in_ok-records.records.items) (c.as_slice.ensures.value ∙ c.in_ok-paths.ensures) (c.in_ok-records.ensures.read faithful));
+            (subst (λ (paths : List Path). AllZip (IsReadAt old.files) paths c.in_ok-records.records.items) (c.as_slice.ensures.value ∙ c.in_ok-paths.ensures) (c.in_ok-records.ensures.read (back faithful)));
         prediction = λ kinds agrees.
             prediction_since kinds c.args.options old before later after c.read_records.ensures.requests.count c.predict.ensures.requests.count plan records reported
-            (subst (λ (folder : Contents). ArePredictedOf kinds c.args.options folder later after plan records reported) (c.read_records.ensures.same faithful) (c.in_ok-reported.ensures.prediction faithful kinds agrees));
+            (subst (λ (folder : Contents). ArePredictedOf kinds c.args.options folder later after plan records reported) (c.read_records.ensures.same (back faithful)) (c.in_ok-reported.ensures.prediction faithful kinds agrees));
       };
     }

@@ -37,6 +37,7 @@ returns-clause-sound g c =
 pub returns-clause-reported : goal.returns-clause-reported
 returns-clause-reported g c =
     let F = g.F.Folder in
+    let known = F.faithful c.predict_requested.new.folder in
     let meanings = g.A.Actions.meanings in
     let rows = c.args.configured.now.tables.now.actions in
     let invocation = c.args.invocation.now in
@@ -46,9 +47,9 @@ returns-clause-reported g c =
     let old : Shown = shows (F.contents c.args.folder.now) (F.failures c.args.folder.now) in
     let after = F.failures c.predict_requested.new.folder in
     let result : Answer = c.predict_requested.result in
-    subst (λ (registry : Registry). IfOk result (λ reported. AreReportedOf F.faithful meanings rows registry invocation.requested invocation.excluded invocation.options old after reported.items)) same
-    (subst (λ (words : List Text). IfOk result (λ reported. AreReportedOf F.faithful meanings rows declared invocation.requested words invocation.options old after reported.items)) c.as_slice-excluded.ensures
-    (subst (λ (words : List Text). IfOk result (λ reported. AreReportedOf F.faithful meanings rows declared words c.as_slice-excluded.result.now invocation.options old after reported.items)) c.as_slice-requested.ensures
+    subst (λ (registry : Registry). IfOk result (λ reported. AreReportedOf known meanings rows registry invocation.requested invocation.excluded invocation.options old after reported.items)) same
+    (subst (λ (words : List Text). IfOk result (λ reported. AreReportedOf known meanings rows declared invocation.requested words invocation.options old after reported.items)) c.as_slice-excluded.ensures
+    (subst (λ (words : List Text). IfOk result (λ reported. AreReportedOf known meanings rows declared words c.as_slice-excluded.result.now invocation.options old after reported.items)) c.as_slice-requested.ensures
     c.predict_requested.ensures.reported))
 
 pub returns-clause-not_reported : goal.returns-clause-not_reported

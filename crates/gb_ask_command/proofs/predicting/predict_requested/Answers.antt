@@ -29,15 +29,16 @@ predict_planned-requires g c =
 pub returns-clause-reported : goal.returns-clause-reported
 returns-clause-reported g c =
     let F = g.F.Folder in
+    let known = F.faithful c.predict_planned.new.folder in
     let meanings = g.A.Actions.meanings in
     let old : Shown = shows (F.contents c.args.folder.now) (F.failures c.args.folder.now) in
     let after = F.failures c.predict_planned.new.folder in
-    ok_if (λ reported. AreReported F.faithful meanings c.args.table.now c.args.options old after c.as_slice.result.now reported.items)
-    (λ reported. AreReportedOf F.faithful meanings c.args.table.now (g.Ts.Tasks.registry c.args.tasks.now) c.args.requested.now c.args.excluded.now c.args.options old after reported.items)
+    ok_if (λ reported. AreReported known meanings c.args.table.now c.args.options old after c.as_slice.result.now reported.items)
+    (λ reported. AreReportedOf known meanings c.args.table.now (g.Ts.Tasks.registry c.args.tasks.now) c.args.requested.now c.args.excluded.now c.args.options old after reported.items)
     (λ reported is. (
       c.in_ok-plan.plan,
       c.in_ok-plan.ensures.plan,
-      subst (λ (plan : Plan). AreReported F.faithful meanings c.args.table.now c.args.options old after plan reported.items) c.as_slice.ensures is,
+      subst (λ (plan : Plan). AreReported known meanings c.args.table.now c.args.options old after plan reported.items) c.as_slice.ensures is,
     ))
     c.predict_planned.result c.predict_planned.ensures.reported
 

@@ -1,5 +1,5 @@
 use Rattle.std.proofs.Common.{◌⊎◌, List, Ok, Err, inl, refl, subst, ◌∙◌}
-use Rattle.std.specs.Prelude.{IsTrue, MatchResult}
+use Rattle.std.specs.Prelude.{MatchResult}
 use Rattle.gb_build.specs.Scripts.{FolderSays}
 use Rattle.gb_plan.specs.Task.{Text}
 use Rattle.gb_registry.specs.Tables.{tables_of}
@@ -15,6 +15,6 @@ returns-in-Ok-clause-read g c =
     let before = F.failures c.args.folder.now in
     let after = F.failures c.read_registry.new.folder in
     let given = c.args.invocation.now.properties in
-    where_known (IsTrue F.faithful) (λ configured. FolderSays tables files given (Ok configured.registry)) (λ fault. IsOfMachine before after fault ⊎ FolderSays tables files given (Err fault)) c.read_registry.result
+    where_known (F.faithful c.read_registry.new.folder) (λ configured. FolderSays tables files given (Ok configured.registry)) (λ fault. IsOfMachine before after fault ⊎ FolderSays tables files given (Err fault)) c.read_registry.result
     (λ faithful. subst (λ (values : List (Text × Text)). MatchResult c.read_registry.result (λ configured. FolderSays tables files values (Ok configured.registry)) (λ fault. IsOfMachine before after fault ⊎ FolderSays tables files values (Err fault)))
     (c.into_vec-given.ensures ∙ c.in-Ok.ensures) (c.read_registry.ensures.said faithful))

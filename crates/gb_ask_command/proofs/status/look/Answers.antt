@@ -21,8 +21,10 @@ returns-in-Ok-clause-reply g c =
     let old : Shown = shows (F.contents c.args.folder.now) (F.failures c.args.folder.now) in
     let mid : Contents = F.contents c.read_asked.new.folder in
     let result = c.look_beside.result in
-    of_status (tables_of g.T.Transforms.meanings M c.args.tables.now) F.faithful old (F.failures c.look_beside.new.folder) c.args.invocation.now
-    notation activity source c.in-Ok.ensures.read mid (F.failures c.read_asked.new.folder)
-    c.read_asked.ensures.same c.read_asked.ensures.requests.count c.look_beside.ensures.requests.count result
-    (subst (λ (given : handed.Tables _ _ _ _ _ _ _). IfOk result (λ text. IsStatusOf F.faithful notation activity mid.files (paths_of (registry_said (tables_of g.T.Transforms.meanings M given) source)) (string_bytes text))) c.in-Ok.ensures.tables c.look_beside.ensures.text)
+    let known = F.faithful c.look_beside.new.folder in
+    let back = c.look_beside.ensures.back in
+    of_status (tables_of g.T.Transforms.meanings M c.args.tables.now) known old (F.failures c.look_beside.new.folder) c.args.invocation.now
+    notation activity source (λ faithful. c.in-Ok.ensures.read (back faithful)) mid (F.failures c.read_asked.new.folder)
+    (λ faithful. c.read_asked.ensures.same (back faithful)) c.read_asked.ensures.requests.count c.look_beside.ensures.requests.count result
+    (subst (λ (given : handed.Tables _ _ _ _ _ _ _). IfOk result (λ text. IsStatusOf known notation activity mid.files (paths_of (registry_said (tables_of g.T.Transforms.meanings M given) source)) (string_bytes text))) c.in-Ok.ensures.tables c.look_beside.ensures.text)
     c.look_beside.ensures.refused

@@ -19,4 +19,4 @@ returns-clause-text g c =
     let files = (F.contents c.args.folder.now).files in
     let names : c.as_slice.result.now ≡ paths_of (registry_said tables source) =
     c.as_slice.ensures.value ∙ c.in_ok-names.ensures ∙ sym c.tasks-registered.ensures.tasks ∙ c.tasks-registered.ensures.registered ∙ sym (paths_said tables source) in
-    subst (λ (paths : List Path). IfOk c.inventory_text.result (λ text. IsStatusOf F.faithful notation activity files paths (string_bytes text))) names c.inventory_text.ensures.text
+    subst (λ (paths : List Path). IfOk c.inventory_text.result (λ text. IsStatusOf (F.faithful c.inventory_text.new.folder) notation activity files paths (string_bytes text))) names c.inventory_text.ensures.text

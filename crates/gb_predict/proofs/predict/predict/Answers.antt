@@ -45,6 +45,7 @@ pub loop-at-preserved : goal.loop-at-preserved
 loop-at-preserved g c =
     let F = g.F.Folder in
     let inv = c.loop-at.invariant in
+    let back = c.prediction.ensures.back in
     let plan = c.args.plan.now in
     let records = c.args.records.now in
     let at = c.loop-at.at in
@@ -67,7 +68,8 @@ loop-at-preserved g c =
     ∙ ap (λ n. cond (is_some (culprit one) && bytes_eq one.path other) (Some n) (number_at c.loop-at.not_starting other)) (sym inv.count) in
     record {
       requests = requests_then inv.requests c.prediction.ensures.requests;
-      same = λ faithful. c.prediction.ensures.same faithful ∙ inv.same faithful;
+      back = λ known. inv.back (back known);
+      same = λ faithful. c.prediction.ensures.same faithful ∙ inv.same (back faithful);
       count = ap length more ∙ length-append reported (one ∷ []) ∙ ap (λ n. n + 1) inv.count;
       paths =
           path_more (λ (p : Planned). p.task.path) plan (map (λ (f : Prediction). f.path) reported) _ at planned c.loop-at-test.true c.index-plan-at.is inv.paths
@@ -83,10 +85,10 @@ loop-at-preserved g c =
           (related_more (Is new) plan records reported at planned last one c.loop-at-test.true (omega (arith, c.loop-at-test.true, c.requires.each)) c.index-plan-at.is c.index-records-at.is
           (all_related (Is mid) (Is new)
           (λ pair f is. prediction_wider kinds c.args.options pair.0.task old pair.1 begun begun mid new f.coming (omega arith) inv.requests.count c.prediction.ensures.requests.count is)
-          (take at (zip plan records)) reported (inv.prediction faithful kinds agrees))
+          (take at (zip plan records)) reported (inv.prediction (back faithful) kinds agrees))
           (prediction_wider kinds c.args.options planned.task old last begun mid new new one.coming inv.requests.count c.prediction.ensures.requests.count (omega arith)
           (subst (λ (read : Option Record). IsPredictedOf kinds c.args.options planned.task old read mid new one.coming) c.as_ref-last.ensures.value
-          (subst (λ (folder : Contents). IsPredictedOf kinds c.args.options planned.task folder (option_copied c.as_ref-last.result) mid new one.coming) (inv.same faithful)
+          (subst (λ (folder : Contents). IsPredictedOf kinds c.args.options planned.task folder (option_copied c.as_ref-last.result) mid new one.coming) (inv.same (back faithful))
           (c.in_ok-one.ensures.prediction faithful kinds agrees)))));
     }
 

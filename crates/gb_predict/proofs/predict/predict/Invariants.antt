@@ -1,4 +1,4 @@
-use Rattle.std.proofs.Common.{◌≡◌, [], IsTrue, length, map, take}
+use Rattle.std.proofs.Common.{◌≡◌, [], length, map, take}
 use Rattle.std.specs.List.{AllByRecursion, AllZip, zip}
 use Rattle.gb_folder.specs.Calls.{Requests, no_change}
 use Rattle.gb_meaning.specs.Headline.{Agrees}
@@ -15,13 +15,14 @@ invariant-loop-at g l =
     let F = g.F.Folder in
     record {
       requests : Requests F.failures F.may_leave F.allowed no_change l.fn.folder l.folder;
-      same : IsTrue F.faithful → F.contents l.folder ≡ F.contents l.fn.folder;
+      back : F.faithful l.folder → F.faithful l.fn.folder;
+      same : F.faithful l.folder → F.contents l.folder ≡ F.contents l.fn.folder;
       count : length l.reported.items ≡ l.at;
       paths : map (λ (one : Prediction). one.path) l.reported.items ≡ order (take l.at l.plan);
       reasoned : AllByRecursion (λ (one : Prediction). IsReasoned one.coming) l.reported.items;
       not_starting : AreNotStarting l.reported.items l.not_starting;
       marked : AreMarkedAfter [] (zip (take l.at l.plan) l.reported.items);
-      prediction : IsTrue F.faithful → (kinds : Kinds) → Agrees g.A.Actions.meanings l.table kinds
+      prediction : F.faithful l.folder → (kinds : Kinds) → Agrees g.A.Actions.meanings l.table kinds
           → AllZip (λ pair (one : Prediction). IsPredictedOf kinds l.options pair.0.task (F.contents l.fn.folder) pair.1 (F.failures l.fn.folder) (F.failures l.folder) one.coming)
           (take l.at (zip l.plan l.records)) l.reported.items;
     }

@@ -29,15 +29,16 @@ returns-in-Ok-HasNoSource-clause-reasoned g c =
 pub returns-in-Ok-HasNoSource-clause-prediction : goal.returns-in-Ok-HasNoSource-clause-prediction
 returns-in-Ok-HasNoSource-clause-prediction g c = λ faithful kinds agrees.
     let F = g.F.Folder in
+    let known = c.sourceless.ensures.back faithful in
     let task = c.args.task.now in
     let old : Contents = F.contents c.args.folder.now in
     let now : Contents = F.contents c.prepare.new.folder in
-    let same : now ≡ old = c.prepare.ensures.same faithful in
+    let same : now ≡ old = c.prepare.ensures.same known in
     let before = F.failures c.args.folder.now in
     let mid = F.failures c.prepare.new.folder in
     let after = F.failures c.sourceless.new.folder in
     let found = c.sourceless.result in
-    let case = subst (λ (found : Prepared). IsPrepared c.args.options task old (option_copied c.args.old) found) c.in-Ok-HasNoSource.field-0-is (c.in-Ok-HasNoSource.ensures.prepared faithful (none_seen_in (g.F.Folder.contents c.args.folder.now).files _ c.new-seen.ensures)) in
+    let case = subst (λ (found : Prepared). IsPrepared c.args.options task old (option_copied c.args.old) found) c.in-Ok-HasNoSource.field-0-is (c.in-Ok-HasNoSource.ensures.prepared known (none_seen_in (g.F.Folder.contents c.args.folder.now).files _ c.new-seen.ensures)) in
     subst (λ (coming : PredictedOutcome). IsPredictedOf kinds c.args.options task old (option_copied c.args.old) before after coming) (sym c.reported.ensures)
     (sourceless_prediction kinds c.args.options task old (option_copied c.args.old) before mid after found c.prepare.ensures.requests.count c.sourceless.ensures.requests.count case
     (subst (λ (folder : Contents). IfOk found (λ coming. (removes : Bool) × (coming ≡ comings.HasNoSource removes) × (removes ≡ not (is_empty (output_files task folder.files))))) same (c.sourceless.ensures.removes faithful))
