@@ -55,7 +55,7 @@ pub fn invoke<A: Actions, T: Transforms, F: Folder, L: TaskListener, P: Printer>
         (tables_of T.meanings A.meanings tables.now) invocation.now result folder.old folder.new }
     ensures back { F.faithful folder.new → F.faithful folder.old }
     // Where contents are known: the promise. Success is as from scratch if kinds agree, a stopped
-    // write leaves no false record, and no two contents share a digest.
+    // write leaves no false record, the first records are true, and no two contents share a digest.
     ensures promise { F.faithful folder.new → KeepsPromise (tables_of T.meanings A.meanings tables.now)
         (F.may_leave folder.old) invocation.now
         (record { contents = F.contents folder.old; failures = F.failures folder.old }) result

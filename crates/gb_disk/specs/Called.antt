@@ -3,18 +3,23 @@ use Rattle.std.specs.Prelude.{ℕ, ◌≡◌, List, [], ◌∷◌, ◌++◌}
 use Rattle.gb_folder.specs.Calls.{Call}
 use Rattle.gb_folder.specs.Files.{Contents, Tearing}
 use Rattle.gb_disk.specs.Shown.{IsAnswered, shown}
-use Rattle.gb_disk.specs.Supposed.{leaves_of}
+use Rattle.gb_disk.specs.Supposed.{Supposed, leaves_of}
 use Rattle.gb_disk.specs.declared.disk.DiskFolder.{DiskFolder}
 
 -- the calls that it was asked for, with their answers, in order
 abbrev pub calls_of : {R : Type 0} → DiskFolder R → List Call
 calls_of folder = folder.log.calls
 
+-- what is supposed of it
+abbrev pub supposed_of : {R : Type 0} → DiskFolder R → Supposed
+supposed_of folder = folder.log.supposed
+
 -- The second state is the one after this call, with its answer, in the first one.
 abbrev pub is_next : {R : Type 0} → DiskFolder R → Call → DiskFolder R → Type 0
-is_next old call new = calls_of new ≡ calls_of old ++ call ∷ []
+is_next old call new =
+    (calls_of new ≡ calls_of old ++ call ∷ []) × (supposed_of new ≡ supposed_of old)
 
--- how often the device failed in them
+-- how often the device failed in the calls so far
 abbrev pub failures_of : {R : Type 0} → DiskFolder R → ℕ
 failures_of folder = folder.failures
 
@@ -28,4 +33,4 @@ contents_of folder = shown folder.log
 
 -- what a stopped write or removal may leave there, as is supposed
 abbrev pub may_leave_of : {R : Type 0} → DiskFolder R → Tearing
-may_leave_of folder = leaves_of folder.log.supposed
+may_leave_of folder = leaves_of (supposed_of folder)

@@ -1,1 +1,1 @@
-mod Status
+mod OnDisk

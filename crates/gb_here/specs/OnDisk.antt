@@ -1,24 +1,39 @@
 -- What a build of a folder on a disk does, whatever the disk returns.
-use Rattle.std.specs.Prelude.{Result}
-use Rattle.gb_command.specs.Answered.{Answers, DoesFor, Given}
-use Rattle.gb_disk.specs.Called.{IsAsSupposed, contents_of, failures_of, is_next, may_leave_of}
+use Rattle.std.specs.Prelude.{◌≡◌, ◌⊎◌, Result, Err, IfOk}
+use Rattle.gb_answers.specs.Scratch.{LeavesFromScratch}
+use Rattle.gb_build.specs.Invoking.{IsInvocation}
+use Rattle.gb_command.specs.Answered.{Answers, AreRefused, AskFor, Given}
+use Rattle.gb_disk.specs.Called.{IsAsSupposed, calls_of, contents_of, failures_of, is_next, may_leave_of}
+use Rattle.gb_disk.specs.Called.{supposed_of}
 use Rattle.gb_disk.specs.declared.disk.DiskFolder.{DiskFolder}
+use Rattle.gb_folder.specs.Calls.{Requests, no_change}
 use Rattle.gb_meaning.specs.Edits.{Shown}
+use Rattle.gb_meaning.specs.declared.events.Invocation.{Invocation}
 use Rattle.gb_registry.specs.Tables.{Tables}
 use Rattle.gb_report.specs.declared.fault.Fault.{Fault}
 use Rattle.gb_report.specs.declared.report.Report.{Report}
 
--- the folder with its supposed contents
-abbrev pub shown_of : {R : Type 0} → DiskFolder R → Shown
-shown_of folder = record { contents = contents_of folder; failures = failures_of folder }
+-- Whatever was supposed is not changed. If each call so far was answered as it would have been over the
+-- supposed contents, the answer and the last contents are as promised of a folder with these contents.
+pub record IsBuiltAsSupposed {R M N Z S A : Type 0} (tables : Tables M N Z S A) (given : Given)
+    (answer : Result Report Fault) (old new : DiskFolder R) : Type 0 where
+  pub supposed : supposed_of new ≡ supposed_of old
+  pub promise : IsAsSupposed new → Answers tables (may_leave_of old) given
+      (record { contents = contents_of old; failures = failures_of old })
+      answer
+      (record { contents = contents_of new; failures = failures_of new })
 
--- A build of a folder on a disk, with this answer. The arguments are refused, and no change is requested; or
--- they request an invocation, and the calls that it made, and its answer by what they returned, are as they may
--- be. A call leads from one state of the folder to the next one, in which the log has it, with what it returned
--- (`is_next`). If each call was answered as it would have been over contents, whichever these are, all is as
--- promised of a folder with these contents.
+-- A build of a folder on a disk that was asked for no call before, with this answer. A call leads from one
+-- state of the folder to the next one, in which the log has it, with what it returned (`is_next`).
+-- The arguments are refused, and no change is requested. Or they request an invocation: the calls that it
+-- made, and its answer by what they returned, are as they may be; and in any contents that answer these calls
+-- and hold true records, a build in which no task failed leaves what a build from scratch makes, if no two
+-- contents share a digest.
 abbrev pub IsBuiltOnDisk : {R M N Z S A : Type 0} → Tables M N Z S A → Given → Result Report Fault
     → DiskFolder R → DiskFolder R → Type 0
 IsBuiltOnDisk tables given answer old new =
-    DoesFor failures_of may_leave_of is_next tables given answer old new
-    × (IsAsSupposed new → Answers tables (may_leave_of old) given (shown_of old) answer (shown_of new))
+    ((fault : Fault) × AreRefused given fault × (answer ≡ Err fault)
+    × Requests failures_of may_leave_of is_next no_change old new)
+    ⊎ ((asked : Invocation) × AskFor given asked
+    × IsInvocation failures_of may_leave_of is_next tables asked answer old new
+    × IfOk answer (λ report. LeavesFromScratch tables (may_leave_of old) asked report (calls_of new)))

@@ -2,4 +2,4 @@ use Rattle.std.proofs.Common.{inl}
 use Rattle.gb_answers.proofs.on_disk.disk_folders_keep_calls.Goals as goal
 
 pub returns : goal.returns
-returns g c = record { kept = λ old call new is. inl is }
+returns g c = record { kept = λ old call new is. inl is.0 }
