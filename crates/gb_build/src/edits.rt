@@ -1,5 +1,5 @@
 //! Edits from outside.
-ghost use Rattle.std.specs.Prelude.{◌≡◌, ◌≤◌, IsTrue, MatchResult};
+ghost use Rattle.std.specs.Prelude.{◌≡◌, ◌≤◌, MatchResult};
 ghost use Rattle.gb_folder.specs.Files.{SameTearing, is_own};
 ghost use Rattle.gb_folder.specs.Calls.{Requests, Removes, Writes, takes_at};
 ghost use Rattle.gb_folder.specs.Limits.{max_file};

@@ -1,5 +1,5 @@
 //! Reads the texts of settings and scripts from their files.
-ghost use Rattle.std.specs.Prelude.{◌≡◌, ◌⊎◌, Some, Ok, Err, IfOk, IsTrue, MatchResult, length};
+ghost use Rattle.std.specs.Prelude.{◌≡◌, ◌⊎◌, Some, Ok, Err, IfOk, MatchResult, length};
 ghost use Rattle.gb_folder.specs.Calls.{Requests, no_change};
 ghost use Rattle.gb_script.specs.Script.{Says, SaysAsSettings};
 ghost use Rattle.gb_store.specs.Changes.{is_at};

@@ -1,5 +1,5 @@
 //! One build of what is requested.
-ghost use Rattle.std.specs.Prelude.{◌≡◌, ◌≤◌, Ok, map, true, IfErr, IfOk, IsTrue, OnErr};
+ghost use Rattle.std.specs.Prelude.{◌≡◌, ◌≤◌, Ok, map, true, IfErr, IfOk, OnErr};
 ghost use Rattle.gb_folder.specs.Files.{SameTearing};
 ghost use Rattle.gb_meaning.specs.declared.events.Event.TheVariants as events;
 ghost use Rattle.gb_meaning.specs.Headline.{HasFailed, HaveHeard, InvocationHolds};

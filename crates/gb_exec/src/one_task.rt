@@ -1,6 +1,6 @@
 //! The execution of one task of a plan.
 ghost use Rattle.std.specs.Prelude.{◌≡◌, ◌<◌, [], ◌∷◌, ℕ, List, None, Some, false, map, length};
-ghost use Rattle.std.specs.Prelude.{slice_get, slice_index_or, IsTrue};
+ghost use Rattle.std.specs.Prelude.{slice_get, slice_index_or};
 ghost use Rattle.gb_folder.specs.Calls.{Requests, no_change};
 ghost use Rattle.gb_folder.specs.Files.{HasRisen};
 ghost use Rattle.gb_meaning.specs.Kinds.{Kinds};

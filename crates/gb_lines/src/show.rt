@@ -1,5 +1,5 @@
 //! The output for the files at and under a place.
-ghost use Rattle.std.specs.Prelude.{◌≡◌, ◌++◌, IsTrue, IfOk, OnOk, string_bytes};
+ghost use Rattle.std.specs.Prelude.{◌≡◌, ◌++◌, IfOk, OnOk, string_bytes};
 ghost use Rattle.gb_lines.specs.Texts.{closing, shown_file, shown_files};
 
 use crate::stop::Stop;

@@ -30,7 +30,7 @@ returns-clause-read g c = λ faithful not_dry. elim c.if-dry_run.branch [
   | else-dry_run+in_ok-paths_of+in_ok-records w ↦
       all_read (IsReadAt (g.F.Folder.contents c.args.folder.now).files) c.args.tasks.now c.if-dry_run.records.items c.resize_with.new.self.items c.in_ok-resize_with.ensures.items.0
       (subst (λ v. AllZip (IsReadAt (g.F.Folder.contents c.args.folder.now).files) _ v.items) (sym w.records-is)
-      (subst (λ (paths : List Path). AllZip (IsReadAt (g.F.Folder.contents c.args.folder.now).files) paths w.in_ok-records.records.items) (w.as_slice.ensures.value ∙ w.in_ok-paths_of.ensures) (w.in_ok-records.ensures.read faithful)))
+      (subst (λ (paths : List Path). AllZip (IsReadAt (g.F.Folder.contents c.args.folder.now).files) paths w.in_ok-records.records.items) (w.as_slice.ensures.value ∙ w.in_ok-paths_of.ensures) (w.in_ok-records.ensures.read (subst (λ now. g.F.Folder.faithful now) w.folder-is faithful))))
       c.in_ok-resize_with.ensures.items.2 (omega (arith, c.resize_with.new.self.ok.0, c.in_ok-resize_with.ensures.len))
 ]
 
