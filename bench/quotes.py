@@ -94,7 +94,7 @@ def check_counts():
     """The numbers of wrong edits in the documents are those of the files."""
     gate = len(glob.glob(f"{ROOT}/crates/*/must-fail/*.edit"))
     manual = len(glob.glob(f"{ROOT}/bench/edits/*/*.edit"))
-    counts = [("README.md", f"all proofs, {gate} wrong edits"), ("README.md", f"{manual} wrong edits, `tools/`")]
+    counts = [("README.md", f"tries {gate} *wrong edits*"), ("README.md", f"{manual} wrong edits, `tools/`")]
     counts += [("docs/PROOF.md", f"must refuse; {manual} more"), ("docs/CONTRIBUTING.md", f"libraries; {manual} are")]
     for path, words in counts:
         if words not in " ".join(lines_of(path)):
