@@ -1,6 +1,6 @@
 use Rattle.std.specs.Prelude.{[], None}
 use Rattle.gb_here.proofs.here.built_alone.Given as goal
 
--- it promises nothing of the folder
+-- nothing is said of the folder
 abbrev pub ghost-for_one_build : goal.ghost-for_one_build
 ghost-for_one_build g a = record { states = []; remains = None }
