@@ -31,7 +31,7 @@ impl Disturbed {
 }
 
 impl Folder for Disturbed {
-    ghost use Rattle.std.specs.Prelude.{[], refl, ⊤, ⊥};
+    ghost use Rattle.std.specs.Prelude.{[], refl, ⊤};
     ghost use Rattle.gb_folder.specs.Device.{device_of};
 
     ghost failures = { λ _. 0 };
