@@ -5,6 +5,7 @@ ghost use Rattle.gb_graph.specs.Places.{IsRising, place_at};
 ghost use Rattle.gb_graph.specs.Near.{AreNear, IsLast};
 
 use crate::near::{Near, near_to};
+use crate::overlaps::{Guesses, no_guesses};
 use crate::places::{TaskPlace, place_of};
 use std::alloc::{AllocError, Global};
 
@@ -15,6 +16,8 @@ pub struct Last {
     pub place: Option<usize>,
     /// The outputs that overlap it, by number.
     pub near: Vec<Near>,
+    /// Where the searches for it ended.
+    pub guesses: Guesses,
 }
 
 /// No place yet.
@@ -24,6 +27,7 @@ pub fn no_place(alloc: Global) -> Last
     Last {
         place: None,
         near: Vec::new(alloc),
+        guesses: no_guesses(alloc),
     }
 }
 
@@ -58,9 +62,11 @@ pub fn near_at(
     if is_again(places, place, last.place) {
         return Ok(last);
     }
-    let near = near_to(alloc, outputs, place_of(places, place))?;
+    let mut guesses = last.guesses;
+    let near = near_to(alloc, outputs, place_of(places, place), &mut guesses)?;
     Ok(Last {
         place: Some(place),
         near,
+        guesses,
     })
 }

@@ -12,8 +12,9 @@
 //! a cycle ([`cycle`]). [`chains`] computes for each task, as a row of bits, which tasks come
 //! before it by a chain. With the chains the other rules are checked: of two tasks at one place one
 //! has to wait for the other, and [`refusal`] reports the first of all faults. Places that overlap
-//! are found by binary searches in one sorted row ([`overlaps`]), once for equal places ([`last`]).
-//! Of the outputs of one task at most two are compared ([`near`]).
+//! are found by searches in one sorted row ([`overlaps`]), once for equal places ([`last`]). Each
+//! search begins where the last one ended, so that together they pass over the row once. Of the
+//! outputs of one task at most two are compared ([`near`]).
 //!
 //! Rejected: to compare each place with each other, and paths in place of numbers.
 //!

@@ -5,7 +5,7 @@ ghost use Rattle.std.specs.Bool.{OnTrue};
 ghost use Rattle.gb_graph.specs.Places.{IsRising};
 ghost use Rattle.gb_graph.specs.Near.{AreNear, AreSameNumbers, AreThinned, HasTwo, IsAmong};
 
-use crate::overlaps::overlapped;
+use crate::overlaps::{Guesses, overlapped};
 use crate::places::TaskPlace;
 use gb_core::place::Place;
 use std::alloc::{AllocError, Global};
@@ -70,11 +70,16 @@ fn thinned(alloc: Global, row: &[Near]) -> Result<Vec<Near>, AllocError>
 }
 
 /// The outputs that overlap a place. One task may have ten thousand of them.
-pub fn near_to(alloc: Global, outputs: &[TaskPlace], place: &Place) -> Result<Vec<Near>, AllocError>
+pub fn near_to(
+    alloc: Global,
+    outputs: &[TaskPlace],
+    place: &Place,
+    guesses: &mut Guesses,
+) -> Result<Vec<Near>, AllocError>
     requires { IsRising outputs.now }
     ensures { IfOk result (λ row. AreNear outputs.now place.now row.items) }
 {
-    let indices = overlapped(alloc, outputs, place)?;
+    let indices = overlapped(alloc, outputs, place, guesses)?;
     let mut row = numbers_at(alloc, outputs, indices.as_slice())?;
     sort_by_task(&mut row);
     let sorted = row.as_slice();

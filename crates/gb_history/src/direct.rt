@@ -1,4 +1,5 @@
-//! Reads records from the tokens of their JSON, in the form that is written today, without a tree.
+//! Reads records from the text of their JSON, in the very form that is written today: each key in
+//! its place, and no blanks.
 //!
 //! `None` means that the text is in no such form, or that there was no memory. No clause says what
 //! is read: a record counts only where it is printed again as the text that was read.
@@ -6,11 +7,11 @@ use crate::from_json::in_order;
 use crate::in_order::digests_rise;
 use crate::record::{OutputRecord, Record};
 use gb_action::output::Form;
-use gb_action::values::{Arguments, NamedValues};
 use gb_core::name::Name;
 use gb_core::path::TaskPath;
 use gb_core::place::{Place, RelPath};
-use gb_core::text::{Text, Texts};
+use gb_core::row::Row;
+use gb_core::text::Text;
 use gb_core::value::Value;
 use gb_plan::task::Action;
 use gb_tree::prints::Prints;
@@ -18,192 +19,232 @@ use hex::FromHex;
 use json::{Reader, Scratch, Token};
 use std::alloc::Global;
 
-fn take_begin_object(reader: &mut Reader<'_>) -> Option<()> {
-    match reader.next()? {
-        Token::BeginObject => Some(()),
-        _ => None,
-    }
+/// What is left of a text, and the memory for strings that are written with escapes.
+#[derive(Drop)]
+struct Input<'a> {
+    rest: &'a [u8],
+    scratch: &'a mut Scratch,
 }
 
-fn take_end_object(reader: &mut Reader<'_>) -> Option<()> {
-    match reader.next()? {
-        Token::EndObject => Some(()),
-        _ => None,
-    }
-}
-
-fn take_begin_array(reader: &mut Reader<'_>) -> Option<()> {
-    match reader.next()? {
-        Token::BeginArray => Some(()),
-        _ => None,
-    }
-}
-
-fn take_end_array(reader: &mut Reader<'_>) -> Option<()> {
-    match reader.next()? {
-        Token::EndArray => Some(()),
-        _ => None,
-    }
-}
-
-fn take_key<'a>(reader: &mut Reader<'a>) -> Option<&'a str> {
-    match reader.next()? {
-        Token::Key(key) => Some(key),
-        _ => None,
-    }
-}
-
-/// Passes the key of this name.
-fn pass_key(reader: &mut Reader<'_>, name: &str) -> Option<()> {
-    if take_key(reader)? == name {
-        Some(())
-    } else {
-        None
-    }
-}
-
-fn take_text<'a>(reader: &mut Reader<'a>) -> Option<&'a str> {
-    match reader.next()? {
-        Token::String(text) => Some(text),
-        _ => None,
-    }
-}
-
-fn take_name(alloc: Global, reader: &mut Reader<'_>) -> Option<Name> {
-    Name::read(alloc, take_text(reader)?).ok()
-}
-
-fn take_place(alloc: Global, reader: &mut Reader<'_>) -> Option<Place> {
-    Place::read(alloc, take_text(reader)?).ok()
-}
-
-fn take_flag(reader: &mut Reader<'_>) -> Option<bool> {
-    match reader.next()? {
-        Token::Bool(flag) => Some(flag),
-        _ => None,
-    }
-}
-
-fn take_number(reader: &mut Reader<'_>) -> Option<u32> {
-    match reader.next()? {
-        Token::Number(text) => text.parse::<u32>().ok(),
-        _ => None,
-    }
-}
-
-fn take_texts(alloc: Global, reader: &mut Reader<'_>) -> Option<Texts> {
-    take_begin_array(reader)?;
-    let mut texts = Texts::new(alloc);
-    for _ in 0..u64::MAX {
-        if reader.take_end_array() {
-            return Some(texts);
+impl<'a> Input<'a> {
+    /// Passes this byte, if it is next.
+    fn has(&mut self, wanted: u8) -> bool {
+        match self.rest {
+            [first, rest @ ..] if *first == wanted => {
+                self.rest = rest;
+                true
+            }
+            _ => false,
         }
-        let item = Text::from_str(alloc, take_text(reader)?).ok()?;
-        texts.push(item).ok()?;
+    }
+
+    /// Passes this byte, which must be next.
+    fn pass(&mut self, wanted: u8) -> Option<()> {
+        if self.has(wanted) { Some(()) } else { None }
+    }
+
+    /// Passes these bytes, if they are next.
+    fn has_all(&mut self, wanted: &[u8]) -> bool {
+        match self.rest.strip_prefix(wanted) {
+            Some(rest) => {
+                self.rest = rest;
+                true
+            }
+            None => false,
+        }
+    }
+
+    /// Passes these bytes, which must be next.
+    fn pass_all(&mut self, wanted: &[u8]) -> Option<()> {
+        self.rest = self.rest.strip_prefix(wanted)?;
+        Some(())
+    }
+
+    /// All before the first of these bytes.
+    fn before(&mut self, end: u8) -> Option<&'a [u8]> {
+        let len = self.rest.iter().position(|byte| *byte == end)?;
+        let (before, rest) = self.rest.split_at_checked(len)?;
+        self.rest = rest;
+        Some(before)
+    }
+
+    /// What the next string says.
+    fn text(&mut self) -> Option<&str> {
+        let [b'"', inside @ ..] = self.rest else {
+            return None;
+        };
+        let len = inside.iter().position(|byte| is_special(*byte))?;
+        match inside.split_at_checked(len)? {
+            (text, [b'"', rest @ ..]) => {
+                self.rest = rest;
+                std::str::from_utf8(text).ok()
+            }
+            _ => self.escaped_text(),
+        }
+    }
+
+    /// What the next string says, which has escapes.
+    fn escaped_text(&mut self) -> Option<&str> {
+        let len = string_len(self.rest)?;
+        let (string, rest) = self.rest.split_at_checked(len)?;
+        self.rest = rest;
+        let string = std::str::from_utf8(string).ok()?;
+        match Reader::new(string, self.scratch).ok()?.next()? {
+            Token::String(text) => Some(text),
+            _ => None,
+        }
+    }
+
+    /// The digest that the next string says in hex.
+    fn digest(&mut self) -> Option<[u8; 32]> {
+        self.pass(b'"')?;
+        let (digits, rest) = self.rest.split_at_checked(64)?;
+        self.rest = rest;
+        self.pass(b'"')?;
+        <[u8; 32] as FromHex>::from_hex(digits).ok()
+    }
+
+    /// The number that is all before the first of these bytes.
+    fn number(&mut self, end: u8) -> Option<u32> {
+        let digits = std::str::from_utf8(self.before(end)?).ok()?;
+        digits.parse::<u32>().ok()
+    }
+}
+
+/// Whether a byte ends a string or begins an escape.
+fn is_special(byte: u8) -> bool {
+    byte == b'"' || byte == b'\\'
+}
+
+/// How many bytes the string has that these begin with, with its quotes.
+fn string_len(bytes: &[u8]) -> Option<usize> {
+    let mut is_escaped = false;
+    for (at, byte) in bytes.iter().enumerate().skip(1) {
+        if is_escaped {
+            is_escaped = false;
+        } else if *byte == b'"' {
+            return at.checked_add(1);
+        } else {
+            is_escaped = *byte == b'\\';
+        }
     }
     None
 }
 
-fn take_text_value(alloc: Global, reader: &mut Reader<'_>) -> Option<Value> {
-    let text = Text::from_str(alloc, take_text(reader)?).ok()?;
-    Some(Value::Text(text))
+/// An item of a list.
+trait Item: Sized + Drop {
+    fn take(alloc: Global, input: &mut Input<'_>) -> Option<Self>;
 }
 
-fn take_flag_value(reader: &mut Reader<'_>) -> Option<Value> {
-    Some(Value::Flag(take_flag(reader)?))
+/// A list with one item more.
+fn with_item<T: Drop>(before: Vec<T>, item: T) -> Option<Vec<T>> {
+    let mut items = before;
+    items.push(item).ok()?;
+    Some(items)
 }
 
-fn take_list_value(alloc: Global, reader: &mut Reader<'_>) -> Option<Value> {
-    Some(Value::List(take_texts(alloc, reader)?))
+/// The list that is next. One of a single item has room for no other.
+fn take_list<T: Item>(alloc: Global, input: &mut Input<'_>) -> Option<Vec<T>> {
+    input.pass(b'[')?;
+    if input.has(b']') {
+        return Some(Vec::new(alloc));
+    }
+    let first = T::take(alloc, input)?;
+    if input.has(b']') {
+        return with_item(Vec::with_capacity(alloc, 1).ok()?, first);
+    }
+    take_others(alloc, input, with_item(Vec::new(alloc), first)?)
 }
 
-fn take_place_value(alloc: Global, reader: &mut Reader<'_>) -> Option<Value> {
-    Some(Value::Place(take_place(alloc, reader)?))
+/// The list of these items and all that are left.
+fn take_others<T: Item>(alloc: Global, input: &mut Input<'_>, before: Vec<T>) -> Option<Vec<T>> {
+    let mut items = before;
+    for _ in 0..u64::MAX {
+        input.pass(b',')?;
+        items.push(T::take(alloc, input)?).ok()?;
+        if input.has(b']') {
+            return Some(items);
+        }
+    }
+    None
 }
 
-fn take_task_value(alloc: Global, reader: &mut Reader<'_>) -> Option<Value> {
-    let path = TaskPath::read(alloc, take_text(reader)?).ok()?;
+fn take_name(alloc: Global, input: &mut Input<'_>) -> Option<Name> {
+    Name::read(alloc, input.text()?).ok()
+}
+
+fn take_place(alloc: Global, input: &mut Input<'_>) -> Option<Place> {
+    Place::read(alloc, input.text()?).ok()
+}
+
+fn take_flag(input: &mut Input<'_>) -> Option<bool> {
+    if input.has_all(b"true") {
+        return Some(true);
+    }
+    input.pass_all(b"false")?;
+    Some(false)
+}
+
+impl Item for Text {
+    fn take(alloc: Global, input: &mut Input<'_>) -> Option<Text> {
+        Text::from_str(alloc, input.text()?).ok()
+    }
+}
+
+/// The value whose key and content are next.
+fn take_member(alloc: Global, input: &mut Input<'_>) -> Option<Value> {
+    if input.has_all(b"\"text\":") {
+        return Some(Value::Text(Text::take(alloc, input)?));
+    }
+    if input.has_all(b"\"flag\":") {
+        return Some(Value::Flag(take_flag(input)?));
+    }
+    if input.has_all(b"\"list\":") {
+        return Some(Value::List(Row::from_vec(take_list(alloc, input)?)));
+    }
+    if input.has_all(b"\"place\":") {
+        return Some(Value::Place(take_place(alloc, input)?));
+    }
+    input.pass_all(b"\"task\":")?;
+    let path = TaskPath::read(alloc, input.text()?).ok()?;
     Some(Value::Task(path))
 }
 
-/// The value of an object of one member with this key.
-fn take_value_of(alloc: Global, reader: &mut Reader<'_>, key: &str) -> Option<Value> {
-    match key {
-        "text" => take_text_value(alloc, reader),
-        "flag" => take_flag_value(reader),
-        "list" => take_list_value(alloc, reader),
-        "place" => take_place_value(alloc, reader),
-        "task" => take_task_value(alloc, reader),
-        _ => None,
+impl Item for Value {
+    fn take(alloc: Global, input: &mut Input<'_>) -> Option<Value> {
+        input.pass(b'{')?;
+        let value = take_member(alloc, input)?;
+        input.pass(b'}')?;
+        Some(value)
     }
 }
 
-fn take_value(alloc: Global, reader: &mut Reader<'_>) -> Option<Value> {
-    take_begin_object(reader)?;
-    let key = take_key(reader)?;
-    let value = take_value_of(alloc, reader, key)?;
-    take_end_object(reader)?;
-    Some(value)
-}
-
-fn take_arguments(alloc: Global, reader: &mut Reader<'_>) -> Option<Arguments> {
-    take_begin_array(reader)?;
-    let mut arguments = Arguments::new(alloc);
-    for _ in 0..u64::MAX {
-        if reader.take_end_array() {
-            return Some(arguments);
-        }
-        arguments.push(take_value(alloc, reader)?).ok()?;
+impl Item for Action {
+    fn take(alloc: Global, input: &mut Input<'_>) -> Option<Action> {
+        input.pass_all(b"{\"args\":")?;
+        let args = Row::from_vec(take_list(alloc, input)?);
+        input.pass_all(b",\"kind\":")?;
+        let kind = take_name(alloc, input)?;
+        input.pass_all(b",\"version\":")?;
+        let version = input.number(b'}')?;
+        input.pass(b'}')?;
+        Some(Action {
+            kind,
+            version,
+            args,
+        })
     }
-    None
 }
 
-fn take_action(alloc: Global, reader: &mut Reader<'_>) -> Option<Action> {
-    take_begin_object(reader)?;
-    pass_key(reader, "args")?;
-    let args = take_arguments(alloc, reader)?;
-    pass_key(reader, "kind")?;
-    let kind = take_name(alloc, reader)?;
-    pass_key(reader, "version")?;
-    let version = take_number(reader)?;
-    take_end_object(reader)?;
-    Some(Action {
-        kind,
-        version,
-        args,
-    })
-}
-
-fn take_actions(alloc: Global, reader: &mut Reader<'_>) -> Option<Vec<Action>> {
-    take_begin_array(reader)?;
-    let mut actions = Vec::new(alloc);
-    for _ in 0..u64::MAX {
-        if reader.take_end_array() {
-            return Some(actions);
-        }
-        actions.push(take_action(alloc, reader)?).ok()?;
+impl Item for (RelPath, [u8; 32]) {
+    fn take(alloc: Global, input: &mut Input<'_>) -> Option<(RelPath, [u8; 32])> {
+        input.pass(b'[')?;
+        let path = RelPath::read(alloc, input.text()?).ok()?;
+        input.pass(b',')?;
+        let digest = input.digest()?;
+        input.pass(b']')?;
+        Some((path, digest))
     }
-    None
-}
-
-fn take_print(alloc: Global, reader: &mut Reader<'_>) -> Option<(RelPath, [u8; 32])> {
-    take_begin_array(reader)?;
-    let path = RelPath::read(alloc, take_text(reader)?).ok()?;
-    let digest = <[u8; 32] as FromHex>::from_hex(take_text(reader)?).ok()?;
-    take_end_array(reader)?;
-    Some((path, digest))
-}
-
-fn take_digests(alloc: Global, reader: &mut Reader<'_>) -> Option<Vec<(RelPath, [u8; 32])>> {
-    take_begin_array(reader)?;
-    let mut digests = Vec::new(alloc);
-    for _ in 0..u64::MAX {
-        if reader.take_end_array() {
-            return Some(digests);
-        }
-        digests.push(take_print(alloc, reader)?).ok()?;
-    }
-    None
 }
 
 /// The prints under a name, where each path is below the next.
@@ -215,117 +256,75 @@ fn prints_of(name: Name, digests: Vec<(RelPath, [u8; 32])>) -> Option<Prints> {
     }
 }
 
-fn take_property(alloc: Global, reader: &mut Reader<'_>) -> Option<Prints> {
-    take_begin_object(reader)?;
-    pass_key(reader, "name")?;
-    let name = take_name(alloc, reader)?;
-    pass_key(reader, "prints")?;
-    let digests = take_digests(alloc, reader)?;
-    take_end_object(reader)?;
-    prints_of(name, digests)
-}
-
-fn take_properties(alloc: Global, reader: &mut Reader<'_>) -> Option<Vec<Prints>> {
-    take_begin_array(reader)?;
-    let mut properties = Vec::new(alloc);
-    for _ in 0..u64::MAX {
-        if reader.take_end_array() {
-            return Some(properties);
-        }
-        properties.push(take_property(alloc, reader)?).ok()?;
-    }
-    None
-}
-
-fn take_form(reader: &mut Reader<'_>) -> Option<Form> {
-    match take_text(reader)? {
-        "file" => Some(Form::File),
-        "dir" => Some(Form::Dir),
-        _ => None,
+impl Item for Prints {
+    fn take(alloc: Global, input: &mut Input<'_>) -> Option<Prints> {
+        input.pass_all(b"{\"name\":")?;
+        let name = take_name(alloc, input)?;
+        input.pass_all(b",\"prints\":")?;
+        let digests = take_list(alloc, input)?;
+        input.pass(b'}')?;
+        prints_of(name, digests)
     }
 }
 
-fn take_output(alloc: Global, reader: &mut Reader<'_>) -> Option<OutputRecord> {
-    take_begin_object(reader)?;
-    pass_key(reader, "name")?;
-    let name = take_name(alloc, reader)?;
-    pass_key(reader, "place")?;
-    let place = take_place(alloc, reader)?;
-    pass_key(reader, "prints")?;
-    let digests = take_digests(alloc, reader)?;
-    pass_key(reader, "shape")?;
-    let form = take_form(reader)?;
-    take_end_object(reader)?;
-    let prints = prints_of(name, digests)?;
-    Some(OutputRecord {
-        form,
-        place,
-        prints,
-    })
-}
-
-fn take_outputs(alloc: Global, reader: &mut Reader<'_>) -> Option<Vec<OutputRecord>> {
-    take_begin_array(reader)?;
-    let mut outputs = Vec::new(alloc);
-    for _ in 0..u64::MAX {
-        if reader.take_end_array() {
-            return Some(outputs);
-        }
-        outputs.push(take_output(alloc, reader)?).ok()?;
+/// The form of an output, and the end of its object.
+fn take_form(input: &mut Input<'_>) -> Option<Form> {
+    if input.has_all(b",\"shape\":\"file\"}") {
+        return Some(Form::File);
     }
-    None
+    input.pass_all(b",\"shape\":\"dir\"}")?;
+    Some(Form::Dir)
 }
 
-/// Appends the next pair of a name and a value to the others.
-fn put_value(alloc: Global, reader: &mut Reader<'_>, values: &mut NamedValues) -> Option<()> {
-    take_begin_array(reader)?;
-    let name = take_name(alloc, reader)?;
-    values.push((name, take_value(alloc, reader)?)).ok()?;
-    take_end_array(reader)
-}
-
-fn take_values(alloc: Global, reader: &mut Reader<'_>) -> Option<NamedValues> {
-    take_begin_array(reader)?;
-    let mut values = NamedValues::new(alloc);
-    for _ in 0..u64::MAX {
-        if reader.take_end_array() {
-            return Some(values);
-        }
-        put_value(alloc, reader, &mut values)?;
+impl Item for OutputRecord {
+    fn take(alloc: Global, input: &mut Input<'_>) -> Option<OutputRecord> {
+        input.pass_all(b"{\"name\":")?;
+        let name = take_name(alloc, input)?;
+        input.pass_all(b",\"place\":")?;
+        let place = take_place(alloc, input)?;
+        input.pass_all(b",\"prints\":")?;
+        let digests = take_list(alloc, input)?;
+        let form = take_form(input)?;
+        let prints = prints_of(name, digests)?;
+        Some(OutputRecord {
+            form,
+            place,
+            prints,
+        })
     }
-    None
 }
 
-/// What a task's object says; what follows its values is not read.
-fn take_run(alloc: Global, reader: &mut Reader<'_>) -> Option<Record> {
-    take_begin_object(reader)?;
-    pass_key(reader, "actions")?;
-    let actions = take_actions(alloc, reader)?;
-    pass_key(reader, "files")?;
-    let inputs = take_properties(alloc, reader)?;
-    pass_key(reader, "outputs")?;
-    let outputs = take_outputs(alloc, reader)?;
-    pass_key(reader, "task")?;
-    take_text(reader)?;
-    pass_key(reader, "values")?;
-    let values = take_values(alloc, reader)?;
+impl Item for (Name, Value) {
+    fn take(alloc: Global, input: &mut Input<'_>) -> Option<(Name, Value)> {
+        input.pass(b'[')?;
+        let name = take_name(alloc, input)?;
+        input.pass(b',')?;
+        let value = Value::take(alloc, input)?;
+        input.pass(b']')?;
+        Some((name, value))
+    }
+}
+
+/// The first record of a JSON text; what follows its values is not read.
+fn take_first_run(alloc: Global, input: &mut Input<'_>) -> Option<Record> {
+    input.pass_all(b"{\"form\":2,\"tasks\":[{\"actions\":")?;
+    let actions = take_list(alloc, input)?;
+    input.pass_all(b",\"files\":")?;
+    let inputs = take_list(alloc, input)?;
+    input.pass_all(b",\"outputs\":")?;
+    let outputs = take_list(alloc, input)?;
+    input.pass_all(b",\"task\":")?;
+    input.text()?;
+    input.pass_all(b",\"values\":")?;
+    let values = Row::from_vec(take_list(alloc, input)?);
     in_order(actions, values, inputs, outputs).ok()
-}
-
-fn take_first_run(alloc: Global, reader: &mut Reader<'_>) -> Option<Record> {
-    take_begin_object(reader)?;
-    pass_key(reader, "form")?;
-    if take_number(reader)? != 2 {
-        return None;
-    }
-    pass_key(reader, "tasks")?;
-    take_begin_array(reader)?;
-    take_run(alloc, reader)
 }
 
 /// The first record of a JSON text.
 pub fn record_in(alloc: Global, json: &[u8], scratch: &mut Scratch) -> Option<Record> {
-    let text = std::str::from_utf8(json).ok()?;
-    let mut reader = Reader::new(text, scratch).ok()?;
-    take_first_run(alloc, &mut reader)
+    let mut input = Input {
+        rest: json,
+        scratch,
+    };
+    take_first_run(alloc, &mut input)
 }

@@ -13,7 +13,7 @@ use crate::predicted_outcome::{PredictedOutcome, Prediction};
 use gb_core::path::TaskPath;
 use gb_core::place::Place;
 use gb_graph::by_path::Numbers;
-use gb_graph::overlaps::overlapped;
+use gb_graph::overlaps::{no_guesses, overlapped};
 use gb_graph::places::{TaskPlace, outputs_of, sort_by_place};
 use gb_plan::plan::Planned;
 use gb_plan::task::{FileProperty, TaskDeclaration};
@@ -102,7 +102,8 @@ fn first_at(
     requires { IsRising row.now }
     ensures { IfOk result (IsLeast (IsReadAt row.now reported.now root.now)) }
 {
-    let found = overlapped(alloc, row, root)?;
+    let mut guesses = no_guesses(alloc);
+    let found = overlapped(alloc, row, root, &mut guesses)?;
     let mut first = None;
     for index in &found {
         first = lesser(first, changed(reported, &row[*index]));
